@@ -1,0 +1,17 @@
+pub mod ArgumentAnswer
+pub mod ArgumentsByName
+pub mod BuiltIn
+pub mod DefinitionTexts
+pub mod Definitions
+pub mod KeySets
+pub mod LocationTexts
+pub mod NameRefusal
+pub mod NameSyntax
+pub mod NameView
+pub mod NodeLending
+pub mod NodeView
+pub mod OperationTexts
+pub mod TableLending
+pub mod Tables
+pub mod TypeReferences
+pub mod formers

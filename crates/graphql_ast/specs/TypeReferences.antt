@@ -1,0 +1,26 @@
+-- What a type reference names: GraphQL specification of October 2021, section 2.11.
+use Rattle.std.specs.Prelude.{Bool, true, false}
+use Rattle.graphql_ast.specs.NameView.{NameView}
+use Rattle.graphql_ast.specs.declared.type_reference.Type.{«Type» as TypeReference, fold-Type, out-Type}
+use Rattle.graphql_ast.specs.declared.type_reference.Type.TheOpen.{Type-F}
+
+-- the name at one level, where what is inside a list has given its own
+abbrev pub inner_step : Type-F NameView → NameView
+inner_step (Type-F.Named n) = n
+inner_step (Type-F.NonNullNamed n) = n
+inner_step (Type-F.List n) = n
+inner_step (Type-F.NonNullList n) = n
+
+-- the name inside all lists
+abbrev pub inner_name : TypeReference → NameView
+inner_name = fold-Type NameView inner_step
+
+abbrev pub required_step : Type-F TypeReference → Bool
+required_step (Type-F.Named n) = false
+required_step (Type-F.NonNullNamed n) = true
+required_step (Type-F.List n) = false
+required_step (Type-F.NonNullList n) = true
+
+-- null is no value of the type
+abbrev pub is_required : TypeReference → Bool
+is_required t = required_step (out-Type t)

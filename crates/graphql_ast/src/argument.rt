@@ -1,0 +1,91 @@
+//! Arguments by their names: GraphQL specification of October 2021, sections 2.6 and 3.6.1.
+ghost use Rattle.std.specs.Prelude.{◌≡◌};
+ghost use Rattle.std.specs.Option.{option_copied};
+
+use crate::directive::Argument;
+use crate::name::Name;
+use crate::node::Node;
+use crate::type_system::{DirectiveDefinition, FieldDefinition, InputValueDefinition};
+use crate::value::Value;
+
+/// Why an argument has no value.
+#[derive(Clone, Copy, Debug, PartialEq, Eq)]
+pub enum ArgumentByNameError {
+    /// The definition has a non-null type and no default value, and no value is specified.
+    RequiredArgumentNotSpecified,
+    /// There is no definition of the argument.
+    NoSuchArgument,
+}
+
+impl FieldDefinition {
+    ghost use Rattle.graphql_ast.specs.ArgumentsByName.{defined_argument};
+
+    /// The first argument definition of the name, if there is one.
+    pub fn argument_by_name(&self, name: &Name) -> Option<&Node<InputValueDefinition>>
+        ensures { option_copied result ≡ defined_argument self.now.arguments name.now }
+    {
+        self.arguments
+            .as_slice()
+            .iter()
+            .find(|argument| argument.name == *name)
+    }
+}
+
+impl DirectiveDefinition {
+    ghost use Rattle.graphql_ast.specs.ArgumentsByName.{defined_argument};
+
+    /// The first argument definition of the name, if there is one.
+    pub fn argument_by_name(&self, name: &Name) -> Option<&Node<InputValueDefinition>>
+        ensures { option_copied result ≡ defined_argument self.now.arguments name.now }
+    {
+        self.arguments
+            .as_slice()
+            .iter()
+            .find(|argument| argument.name == *name)
+    }
+}
+
+impl Argument {
+    ghost use Rattle.graphql_ast.specs.ArgumentsByName.{specified_value, argument_value};
+    ghost use Rattle.graphql_ast.specs.ArgumentAnswer.{Answers};
+
+    /// The value of the first argument of the name, if there is one.
+    pub fn specified_argument_by_name<'a>(
+        arguments: &'a [Node<Argument>],
+        name: &Name,
+    ) -> Option<&'a Node<Value>>
+        ensures { option_copied result ≡ specified_value arguments.now name.now }
+    {
+        arguments
+            .iter()
+            .find(|argument| argument.name == *name)
+            .map(|argument| &argument.value)
+    }
+
+    /// The value of the argument of the name: the specified one, else the default one of its definition, else none.
+    ///
+    /// Where no value is specified, an argument without a definition is
+    /// [`NoSuchArgument`](ArgumentByNameError::NoSuchArgument), and one of a non-null type without a default value is
+    /// [`RequiredArgumentNotSpecified`](ArgumentByNameError::RequiredArgumentNotSpecified).
+    pub fn argument_by_name<'a>(
+        arguments: &'a [Node<Argument>],
+        name: &Name,
+        definition: Option<&'a Node<InputValueDefinition>>,
+    ) -> Result<Option<&'a Node<Value>>, ArgumentByNameError>
+        ensures { Answers (argument_value (specified_value arguments.now name.now) (option_copied definition.entry)) result }
+    {
+        if let Some(value) = Argument::specified_argument_by_name(arguments, name) {
+            return Ok(Some(value));
+        }
+        let Some(definition) = definition else {
+            return Err(ArgumentByNameError::NoSuchArgument);
+        };
+        if let Some(value) = &definition.default_value {
+            return Ok(Some(value));
+        }
+        if definition.ty.is_non_null() {
+            return Err(ArgumentByNameError::RequiredArgumentNotSpecified);
+        }
+        Ok(None)
+    }
+}

@@ -1,0 +1,11 @@
+//! The standard containers, each behind a small type that contracts see as plain data: a list, bytes, a value or a
+//! list of entries.
+//!
+//! Each is made from the container and gives it back without taking memory.
+
+pub mod boxed;
+pub mod items;
+pub mod key_set;
+pub mod shared;
+pub mod table;
+pub mod text;

@@ -1,0 +1,129 @@
+ghost use Rattle.std.specs.Prelude.{◌≡◌, ◌<◌, ◌^◌, [], length, not, IfOk, IfErr, OnOk, OnErr, true, false};
+ghost use Rattle.std.specs.Cmp;
+ghost use Rattle.std.specs.Map.Iter.{ShowsInOrder, deref};
+ghost use Rattle.std.specs.List.{list_any, IsDistinct};
+ghost use Rattle.graphql_ast.specs.KeySets.{set_eq, set_eq_equiv, insert_key, remove_key, has_key, IsSetClone};
+
+use indexmap::IndexSet;
+use indexmap::set::Iter;
+use std::alloc::{AllocError, AllocFailed, Global};
+use std::hash::Hash;
+use std::marker::Model;
+
+/// A set in the order of insertion, which contracts see as the list of its keys.
+#[derive(Drop)]
+pub struct KeySet<T: Eq + Hash> {
+    set: IndexSet<T>,
+}
+
+impl<T: Eq + Hash> Model for KeySet<T> {
+    ghost use Rattle.std.specs.Prelude.{List};
+    ghost use Rattle.std.specs.Coded.{coded_list};
+
+    ghost Value = { List T };
+
+    ghost coded = { coded_list T.code };
+
+    ghost view = { λ s. s.set.keys };
+}
+
+impl<T: Eq + Hash> KeySet<T> {
+    pub fn new(alloc: Global) -> KeySet<T>
+        ensures { result ≡ [] }
+    {
+        KeySet {
+            set: IndexSet::new(alloc),
+        }
+    }
+
+    pub fn from_index_set(set: IndexSet<T>) -> KeySet<T>
+        ensures keys { result ≡ set.keys }
+        ensures unique { IsDistinct T.eq result }
+    {
+        let _len = set.len();
+        KeySet { set }
+    }
+
+    pub fn into_index_set(self) -> IndexSet<T>
+        ensures { result.keys ≡ self }
+    {
+        let KeySet { set } = self;
+        set
+    }
+
+    pub fn len(&self) -> usize
+        ensures len { result ≡ length self.now }
+        ensures small { result < 2 ^ 63 }
+        ensures unique { IsDistinct T.eq self.now }
+    {
+        self.set.len()
+    }
+
+    pub fn as_slice(&self) -> &[T]
+        ensures keys { result.now ≡ self.now }
+        ensures unique { IsDistinct T.eq self.now }
+    {
+        self.set.as_slice()
+    }
+
+    pub fn contains(&self, key: &T) -> bool
+        ensures { result ≡ has_key (T.eq key.now) self.now }
+    {
+        self.set.contains(key)
+    }
+
+    pub fn iter(&self) -> Iter<'_, T>
+        ensures rest { result ≡ self.now }
+        ensures runs { ShowsInOrder (deref {X = T}) }
+        ensures unique { IsDistinct T.eq self.now }
+        ensures fits { length self.now < 2 ^ 63 }
+    {
+        self.set.iter()
+    }
+}
+
+impl<T: Eq + Hash + Drop> KeySet<T> {
+    /// Puts the key last, or leaves the equal one that is there.
+    pub fn insert(&mut self, key: T) -> Result<bool, AllocFailed<T>>
+        ensures added { IfOk result (λ added. added ≡ not (has_key (T.eq key) self.old)) }
+        ensures keys { OnOk result (self.new ≡ insert_key T.eq self.old key) }
+        ensures value_returned { IfErr result (λ y. y.value ≡ key) }
+        ensures err { OnErr result (self.new ≡ self.old) }
+        ensures absent { OnErr result (has_key (T.eq key) self.old ≡ false) }
+        ensures unique { IsDistinct T.eq self.new }
+    {
+        self.set.insert(key)
+    }
+
+    pub fn shift_remove(&mut self, key: &T) -> bool
+        ensures found { result ≡ has_key (T.eq key.now) self.old }
+        ensures keys { self.new ≡ remove_key (T.eq key.now) self.old }
+        ensures unique { IsDistinct T.eq self.new }
+    {
+        self.set.shift_remove(key)
+    }
+}
+
+impl<T: Eq + Hash> PartialEq for KeySet<T> {
+    ghost eq = { set_eq T.eq };
+
+    ghost laws = { Cmp.partial_equiv_from_equiv (set_eq_equiv T.eq T.Eq.laws) };
+
+    fn eq(&self, other: &KeySet<T>) -> bool {
+        self.set == other.set
+    }
+}
+
+impl<T: Eq + Hash> Eq for KeySet<T> {
+    ghost laws = { set_eq_equiv T.eq T.Eq.laws };
+}
+
+impl<T: Eq + Hash + Clone + Drop> Clone for KeySet<T> {
+    ghost is_clone = { IsSetClone T.is_clone };
+
+    #[tactic(auto, using(crate::proofs::KeySetClones::exact_keys))]
+    fn clone(&self) -> Result<KeySet<T>, AllocError> {
+        let set = self.set.clone()?;
+        Ok(KeySet { set })
+    }
+}

@@ -1,0 +1,202 @@
+//! The definitions of a document: GraphQL specification of October 2021, section 2.2.
+ghost use Rattle.std.specs.Prelude.{◌≡◌, IfOk, ◌↔◌, IsTrue};
+ghost use Rattle.std.specs.Option.{option_copied};
+
+use crate::name::Name;
+use crate::node::Node;
+use crate::operation::{FragmentDefinition, OperationDefinition};
+use crate::source::SourceSpan;
+use crate::type_kind::TypeKind;
+use crate::type_system::{
+    DirectiveDefinition, EnumTypeDefinition, EnumTypeExtension, InputObjectTypeDefinition,
+    InputObjectTypeExtension, InterfaceTypeDefinition, InterfaceTypeExtension,
+    ObjectTypeDefinition, ObjectTypeExtension, ScalarTypeDefinition, ScalarTypeExtension,
+    SchemaDefinition, SchemaExtension, UnionTypeDefinition, UnionTypeExtension,
+};
+use std::alloc::AllocError;
+
+/// A definition or extension of a document.
+#[derive(Drop, PartialEq, Eq, Hash)]
+pub enum Definition {
+    OperationDefinition(Node<OperationDefinition>),
+    FragmentDefinition(Node<FragmentDefinition>),
+    DirectiveDefinition(Node<DirectiveDefinition>),
+    SchemaDefinition(Node<SchemaDefinition>),
+    ScalarTypeDefinition(Node<ScalarTypeDefinition>),
+    ObjectTypeDefinition(Node<ObjectTypeDefinition>),
+    InterfaceTypeDefinition(Node<InterfaceTypeDefinition>),
+    UnionTypeDefinition(Node<UnionTypeDefinition>),
+    EnumTypeDefinition(Node<EnumTypeDefinition>),
+    InputObjectTypeDefinition(Node<InputObjectTypeDefinition>),
+    SchemaExtension(Node<SchemaExtension>),
+    ScalarTypeExtension(Node<ScalarTypeExtension>),
+    ObjectTypeExtension(Node<ObjectTypeExtension>),
+    InterfaceTypeExtension(Node<InterfaceTypeExtension>),
+    UnionTypeExtension(Node<UnionTypeExtension>),
+    EnumTypeExtension(Node<EnumTypeExtension>),
+    InputObjectTypeExtension(Node<InputObjectTypeExtension>),
+}
+
+impl Clone for Definition {
+    ghost is_clone = { λ a b. b ≡ a };
+
+    fn clone(&self) -> Result<Definition, AllocError> {
+        match self {
+            Definition::OperationDefinition(node) => Ok(Definition::OperationDefinition(
+                node.clone()?,
+            )),
+            Definition::FragmentDefinition(node) => Ok(Definition::FragmentDefinition(
+                node.clone()?,
+            )),
+            Definition::DirectiveDefinition(node) => Ok(Definition::DirectiveDefinition(
+                node.clone()?,
+            )),
+            Definition::SchemaDefinition(node) => Ok(Definition::SchemaDefinition(node.clone()?)),
+            Definition::ScalarTypeDefinition(node) => Ok(Definition::ScalarTypeDefinition(
+                node.clone()?,
+            )),
+            Definition::ObjectTypeDefinition(node) => Ok(Definition::ObjectTypeDefinition(
+                node.clone()?,
+            )),
+            Definition::InterfaceTypeDefinition(node) => Ok(Definition::InterfaceTypeDefinition(
+                node.clone()?,
+            )),
+            Definition::UnionTypeDefinition(node) => Ok(Definition::UnionTypeDefinition(
+                node.clone()?,
+            )),
+            Definition::EnumTypeDefinition(node) => Ok(Definition::EnumTypeDefinition(
+                node.clone()?,
+            )),
+            Definition::InputObjectTypeDefinition(node) => Ok(Definition::InputObjectTypeDefinition(
+                node.clone()?,
+            )),
+            Definition::SchemaExtension(node) => Ok(Definition::SchemaExtension(node.clone()?)),
+            Definition::ScalarTypeExtension(node) => Ok(Definition::ScalarTypeExtension(
+                node.clone()?,
+            )),
+            Definition::ObjectTypeExtension(node) => Ok(Definition::ObjectTypeExtension(
+                node.clone()?,
+            )),
+            Definition::InterfaceTypeExtension(node) => Ok(Definition::InterfaceTypeExtension(
+                node.clone()?,
+            )),
+            Definition::UnionTypeExtension(node) => Ok(Definition::UnionTypeExtension(
+                node.clone()?,
+            )),
+            Definition::EnumTypeExtension(node) => Ok(Definition::EnumTypeExtension(node.clone()?)),
+            Definition::InputObjectTypeExtension(node) => Ok(Definition::InputObjectTypeExtension(
+                node.clone()?,
+            )),
+        }
+    }
+}
+
+impl Definition {
+    ghost use Rattle.graphql_ast.specs.DefinitionTexts.{definition_text};
+    ghost use Rattle.graphql_ast.specs.Definitions.{name_of, location_of, kind_of};
+
+    /// The name of what is defined or extended: none for the schema, nor for an anonymous operation.
+    pub fn name(&self) -> Option<&Name>
+        ensures { option_copied result ≡ name_of self.now }
+    {
+        match self {
+            Definition::OperationDefinition(node) => node.name.as_ref(),
+            Definition::FragmentDefinition(node) => Some(&node.name),
+            Definition::DirectiveDefinition(node) => Some(&node.name),
+            Definition::SchemaDefinition(_) => None,
+            Definition::ScalarTypeDefinition(node) => Some(&node.name),
+            Definition::ObjectTypeDefinition(node) => Some(&node.name),
+            Definition::InterfaceTypeDefinition(node) => Some(&node.name),
+            Definition::UnionTypeDefinition(node) => Some(&node.name),
+            Definition::EnumTypeDefinition(node) => Some(&node.name),
+            Definition::InputObjectTypeDefinition(node) => Some(&node.name),
+            Definition::SchemaExtension(_) => None,
+            Definition::ScalarTypeExtension(node) => Some(&node.name),
+            Definition::ObjectTypeExtension(node) => Some(&node.name),
+            Definition::InterfaceTypeExtension(node) => Some(&node.name),
+            Definition::UnionTypeExtension(node) => Some(&node.name),
+            Definition::EnumTypeExtension(node) => Some(&node.name),
+            Definition::InputObjectTypeExtension(node) => Some(&node.name),
+        }
+    }
+
+    /// The place where the definition stands, if it is known.
+    pub fn location(&self) -> Option<SourceSpan>
+        ensures { result ≡ location_of self.now }
+    {
+        match self {
+            Definition::OperationDefinition(node) => node.location(),
+            Definition::FragmentDefinition(node) => node.location(),
+            Definition::DirectiveDefinition(node) => node.location(),
+            Definition::SchemaDefinition(node) => node.location(),
+            Definition::ScalarTypeDefinition(node) => node.location(),
+            Definition::ObjectTypeDefinition(node) => node.location(),
+            Definition::InterfaceTypeDefinition(node) => node.location(),
+            Definition::UnionTypeDefinition(node) => node.location(),
+            Definition::EnumTypeDefinition(node) => node.location(),
+            Definition::InputObjectTypeDefinition(node) => node.location(),
+            Definition::SchemaExtension(node) => node.location(),
+            Definition::ScalarTypeExtension(node) => node.location(),
+            Definition::ObjectTypeExtension(node) => node.location(),
+            Definition::InterfaceTypeExtension(node) => node.location(),
+            Definition::UnionTypeExtension(node) => node.location(),
+            Definition::EnumTypeExtension(node) => node.location(),
+            Definition::InputObjectTypeExtension(node) => node.location(),
+        }
+    }
+
+    /// The kind of the type that is defined or extended, if one is.
+    pub fn type_kind(&self) -> Option<TypeKind>
+        ensures { result ≡ kind_of self.now }
+    {
+        match self {
+            Definition::OperationDefinition(_)
+            | Definition::FragmentDefinition(_)
+            | Definition::DirectiveDefinition(_)
+            | Definition::SchemaDefinition(_)
+            | Definition::SchemaExtension(_) => None,
+            Definition::ScalarTypeDefinition(_) | Definition::ScalarTypeExtension(_) => {
+                Some(TypeKind::Scalar)
+            }
+            Definition::ObjectTypeDefinition(_) | Definition::ObjectTypeExtension(_) => {
+                Some(TypeKind::Object)
+            }
+            Definition::InterfaceTypeDefinition(_) | Definition::InterfaceTypeExtension(_) => {
+                Some(TypeKind::Interface)
+            }
+            Definition::UnionTypeDefinition(_) | Definition::UnionTypeExtension(_) => {
+                Some(TypeKind::Union)
+            }
+            Definition::EnumTypeDefinition(_) | Definition::EnumTypeExtension(_) => {
+                Some(TypeKind::Enum)
+            }
+            Definition::InputObjectTypeDefinition(_) | Definition::InputObjectTypeExtension(_) =>
+                Some(TypeKind::InputObject),
+        }
+    }
+
+    /// What a message calls the definition, as `an object type extension`.
+    pub fn describe(&self) -> &'static str
+        ensures { result.now ≡ definition_text self.now }
+    {
+        match self {
+            Definition::OperationDefinition(_) => "an operation definition",
+            Definition::FragmentDefinition(_) => "a fragment definition",
+            Definition::DirectiveDefinition(_) => "a directive definition",
+            Definition::SchemaDefinition(_) => "a schema definition",
+            Definition::ScalarTypeDefinition(_) => "a scalar type definition",
+            Definition::ObjectTypeDefinition(_) => "an object type definition",
+            Definition::InterfaceTypeDefinition(_) => "an interface type definition",
+            Definition::UnionTypeDefinition(_) => "a union type definition",
+            Definition::EnumTypeDefinition(_) => "an enum type definition",
+            Definition::InputObjectTypeDefinition(_) => "an input object type definition",
+            Definition::SchemaExtension(_) => "a schema extension",
+            Definition::ScalarTypeExtension(_) => "a scalar type extension",
+            Definition::ObjectTypeExtension(_) => "an object type extension",
+            Definition::InterfaceTypeExtension(_) => "an interface type extension",
+            Definition::UnionTypeExtension(_) => "a union type extension",
+            Definition::EnumTypeExtension(_) => "an enum type extension",
+            Definition::InputObjectTypeExtension(_) => "an input object type extension",
+        }
+    }
+}

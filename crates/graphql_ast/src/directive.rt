@@ -1,0 +1,56 @@
+//! Arguments and applied directives: GraphQL specification of October 2021, sections 2.6 and 2.12.
+ghost use Rattle.std.specs.Prelude.{◌≡◌, [], ◌∷◌, ◌++◌, OnOk, OnErr};
+
+use crate::collections::items::Items;
+use crate::name::Name;
+use crate::node::Node;
+use crate::value::Value;
+use std::alloc::{AllocError, Global};
+use std::ops::Deref;
+
+/// An argument: a name with a value.
+#[derive(Drop, PartialEq, Eq, Hash, Clone)]
+pub struct Argument {
+    pub name: Name,
+    pub value: Node<Value>,
+}
+
+/// An applied directive.
+#[derive(Drop, PartialEq, Eq, Hash, Clone)]
+pub struct Directive {
+    pub name: Name,
+    pub arguments: Items<Node<Argument>>,
+}
+
+/// The directives applied to a definition, in order.
+#[derive(Drop, PartialEq, Eq, Hash, Clone)]
+pub struct DirectiveList(pub Items<Node<Directive>>);
+
+impl DirectiveList {
+    /// No directive.
+    pub fn new(alloc: Global) -> DirectiveList
+        ensures { result.0 ≡ [] }
+    {
+        DirectiveList(Items::new(alloc))
+    }
+
+    /// Adds a directive at the end. After want of memory the list is as it was.
+    pub fn push(&mut self, directive: Node<Directive>) -> Result<(), AllocError>
+        ensures ok { OnOk result (self.new.0 ≡ self.old.0 ++ directive ∷ []) }
+        ensures err { OnErr result (self.new ≡ self.old) }
+    {
+        self.0.push(directive)
+    }
+}
+
+impl Deref for DirectiveList {
+    type Target = Items<Node<Directive>>;
+
+    ghost deref_gives = { λ list items. items ≡ list.0 };
+
+    fn deref(&self) -> &Items<Node<Directive>>
+        ensures { result.now ≡ self.now.0 }
+    {
+        &self.0
+    }
+}

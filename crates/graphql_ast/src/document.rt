@@ -1,0 +1,32 @@
+//! Documents: GraphQL specification of October 2021, section 2.2.
+ghost use Rattle.std.specs.Prelude.{◌≡◌, [], IfOk};
+
+use crate::collections::items::Items;
+use crate::collections::table::Table;
+use crate::definition::Definition;
+use crate::source::SourceMap;
+use std::alloc::Global;
+
+/// The definitions of a document, in order, and the files that they come from.
+///
+/// Documents are equal where their definitions are: the sources are left out.
+#[derive(Drop, Clone)]
+#[derive_where(PartialEq, Eq)]
+pub struct Document {
+    #[derive_where(skip)]
+    pub sources: SourceMap,
+    pub definitions: Items<Definition>,
+}
+
+impl Document {
+    /// A document without definitions and sources.
+    pub fn new(alloc: Global) -> Document
+        ensures definitions { result.definitions ≡ [] }
+        ensures sources { result.sources ≡ [] }
+    {
+        Document {
+            sources: Table::new(alloc),
+            definitions: Items::new(alloc),
+        }
+    }
+}

@@ -1,0 +1,38 @@
+//! Operations and fragments: GraphQL specification of October 2021, sections 2.3, 2.8 and 2.10.
+
+use crate::collections::items::Items;
+use crate::directive::DirectiveList;
+use crate::name::{Name, NamedType};
+use crate::node::Node;
+use crate::operation_type::OperationType;
+use crate::selection::Selection;
+use crate::type_reference::Type;
+use crate::value::Value;
+
+/// A query, mutation or subscription, anonymous where it has no name.
+#[derive(Drop, PartialEq, Eq, Hash, Clone)]
+pub struct OperationDefinition {
+    pub operation_type: OperationType,
+    pub name: Option<Name>,
+    pub variables: Items<Node<VariableDefinition>>,
+    pub directives: DirectiveList,
+    pub selection_set: Items<Selection>,
+}
+
+/// A variable of an operation.
+#[derive(Drop, PartialEq, Eq, Hash, Clone)]
+pub struct VariableDefinition {
+    pub name: Name,
+    pub ty: Node<Type>,
+    pub default_value: Option<Node<Value>>,
+    pub directives: DirectiveList,
+}
+
+/// A named fragment.
+#[derive(Drop, PartialEq, Eq, Hash, Clone)]
+pub struct FragmentDefinition {
+    pub name: Name,
+    pub type_condition: NamedType,
+    pub directives: DirectiveList,
+    pub selection_set: Items<Selection>,
+}

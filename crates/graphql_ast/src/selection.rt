@@ -1,0 +1,82 @@
+//! Selections: GraphQL specification of October 2021, sections 2.4 to 2.8.
+ghost use Rattle.std.specs.Prelude.{◌≡◌, IfOk};
+
+use crate::collections::items::Items;
+use crate::directive::{Argument, DirectiveList};
+use crate::name::{Name, NamedType};
+use crate::node::Node;
+use std::alloc::AllocError;
+
+/// One entry of a selection set.
+#[cycle(selection)]
+#[derive(Drop, PartialEq, Eq, Hash)]
+pub enum Selection {
+    Field(Node<Field>),
+    FragmentSpread(Node<FragmentSpread>),
+    InlineFragment(Node<InlineFragment>),
+}
+
+/// A selected field.
+#[cycle(selection)]
+#[derive(Drop, PartialEq, Eq, Hash)]
+pub struct Field {
+    pub alias: Option<Name>,
+    pub name: Name,
+    pub arguments: Items<Node<Argument>>,
+    pub directives: DirectiveList,
+    pub selection_set: Items<Selection>,
+}
+
+/// The selections of a named fragment.
+#[derive(Drop, PartialEq, Eq, Hash, Clone)]
+pub struct FragmentSpread {
+    pub fragment_name: Name,
+    pub directives: DirectiveList,
+}
+
+/// Selections under a type condition, if there is one, and directives of their own.
+#[cycle(selection)]
+#[derive(Drop, PartialEq, Eq, Hash)]
+pub struct InlineFragment {
+    pub type_condition: Option<NamedType>,
+    pub directives: DirectiveList,
+    pub selection_set: Items<Selection>,
+}
+
+impl Clone for Selection {
+    ghost is_clone = { λ a b. b ≡ a };
+
+    fn clone(&self) -> Result<Selection, AllocError> {
+        match self {
+            Selection::Field(node) => Ok(Selection::Field(node.clone()?)),
+            Selection::FragmentSpread(node) => Ok(Selection::FragmentSpread(node.clone()?)),
+            Selection::InlineFragment(node) => Ok(Selection::InlineFragment(node.clone()?)),
+        }
+    }
+}
+
+impl Clone for Field {
+    ghost is_clone = { λ a b. b ≡ a };
+
+    fn clone(&self) -> Result<Field, AllocError> {
+        Ok(Field {
+            alias: self.alias.clone()?,
+            name: self.name.clone()?,
+            arguments: self.arguments.clone()?,
+            directives: self.directives.clone()?,
+            selection_set: self.selection_set.clone()?,
+        })
+    }
+}
+
+impl Clone for InlineFragment {
+    ghost is_clone = { λ a b. b ≡ a };
+
+    fn clone(&self) -> Result<InlineFragment, AllocError> {
+        Ok(InlineFragment {
+            type_condition: self.type_condition.clone()?,
+            directives: self.directives.clone()?,
+            selection_set: self.selection_set.clone()?,
+        })
+    }
+}

@@ -1,0 +1,53 @@
+//! References to types: GraphQL specification of October 2021, section 2.11.
+ghost use Rattle.std.specs.Prelude.{◌≡◌, IfOk, ◌↔◌, IsTrue};
+
+use crate::collections::boxed::Boxed;
+use crate::name::NamedType;
+use std::alloc::AllocError;
+
+/// A reference to a type: a name, or a list of a type, either of which may be non-null.
+#[derive(Drop, PartialEq, Eq, Hash)]
+pub enum Type {
+    Named(NamedType),
+    NonNullNamed(NamedType),
+    List(Boxed<Type>),
+    NonNullList(Boxed<Type>),
+}
+
+impl Type {
+    ghost use Rattle.graphql_ast.specs.TypeReferences.{inner_name, is_required};
+
+    /// The name inside all lists.
+    pub fn inner_named_type(&self) -> &NamedType
+        ensures { result.now ≡ inner_name self.now }
+    {
+        match self {
+            Type::Named(name) => name,
+            Type::NonNullNamed(name) => name,
+            Type::List(inner) => inner.inner_named_type(),
+            Type::NonNullList(inner) => inner.inner_named_type(),
+        }
+    }
+
+    /// Whether null is no value of the type.
+    pub fn is_non_null(&self) -> bool
+        ensures { result ≡ is_required self.now }
+    {
+        matches!(self, Type::NonNullNamed(_) | Type::NonNullList(_))
+    }
+}
+
+impl Clone for Type {
+    ghost is_clone = { λ a b. b ≡ a };
+
+    fn clone(&self) -> Result<Type, AllocError> {
+        match self {
+            Type::Named(name) => Ok(Type::Named(name.clone()?)),
+            Type::NonNullNamed(name) => Ok(Type::NonNullNamed(name.clone()?)),
+            Type::List(inner) => Ok(Type::List(inner.same_allocator((**inner).clone()?)?)),
+            Type::NonNullList(inner) => Ok(Type::NonNullList(inner.same_allocator(
+                (**inner).clone()?,
+            )?)),
+        }
+    }
+}

@@ -1,0 +1,168 @@
+//! Definitions and extensions of the type system: GraphQL specification of October 2021, section 3.
+
+use crate::collections::items::Items;
+use crate::directive::DirectiveList;
+use crate::directive_location::DirectiveLocation;
+use crate::name::{Name, NamedType};
+use crate::node::Node;
+use crate::node_str::NodeStr;
+use crate::operation_type::OperationType;
+use crate::type_reference::Type;
+use crate::value::Value;
+
+/// A field of an object or interface type (section 3.6).
+#[derive(Drop, PartialEq, Eq, Hash, Clone)]
+pub struct FieldDefinition {
+    pub description: Option<NodeStr>,
+    pub name: Name,
+    pub arguments: Items<Node<InputValueDefinition>>,
+    pub ty: Type,
+    pub directives: DirectiveList,
+}
+
+/// An argument of a field or directive (section 3.6.1), or a field of an input object type (section 3.10).
+#[derive(Drop, PartialEq, Eq, Hash, Clone)]
+pub struct InputValueDefinition {
+    pub description: Option<NodeStr>,
+    pub name: Name,
+    pub ty: Node<Type>,
+    pub default_value: Option<Node<Value>>,
+    pub directives: DirectiveList,
+}
+
+/// A value of an enum type (section 3.9).
+#[derive(Drop, PartialEq, Eq, Hash, Clone)]
+pub struct EnumValueDefinition {
+    pub description: Option<NodeStr>,
+    pub value: Name,
+    pub directives: DirectiveList,
+}
+
+/// The definition of a directive (section 3.13).
+#[derive(Drop, PartialEq, Eq, Hash, Clone)]
+pub struct DirectiveDefinition {
+    pub description: Option<NodeStr>,
+    pub name: Name,
+    pub arguments: Items<Node<InputValueDefinition>>,
+    pub repeatable: bool,
+    pub locations: Items<DirectiveLocation>,
+}
+
+/// The definition of the schema, which names its root types (section 3.3).
+#[derive(Drop, PartialEq, Eq, Hash, Clone)]
+pub struct SchemaDefinition {
+    pub description: Option<NodeStr>,
+    pub directives: DirectiveList,
+    pub root_operations: Items<Node<(OperationType, NamedType)>>,
+}
+
+/// The definition of a scalar type (section 3.5).
+#[derive(Drop, PartialEq, Eq, Hash, Clone)]
+pub struct ScalarTypeDefinition {
+    pub description: Option<NodeStr>,
+    pub name: Name,
+    pub directives: DirectiveList,
+}
+
+/// The definition of an object type (section 3.6).
+#[derive(Drop, PartialEq, Eq, Hash, Clone)]
+pub struct ObjectTypeDefinition {
+    pub description: Option<NodeStr>,
+    pub name: Name,
+    pub implements_interfaces: Items<Name>,
+    pub directives: DirectiveList,
+    pub fields: Items<Node<FieldDefinition>>,
+}
+
+/// The definition of an interface type (section 3.7).
+#[derive(Drop, PartialEq, Eq, Hash, Clone)]
+pub struct InterfaceTypeDefinition {
+    pub description: Option<NodeStr>,
+    pub name: Name,
+    pub implements_interfaces: Items<Name>,
+    pub directives: DirectiveList,
+    pub fields: Items<Node<FieldDefinition>>,
+}
+
+/// The definition of a union type (section 3.8).
+#[derive(Drop, PartialEq, Eq, Hash, Clone)]
+pub struct UnionTypeDefinition {
+    pub description: Option<NodeStr>,
+    pub name: Name,
+    pub directives: DirectiveList,
+    pub members: Items<NamedType>,
+}
+
+/// The definition of an enum type (section 3.9).
+#[derive(Drop, PartialEq, Eq, Hash, Clone)]
+pub struct EnumTypeDefinition {
+    pub description: Option<NodeStr>,
+    pub name: Name,
+    pub directives: DirectiveList,
+    pub values: Items<Node<EnumValueDefinition>>,
+}
+
+/// The definition of an input object type (section 3.10).
+#[derive(Drop, PartialEq, Eq, Hash, Clone)]
+pub struct InputObjectTypeDefinition {
+    pub description: Option<NodeStr>,
+    pub name: Name,
+    pub directives: DirectiveList,
+    pub fields: Items<Node<InputValueDefinition>>,
+}
+
+/// An extension of the schema (section 3.3.2).
+#[derive(Drop, PartialEq, Eq, Hash, Clone)]
+pub struct SchemaExtension {
+    pub directives: DirectiveList,
+    pub root_operations: Items<Node<(OperationType, NamedType)>>,
+}
+
+/// An extension of a scalar type (section 3.5.7).
+#[derive(Drop, PartialEq, Eq, Hash, Clone)]
+pub struct ScalarTypeExtension {
+    pub name: Name,
+    pub directives: DirectiveList,
+}
+
+/// An extension of an object type (section 3.6.3).
+#[derive(Drop, PartialEq, Eq, Hash, Clone)]
+pub struct ObjectTypeExtension {
+    pub name: Name,
+    pub implements_interfaces: Items<Name>,
+    pub directives: DirectiveList,
+    pub fields: Items<Node<FieldDefinition>>,
+}
+
+/// An extension of an interface type (section 3.7.1).
+#[derive(Drop, PartialEq, Eq, Hash, Clone)]
+pub struct InterfaceTypeExtension {
+    pub name: Name,
+    pub implements_interfaces: Items<Name>,
+    pub directives: DirectiveList,
+    pub fields: Items<Node<FieldDefinition>>,
+}
+
+/// An extension of a union type (section 3.8.1).
+#[derive(Drop, PartialEq, Eq, Hash, Clone)]
+pub struct UnionTypeExtension {
+    pub name: Name,
+    pub directives: DirectiveList,
+    pub members: Items<NamedType>,
+}
+
+/// An extension of an enum type (section 3.9.1).
+#[derive(Drop, PartialEq, Eq, Hash, Clone)]
+pub struct EnumTypeExtension {
+    pub name: Name,
+    pub directives: DirectiveList,
+    pub values: Items<Node<EnumValueDefinition>>,
+}
+
+/// An extension of an input object type (section 3.10.1).
+#[derive(Drop, PartialEq, Eq, Hash, Clone)]
+pub struct InputObjectTypeExtension {
+    pub name: Name,
+    pub directives: DirectiveList,
+    pub fields: Items<Node<InputValueDefinition>>,
+}
