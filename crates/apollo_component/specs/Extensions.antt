@@ -1,0 +1,40 @@
+-- Identities of extensions.
+use Rattle.std.specs.Prelude.{ℕ, Option, None, Some, Bool, true, false, ◌==◌}
+use Rattle.graphql_ast.specs.declared.source.SourceSpan.{SourceSpan}
+use Rattle.apollo_component.specs.declared.extension.ExtensionSource.{ExtensionSource}
+use Rattle.apollo_component.specs.declared.extension.ExtensionId.{ExtensionId}
+use Rattle.apollo_component.specs.declared.extension.ComponentOrigin.{ComponentOrigin}
+use Rattle.apollo_component.specs.declared.extension.ComponentOrigin.TheVariants.{Definition, Extension}
+
+-- the identity with this number, of an extension at this place
+abbrev pub extension_id : ℕ → Option SourceSpan → ExtensionId
+extension_id n place = record { number = n; location = place }
+
+abbrev pub number_of : ExtensionId → ℕ
+number_of e = e.number
+
+abbrev pub place_of : ExtensionId → Option SourceSpan
+place_of e = e.location
+
+-- the source whose next number is this one
+abbrev pub source_at : ℕ → ExtensionSource
+source_at n = record { next = n }
+
+abbrev pub next_number : ExtensionSource → ℕ
+next_number s = s.next
+
+-- the identity of an origin that is an extension
+abbrev pub id_of : ComponentOrigin → Option ExtensionId
+id_of Definition = None
+id_of (Extension e) = Some e
+
+-- identities are one by their numbers
+abbrev pub same_id : ExtensionId → ExtensionId → Bool
+same_id a b = number_of a == number_of b
+
+-- both are the definition, or extensions of one identity
+abbrev pub same_origin : ComponentOrigin → ComponentOrigin → Bool
+same_origin Definition Definition = true
+same_origin (Extension a) (Extension b) = same_id a b
+same_origin Definition (Extension b) = false
+same_origin (Extension a) Definition = false

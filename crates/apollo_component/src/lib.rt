@@ -1,0 +1,7 @@
+//! Components of a schema: the parts of its types, each with the definition or extension that it comes from.
+#![tactic(auto)]
+
+pub mod component;
+pub mod directive_list;
+pub mod extension;
+pub mod named;
