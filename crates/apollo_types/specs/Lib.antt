@@ -1,0 +1,3 @@
+pub mod ObjectWriteOut
+pub mod TypeWriteOut
+pub mod WriteOut

@@ -1,0 +1,126 @@
+//! Object types: GraphQL specification of October 2021, section 3.6.
+ghost use Rattle.std.specs.Prelude.{◌≡◌, ◌++◌, IfOk};
+
+use crate::write_out::{
+    add_name_origins, add_origins, add_value_origins, names_from, nodes_from, values_from,
+};
+use apollo_component::component::{Component, ComponentName};
+use apollo_component::directive_list::DirectiveList;
+use apollo_component::extension::{ComponentOrigin, ExtensionId};
+use graphql_ast::collections::key_set::KeySet;
+use graphql_ast::collections::table::Table;
+use graphql_ast::definition::Definition;
+use graphql_ast::directive as ast_directive;
+use graphql_ast::name::Name;
+use graphql_ast::node::Node;
+use graphql_ast::node_str::NodeStr;
+use graphql_ast::source::SourceSpan;
+use graphql_ast::type_system::{FieldDefinition, ObjectTypeDefinition, ObjectTypeExtension};
+use std::alloc::{AllocError, Global};
+
+/// An object type. Equality ignores places and origins, and the order of interfaces and fields.
+#[derive(Drop, PartialEq, Eq)]
+pub struct ObjectType {
+    pub description: Option<NodeStr>,
+    pub name: Name,
+    pub implements_interfaces: KeySet<ComponentName>,
+    pub directives: DirectiveList,
+    pub fields: Table<Name, Component<FieldDefinition>>,
+}
+
+impl Clone for ObjectType {
+    ghost is_clone = { λ a b. b ≡ a };
+
+    fn clone(&self) -> Result<ObjectType, AllocError> {
+        Ok(ObjectType {
+            description: self.description.clone()?,
+            name: self.name.clone()?,
+            implements_interfaces: self.implements_interfaces.clone()?,
+            directives: self.directives.clone()?,
+            fields: self.fields.clone()?,
+        })
+    }
+}
+
+impl ObjectType {
+    ghost use Rattle.apollo_types.specs.WriteOut.{identities};
+    ghost use Rattle.apollo_types.specs.ObjectWriteOut.{object_origins, object_definition, object_extension, write_object};
+
+    /// The identities of the extensions that the components come from, by first appearance among directives,
+    /// then interfaces, then fields. The error is want of memory.
+    pub fn extensions(&self, alloc: Global) -> Result<KeySet<ExtensionId>, AllocError>
+        ensures { IfOk result (λ ids. ids ≡ identities (object_origins self.now)) }
+    {
+        let mut ids = KeySet::new(alloc);
+        add_origins(&mut ids, self.directives.as_slice())?;
+        add_name_origins(&mut ids, self.implements_interfaces.as_slice())?;
+        add_value_origins(&mut ids, &self.fields)?;
+        Ok(ids)
+    }
+
+    /// The type as syntax: its definition, at this place, with the components of the definition, then an extension
+    /// for each identity of [`extensions`](ObjectType::extensions), with that identity's components and place. Each
+    /// list is in the type's own order. The error is want of memory.
+    pub fn to_ast(
+        &self,
+        alloc: Global,
+        location: Option<SourceSpan>,
+    ) -> Result<Vec<Definition>, AllocError>
+        ensures { IfOk result (λ written. written.items ≡ write_object self.now location) }
+    {
+        let ids = self.extensions(alloc)?;
+        let mut written = Vec::new(alloc);
+        written.push(self.definition(alloc, location)?)?;
+        for id in ids.as_slice() {
+            written.push(self.extension(alloc, *id)?)?;
+        }
+        Ok(written)
+    }
+
+    fn definition(
+        &self,
+        alloc: Global,
+        location: Option<SourceSpan>,
+    ) -> Result<Definition, AllocError>
+        ensures { IfOk result (λ written. written ≡ object_definition self.now location) }
+    {
+        let origin = ComponentOrigin::Definition;
+        let definition = ObjectTypeDefinition {
+            description: self.description.clone()?,
+            name: self.name.clone()?,
+            implements_interfaces: names_from(
+                alloc,
+                self.implements_interfaces.as_slice(),
+                origin,
+            )?,
+            directives: ast_directive::DirectiveList(nodes_from(
+                alloc,
+                self.directives.as_slice(),
+                origin,
+            )?),
+            fields: values_from(alloc, &self.fields, origin)?,
+        };
+        Ok(Definition::ObjectTypeDefinition(Node::new_opt_location(alloc, definition, location)?))
+    }
+
+    fn extension(&self, alloc: Global, id: ExtensionId) -> Result<Definition, AllocError>
+        ensures { IfOk result (λ written. written ≡ object_extension self.now id) }
+    {
+        let origin = ComponentOrigin::Extension(id);
+        let extension = ObjectTypeExtension {
+            name: self.name.clone()?,
+            implements_interfaces: names_from(
+                alloc,
+                self.implements_interfaces.as_slice(),
+                origin,
+            )?,
+            directives: ast_directive::DirectiveList(nodes_from(
+                alloc,
+                self.directives.as_slice(),
+                origin,
+            )?),
+            fields: values_from(alloc, &self.fields, origin)?,
+        };
+        Ok(Definition::ObjectTypeExtension(id.same_location(alloc, extension)?))
+    }
+}

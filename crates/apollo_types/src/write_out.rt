@@ -1,0 +1,123 @@
+//! The parts of the write-out that the kinds of types share.
+ghost use Rattle.std.specs.Prelude.{◌≡◌, List, [], ◌∷◌, ◌++◌, map, IfOk, OnOk};
+ghost use Rattle.apollo_component.specs.Extensions.{same_origin};
+ghost use Rattle.apollo_component.specs.declared.extension.ComponentOrigin.{ComponentOrigin as Origin};
+ghost use Rattle.graphql_ast.specs.Tables.{values_of};
+ghost use Rattle.apollo_types.specs.WriteOut.{origin_of, name_origin_of, identities, nodes_of_origin, names_of_origin};
+
+use apollo_component::component::{Component, ComponentName};
+use apollo_component::extension::{ComponentOrigin, ExtensionId};
+use apollo_component::named::add_key;
+use graphql_ast::collections::items::Items;
+use graphql_ast::collections::key_set::KeySet;
+use graphql_ast::collections::table::Table;
+use graphql_ast::name::Name;
+use graphql_ast::node::Node;
+use std::alloc::{AllocError, Global};
+
+/// Adds the identity of an origin, if it is an extension and new.
+fn add_origin(ids: &mut KeySet<ExtensionId>, origin: ComponentOrigin) -> Result<(), AllocError>
+    ensures { OnOk result ((os : List Origin) → ids.old ≡ identities os → ids.new ≡ identities (os ++ origin ∷ [])) }
+{
+    if let ComponentOrigin::Extension(id) = origin {
+        add_key(ids, id)?;
+    }
+    Ok(())
+}
+
+/// Adds the identities of components, in order.
+pub fn add_origins<T>(
+    ids: &mut KeySet<ExtensionId>,
+    components: &[Component<T>],
+) -> Result<(), AllocError>
+    ensures { OnOk result ((os : List Origin) → ids.old ≡ identities os → ids.new ≡ identities (os ++ map origin_of components.now)) }
+{
+    for component in components {
+        add_origin(ids, component.origin)?;
+    }
+    Ok(())
+}
+
+/// Adds the identities of names, in order.
+pub fn add_name_origins(
+    ids: &mut KeySet<ExtensionId>,
+    names: &[ComponentName],
+) -> Result<(), AllocError>
+    ensures { OnOk result ((os : List Origin) → ids.old ≡ identities os → ids.new ≡ identities (os ++ map name_origin_of names.now)) }
+{
+    for name in names {
+        add_origin(ids, name.origin)?;
+    }
+    Ok(())
+}
+
+/// Adds the identities of a table's components, in order.
+pub fn add_value_origins<T>(
+    ids: &mut KeySet<ExtensionId>,
+    table: &Table<Name, Component<T>>,
+) -> Result<(), AllocError>
+    ensures { OnOk result ((os : List Origin) → ids.old ≡ identities os → ids.new ≡ identities (os ++ map origin_of (values_of table.now))) }
+{
+    for component in table.values() {
+        add_origin(ids, component.origin)?;
+    }
+    Ok(())
+}
+
+/// Whether two origins are one.
+fn is_same(a: ComponentOrigin, b: ComponentOrigin) -> bool
+    ensures { result ≡ same_origin a b }
+{
+    a == b
+}
+
+/// The nodes of the components of one origin, in order.
+pub fn nodes_from<T: Drop>(
+    alloc: Global,
+    components: &[Component<T>],
+    origin: ComponentOrigin,
+) -> Result<Items<Node<T>>, AllocError>
+    ensures { IfOk result (λ nodes. nodes ≡ nodes_of_origin origin components.now) }
+{
+    let mut nodes = Items::new(alloc);
+    for component in components {
+        if is_same(origin, component.origin) {
+            nodes.push(component.node.clone()?)?;
+        }
+    }
+    Ok(nodes)
+}
+
+/// The nodes of the components of a table that are of one origin, in order.
+pub fn values_from<T: Drop>(
+    alloc: Global,
+    table: &Table<Name, Component<T>>,
+    origin: ComponentOrigin,
+) -> Result<Items<Node<T>>, AllocError>
+    ensures { IfOk result (λ nodes. nodes ≡ nodes_of_origin origin (values_of table.now)) }
+{
+    let mut nodes = Items::new(alloc);
+    for component in table.values() {
+        if is_same(origin, component.origin) {
+            nodes.push(component.node.clone()?)?;
+        }
+    }
+    Ok(nodes)
+}
+
+/// The names of one origin, in order.
+pub fn names_from(
+    alloc: Global,
+    names: &[ComponentName],
+    origin: ComponentOrigin,
+) -> Result<Items<Name>, AllocError>
+    ensures { IfOk result (λ kept. kept ≡ names_of_origin origin names.now) }
+{
+    let mut kept = Items::new(alloc);
+    for name in names {
+        if is_same(origin, name.origin) {
+            kept.push(name.name.clone()?)?;
+        }
+    }
+    Ok(kept)
+}
