@@ -1,0 +1,50 @@
+-- Extensions that are folded one after another.
+use Rattle.std.proofs.Common.{◌≡◌, ℕ, ◌+◌, ◌<◌, ◌≤◌, get_or, take, drop, List, [], ◌∷◌, ◌++◌, length, map, filter, refl, sym, ap, ◌∙◌, append_assoc, length-append, arith}
+use Rattle.std.specs.List.{filter_map, enumerate_from}
+use Rattle.std.proofs.lemmas.List.{map-append, take_more, take-append-drop}
+use Rattle.std.proofs.lemmas.List.Elements.{filter-append, filter_map-append}
+use Rattle.graphql_ast.specs.declared.type_kind.TypeKind.{TypeKind}
+use Rattle.graphql_ast.specs.declared.definition.Definition.{Definition}
+use Rattle.apollo_types.specs.declared.extended_type.ExtendedType.{ExtendedType}
+use Rattle.apollo_schema.specs.TypeParts.{TypePart, TypeBody, ObjectBody, TypeItem, item_of, items_of, extended_part, extended_parts, body_kind, kind_of}
+use Rattle.apollo_schema.specs.DefinitionList.{same_kind, of_kind}
+use Rattle.apollo_schema.specs.TypeMeaning.{Sourced, type_at, type_from, extension_part, numbered}
+use Rattle.apollo_schema.specs.TypeKinds.{type_kind}
+
+-- numbers go on
+pub enumerate_from-append : {X : Type 0} (n : ℕ) (xs ys : List X) → enumerate_from n (xs ++ ys) ≡ enumerate_from n xs ++ enumerate_from (n + length xs) ys
+enumerate_from-append n [] ys = grind arith
+enumerate_from-append n (x ∷ xs) ys = grind (arith, enumerate_from-append (n + 1) xs ys)
+
+-- more extensions have the next numbers
+pub numbered-more : (done : List Sourced) (start : ℕ) (ps qs : List TypePart)
+    → done ++ map extension_part (numbered start (ps ++ qs)) ≡ (done ++ map extension_part (numbered start ps)) ++ map extension_part (numbered (start + length ps) qs)
+numbered-more done start ps qs =
+    rw (enumerate_from-append start ps qs, map-append) (sym (append_assoc done (map extension_part (numbered start ps)) (map extension_part (numbered (start + length ps) qs))))
+
+pub extended_parts-append : (xs ys : List Definition) → extended_parts (xs ++ ys) ≡ extended_parts xs ++ extended_parts ys
+extended_parts-append xs ys = ap (filter_map extended_part) (filter_map-append item_of xs ys) ∙ filter_map-append extended_part (items_of xs) (items_of ys)
+
+-- the extensions of a kind among one more definition
+module _ (k : TypeKind) (xs : List Definition) (i : ℕ) (x : Definition) (lt : i < length xs) (is : x ≡ get_or xs i x) where
+  pub of_kind-turn : of_kind k (extended_parts (take (i + 1) xs)) ≡ of_kind k (extended_parts (take i xs)) ++ of_kind k (extended_parts (x ∷ []))
+  of_kind-turn =
+      ap (λ l. of_kind k (extended_parts l)) (take_more xs i x lt ∙ ap (λ y. take i xs ++ y ∷ []) (sym is))
+      ∙ ap (of_kind k) (extended_parts-append (take i xs) (x ∷ []))
+      ∙ filter-append (λ p. same_kind k (kind_of p)) (extended_parts (take i xs)) (extended_parts (x ∷ []))
+
+  -- those so far and this one are no more than all
+  pub of_kind-past : length (of_kind k (extended_parts (take i xs))) + length (of_kind k (extended_parts (x ∷ []))) ≤ length (of_kind k (extended_parts xs))
+  of_kind-past =
+      let whole : of_kind k (extended_parts (take (i + 1) xs)) ++ of_kind k (extended_parts (drop (i + 1) xs)) ≡ of_kind k (extended_parts xs) =
+        sym (filter-append (λ p. same_kind k (kind_of p)) (extended_parts (take (i + 1) xs)) (extended_parts (drop (i + 1) xs)))
+        ∙ ap (of_kind k) (sym (extended_parts-append (take (i + 1) xs) (drop (i + 1) xs)) ∙ ap extended_parts (take-append-drop (i + 1) xs)) in
+      omega (arith, ap length of_kind-turn, length-append (of_kind k (extended_parts (take i xs))) (of_kind k (extended_parts (x ∷ []))), ap length whole,
+        length-append (of_kind k (extended_parts (take (i + 1) xs))) (of_kind k (extended_parts (drop (i + 1) xs))))
+
+-- the type of parts has the kind of the head
+pub type_kind-from : (head : TypePart) (done : List Sourced) → type_kind (type_from head done) ≡ kind_of head
+type_kind-from head done = by head.body
+  where
+    by : (b : TypeBody) → type_kind (type_at b head done) ≡ body_kind b
+    by (ObjectBody interfaces fields) = refl

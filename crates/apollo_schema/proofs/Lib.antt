@@ -1,0 +1,3 @@
+pub mod FoldingLemmas
+pub mod ObjectParts
+pub mod RefusalLemmas

@@ -1,0 +1,11 @@
+pub mod BuilderStands
+pub mod DefinitionList
+pub mod Places
+pub mod Prefixes
+pub mod Refusals
+pub mod SchemaMeaning
+pub mod SchemaWriteOut
+pub mod Stands
+pub mod TypeKinds
+pub mod TypeMeaning
+pub mod TypeParts

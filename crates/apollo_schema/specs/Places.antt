@@ -1,0 +1,45 @@
+-- The order in which extensions are folded, by places of the whole list.
+use Rattle.std.specs.Prelude.{ℕ, Bool, false, ◌==◌, ◌&&◌, max, List, filter, map, length, Option}
+use Rattle.std.specs.List.{filter_map, flat_map, enumerate_from, range_with_len}
+use Rattle.std.specs.Option.{option_map, option_map_or}
+use Rattle.std.specs.Map.{lookup}
+use Rattle.apollo_schema.specs.TypeParts.{TypePart, TypeItem, defined_part, extended_part, kind_of, key_of, same}
+use Rattle.apollo_schema.specs.DefinitionList.{same_kind}
+
+-- a part and its place in the list
+abbrev pub Placed : Type 0
+Placed = ℕ × TypePart
+
+abbrev pub placed_by : (TypeItem → Option TypePart) → ℕ × TypeItem → Option Placed
+placed_by which e = option_map (λ p. (e.0, p)) (which e.1)
+
+-- the definitions, and the extensions, with their places
+abbrev pub definition_places : List TypeItem → List Placed
+definition_places xs = filter_map (placed_by defined_part) (enumerate_from 0 xs)
+
+abbrev pub extension_places : List TypeItem → List Placed
+extension_places xs = filter_map (placed_by extended_part) (enumerate_from 0 xs)
+
+-- the first definition of a name
+abbrev pub first_place : List TypeItem → List ℕ → Option Placed
+first_place xs n = lookup (same n) (map (λ e. (key_of e.1, e)) (definition_places xs))
+
+-- an extension is folded if its name has a definition, and the first one has its kind
+abbrev pub is_folded : List TypeItem → Placed → Bool
+is_folded xs e = option_map_or (λ f. same_kind (kind_of f.1) (kind_of e.1)) (first_place xs (key_of e.1)) false
+
+-- when: at its own place or at that of the definition, whichever is later
+abbrev pub when : List TypeItem → Placed → ℕ
+when xs e = option_map_or (λ f. max e.0 f.0) (first_place xs (key_of e.1)) e.0
+
+-- the extensions that are folded at a moment, by their places
+abbrev pub folded_when : List TypeItem → ℕ → List Placed
+folded_when xs i = filter (λ e. is_folded xs e && (when xs e == i)) (extension_places xs)
+
+-- the extensions that are folded, by moment and then by place
+abbrev pub folding_order : List TypeItem → List Placed
+folding_order xs = flat_map (folded_when xs) (range_with_len 0 (length xs))
+
+-- the same, their places forgotten
+abbrev pub folded_in_order : List TypeItem → List TypePart
+folded_in_order xs = map (λ e. e.1) (folding_order xs)

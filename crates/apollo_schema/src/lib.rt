@@ -1,0 +1,7 @@
+//! Schemas, built from documents of the type system: GraphQL specification of October 2021, section 3.
+#![tactic(auto)]
+
+pub mod build_error;
+mod from_ast;
+pub mod schema;
+pub mod schema_builder;
