@@ -15,7 +15,7 @@ module _ {X : Type 0} (same : X → X → Bool) (laws : IsEquivalence same) wher
   list_any-filter_other n m (x ∷ xs) apart = by (same m x) refl (same n x) refl (list_any-filter_other n m xs apart)
     where
       by : (b : Bool) → same m x ≡ b → (c : Bool) → same n x ≡ c → list_any (same n) (filter (λ y. not (same m y)) xs) ≡ list_any (same n) xs
-        → list_any (same n) (cond (not b) (x ∷ filter (λ y. not (same m y)) xs) (filter (λ y. not (same m y)) xs)) ≡ (c || list_any (same n) xs)
+          → list_any (same n) (cond (not b) (x ∷ filter (λ y. not (same m y)) xs) (filter (λ y. not (same m y)) xs)) ≡ (c || list_any (same n) xs)
       by true p true q rest = absurd (true≢false (sym (laws.congr m x n p ∙ laws.symm x n ∙ q) ∙ laws.symm m n ∙ apart))
       by true p false q rest = rest
       by false p c q rest = ap (λ d. d || list_any (same n) (filter (λ y. not (same m y)) xs)) q ∙ ap (λ d. c || d) rest
@@ -35,11 +35,11 @@ module _ {X : Type 0} (same : X → X → Bool) (laws : IsEquivalence same) wher
   first_of_each-push_new (x ∷ xs) n none = by (same n x) refl none (first_of_each-push_new xs n)
     where
       by : (b : Bool) → same n x ≡ b → (b || list_any (same n) xs) ≡ false
-        → (list_any (same n) xs ≡ false → first_of_each same (xs ++ n ∷ []) ≡ first_of_each same xs ++ n ∷ [])
-        → first_of_each same ((x ∷ xs) ++ n ∷ []) ≡ first_of_each same (x ∷ xs) ++ n ∷ []
+          → (list_any (same n) xs ≡ false → first_of_each same (xs ++ n ∷ []) ≡ first_of_each same xs ++ n ∷ [])
+          → first_of_each same ((x ∷ xs) ++ n ∷ []) ≡ first_of_each same (x ∷ xs) ++ n ∷ []
       by true p h rest = cc
       by false p h rest =
-        ap (λ l. x ∷ filter (λ y. not (same x y)) l) (rest h) ∙ ap (λ l. x ∷ l) (filter-append (λ y. not (same x y)) (first_of_each same xs) (n ∷ [])
+          ap (λ l. x ∷ filter (λ y. not (same x y)) l) (rest h) ∙ ap (λ l. x ∷ l) (filter-append (λ y. not (same x y)) (first_of_each same xs) (n ∷ [])
           ∙ ap (λ b. filter (λ y. not (same x y)) (first_of_each same xs) ++ cond (not b) (n ∷ []) []) (laws.symm x n ∙ p))
 
   -- an old one is not
@@ -48,12 +48,12 @@ module _ {X : Type 0} (same : X → X → Bool) (laws : IsEquivalence same) wher
   first_of_each-push_old (x ∷ xs) n there = by (same n x) refl (list_any (same n) xs) refl there (first_of_each-push_new xs n) (first_of_each-push_old xs n)
     where
       by : (b : Bool) → same n x ≡ b → (c : Bool) → list_any (same n) xs ≡ c → (b || list_any (same n) xs) ≡ true
-        → (list_any (same n) xs ≡ false → first_of_each same (xs ++ n ∷ []) ≡ first_of_each same xs ++ n ∷ [])
-        → (list_any (same n) xs ≡ true → first_of_each same (xs ++ n ∷ []) ≡ first_of_each same xs)
-        → first_of_each same ((x ∷ xs) ++ n ∷ []) ≡ first_of_each same (x ∷ xs)
+          → (list_any (same n) xs ≡ false → first_of_each same (xs ++ n ∷ []) ≡ first_of_each same xs ++ n ∷ [])
+          → (list_any (same n) xs ≡ true → first_of_each same (xs ++ n ∷ []) ≡ first_of_each same xs)
+          → first_of_each same ((x ∷ xs) ++ n ∷ []) ≡ first_of_each same (x ∷ xs)
       by b p true q h new old = ap (λ l. x ∷ filter (λ y. not (same x y)) l) (old q)
       by true p false q h new old =
-        ap (λ l. x ∷ filter (λ y. not (same x y)) l) (new q) ∙ ap (λ l. x ∷ l) (filter-append (λ y. not (same x y)) (first_of_each same xs) (n ∷ [])
+          ap (λ l. x ∷ filter (λ y. not (same x y)) l) (new q) ∙ ap (λ l. x ∷ l) (filter-append (λ y. not (same x y)) (first_of_each same xs) (n ∷ [])
           ∙ ap (λ b. filter (λ y. not (same x y)) (first_of_each same xs) ++ cond (not b) (n ∷ []) []) (laws.symm x n ∙ p) ∙ append-nil (filter (λ y. not (same x y)) (first_of_each same xs)))
       by false p false q h new old = absurd (true≢false (sym h ∙ q))
 
@@ -72,6 +72,6 @@ insert_entry-last eq [] k v none = refl
 insert_entry-last {K} {V} eq (e ∷ es) k v none = by (eq k e.0) none (insert_entry-last eq es k v)
   where
     by : (b : Bool) → (b || list_any (λ e. eq k e.0) es) ≡ false → (list_any (λ e. eq k e.0) es ≡ false → insert_entry eq es k v ≡ es ++ (k, v) ∷ [])
-      → cond b ((e.0, v) ∷ es) (e ∷ insert_entry eq es k v) ≡ e ∷ (es ++ (k, v) ∷ [])
+        → cond b ((e.0, v) ∷ es) (e ∷ insert_entry eq es k v) ≡ e ∷ (es ++ (k, v) ∷ [])
     by true h rest = absurd (true≢false h)
     by false h rest = ap (λ l. e ∷ l) (rest h)

@@ -69,7 +69,10 @@ pub struct ExtensionId {
 
 impl ExtensionId {
     /// The next identity of the source, for the extension that this node holds. See [`ExtensionSource::draw`].
-    pub fn new<T>(source: &mut ExtensionSource, extension: &Node<T>) -> Result<ExtensionId, IdsSpent>
+    pub fn new<T>(
+        source: &mut ExtensionSource,
+        extension: &Node<T>,
+    ) -> Result<ExtensionId, IdsSpent>
         ensures drawn { IfOk result (λ id. (id ≡ extension_id (next_number source.old) extension.now.location) × (source.new ≡ source_at (next_number source.old + 1))) }
         ensures spent { OnErr result (next_number source.old ≡ 2 ^ 64 - 1) }
         ensures err { OnErr result (source.new ≡ source.old) }

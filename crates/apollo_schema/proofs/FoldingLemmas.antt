@@ -37,10 +37,15 @@ module _ (k : TypeKind) (xs : List Definition) (i : ℕ) (x : Definition) (lt : 
   pub of_kind-past : length (of_kind k (extended_parts (take i xs))) + length (of_kind k (extended_parts (x ∷ []))) ≤ length (of_kind k (extended_parts xs))
   of_kind-past =
       let whole : of_kind k (extended_parts (take (i + 1) xs)) ++ of_kind k (extended_parts (drop (i + 1) xs)) ≡ of_kind k (extended_parts xs) =
-        sym (filter-append (λ p. same_kind k (kind_of p)) (extended_parts (take (i + 1) xs)) (extended_parts (drop (i + 1) xs)))
-        ∙ ap (of_kind k) (sym (extended_parts-append (take (i + 1) xs) (drop (i + 1) xs)) ∙ ap extended_parts (take-append-drop (i + 1) xs)) in
-      omega (arith, ap length of_kind-turn, length-append (of_kind k (extended_parts (take i xs))) (of_kind k (extended_parts (x ∷ []))), ap length whole,
-        length-append (of_kind k (extended_parts (take (i + 1) xs))) (of_kind k (extended_parts (drop (i + 1) xs))))
+      sym (filter-append (λ p. same_kind k (kind_of p)) (extended_parts (take (i + 1) xs)) (extended_parts (drop (i + 1) xs)))
+      ∙ ap (of_kind k) (sym (extended_parts-append (take (i + 1) xs) (drop (i + 1) xs)) ∙ ap extended_parts (take-append-drop (i + 1) xs)) in
+      omega (
+        arith,
+        ap length of_kind-turn,
+        length-append (of_kind k (extended_parts (take i xs))) (of_kind k (extended_parts (x ∷ []))),
+        ap length whole,
+        length-append (of_kind k (extended_parts (take (i + 1) xs))) (of_kind k (extended_parts (drop (i + 1) xs))),
+      )
 
 -- the type of parts has the kind of the head
 pub type_kind-from : (head : TypePart) (done : List Sourced) → type_kind (type_from head done) ≡ kind_of head

@@ -5,6 +5,7 @@ pub mod Prefixes
 pub mod Refusals
 pub mod SchemaMeaning
 pub mod SchemaWriteOut
+pub mod Sources
 pub mod Stands
 pub mod TypeKinds
 pub mod TypeMeaning

@@ -94,13 +94,14 @@ fn fold_object(
 }
 
 /// The object type of a definition without its components.
-fn bare_object(
-    alloc: Global,
-    definition: &ObjectTypeDefinition,
-) -> Result<ObjectType, AllocError>
+fn bare_object(alloc: Global, definition: &ObjectTypeDefinition) -> Result<ObjectType, AllocError>
     ensures { IfOk result (λ ty. ty ≡ record {
-        description = definition.now.description; name = definition.now.name;
-        implements_interfaces = []; directives = record { 0 = [] }; fields = [] }) }
+      description = definition.now.description;
+      name = definition.now.name;
+      implements_interfaces = [];
+      directives = record { 0 = [] };
+      fields = [];
+    }) }
 {
     Ok(ObjectType {
         description: definition.description.clone()?,

@@ -3,5 +3,6 @@
 
 pub mod build_error;
 mod from_ast;
+pub mod laws;
 pub mod schema;
 pub mod schema_builder;

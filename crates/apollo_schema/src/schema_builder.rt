@@ -1,5 +1,19 @@
 //! The schema builder: documents go in, in any number and order of definitions, and a schema comes out.
-ghost use Rattle.std.specs.Prelude.{◌≡◌, ◌≢◌, ℕ, ◌+◌, ◌^◌, ◌≤◌, List, [], ◌∷◌, ◌++◌, length, map, filter_map, Err, OnOk, OnErr, IfOk, IfErr, Some, None, ◌↔◌, MatchResult};
+ghost use Rattle.std.specs.Prelude.{◌≡◌, ◌≢◌, ℕ, ◌+◌, ◌^◌, ◌≤◌, List, [], ◌∷◌, ◌++◌, length, map, Err, OnOk, OnErr, IfOk, IfErr, Some, ◌↔◌, MatchResult, if◌then◌else◌};
+ghost use Rattle.graphql_ast.specs.Tables.{lookup, insert_entry};
+ghost use Rattle.graphql_ast.specs.ArgumentsByName.{same_text};
+ghost use Rattle.graphql_ast.specs.declared.definition.Definition.{Definition as AnyDefinition};
+ghost use Rattle.apollo_component.specs.Extensions.{next_number, source_at};
+ghost use Rattle.apollo_component.specs.declared.extension.ComponentOrigin.TheVariants as origins;
+ghost use Rattle.apollo_schema.specs.TypeParts.{TypePart, TypeItem, Defined, Extended, item_of, items_of, definition_part, extended_parts, kind_of, same};
+ghost use Rattle.apollo_schema.specs.DefinitionList.{of_kind};
+ghost use Rattle.apollo_schema.specs.TypeMeaning.{type_from, extension_part, numbered};
+ghost use Rattle.apollo_schema.specs.SchemaMeaning.{by_text, MeansTypes};
+ghost use Rattle.apollo_schema.specs.Prefixes.{folded};
+ghost use Rattle.apollo_schema.specs.Refusals.{RefusedAs};
+ghost use Rattle.apollo_schema.specs.Stands.{parts_held, Stands};
+ghost use Rattle.apollo_schema.specs.Sources.{merged};
+ghost use Rattle.apollo_schema.specs.BuilderStands.{StandsFor, HasFailed, SpendsIds, sources_of};
 
 use crate::build_error::{BuildFailure, BuilderError};
 use crate::from_ast::{extend_type, extend_type_by_all, type_from_ast};
@@ -26,69 +40,161 @@ pub struct Tables {
     ids: ExtensionSource,
 }
 
-impl Tables {
-    fn new(alloc: Global) -> Tables {
-        Tables {
-            alloc,
-            sources: Table::new(alloc),
-            types: Table::new(alloc),
-            waiting: Table::new(alloc),
-            ids: ExtensionSource::new(),
-        }
+/// Takes out what waits under a name, and leaves nothing there.
+fn take_waiting(
+    alloc: Global,
+    waiting: &mut Table<Name, Items<Definition>>,
+    name: &Name,
+) -> Items<Definition>
+    ensures taken { extended_parts result ≡ parts_held (lookup (by_text name.now.text) waiting.old) }
+    ensures left { (n : List ℕ) → parts_held (lookup (by_text n) waiting.new)
+        ≡ (if same n name.now.text then [] else parts_held (lookup (by_text n) waiting.old)) }
+{
+    match waiting.get_mut(name) {
+        Some(extensions) => mem::replace(extensions, Items::new(alloc)),
+        None => Items::new(alloc),
     }
+}
 
-    /// Takes out what waits under a name.
-    fn take_waiting(&mut self, name: &Name) -> Items<Definition> {
-        match self.waiting.get_mut(name) {
-            Some(extensions) => mem::replace(extensions, Items::new(self.alloc)),
-            None => Items::new(self.alloc),
-        }
-    }
-
-    /// Lets an extension wait for the definition of its name.
-    fn wait(&mut self, name: &Name, extension: &Definition) -> Result<(), BuilderError> {
-        if let Some(extensions) = self.waiting.get_mut(name) {
-            extensions.push(extension.clone()?)?;
-            return Ok(());
-        }
-        let mut extensions = Items::new(self.alloc);
+/// Lets an extension wait for the definition of its name.
+fn wait(
+    alloc: Global,
+    waiting: &mut Table<Name, Items<Definition>>,
+    name: &Name,
+    extension: &Definition,
+) -> Result<(), BuilderError>
+    ensures waits { OnOk result ((n : List ℕ) → parts_held (lookup (by_text n) waiting.new)
+        ≡ (if same n name.now.text
+        then parts_held (lookup (by_text n) waiting.old) ++ extended_parts (extension.now ∷ [])
+        else parts_held (lookup (by_text n) waiting.old))) }
+    ensures refused { IfErr result (λ error. error ≡ BuilderError.Memory) }
+{
+    if let Some(extensions) = waiting.get_mut(name) {
         extensions.push(extension.clone()?)?;
-        self.waiting.insert(name.clone()?, extensions)?;
-        Ok(())
+        return Ok(());
     }
+    let mut extensions = Items::new(alloc);
+    extensions.push(extension.clone()?)?;
+    waiting.insert(name.clone()?, extensions)?;
+    Ok(())
+}
 
+/// The type of a definition with these extensions folded in, if it defines one.
+fn begin(
+    alloc: Global,
+    definition: &Definition,
+    extensions: &[Definition],
+    ids: &mut ExtensionSource,
+) -> Result<Option<ExtendedType>, BuilderError>
+    ensures made { IfOk result (λ ty. (p : TypePart) → definition_part definition.now ≡ Some p
+        → ty ≡ Some (type_from p ((origins.Definition, p) ∷ map extension_part (numbered (next_number ids.old) (of_kind (kind_of p) (extended_parts extensions.now)))))) }
+    ensures next { OnOk result ((p : TypePart) → definition_part definition.now ≡ Some p
+        → ids.new ≡ source_at (next_number ids.old + length (of_kind (kind_of p) (extended_parts extensions.now)))) }
+    ensures refused { IfErr result (λ error. RefusedAs error ((p : TypePart) → definition_part definition.now ≡ Some p
+        → 2 ^ 64 ≤ next_number ids.old + length (of_kind (kind_of p) (extended_parts extensions.now)))) }
+{
+    let Some(mut ty) = type_from_ast(alloc, definition)? else {
+        return Ok(None);
+    };
+    extend_type_by_all(&mut ty, extensions, ids)?;
+    Ok(Some(ty))
+}
+
+/// Puts a type under a name.
+fn put(
+    types: &mut Table<Name, ExtendedType>,
+    name: &Name,
+    ty: ExtendedType,
+) -> Result<(), BuilderError>
+    ensures put { OnOk result (types.new ≡ insert_entry same_text types.old name.now ty) }
+    ensures refused { IfErr result (λ error. error ≡ BuilderError.Memory) }
+{
+    types.insert(name.clone()?, ty)?;
+    Ok(())
+}
+
+impl Tables {
     /// Takes the definition of a type.
-    fn define(&mut self, name: &Name, definition: &Definition) -> Result<(), BuilderError> {
+    fn define(&mut self, name: &Name, definition: &Definition) -> Result<(), BuilderError>
+        ensures stands { OnOk result ((start : ℕ) (xs : List TypeItem) (p : TypePart) → item_of definition.now ≡ Some (Defined p) → p.name ≡ name.now
+            → Stands start xs self.old → Stands start (xs ++ Defined p ∷ []) self.new) }
+        ensures refused { IfErr result (λ error. RefusedAs error ((start : ℕ) (xs : List TypeItem) (p : TypePart) → item_of definition.now ≡ Some (Defined p) → p.name ≡ name.now
+            → Stands start xs self.old → 2 ^ 64 ≤ start + length (folded (xs ++ Defined p ∷ [])))) }
+        ensures sources { self.new.sources ≡ self.old.sources }
+    {
         if self.types.contains_key(name) {
             return Ok(());
         }
-        let Some(mut ty) = type_from_ast(self.alloc, definition)? else {
+        let extensions = take_waiting(self.alloc, &mut self.waiting, name);
+        let made = begin(self.alloc, definition, extensions.as_slice(), &mut self.ids)?;
+        let Some(ty) = made else {
             return Ok(());
         };
-        let extensions = self.take_waiting(name);
-        extend_type_by_all(&mut ty, extensions.as_slice(), &mut self.ids)?;
-        self.types.insert(name.clone()?, ty)?;
+        put(&mut self.types, name, ty)?;
         Ok(())
     }
 
     /// Takes an extension of a type.
-    fn extend(&mut self, name: &Name, extension: &Definition) -> Result<(), BuilderError> {
+    fn extend(&mut self, name: &Name, extension: &Definition) -> Result<(), BuilderError>
+        ensures stands { OnOk result ((start : ℕ) (xs : List TypeItem) (p : TypePart) → item_of extension.now ≡ Some (Extended p) → p.name ≡ name.now
+            → Stands start xs self.old → Stands start (xs ++ Extended p ∷ []) self.new) }
+        ensures refused { IfErr result (λ error. RefusedAs error ((start : ℕ) (xs : List TypeItem) (p : TypePart) → item_of extension.now ≡ Some (Extended p) → p.name ≡ name.now
+            → Stands start xs self.old → 2 ^ 64 ≤ start + length (folded (xs ++ Extended p ∷ [])))) }
+        ensures sources { self.new.sources ≡ self.old.sources }
+    {
         let Some(ty) = self.types.get_mut(name) else {
-            return self.wait(name, extension);
+            wait(self.alloc, &mut self.waiting, name, extension)?;
+            return Ok(());
         };
         extend_type(ty, extension, &mut self.ids)?;
         Ok(())
     }
 
-    /// Takes definitions in order.
-    fn take(&mut self, definitions: &[Definition]) -> Result<(), BuilderError> {
-        for definition in definitions {
-            match definition {
-                Definition::ObjectTypeDefinition(node) => self.define(&node.name, definition)?,
-                Definition::ObjectTypeExtension(node) => self.extend(&node.name, definition)?,
-                _ => {}
-            }
+    /// Takes a definition. One that neither defines nor extends a type is passed over.
+    fn take_one(&mut self, definition: &Definition) -> Result<(), BuilderError>
+        ensures stands { OnOk result ((start : ℕ) (xs : List TypeItem) → Stands start xs self.old → Stands start (xs ++ items_of (definition.now ∷ [])) self.new) }
+        ensures refused { IfErr result (λ error. RefusedAs error ((start : ℕ) (xs : List TypeItem) → Stands start xs self.old → 2 ^ 64 ≤ start + length (folded (xs ++ items_of (definition.now ∷ []))))) }
+        ensures sources { self.new.sources ≡ self.old.sources }
+    {
+        match definition {
+            Definition::ObjectTypeDefinition(node) => self.define(&node.name, definition)?,
+            Definition::ObjectTypeExtension(node) => self.extend(&node.name, definition)?,
+            _ => {}
         }
+        Ok(())
+    }
+
+    /// Takes definitions in order.
+    fn take(&mut self, definitions: &[Definition]) -> Result<(), BuilderError>
+        ensures stands { OnOk result ((start : ℕ) (xs : List TypeItem) → Stands start xs self.old → Stands start (xs ++ items_of definitions.now) self.new) }
+        ensures refused { IfErr result (λ error. RefusedAs error ((start : ℕ) (xs : List TypeItem) → Stands start xs self.old → 2 ^ 64 ≤ start + length (folded (xs ++ items_of definitions.now)))) }
+        ensures sources { self.new.sources ≡ self.old.sources }
+    {
+        for definition in definitions {
+            self.take_one(definition)?;
+        }
+        Ok(())
+    }
+
+    /// Takes sources in order. A later file of a number takes the place of the earlier.
+    fn take_sources(&mut self, sources: &SourceMap) -> Result<(), BuilderError>
+        ensures merged { OnOk result (self.new ≡ record self.old { sources = merged self.old.sources sources.now }) }
+        ensures refused { IfErr result (λ error. error ≡ BuilderError.Memory) }
+    {
+        for (file, source) in sources.iter() {
+            self.sources.insert(*file, source.clone()?)?;
+        }
+        Ok(())
+    }
+
+    /// Takes a document: its definitions, and then its sources.
+    fn take_document(&mut self, document: &Document) -> Result<(), BuilderError>
+        ensures stands { OnOk result ((start : ℕ) (xs : List TypeItem) → Stands start xs self.old → Stands start (xs ++ items_of document.now.definitions) self.new) }
+        ensures refused { IfErr result (λ error. RefusedAs error ((start : ℕ) (xs : List TypeItem) → Stands start xs self.old → 2 ^ 64 ≤ start + length (folded (xs ++ items_of document.now.definitions)))) }
+        ensures sources { OnOk result (self.new.sources ≡ merged self.old.sources document.now.sources) }
+    {
+        self.take(document.definitions.as_slice())?;
+        self.take_sources(&document.sources)?;
         Ok(())
     }
 }
@@ -100,34 +206,65 @@ pub enum State {
     Failed,
 }
 
-/// A builder of a schema.
+/// A builder of a schema: GraphQL specification of October 2021, section 3. Documents go in, in any number, and their
+/// definitions and extensions in any order.
+///
+/// The first definition of a name stays, and a later one is dropped. An extension before its definition waits for it.
+/// Definitions of anything but object types are passed over so far.
+///
+/// After a refusal the builder holds nothing more, and each later call answers `Failed`.
 #[derive(Drop)]
 pub struct SchemaBuilder {
     state: State,
 }
 
 impl SchemaBuilder {
-    /// A builder to which nothing was added. The error is want of memory.
-    pub fn new(alloc: Global) -> Result<SchemaBuilder, AllocError> {
+    /// A builder to which nothing was added, whose first extension has the number 0. The error is want of memory.
+    pub fn new(alloc: Global) -> Result<SchemaBuilder, AllocError>
+        ensures stands { IfOk result (StandsFor 0 []) }
+        ensures sources { IfOk result (λ builder. sources_of builder ≡ []) }
+    {
         Ok(SchemaBuilder {
-            state: State::Open(Tables::new(alloc)),
+            state: State::Open(Tables {
+                alloc,
+                sources: Table::new(alloc),
+                types: Table::new(alloc),
+                waiting: Table::new(alloc),
+                ids: ExtensionSource::new(),
+            }),
         })
     }
 
     /// Adds the definitions of a document, in order, and its sources.
-    pub fn add_ast(&mut self, document: &Document) -> Result<(), BuilderError> {
+    ///
+    /// `Memory` is want of memory; `ExtensionIds` comes only where the extensions folded so far pass the largest
+    /// number; `Failed` comes exactly after a refusal.
+    pub fn add_ast(&mut self, document: &Document) -> Result<(), BuilderError>
+        ensures stands { OnOk result ((start : ℕ) (xs : List AnyDefinition) → StandsFor start xs self.old → StandsFor start (xs ++ document.now.definitions) self.new) }
+        ensures sources { OnOk result (sources_of self.new ≡ merged (sources_of self.old) document.now.sources) }
+        ensures refused { OnErr result (HasFailed self.new) }
+        ensures failed { HasFailed self.old ↔ (result ≡ Err BuilderError.Failed) }
+        ensures spent { result ≡ Err BuilderError.ExtensionIds → (start : ℕ) (xs : List AnyDefinition) → StandsFor start xs self.old → SpendsIds start (xs ++ document.now.definitions) }
+    {
         let State::Open(tables) = &mut self.state else {
             return Err(BuilderError::Failed);
         };
-        if let Err(error) = tables.take(document.definitions.as_slice()) {
+        if let Err(error) = tables.take_document(document) {
             self.state = State::Failed;
             return Err(error);
         }
         Ok(())
     }
 
-    /// The schema of what was added.
-    pub fn build(self) -> Result<Schema, BuildFailure> {
+    /// The schema of what was added: each name's type is its first definition with its extensions folded in, wherever
+    /// they stand, and the types stand in the order of first definition.
+    ///
+    /// `Failed` comes exactly after a refusal.
+    pub fn build(self) -> Result<Schema, BuildFailure>
+        ensures built { IfOk result (λ schema. (start : ℕ) (xs : List AnyDefinition) → StandsFor start xs self → MeansTypes start xs schema.types) }
+        ensures sources { IfOk result (λ schema. schema.sources ≡ sources_of self) }
+        ensures failed { MatchResult result (λ _. HasFailed self → ⊥) (λ failure. (failure ≡ BuildFailure.Failed) × HasFailed self) }
+    {
         let SchemaBuilder { state } = self;
         match state {
             State::Open(tables) => {

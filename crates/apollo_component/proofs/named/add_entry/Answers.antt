@@ -11,7 +11,7 @@ returns-then-contains_key g c = λ es was.
     let laws = on_equiv (λ (e : g.row.K.Denot × g.row.V.Denot). e.0) g.met.K.Eq.laws in
     let n : g.row.K.Denot × g.row.V.Denot = (c.args.key, c.args.value) in
     let there : list_any (same_key eq n) es ≡ true =
-      sym (list_any-first_of_each (same_key eq) laws n es) ∙ ap (list_any (same_key eq n)) (sym was) ∙ sym (is_some-lookup (eq c.args.key) c.args.table.now) ∙ sym c.contains_key.ensures ∙ c.if-contains_key.true in
+    sym (list_any-first_of_each (same_key eq) laws n es) ∙ ap (list_any (same_key eq n)) (sym was) ∙ sym (is_some-lookup (eq c.args.key) c.args.table.now) ∙ sym c.contains_key.ensures ∙ c.if-contains_key.true in
     (was ∙ sym (first_of_each-push_old (same_key eq) laws es n there), sym there)
 
 pub returns : goal.returns
@@ -20,6 +20,8 @@ returns g c = λ es was.
     let laws = on_equiv (λ (e : g.row.K.Denot × g.row.V.Denot). e.0) g.met.K.Eq.laws in
     let n : g.row.K.Denot × g.row.V.Denot = (c.args.key, c.args.value) in
     let absent : list_any (same_key eq n) c.args.table.now ≡ false = sym (is_some-lookup (eq c.args.key) c.args.table.now) ∙ sym c.contains_key.ensures ∙ c.if-contains_key.false in
-    let before : list_any (same_key eq n) es ≡ false = sym (list_any-first_of_each (same_key eq) laws n es) ∙ ap (list_any (same_key eq n)) (sym was) ∙ absent in
-    (c.in_ok-insert.ensures.entries ∙ insert_entry-last eq c.args.table.now c.args.key c.args.value absent ∙ ap (λ l. l ++ n ∷ []) was
-      ∙ sym (first_of_each-push_new (same_key eq) laws es n before), sym before)
+    let before : list_any (same_key eq n) es ≡ false = sym (list_any-first_of_each (same_key eq) laws n es) ∙ ap (list_any (same_key eq n)) (sym was) ∙ absent in (
+      c.in_ok-insert.ensures.entries ∙ insert_entry-last eq c.args.table.now c.args.key c.args.value absent ∙ ap (λ l. l ++ n ∷ []) was
+          ∙ sym (first_of_each-push_new (same_key eq) laws es n before),
+      sym before,
+    )

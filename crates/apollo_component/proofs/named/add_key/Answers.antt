@@ -20,6 +20,7 @@ not-not false = refl
 pub returns : goal.returns
 returns g c = λ ks was.
     let eq = g.T.PartialEq.eq in
-    let laws = g.met.T.Eq.laws in
-    (c.in_ok-added.ensures.keys ∙ ap (λ l. if list_any (eq c.args.key) l then l else l ++ c.args.key ∷ []) was ∙ inserted eq laws ks c.args.key,
-      ap not c.in_ok-added.ensures.added ∙ not-not _ ∙ ap (list_any (eq c.args.key)) was ∙ list_any-first_of_each eq laws c.args.key ks)
+    let laws = g.met.T.Eq.laws in (
+      c.in_ok-added.ensures.keys ∙ ap (λ l. if list_any (eq c.args.key) l then l else l ++ c.args.key ∷ []) was ∙ inserted eq laws ks c.args.key,
+      ap not c.in_ok-added.ensures.added ∙ not-not _ ∙ ap (list_any (eq c.args.key)) was ∙ list_any-first_of_each eq laws c.args.key ks,
+    )

@@ -22,7 +22,7 @@ returns-clause-folded c = λ head done was.
     let value = folded head done (ap (λ (t : ExtendedType). (node_of t).value) is) ∙ ap (λ k. object_of head (more k)) (sym (kind_of-object head)) in
     let location = place ∙ ap (λ (t : ExtendedType). (node_of t).location) is in
     let whole : ◌≡◌ {A = ExtendedType} (Object c.extend_object_node.new.node) (type_from head (more (kind_of head))) =
-      (λ i. Object (record { value = value i; location = location i })) ∙ sym (type_from-object head (more (kind_of head))) in
+    (λ i. Object (record { value = value i; location = location i })) ∙ sym (type_from-object head (more (kind_of head))) in
     rw e whole
   where
     only : (t : ExtendedType) → t ≡ Object (node_of t)

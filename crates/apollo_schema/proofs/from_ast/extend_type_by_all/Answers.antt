@@ -26,16 +26,16 @@ loop-extension-preserved c =
     let turn = λ (k : TypeKind). of_kind-turn k xs i x (omega arith) c.extension-item.is in
     record {
       folded = λ head done h.
-        let kinds : k ≡ kind_of head = ap type_kind h ∙ type_kind-from head done in
-        now.folded head (done ++ map extension_part (numbered start (before (kind_of head)))) (was.folded head done h)
-        ∙ ap (λ (n : ℕ). type_from head ((done ++ map extension_part (numbered start (before (kind_of head)))) ++ map extension_part (numbered n (these (kind_of head))))) (at ∙ ap (λ k. start + length (before k)) kinds)
-        ∙ ap (type_from head) (sym (numbered-more done start (before (kind_of head)) (these (kind_of head))) ∙ ap (λ l. done ++ map extension_part (numbered start l)) (sym (turn (kind_of head))));
+          let kinds : k ≡ kind_of head = ap type_kind h ∙ type_kind-from head done in
+          now.folded head (done ++ map extension_part (numbered start (before (kind_of head)))) (was.folded head done h)
+          ∙ ap (λ (n : ℕ). type_from head ((done ++ map extension_part (numbered start (before (kind_of head)))) ++ map extension_part (numbered n (these (kind_of head))))) (at ∙ ap (λ k. start + length (before k)) kinds)
+          ∙ ap (type_from head) (sym (numbered-more done start (before (kind_of head)) (these (kind_of head))) ∙ ap (λ l. done ++ map extension_part (numbered start l)) (sym (turn (kind_of head))));
       kind = now.kind ∙ was.kind;
       next =
-        let kinds : type_kind c.loop-extension.ty ≡ k = was.kind in
-        let sum : next_number c.loop-extension.ids + length (these k) ≡ start + length (of_kind k (extended_parts (take (i + 1) xs))) =
+          let kinds : type_kind c.loop-extension.ty ≡ k = was.kind in
+          let sum : next_number c.loop-extension.ids + length (these k) ≡ start + length (of_kind k (extended_parts (take (i + 1) xs))) =
           omega (arith, at, ap length (turn k), length-append (before k) (these k)) in
-        now.next ∙ ap (λ k. source_at (next_number c.loop-extension.ids + length (these k))) kinds ∙ ap source_at sum;
+          now.next ∙ ap (λ k. source_at (next_number c.loop-extension.ids + length (these k))) kinds ∙ ap source_at sum;
     }
 
 pub returns-in_err-extend_type-clause-refused : goal.returns-in_err-extend_type-clause-refused

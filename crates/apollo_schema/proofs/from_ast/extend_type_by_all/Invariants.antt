@@ -11,7 +11,7 @@ invariant-loop-extension l =
     let so_far = extended_parts (take l.extension-index l.extensions) in
     record {
       folded : (head : TypePart) (done : List Sourced) → l.fn.ty ≡ type_from head done
-        → l.ty ≡ type_from head (done ++ map extension_part (numbered (next_number l.fn.ids) (of_kind (kind_of head) so_far)));
+          → l.ty ≡ type_from head (done ++ map extension_part (numbered (next_number l.fn.ids) (of_kind (kind_of head) so_far)));
       kind : type_kind l.ty ≡ type_kind l.fn.ty;
       next : l.ids ≡ source_at (next_number l.fn.ids + length (of_kind (type_kind l.fn.ty) so_far));
     }

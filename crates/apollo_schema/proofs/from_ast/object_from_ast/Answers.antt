@@ -14,7 +14,7 @@ returns c =
     let interfaces : n.value.implements_interfaces ≡ c.as_slice-2.result.now = cc in
     let fields : n.value.fields ≡ c.as_slice-3.result.now = cc in
     let start : c.in_ok-ty.ty ≡ object_of head [] = c.in_ok-ty.ensures
-      ∙ λ i. record { description = (c.deref.ensures i).description; name = (c.deref.ensures i).name; implements_interfaces = []; directives = record { 0 = [] }; fields = [] } in
+    ∙ λ i. record { description = (c.deref.ensures i).description; name = (c.deref.ensures i).name; implements_interfaces = []; directives = record { 0 = [] }; fields = [] } in
     let folded : c.fold_object.new.ty ≡ object_of head ((Definition, head) ∷ []) =
-      c.in_ok-fold_object.ensures head head [] directives (λ i. ObjectBody (interfaces i) (fields i)) start in
+    c.in_ok-fold_object.ensures head head [] directives (λ i. ObjectBody (interfaces i) (fields i)) start in
     c.in_ok-node.ensures ∙ λ i. record { value = folded i; location = n.location }

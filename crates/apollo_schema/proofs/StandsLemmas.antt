@@ -1,0 +1,200 @@
+-- Tables that stand for a list stand for it with one more item, once the code has taken the item.
+use Rattle.std.proofs.Common.{◌≡◌, ℕ, ◌+◌, ◌^◌, ◌≤◌, Bool, true, false, cond, List, [], ◌∷◌, ◌++◌, length, map, Option, Some, None, is_some, refl, sym, ap, subst, ◌∙◌, append_assoc, arith, length-append}
+use Rattle.std.specs.List.{filter_map}
+use Rattle.std.specs.Option.{option_map, unwrap_or}
+use Rattle.std.specs.Map.{lookup, keys_of, set_value}
+use Rattle.std.proofs.lemmas.List.{append-nil}
+use Rattle.std.proofs.lemmas.Map.{keys-set_value}
+use Rattle.indexmap.specs.IndexMap.{insert_entry}
+use Rattle.graphql_ast.specs.ArgumentsByName.{same_text}
+use Rattle.apollo_component.specs.Extensions.{next_number, source_at}
+use Rattle.apollo_component.specs.declared.extension.ExtensionSource.{ExtensionSource}
+use Rattle.apollo_component.specs.declared.extension.ComponentOrigin.TheVariants as origins
+use Rattle.apollo_types.specs.declared.extended_type.ExtendedType.{ExtendedType}
+use Rattle.apollo_schema.specs.declared.schema_builder.Tables.{Tables}
+use Rattle.apollo_schema.specs.TypeParts.{TypePart, TypeItem, Defined, Extended, extended_part, kind_of, key_of, same}
+use Rattle.apollo_schema.specs.DefinitionList.{first, extensions_of, of_kind}
+use Rattle.apollo_schema.specs.TypeMeaning.{Sourced, type_from, extension_part, numbered, parts, type_of}
+use Rattle.apollo_schema.specs.TypeKinds.{type_kind}
+use Rattle.apollo_schema.specs.SchemaMeaning.{by_text, AreTypesOf}
+use Rattle.apollo_schema.specs.Prefixes.{folded_at, folded, waiting_of}
+use Rattle.apollo_schema.specs.Stands.{Stands, parts_held}
+use Rattle.apollo_schema.proofs.Texts.{same-true, same-is}
+use Rattle.apollo_schema.proofs.NameTables.{lookup-put, keys-put, lookup-write}
+use Rattle.apollo_schema.proofs.ItemLemmas.{first-push_extension, folded-push}
+use Rattle.apollo_schema.proofs.FoldingLemmas.{type_kind-from}
+use Rattle.apollo_schema.proofs.TypeLemmas.{Own, Apart, Own-named, Own-of_kind, Apart-own, folded_at-new, folded_at-again, folded_at-early, folded_at-late, type_of-same, type_of-more, type_of-new}
+use Rattle.apollo_schema.proofs.WaitingLemmas.{waiting_of-undefined, type_names-new, type_names-again, type_names-extension, first-again, first-other, first-own, waiting_of-new, waiting_of-again, waiting_of-late, waiting_of-early}
+
+-- a longer list folds no less
+pub length-folded-front : (xs ys : List TypeItem) → length (folded xs) ≤ length (folded (xs ++ ys))
+length-folded-front xs [] = omega (arith, ap (λ l. length (folded l)) (append-nil xs))
+length-folded-front xs (y ∷ ys) =
+    omega (arith, length-folded-front (xs ++ y ∷ []) ys, ap (λ l. length (folded l)) (append_assoc xs (y ∷ []) ys), ap length (folded-push xs y), length-append (folded xs) (folded_at xs y))
+
+-- a list with an item that folds these folds that many more
+counted : (start : ℕ) (xs : List TypeItem) (x : TypeItem) (es : List TypePart) (before : ℕ)
+    → before ≡ start + length (folded xs) → folded_at xs x ≡ es → before + length es ≡ start + length (folded (xs ++ x ∷ []))
+counted start xs x es before was is =
+    let all : length (folded (xs ++ x ∷ [])) ≡ length (folded xs) + length es = ap length (folded-push xs x) ∙ length-append (folded xs) (folded_at xs x) ∙ ap (λ l. length (folded xs) + length l) is in
+    omega arith
+
+is_some-map : {A B : Type 0} (f : A → B) (o : Option A) → is_some (option_map f o) ≡ is_some o
+is_some-map f None = refl
+is_some-map f (Some x) = refl
+
+module _ {start : ℕ} {xs : List TypeItem} {t : Tables} (was : Stands start xs t) where
+  at : next_number t.ids ≡ start + length (folded xs)
+  at = ap next_number was.next
+
+  -- a name has a type exactly if it has a definition
+  known : (n : List ℕ) → is_some (lookup (by_text n) t.types) ≡ is_some (first xs n)
+  known n = ap is_some (was.types.each n) ∙ is_some-map (λ d. type_from d (parts start (folded xs) n d)) (first xs n)
+
+  undefined : (n : List ℕ) → is_some (lookup (by_text n) t.types) ≡ false → first xs n ≡ None
+  undefined n h = by (first xs n) refl
+    where
+      by : (o : Option TypePart) → first xs n ≡ o → first xs n ≡ None
+      by None e = e
+      by (Some d) e = let g = sym h ∙ known n ∙ ap is_some e in cc
+
+  defined : (n : List ℕ) → is_some (lookup (by_text n) t.types) ≡ true → (d : TypePart) × (first xs n ≡ Some d)
+  defined n h = by (first xs n) refl
+    where
+      by : (o : Option TypePart) → first xs n ≡ o → (d : TypePart) × (first xs n ≡ Some d)
+      by None e = let g = sym h ∙ known n ∙ ap is_some e in cc
+      by (Some d) e = (d, e)
+
+  -- what is folded at the first definition of a name, and at an extension of a name that has a type
+  new-were : (p : TypePart) (es : List TypePart) → is_some (lookup (by_text (key_of p)) t.types) ≡ false
+      → es ≡ parts_held (lookup (by_text (key_of p)) t.waiting) → es ≡ extensions_of xs (key_of p)
+  new-were p es absent were = were ∙ was.waiting (key_of p) ∙ waiting_of-undefined xs (key_of p) (undefined (key_of p) absent)
+
+  new-folded : (p : TypePart) (es : List TypePart) → is_some (lookup (by_text (key_of p)) t.types) ≡ false
+      → es ≡ parts_held (lookup (by_text (key_of p)) t.waiting) → folded_at xs (Defined p) ≡ of_kind (kind_of p) es
+  new-folded p es absent were = folded_at-new xs p (undefined (key_of p) absent) ∙ ap (of_kind (kind_of p)) (sym (new-were p es absent were))
+
+  late-type : (p : TypePart) (ty : ExtendedType) (d : TypePart) → lookup (by_text (key_of p)) t.types ≡ Some ty → first xs (key_of p) ≡ Some d
+      → ty ≡ type_from d (parts start (folded xs) (key_of p) d)
+  late-type p ty d there some =
+      let whole : Some ty ≡ Some (type_from d (parts start (folded xs) (key_of p) d)) =
+      sym there ∙ was.types.each (key_of p) ∙ ap (option_map (λ d. type_from d (parts start (folded xs) (key_of p) d))) some in
+      ap (λ o. unwrap_or o ty) whole
+
+  late-kind : (p : TypePart) (ty : ExtendedType) (d : TypePart) → lookup (by_text (key_of p)) t.types ≡ Some ty → first xs (key_of p) ≡ Some d → type_kind ty ≡ kind_of d
+  late-kind p ty d there some = ap type_kind (late-type p ty d there some) ∙ type_kind-from d (parts start (folded xs) (key_of p) d)
+
+  late-folded : (p : TypePart) (ty : ExtendedType) → lookup (by_text (key_of p)) t.types ≡ Some ty → folded_at xs (Extended p) ≡ of_kind (type_kind ty) (p ∷ [])
+  late-folded p ty there =
+      let d = (defined (key_of p) (ap is_some there)).0 in
+      let some : first xs (key_of p) ≡ Some d = (defined (key_of p) (ap is_some there)).1 in
+      folded_at-late xs p d some ∙ ap (λ k. of_kind k (p ∷ [])) (sym (late-kind p ty d there some))
+
+  -- numbers that are spent there are spent by the list
+  pub new-spent : (p : TypePart) (es : List TypePart) → is_some (lookup (by_text (key_of p)) t.types) ≡ false
+      → es ≡ parts_held (lookup (by_text (key_of p)) t.waiting)
+      → 2 ^ 64 ≤ next_number t.ids + length (of_kind (kind_of p) es) → 2 ^ 64 ≤ start + length (folded (xs ++ Defined p ∷ []))
+  new-spent p es absent were full =
+      omega (arith, counted start xs (Defined p) (of_kind (kind_of p) es) (next_number t.ids) at (new-folded p es absent were))
+
+  pub late-spent : (p : TypePart) (ty : ExtendedType) → lookup (by_text (key_of p)) t.types ≡ Some ty
+      → 2 ^ 64 ≤ next_number t.ids + length (of_kind (type_kind ty) (p ∷ [])) → 2 ^ 64 ≤ start + length (folded (xs ++ Extended p ∷ []))
+  late-spent p ty there full =
+      omega (arith, counted start xs (Extended p) (of_kind (type_kind ty) (p ∷ [])) (next_number t.ids) at (late-folded p ty there))
+
+  -- a further definition of a name changes nothing
+  pub Stands-again : (p : TypePart) → is_some (lookup (by_text (key_of p)) t.types) ≡ true → Stands start (xs ++ Defined p ∷ []) t
+  Stands-again p there =
+      let d = (defined (key_of p) there).0 in
+      let some : first xs (key_of p) ≡ Some d = (defined (key_of p) there).1 in
+      let none_folded = folded_at-again xs p d some in
+      record {
+        types = record {
+          names = was.types.names ∙ sym (type_names-again xs p (ap is_some some));
+          each = λ n. was.types.each n ∙ sym (type_of-same start xs (Defined p) n (first-again xs p n d some) (subst (Apart n) (sym none_folded) tt));
+        };
+        waiting = λ n. was.waiting n ∙ sym (waiting_of-again xs p n d some);
+        next = was.next ∙ ap source_at (sym at ∙ omega arith ∙ counted start xs (Defined p) [] (next_number t.ids) at none_folded);
+      }
+
+  -- the first definition of a name makes its type
+  pub Stands-new : (p : TypePart) (u : Tables) (ty : ExtendedType) (es : List TypePart)
+      → is_some (lookup (by_text (key_of p)) t.types) ≡ false
+      → es ≡ parts_held (lookup (by_text (key_of p)) t.waiting)
+      → ty ≡ type_from p ((origins.Definition, p) ∷ map extension_part (numbered (next_number t.ids) (of_kind (kind_of p) es)))
+      → u.types ≡ insert_entry same_text t.types p.name ty
+      → ((n : List ℕ) → parts_held (lookup (by_text n) u.waiting) ≡ cond (same n (key_of p)) [] (parts_held (lookup (by_text n) t.waiting)))
+      → u.ids ≡ source_at (next_number t.ids + length (of_kind (kind_of p) es))
+      → Stands start (xs ++ Defined p ∷ []) u
+  Stands-new p u ty es absent were made types waiting next =
+      let none = undefined (key_of p) absent in
+      let folding : folded_at xs (Defined p) ≡ of_kind (kind_of p) es = new-folded p es absent were in
+      let own : Own (key_of p) (folded_at xs (Defined p)) = subst (Own (key_of p)) (sym (folded_at-new xs p none)) (Own-of_kind (key_of p) (kind_of p) (extensions_of xs (key_of p)) (Own-named (key_of p) (filter_map extended_part xs))) in
+      let here : type_of start (folded (xs ++ Defined p ∷ [])) (xs ++ Defined p ∷ []) (key_of p) ≡ Some ty =
+      type_of-new start xs (Defined p) (key_of p) p none (first-own xs p none) own
+      ∙ ap (λ (l : List TypePart). Some (type_from p ((origins.Definition, p) ∷ map extension_part (numbered (start + length (folded xs)) l)))) folding
+      ∙ ap (λ (i : ℕ). Some (type_from p ((origins.Definition, p) ∷ map extension_part (numbered i (of_kind (kind_of p) es))))) (sym at)
+      ∙ ap (λ s. Some s) (sym made) in
+      let each : (n : List ℕ) (b : Bool) → same n (key_of p) ≡ b → cond b (Some ty) (lookup (by_text n) t.types) ≡ type_of start (folded (xs ++ Defined p ∷ [])) (xs ++ Defined p ∷ []) n =
+      λ n b. elim b as (λ b. same n (key_of p) ≡ b → cond b (Some ty) (lookup (by_text n) t.types) ≡ type_of start (folded (xs ++ Defined p ∷ [])) (xs ++ Defined p ∷ []) n) [
+        | true ↦ λ e. sym here ∙ ap (type_of start (folded (xs ++ Defined p ∷ [])) (xs ++ Defined p ∷ [])) (sym (same-true n (key_of p) e))
+        | false ↦ λ e. was.types.each n ∙ sym (type_of-same start xs (Defined p) n (first-other xs p n e) (Apart-own n (key_of p) (folded_at xs (Defined p)) e own))
+      ] in
+      record {
+        types = record {
+          names = ap keys_of types ∙ keys-put t.types p.name ty absent ∙ ap (λ l. l ++ p.name ∷ []) was.types.names ∙ sym (type_names-new xs p (ap is_some none));
+          each = λ n. ap (lookup (by_text n)) types ∙ lookup-put n t.types p.name ty ∙ each n (same n (key_of p)) refl;
+        };
+        waiting = λ n. waiting n ∙ ap (cond (same n (key_of p)) []) (was.waiting n) ∙ sym (waiting_of-new xs p n none);
+        next = next ∙ ap source_at (counted start xs (Defined p) (of_kind (kind_of p) es) (next_number t.ids) at folding);
+      }
+
+  -- an extension before its definition waits
+  pub Stands-early : (p : TypePart) (u : Tables) → u.types ≡ t.types → u.ids ≡ t.ids
+      → is_some (lookup (by_text (key_of p)) t.types) ≡ false
+      → ((n : List ℕ) → parts_held (lookup (by_text n) u.waiting) ≡ cond (same n (key_of p)) (parts_held (lookup (by_text n) t.waiting) ++ p ∷ []) (parts_held (lookup (by_text n) t.waiting)))
+      → Stands start (xs ++ Extended p ∷ []) u
+  Stands-early p u types next absent waiting =
+      let none = undefined (key_of p) absent in
+      let none_folded = folded_at-early xs p none in
+      record {
+        types = record {
+          names = ap keys_of types ∙ was.types.names ∙ sym (type_names-extension xs p);
+          each = λ n. ap (lookup (by_text n)) types ∙ was.types.each n ∙ sym (type_of-same start xs (Extended p) n (first-push_extension xs p n) (subst (Apart n) (sym none_folded) tt));
+        };
+        waiting = λ n. waiting n ∙ ap (λ l. cond (same n (key_of p)) (l ++ p ∷ []) l) (was.waiting n) ∙ sym (waiting_of-early xs p n none);
+        next = next ∙ was.next ∙ ap source_at (sym at ∙ omega arith ∙ counted start xs (Extended p) [] (next_number t.ids) at none_folded);
+      }
+
+  -- an extension of a name that has a type is folded in, if it has the kind
+  pub Stands-late : (p : TypePart) (u : Tables) (ty grown : ExtendedType)
+      → lookup (by_text (key_of p)) t.types ≡ Some ty
+      → u.types ≡ set_value (by_text (key_of p)) t.types grown
+      → u.waiting ≡ t.waiting
+      → ((head : TypePart) (done : List Sourced) → ty ≡ type_from head done → grown ≡ type_from head (done ++ map extension_part (numbered (next_number t.ids) (of_kind (kind_of head) (p ∷ [])))))
+      → u.ids ≡ source_at (next_number t.ids + length (of_kind (type_kind ty) (p ∷ [])))
+      → Stands start (xs ++ Extended p ∷ []) u
+  Stands-late p u ty grown there types waiting made next =
+      let d = (defined (key_of p) (ap is_some there)).0 in
+      let some : first xs (key_of p) ≡ Some d = (defined (key_of p) (ap is_some there)).1 in
+      let is = late-type p ty d there some in
+      let folding = folded_at-late xs p d some in
+      let own : Own (key_of p) (folded_at xs (Extended p)) = subst (Own (key_of p)) (sym folding) (Own-of_kind (key_of p) (kind_of d) (p ∷ []) (same-is (key_of p) (key_of p) refl, tt)) in
+      let here : type_of start (folded (xs ++ Extended p ∷ [])) (xs ++ Extended p ∷ []) (key_of p) ≡ Some grown =
+      type_of-more start xs (Extended p) (key_of p) d (first-push_extension xs p (key_of p) ∙ some) own
+      ∙ ap (λ (l : List TypePart). Some (type_from d (parts start (folded xs) (key_of p) d ++ map extension_part (numbered (start + length (folded xs)) l)))) folding
+      ∙ ap (λ (i : ℕ). Some (type_from d (parts start (folded xs) (key_of p) d ++ map extension_part (numbered i (of_kind (kind_of d) (p ∷ [])))))) (sym at)
+      ∙ ap (λ s. Some s) (sym (made d (parts start (folded xs) (key_of p) d) is)) in
+      let each : (n : List ℕ) (b : Bool) → same n (key_of p) ≡ b → cond b (Some grown) (lookup (by_text n) t.types) ≡ type_of start (folded (xs ++ Extended p ∷ [])) (xs ++ Extended p ∷ []) n =
+      λ n b. elim b as (λ b. same n (key_of p) ≡ b → cond b (Some grown) (lookup (by_text n) t.types) ≡ type_of start (folded (xs ++ Extended p ∷ [])) (xs ++ Extended p ∷ []) n) [
+        | true ↦ λ e. sym here ∙ ap (type_of start (folded (xs ++ Extended p ∷ [])) (xs ++ Extended p ∷ [])) (sym (same-true n (key_of p) e))
+        | false ↦ λ e. was.types.each n ∙ sym (type_of-same start xs (Extended p) n (first-push_extension xs p n) (Apart-own n (key_of p) (folded_at xs (Extended p)) e own))
+      ] in
+      record {
+        types = record {
+          names = ap keys_of types ∙ keys-set_value (by_text (key_of p)) t.types grown ∙ was.types.names ∙ sym (type_names-extension xs p);
+          each = λ n. ap (lookup (by_text n)) types ∙ lookup-write n (key_of p) t.types ty grown there ∙ each n (same n (key_of p)) refl;
+        };
+        waiting = λ n. ap (λ l. parts_held (lookup (by_text n) l)) waiting ∙ was.waiting n ∙ sym (waiting_of-late xs p n d some);
+        next = next ∙ ap source_at (counted start xs (Extended p) (of_kind (type_kind ty) (p ∷ [])) (next_number t.ids) at (late-folded p ty there));
+      }

@@ -1,0 +1,97 @@
+-- The names and the waiting extensions of a list with one more item.
+use Rattle.std.proofs.Common.{◌≡◌, ℕ, Bool, true, false, cond, List, [], ◌∷◌, ◌++◌, map, Option, Some, None, is_some, refl, sym, ap, ◌∙◌}
+use Rattle.std.specs.Option.{option_or}
+use Rattle.std.specs.Map.{lookup}
+use Rattle.std.specs.Cmp.{IsEquivalence, on_equiv}
+use Rattle.std.specs.Cmp.Lexicographic.{nat_list_eq_equiv}
+use Rattle.std.proofs.lemmas.List.{append-nil, map-append}
+use Rattle.apollo_component.specs.FirstOfEach.{first_of_each, same_key}
+use Rattle.apollo_component.proofs.FirstOfEachLemmas.{is_some-lookup, first_of_each-push_new, first_of_each-push_old}
+use Rattle.apollo_schema.specs.TypeParts.{TypePart, TypeItem, Defined, Extended, key_of, same}
+use Rattle.apollo_schema.specs.DefinitionList.{definitions, first, extensions_of}
+use Rattle.apollo_schema.specs.SchemaMeaning.{type_names}
+use Rattle.apollo_schema.specs.Prefixes.{waiting_of}
+use Rattle.apollo_schema.proofs.Texts.{same-true, same-is}
+use Rattle.apollo_schema.proofs.ItemLemmas.{definitions-push_definition, definitions-push_extension, first-push_definition, first-push_extension, extensions_of-push_definition, extensions_of-push_extension}
+
+by_key : IsEquivalence (same_key {V = TypePart} same)
+by_key = on_equiv (λ e. e.0) nat_list_eq_equiv
+
+or-none : {X : Type 0} (o : Option X) → option_or o None ≡ o
+or-none None = refl
+or-none (Some x) = refl
+
+module _ (xs : List TypeItem) (p : TypePart) where
+  pub type_names-new : is_some (first xs (key_of p)) ≡ false → type_names (xs ++ Defined p ∷ []) ≡ type_names xs ++ p.name ∷ []
+  type_names-new none =
+      ap (λ l. map (λ e. e.1.name) (first_of_each (same_key same) l)) (definitions-push_definition xs p)
+      ∙ ap (map (λ (e : List ℕ × TypePart). e.1.name)) (first_of_each-push_new (same_key same) by_key (definitions xs) (key_of p, p) (sym (is_some-lookup (same (key_of p)) (definitions xs)) ∙ none))
+      ∙ map-append (λ e. e.1.name) (first_of_each (same_key same) (definitions xs)) ((key_of p, p) ∷ [])
+
+  pub type_names-again : is_some (first xs (key_of p)) ≡ true → type_names (xs ++ Defined p ∷ []) ≡ type_names xs
+  type_names-again there =
+      ap (λ l. map (λ e. e.1.name) (first_of_each (same_key same) l)) (definitions-push_definition xs p)
+      ∙ ap (map (λ (e : List ℕ × TypePart). e.1.name)) (first_of_each-push_old (same_key same) by_key (definitions xs) (key_of p, p) (sym (is_some-lookup (same (key_of p)) (definitions xs)) ∙ there))
+
+  pub type_names-extension : type_names (xs ++ Extended p ∷ []) ≡ type_names xs
+  type_names-extension = ap (λ l. map (λ e. e.1.name) (first_of_each (same_key same) l)) (definitions-push_extension xs p)
+
+  -- a second definition leaves each name's first
+  pub first-again : (n : List ℕ) (d : TypePart) → first xs (key_of p) ≡ Some d → first (xs ++ Defined p ∷ []) n ≡ first xs n
+  first-again n d some = by (same n (key_of p)) refl
+    where
+      by : (b : Bool) → same n (key_of p) ≡ b → first (xs ++ Defined p ∷ []) n ≡ first xs n
+      by true e = let here : first xs n ≡ Some d = ap (first xs) (same-true n (key_of p) e) ∙ some in first-push_definition xs p n ∙ ap (λ o. option_or o (cond (same n (key_of p)) (Some p) None)) here ∙ sym here
+      by false e = first-push_definition xs p n ∙ ap (λ b. option_or (first xs n) (cond b (Some p) None)) e ∙ or-none (first xs n)
+
+  -- a first definition leaves each other name's
+  pub first-other : (n : List ℕ) → same n (key_of p) ≡ false → first (xs ++ Defined p ∷ []) n ≡ first xs n
+  first-other n e = first-push_definition xs p n ∙ ap (λ b. option_or (first xs n) (cond b (Some p) None)) e ∙ or-none (first xs n)
+
+  pub first-own : first xs (key_of p) ≡ None → first (xs ++ Defined p ∷ []) (key_of p) ≡ Some p
+  first-own none = first-push_definition xs p (key_of p) ∙ ap (λ o. option_or o (cond (same (key_of p) (key_of p)) (Some p) None)) none ∙ ap (λ b. cond b (Some p) None) (same-is (key_of p) (key_of p) refl)
+
+-- waiting extensions depend on the first definition and on the extensions
+waiting_of-same : (xs ys : List TypeItem) (n : List ℕ) → first ys n ≡ first xs n → extensions_of ys n ≡ extensions_of xs n → waiting_of ys n ≡ waiting_of xs n
+waiting_of-same xs ys n f e = rw (f, e)
+
+pub waiting_of-defined : (xs : List TypeItem) (n : List ℕ) (d : TypePart) → first xs n ≡ Some d → waiting_of xs n ≡ []
+waiting_of-defined xs n d f = rw f
+
+pub waiting_of-undefined : (xs : List TypeItem) (n : List ℕ) → first xs n ≡ None → waiting_of xs n ≡ extensions_of xs n
+waiting_of-undefined xs n f = rw f
+
+module _ (xs : List TypeItem) (p : TypePart) where
+  pub waiting_of-new : (n : List ℕ) → first xs (key_of p) ≡ None → waiting_of (xs ++ Defined p ∷ []) n ≡ cond (same n (key_of p)) [] (waiting_of xs n)
+  waiting_of-new n none = by (same n (key_of p)) refl
+    where
+      by : (b : Bool) → same n (key_of p) ≡ b → waiting_of (xs ++ Defined p ∷ []) n ≡ cond b [] (waiting_of xs n)
+      by true e = waiting_of-defined (xs ++ Defined p ∷ []) n p (ap (first (xs ++ Defined p ∷ [])) (same-true n (key_of p) e) ∙ first-own xs p none)
+      by false e = waiting_of-same xs (xs ++ Defined p ∷ []) n (first-other xs p n e) (extensions_of-push_definition xs p n)
+
+  pub waiting_of-again : (n : List ℕ) (d : TypePart) → first xs (key_of p) ≡ Some d → waiting_of (xs ++ Defined p ∷ []) n ≡ waiting_of xs n
+  waiting_of-again n d some = waiting_of-same xs (xs ++ Defined p ∷ []) n (first-again xs p n d some) (extensions_of-push_definition xs p n)
+
+  -- an extension of another name
+  extensions_of-other : (n : List ℕ) → same n (key_of p) ≡ false → extensions_of (xs ++ Extended p ∷ []) n ≡ extensions_of xs n
+  extensions_of-other n e = extensions_of-push_extension xs p n ∙ ap (λ b. extensions_of xs n ++ cond b (p ∷ []) []) e ∙ append-nil (extensions_of xs n)
+
+  pub waiting_of-late : (n : List ℕ) (d : TypePart) → first xs (key_of p) ≡ Some d → waiting_of (xs ++ Extended p ∷ []) n ≡ waiting_of xs n
+  waiting_of-late n d some = by (same n (key_of p)) refl
+    where
+      by : (b : Bool) → same n (key_of p) ≡ b → waiting_of (xs ++ Extended p ∷ []) n ≡ waiting_of xs n
+      by true e =
+          let here : first xs n ≡ Some d = ap (first xs) (same-true n (key_of p) e) ∙ some in
+          waiting_of-defined (xs ++ Extended p ∷ []) n d (first-push_extension xs p n ∙ here) ∙ sym (waiting_of-defined xs n d here)
+      by false e = waiting_of-same xs (xs ++ Extended p ∷ []) n (first-push_extension xs p n) (extensions_of-other n e)
+
+  pub waiting_of-early : (n : List ℕ) → first xs (key_of p) ≡ None
+      → waiting_of (xs ++ Extended p ∷ []) n ≡ cond (same n (key_of p)) (waiting_of xs n ++ p ∷ []) (waiting_of xs n)
+  waiting_of-early n none = by (same n (key_of p)) refl
+    where
+      by : (b : Bool) → same n (key_of p) ≡ b → waiting_of (xs ++ Extended p ∷ []) n ≡ cond b (waiting_of xs n ++ p ∷ []) (waiting_of xs n)
+      by true e =
+          let here : first xs n ≡ None = ap (first xs) (same-true n (key_of p) e) ∙ none in
+          waiting_of-undefined (xs ++ Extended p ∷ []) n (first-push_extension xs p n ∙ here)
+          ∙ extensions_of-push_extension xs p n ∙ ap (λ b. extensions_of xs n ++ cond b (p ∷ []) []) e ∙ ap (λ l. l ++ p ∷ []) (sym (waiting_of-undefined xs n here))
+      by false e = waiting_of-same xs (xs ++ Extended p ∷ []) n (first-push_extension xs p n) (extensions_of-other n e)

@@ -1,0 +1,28 @@
+use Rattle.std.proofs.Common.{◌≡◌, ℕ, ◌+◌, ◌^◌, ◌≤◌, List, ◌++◌, length, Err, sym, ap, subst, ◌∙◌}
+use Rattle.std.specs.List.{filter_map}
+use Rattle.std.proofs.lemmas.List.Elements.{filter_map-append}
+use Rattle.apollo_schema.specs.declared.build_error.BuilderError.{BuilderError}
+use Rattle.apollo_schema.specs.declared.build_error.BuilderError.TheVariants.{ExtensionIds}
+use Rattle.apollo_schema.specs.TypeParts.{TypePart, TypeItem, item_of, items_of}
+use Rattle.apollo_schema.specs.Places.{folded_in_order}
+use Rattle.apollo_schema.specs.Prefixes.{folded}
+use Rattle.apollo_schema.specs.Refusals.{RefusedAs}
+use Rattle.apollo_schema.specs.Stands.{Stands, StateStands}
+use Rattle.apollo_schema.proofs.PlaceLemmas.{folding_order-forget}
+use Rattle.apollo_schema.proofs.schema_builder.SchemaBuilder.add_ast.Goals as goal
+
+pub returns-clause-stands : goal.returns-clause-stands
+returns-clause-stands c = λ start xs was.
+    let ds = c.args.document.now.definitions in
+    subst (λ (l : List TypeItem). Stands start l c.take_document.new.self) (sym (filter_map-append item_of xs ds))
+    (c.in_default-take_document.ensures.stands start (items_of xs) (subst (StateStands start (items_of xs)) c.in-Open.is was))
+
+pub returns-in-Err-clause-spent : goal.returns-in-Err-clause-spent
+returns-in-Err-clause-spent c = λ spent start xs was.
+    let ds = c.args.document.now.definitions in
+    let is : c.in-Err.error ≡ ExtensionIds = cc in
+    let reason = subst (λ (e : BuilderError). RefusedAs e ((start : ℕ) (xs : List TypeItem) → Stands start xs c.in-Open.tables → 2 ^ 64 ≤ start + length (folded (xs ++ items_of ds)))) is c.in-Err.ensures.refused in
+    let full = reason start (items_of xs) (subst (StateStands start (items_of xs)) c.in-Open.is was) in
+    let whole : folded (items_of xs ++ items_of ds) ≡ folded_in_order (items_of (xs ++ ds)) =
+    ap folded (sym (filter_map-append item_of xs ds)) ∙ sym (folding_order-forget (items_of (xs ++ ds))) in
+    subst (λ (l : List TypePart). 2 ^ 64 ≤ start + length l) whole full

@@ -1,0 +1,36 @@
+use Rattle.std.proofs.Common.{◌≡◌, [], ◌∷◌, ◌++◌, List, IsSome, is_some, Option, Some, None, cond, sym, ap, ◌∙◌, rules}
+use Rattle.std.specs.Map.{lookup, set_value}
+use Rattle.std.specs.Option.{option_copied_mut}
+use Rattle.indexmap.specs.IndexMap.{insert_entry}
+use Rattle.graphql_ast.specs.ArgumentsByName.{same_text}
+use Rattle.graphql_ast.specs.declared.definition.Definition.{Definition}
+use Rattle.apollo_schema.specs.TypeParts.{extended_parts, same}
+use Rattle.apollo_schema.specs.SchemaMeaning.{by_text}
+use Rattle.apollo_schema.specs.Stands.{parts_held}
+use Rattle.apollo_schema.proofs.HeldLemmas.{held-write_more, held-put}
+use Rattle.apollo_schema.proofs.schema_builder.wait.Goals as goal
+
+pub returns-in-Some-clause-waits : goal.returns-in-Some-clause-waits
+returns-in-Some-clause-waits c = λ n.
+    let m = c.args.name.now.text in
+    let es = c.args.waiting.now in
+    let v = c.in-Some.extensions.now in
+    let x = c.args.extension.now in
+    let there : lookup (by_text m) es ≡ Some v = sym c.get_mut.ensures.value ∙ ap option_copied_mut c.in-Some.is in
+    let copy : c.in_ok-clone.field-0 ≡ x = search rules in
+    ap (λ l. parts_held (lookup (by_text n) l)) (c.get_mut.follows.holds c.push.new.self)
+    ∙ ap (λ w. parts_held (lookup (by_text n) (set_value (by_text m) es w))) (c.in_ok-push.ensures.ok ∙ ap (λ d. v ++ d ∷ []) copy)
+    ∙ held-write_more n m es v there x
+
+pub returns-clause-waits : goal.returns-clause-waits
+returns-clause-waits c = λ n.
+    let es = c.args.waiting.now in
+    let x = c.args.extension.now in
+    let none : lookup (by_text c.args.name.now.text) es ≡ None = sym c.get_mut.ensures.value ∙ ap option_copied_mut c.in_default.is in
+    let copy : c.in_ok-clone-2.field-0 ≡ x = search rules in
+    let name : c.in_ok-clone-3.field-0 ≡ c.args.name.now = search rules in
+    let list : c.push-2.new.self ≡ x ∷ [] = c.in_ok-push-2.ensures.ok ∙ ap (λ l. l ++ c.in_ok-clone-2.field-0 ∷ []) c.new-extensions.ensures ∙ ap (λ d. d ∷ []) copy in
+    let h = c.get_mut.follows.holds-at-none in
+    ap (λ l. parts_held (lookup (by_text n) l)) c.in_ok-insert.ensures.entries
+    ∙ (λ i. parts_held (lookup (by_text n) (insert_entry same_text (h i) (name i) (list i))))
+    ∙ held-put n es c.args.name.now x none

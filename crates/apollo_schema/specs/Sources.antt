@@ -1,0 +1,16 @@
+-- The source files of several documents.
+use Rattle.std.specs.Prelude.{List, fold}
+use Rattle.indexmap.specs.IndexMap.{insert_entry}
+use Rattle.std.specs.Prelude.{Bool, nat_eq}
+use Rattle.graphql_ast.specs.declared.source.FileId.{FileId}
+use Rattle.graphql_ast.specs.declared.source.SourceFile.{SourceFile}
+
+abbrev pub Files : Type 0
+Files = List (FileId × SourceFile)
+
+abbrev pub same_file : FileId → FileId → Bool
+same_file a b = nat_eq a.0 b.0
+
+-- more files after these: a later file of a number takes the place of the earlier
+abbrev pub merged : Files → Files → Files
+merged files more = fold (λ done e. insert_entry same_file done e.0 e.1) files more

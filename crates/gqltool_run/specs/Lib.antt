@@ -1,0 +1,4 @@
+pub mod Documents
+pub mod Line
+pub mod Status
+pub mod Text

@@ -1,0 +1,22 @@
+-- How a run ends.
+use Rattle.std.specs.Prelude.{ℕ}
+use Rattle.gqltool_run.specs.declared.status.Status.{Status}
+use Rattle.gqltool_run.specs.declared.status.Status.TheVariants as s
+use Rattle.gqltool_run.specs.declared.failure.Failure.{Failure}
+use Rattle.gqltool_run.specs.declared.failure.Failure.TheVariants as f
+
+-- the exit status
+abbrev pub exit_code : Status → ℕ
+exit_code s.Done = 0
+exit_code s.Faults = 1
+exit_code s.Refused = 2
+exit_code s.Exhausted = 3
+exit_code s.NotWritten = 4
+
+-- how a run ends that has nothing to write
+abbrev pub status_of : Failure → Status
+status_of f.Usage = s.Refused
+status_of f.CannotRead = s.Refused
+status_of (f.RefusedLine refused) = s.Refused
+status_of f.Memory = s.Exhausted
+status_of f.ExtensionIds = s.Exhausted

@@ -1,0 +1,58 @@
+//! Why a run has nothing to write.
+
+use crate::refusal::{ReadError, RefusedLine};
+use crate::status::Status;
+use std::alloc::AllocError;
+use thiserror::Error;
+
+/// Why a run has nothing to write.
+#[derive(Debug, Clone, Copy, PartialEq, Eq, Error)]
+pub enum Failure {
+    /// The words are none that the program takes.
+    #[error("usage: gqltool schema [--adopt] [--ignore-builtin] | doc | walk | coord TEXT")]
+    Usage,
+    /// The input cannot be read, or is not UTF-8.
+    #[error("cannot read input")]
+    CannotRead,
+    #[error(transparent)]
+    RefusedLine(RefusedLine),
+    #[error("out of memory")]
+    Memory,
+    #[error("extension identities spent")]
+    ExtensionIds,
+}
+
+impl From<AllocError> for Failure {
+    ghost use Rattle.std.specs.Prelude.{◌≡◌};
+    ghost use Rattle.gqltool_run.specs.declared.failure.Failure.{Failure};
+
+    ghost from_gives = { λ _ e. e ≡ Failure.Memory };
+
+    fn from(_error: AllocError) -> Failure {
+        Failure::Memory
+    }
+}
+
+impl From<ReadError> for Failure {
+    fn from(error: ReadError) -> Failure {
+        match error {
+            ReadError::Refused(line) => Failure::RefusedLine(line),
+            ReadError::Memory => Failure::Memory,
+        }
+    }
+}
+
+impl Failure {
+    ghost use Rattle.std.specs.Prelude.{◌≡◌};
+    ghost use Rattle.gqltool_run.specs.Status.{status_of};
+
+    /// How the run ends.
+    pub fn status(self) -> Status
+        ensures { result ≡ status_of self }
+    {
+        match self {
+            Failure::Usage | Failure::CannotRead | Failure::RefusedLine(_) => Status::Refused,
+            Failure::Memory | Failure::ExtensionIds => Status::Exhausted,
+        }
+    }
+}

@@ -1,0 +1,18 @@
+//! The program `gqltool`: the notation in which it reads and prints documents, and the whole of its run.
+//!
+//! [`run`](running::run) is the program. [`read`](reading::read) and [`print`](printing::print) are the notation.
+#![tactic(auto)]
+
+pub mod failure;
+mod item;
+pub mod line;
+pub mod printing;
+pub mod reading;
+pub mod refusal;
+pub mod running;
+mod schema_command;
+pub mod status;
+#[cfg(test)]
+mod tests;
+pub mod type_notation;
+mod words;

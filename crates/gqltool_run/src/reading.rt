@@ -1,0 +1,151 @@
+//! Reading a whole text of the notation.
+ghost use Rattle.std.specs.Prelude.{◌≡◌, All, IfErr, IfOk, IsOkUnless, OnOk, map};
+ghost use Rattle.gqltool_run.specs.Documents.{AreDocumentsOf, ReadTo, nothing_read};
+ghost use Rattle.gqltool_run.specs.Line.{IsLine, IsReadError, lines_of, line_place};
+
+use crate::item::OpenItem;
+use crate::line::{Above, Line, read_line};
+use crate::refusal::{LineError, ReadError, Reason, RefusedLine};
+use crate::words::lines_of;
+use graphql_ast::collections::items::Items;
+use graphql_ast::document::Document;
+use graphql_ast::source::{FileId, SourceSpan};
+use std::alloc::{AllocError, Global};
+
+/// The file that the input counts as.
+pub const INPUT_FILE: FileId = FileId(1);
+
+/// The place of what stands on a line of the input.
+fn line_place(number: usize) -> SourceSpan
+    ensures { result ≡ line_place number }
+{
+    SourceSpan {
+        file: INPUT_FILE,
+        start: number,
+        end: number,
+    }
+}
+
+/// The documents that the lines so far say.
+#[derive(Drop)]
+struct DocumentReader {
+    /// The documents before the last.
+    documents: Items<Document>,
+    /// The last document, without the item that is being read.
+    document: Document,
+    item: Option<OpenItem>,
+}
+
+impl DocumentReader {
+    ghost use Rattle.gqltool_run.specs.Documents.{nothing_read, above_next, item_ended, document_ended, line_added, MayStand, Takes};
+
+    fn new(alloc: Global) -> DocumentReader
+        ensures { result ≡ nothing_read }
+    {
+        DocumentReader {
+            documents: Items::new(alloc),
+            document: Document::new(alloc),
+            item: None,
+        }
+    }
+
+    /// What stands above the next line in its document.
+    fn above(&self) -> Above
+        ensures { result ≡ above_next self.now.item }
+    {
+        match &self.item {
+            Some(item) if item.has_field() => Above::Field,
+            Some(_) => Above::Header,
+            None => Above::Nothing,
+        }
+    }
+
+    /// Takes one more line.
+    fn take_line(&mut self, alloc: Global, text: &str, number: usize) -> Result<(), LineError>
+        ensures { OnOk result (Takes text.now (line_place number) self.old self.new) }
+    {
+        let place = line_place(number);
+        let line = read_line(alloc, text, self.above(), place)?;
+        self.add(alloc, line, place)
+    }
+
+    fn add(&mut self, alloc: Global, line: Line, place: SourceSpan) -> Result<(), LineError>
+        ensures added { OnOk result (self.new ≡ line_added line place self.old) }
+        ensures stands { OnOk result (MayStand line self.old) }
+        ensures err { MayStand line self.old → IsOkUnless result LineError.Memory }
+    {
+        match line {
+            Line::Empty => Ok(()),
+            Line::Break => Ok(self.end_document(alloc)?),
+            Line::Header(header) => {
+                self.end_item(alloc)?;
+                self.item = Some(OpenItem::new(alloc, header, place));
+                Ok(())
+            }
+            Line::Component(component) => match &mut self.item {
+                Some(item) => Ok(item.add(alloc, component, place)?),
+                None => Err(LineError::Refused(Reason::MisplacedLine)),
+            },
+            Line::FieldPart(part) => match &mut self.item {
+                Some(item) => item.add_to_field(alloc, part, place),
+                None => Err(LineError::Refused(Reason::MisplacedLine)),
+            },
+        }
+    }
+
+    fn end_item(&mut self, alloc: Global) -> Result<(), AllocError>
+        ensures { OnOk result (self.new ≡ item_ended self.old) }
+    {
+        match self.item.take() {
+            Some(item) => self.document.definitions.push(item.close(alloc)?),
+            None => Ok(()),
+        }
+    }
+
+    fn end_document(&mut self, alloc: Global) -> Result<(), AllocError>
+        ensures { OnOk result (self.new ≡ document_ended self.old) }
+    {
+        self.end_item(alloc)?;
+        let document = std::mem::replace(&mut self.document, Document::new(alloc));
+        self.documents.push(document)
+    }
+
+    /// The documents, of which there is at least one.
+    fn finish(mut self, alloc: Global) -> Result<Vec<Document>, AllocError>
+        ensures { IfOk result (λ documents. documents.items ≡ (document_ended self).documents) }
+    {
+        self.end_document(alloc)?;
+        Ok(self.documents.into_vec())
+    }
+}
+
+fn read_lines(alloc: Global, lines: &[&str]) -> Result<Vec<Document>, ReadError>
+    ensures read { OnOk result (All IsLine (map (λ line. line.now) lines.now)) }
+    ensures said { IfOk result (λ documents. ReadTo 1 (map (λ line. line.now) lines.now) nothing_read documents.items) }
+    ensures refused { IfErr result (IsReadError (map (λ line. line.now) lines.now)) }
+{
+    let mut reader = DocumentReader::new(alloc);
+    for (index, line) in lines.iter().enumerate() {
+        let number = index + 1;
+        match reader.take_line(alloc, *line, number) {
+            Ok(()) => {}
+            Err(LineError::Refused(reason)) => {
+                return Err(ReadError::Refused(RefusedLine { number, reason }));
+            }
+            Err(LineError::Memory) => return Err(ReadError::Memory),
+        }
+    }
+    Ok(reader.finish(alloc)?)
+}
+
+/// Reads a whole text: its documents, of which there is at least one. They have no sources.
+///
+/// The first line that is refused ends the reading.
+pub fn read(alloc: Global, text: &str) -> Result<Vec<Document>, ReadError>
+    ensures read { OnOk result (All IsLine (lines_of text.now)) }
+    ensures said { IfOk result (λ documents. AreDocumentsOf text.now documents.items) }
+    ensures refused { IfErr result (IsReadError (lines_of text.now)) }
+{
+    let lines = lines_of(alloc, text)?;
+    read_lines(alloc, lines.as_slice())
+}

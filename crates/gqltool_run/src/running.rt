@@ -1,0 +1,87 @@
+//! The run of the program.
+ghost use Rattle.std.specs.Prelude.{All, ◌≡◌, ◌≢◌, List, [], ◌∷◌, codes, map, IfOk, OnOk, IfSome, string_bytes};
+ghost use Rattle.std.specs.Io.KnownBytes.{Appends};
+ghost use Rattle.graphql_ast.specs.declared.definition.Definition.{Definition};
+ghost use Rattle.graphql_ast.specs.declared.document.Document.{Document};
+ghost use Rattle.gqltool_run.specs.Documents.{AreDocumentsOf};
+ghost use Rattle.gqltool_run.specs.Line.{IsLine, lines_of};
+ghost use Rattle.gqltool_run.specs.Text.{definitions_text};
+
+use crate::failure::Failure;
+use crate::printing::print;
+use crate::reading::read;
+use crate::schema_command::written;
+use crate::status::Status;
+use std::alloc::Global;
+use std::io::{self, ErrorKind, Read, Write};
+
+/// Runs the program on the words that follow its name.
+///
+/// The output is written only once all of it is there. What is wrong is said on `errors`, in one line; that it
+/// cannot be said there changes nothing.
+pub fn run<R: Read, O: Write, E: Write>(
+    alloc: Global,
+    words: &[&str],
+    reader: &mut R,
+    output: &mut O,
+    errors: &mut E,
+) -> Status
+    ensures refused { result ≡ Status.Refused → output.new ≡ output.old }
+    ensures exhausted { result ≡ Status.Exhausted → output.new ≡ output.old }
+    ensures read { result ≡ Status.Done → IfSome (R.remaining reader.old) (λ input. All IsLine (lines_of input)) }
+    ensures said { result ≡ Status.Done → IfSome (R.remaining reader.old) (λ input. (documents : List Document) × AreDocumentsOf input documents) }
+    ensures done { result ≡ Status.Done → (definitions : List Definition) × Appends (O.contents output.old) (O.contents output.new) (definitions_text definitions) }
+    ensures quiet { result ≡ Status.Done → errors.new ≡ errors.old }
+    ensures usage { map (λ word. word.now) words.now ≢ codes "schema" ∷ [] → (result ≡ Status.Refused) × (reader.new ≡ reader.old) }
+{
+    let text = match answer(alloc, words, reader) {
+        Ok(text) => text,
+        Err(failure) => {
+            let _ = writeln!(errors, "{failure}");
+            return failure.status();
+        }
+    };
+    match write_out(output, text.as_str()) {
+        Ok(()) => Status::Done,
+        Err(_) => {
+            let _ = writeln!(errors, "cannot write output");
+            Status::NotWritten
+        }
+    }
+}
+
+/// What is to be written for the words and the input. Nothing is read where the words are refused.
+fn answer<R: Read>(alloc: Global, words: &[&str], reader: &mut R) -> Result<String, Failure>
+    ensures read { OnOk result (IfSome (R.remaining reader.old) (λ input. All IsLine (lines_of input))) }
+    ensures said { OnOk result (IfSome (R.remaining reader.old) (λ input. (documents : List Document) × AreDocumentsOf input documents)) }
+    ensures printed { IfOk result (λ text. (definitions : List Definition) × (string_bytes text ≡ definitions_text definitions)) }
+    ensures usage { map (λ word. word.now) words.now ≢ codes "schema" ∷ [] → (result ≡ Err Failure.Usage) × (reader.new ≡ reader.old) }
+{
+    let ["schema"] = words else {
+        return Err(Failure::Usage);
+    };
+    let input = read_all(alloc, reader)?;
+    let documents = read(alloc, input.as_str())?;
+    let definitions = written(alloc, documents.as_slice())?;
+    Ok(print(alloc, definitions.as_slice())?)
+}
+
+/// The whole input.
+fn read_all<R: Read>(alloc: Global, reader: &mut R) -> Result<String, Failure>
+    ensures { IfOk result (λ text. IfSome (R.remaining reader.old) (λ input. string_bytes text ≡ input)) }
+{
+    let mut bytes = Vec::new(alloc);
+    match reader.read_to_end(&mut bytes) {
+        Ok(_) => {}
+        Err(error) if error.kind() == ErrorKind::OutOfMemory => return Err(Failure::Memory),
+        Err(_) => return Err(Failure::CannotRead),
+    }
+    String::from_utf8(bytes).map_err(|_| Failure::CannotRead)
+}
+
+fn write_out<O: Write>(output: &mut O, text: &str) -> io::Result<()>
+    ensures { OnOk result (Appends (O.contents output.old) (O.contents output.new) text.now) }
+{
+    output.write_all(text.as_bytes())?;
+    output.flush()
+}

@@ -1,0 +1,28 @@
+//! How a run ends.
+
+/// How a run ended.
+#[derive(Debug, Clone, Copy, PartialEq, Eq)]
+pub enum Status {
+    /// The output is written, and nothing is at fault.
+    Done,
+    /// The output is written, and something is at fault.
+    Faults,
+    /// The words or the input are refused. No output is written.
+    Refused,
+    /// Memory or extension identities were wanting. No output is written.
+    Exhausted,
+    /// Not all of the output could be written.
+    NotWritten,
+}
+
+impl Status {
+    ghost use Rattle.std.specs.Prelude.{◌≡◌};
+    ghost use Rattle.gqltool_run.specs.Status.{exit_code};
+
+    /// The exit status of the program.
+    pub fn code(self) -> u8
+        ensures { result ≡ exit_code self }
+    {
+        self as u8
+    }
+}
