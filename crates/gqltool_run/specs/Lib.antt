@@ -1,4 +1,5 @@
 pub mod Documents
 pub mod Line
+pub mod SchemaCommand
 pub mod Status
 pub mod Text

@@ -10,7 +10,11 @@ pub mod printing;
 pub mod reading;
 pub mod refusal;
 pub mod running;
+#[cfg(test)]
+mod schema_calls;
 mod schema_command;
+#[cfg(test)]
+mod schema_rows;
 pub mod status;
 #[cfg(test)]
 mod tests;

@@ -1,10 +1,9 @@
 //! The run of the program.
-ghost use Rattle.std.specs.Prelude.{All, ◌≡◌, ◌≢◌, List, [], ◌∷◌, codes, map, IfOk, OnOk, IfSome, string_bytes};
+ghost use Rattle.std.specs.Prelude.{All, ◌≡◌, ◌≢◌, ℕ, List, [], ◌∷◌, codes, map, IfOk, OnOk, IfSome, string_bytes};
 ghost use Rattle.std.specs.Io.KnownBytes.{Appends};
 ghost use Rattle.graphql_ast.specs.declared.definition.Definition.{Definition};
-ghost use Rattle.graphql_ast.specs.declared.document.Document.{Document};
-ghost use Rattle.gqltool_run.specs.Documents.{AreDocumentsOf};
 ghost use Rattle.gqltool_run.specs.Line.{IsLine, lines_of};
+ghost use Rattle.gqltool_run.specs.SchemaCommand.{IsAnswer};
 ghost use Rattle.gqltool_run.specs.Text.{definitions_text};
 
 use crate::failure::Failure;
@@ -29,7 +28,8 @@ pub fn run<R: Read, O: Write, E: Write>(
     ensures refused { result ≡ Status.Refused → output.new ≡ output.old }
     ensures exhausted { result ≡ Status.Exhausted → output.new ≡ output.old }
     ensures read { result ≡ Status.Done → IfSome (R.remaining reader.old) (λ input. All IsLine (lines_of input)) }
-    ensures said { result ≡ Status.Done → IfSome (R.remaining reader.old) (λ input. (documents : List Document) × AreDocumentsOf input documents) }
+    ensures means { result ≡ Status.Done → IfSome (R.remaining reader.old) (λ input. (text : List ℕ)
+        × (IsAnswer input text × Appends (O.contents output.old) (O.contents output.new) text)) }
     ensures done { result ≡ Status.Done → (definitions : List Definition) × Appends (O.contents output.old) (O.contents output.new) (definitions_text definitions) }
     ensures quiet { result ≡ Status.Done → errors.new ≡ errors.old }
     ensures usage { map (λ word. word.now) words.now ≢ codes "schema" ∷ [] → (result ≡ Status.Refused) × (reader.new ≡ reader.old) }
@@ -53,7 +53,7 @@ pub fn run<R: Read, O: Write, E: Write>(
 /// What is to be written for the words and the input. Nothing is read where the words are refused.
 fn answer<R: Read>(alloc: Global, words: &[&str], reader: &mut R) -> Result<String, Failure>
     ensures read { OnOk result (IfSome (R.remaining reader.old) (λ input. All IsLine (lines_of input))) }
-    ensures said { OnOk result (IfSome (R.remaining reader.old) (λ input. (documents : List Document) × AreDocumentsOf input documents)) }
+    ensures means { IfOk result (λ text. IfSome (R.remaining reader.old) (λ input. IsAnswer input (string_bytes text))) }
     ensures printed { IfOk result (λ text. (definitions : List Definition) × (string_bytes text ≡ definitions_text definitions)) }
     ensures usage { map (λ word. word.now) words.now ≢ codes "schema" ∷ [] → (result ≡ Err Failure.Usage) × (reader.new ≡ reader.old) }
 {
@@ -63,7 +63,8 @@ fn answer<R: Read>(alloc: Global, words: &[&str], reader: &mut R) -> Result<Stri
     let input = read_all(alloc, reader)?;
     let documents = read(alloc, input.as_str())?;
     let definitions = written(alloc, documents.as_slice())?;
-    Ok(print(alloc, definitions.as_slice())?)
+    let text = print(alloc, definitions.as_slice())?;
+    Ok(text)
 }
 
 /// The whole input.

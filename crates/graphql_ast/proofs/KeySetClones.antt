@@ -1,5 +1,5 @@
 -- What the proofs of sets cite.
-use Rattle.std.proofs.Common.{◌≡◌, List}
+use Rattle.std.proofs.Common.{List}
 use Rattle.std.specs.List.{AllZip}
 use Rattle.std.proofs.lemmas.List.Elements.{same_from_all_zip}
 use Rattle.graphql_ast.specs.KeySets.{IsSetClone}

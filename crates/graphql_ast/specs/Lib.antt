@@ -1,6 +1,11 @@
 pub mod ArgumentAnswer
 pub mod ArgumentsByName
+pub mod Bare
+pub mod BareDocuments
+pub mod BareSelections
+pub mod BareTypeSystem
 pub mod BuiltIn
+pub mod Clones
 pub mod DefinitionTexts
 pub mod Definitions
 pub mod KeySets

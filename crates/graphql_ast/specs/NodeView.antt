@@ -1,6 +1,5 @@
 use Rattle.std.specs.Prelude.{ℕ, Option, refl}
 use Rattle.std.specs.Coded.{Coded, code_by, coded×, coded_option, coded_ℕ}
-use Rattle.graphql_ast.specs.declared.source.FileId.{FileId}
 use Rattle.graphql_ast.specs.declared.source.SourceSpan.{SourceSpan}
 
 -- what a contract sees of a node: its value, and the place where it stands

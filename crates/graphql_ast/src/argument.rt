@@ -58,8 +58,8 @@ impl Argument {
     {
         arguments
             .iter()
-            .find(|argument| argument.name == *name)
-            .map(|argument| &argument.value)
+            .find(|given| given.name == *name)
+            .map(|given| &given.value)
     }
 
     /// The value of the argument of the name: the specified one, else the default one of its definition, else none.

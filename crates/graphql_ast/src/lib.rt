@@ -11,6 +11,7 @@ pub mod definition;
 pub mod directive;
 pub mod directive_location;
 pub mod document;
+pub mod laws;
 pub mod name;
 pub mod node;
 pub mod node_str;
@@ -18,6 +19,8 @@ pub mod operation;
 pub mod operation_type;
 pub mod selection;
 pub mod source;
+#[cfg(test)]
+mod tests;
 pub mod type_kind;
 pub mod type_reference;
 pub mod type_system;

@@ -21,10 +21,14 @@ use std::rc::RcStr;
 use thiserror::Error;
 
 /// A text that is no GraphQL name, and the place where it stands, if it is known.
-#[derive(Debug, Drop, PartialEq, Eq, Clone, Error)]
+///
+/// Such errors are equal by their texts: the place is left out.
+#[derive(Debug, Drop, Clone, Error)]
+#[derive_where(PartialEq, Eq)]
 #[error("`{name}` is not a valid GraphQL name")]
 pub struct InvalidNameError {
     pub name: Text,
+    #[derive_where(skip(EqHashOrd))]
     pub location: Option<SourceSpan>,
 }
 

@@ -44,6 +44,16 @@ impl NodeStr {
         })
     }
 
+    /// The same text at another place.
+    pub fn with_location(self, location: SourceSpan) -> NodeStr
+        ensures { result ≡ record self { location = Some location } }
+    {
+        NodeStr {
+            shared: self.shared,
+            place: Some(location),
+        }
+    }
+
     /// The text.
     pub fn as_str(&self) -> &str
         ensures { result.now ≡ self.now.text }

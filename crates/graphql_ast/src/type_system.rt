@@ -118,7 +118,7 @@ pub struct SchemaExtension {
     pub root_operations: Items<Node<(OperationType, NamedType)>>,
 }
 
-/// An extension of a scalar type (section 3.5.7).
+/// An extension of a scalar type (section 3.5.6).
 #[derive(Drop, PartialEq, Eq, Hash, Clone)]
 pub struct ScalarTypeExtension {
     pub name: Name,

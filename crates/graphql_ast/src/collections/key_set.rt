@@ -1,5 +1,7 @@
-ghost use Rattle.std.specs.Prelude.{◌≡◌, ◌<◌, ◌^◌, [], length, not, IfOk, IfErr, OnOk, OnErr, true, false};
+//! Sets in the order of insertion.
+ghost use Rattle.std.specs.Prelude.{◌≡◌, ◌==◌, ◌<◌, ◌^◌, [], length, slice_get, not, IfOk, IfErr, OnOk, OnErr, true, false};
 ghost use Rattle.std.specs.Cmp;
+ghost use Rattle.std.specs.Option.{option_copied};
 ghost use Rattle.std.specs.Map.Iter.{ShowsInOrder, deref};
 ghost use Rattle.std.specs.List.{list_any, IsDistinct};
 ghost use Rattle.graphql_ast.specs.KeySets.{set_eq, set_eq_equiv, insert_key, remove_key, has_key, IsSetClone};
@@ -28,6 +30,7 @@ impl<T: Eq + Hash> Model for KeySet<T> {
 }
 
 impl<T: Eq + Hash> KeySet<T> {
+    /// No key.
     pub fn new(alloc: Global) -> KeySet<T>
         ensures { result ≡ [] }
     {
@@ -36,6 +39,7 @@ impl<T: Eq + Hash> KeySet<T> {
         }
     }
 
+    /// The keys of the set, in order. No two are equal.
     pub fn from_index_set(set: IndexSet<T>) -> KeySet<T>
         ensures keys { result ≡ set.keys }
         ensures unique { IsDistinct T.eq result }
@@ -44,6 +48,7 @@ impl<T: Eq + Hash> KeySet<T> {
         KeySet { set }
     }
 
+    /// The keys as an `IndexSet`.
     pub fn into_index_set(self) -> IndexSet<T>
         ensures { result.keys ≡ self }
     {
@@ -51,6 +56,7 @@ impl<T: Eq + Hash> KeySet<T> {
         set
     }
 
+    /// How many keys there are.
     pub fn len(&self) -> usize
         ensures len { result ≡ length self.now }
         ensures small { result < 2 ^ 63 }
@@ -59,6 +65,21 @@ impl<T: Eq + Hash> KeySet<T> {
         self.set.len()
     }
 
+    /// Whether there is no key.
+    pub fn is_empty(&self) -> bool
+        ensures { result ≡ (length self.now == 0) }
+    {
+        self.set.is_empty()
+    }
+
+    /// The key at a place, if there is one.
+    pub fn get_index(&self, index: usize) -> Option<&T>
+        ensures { option_copied result ≡ slice_get self.now index }
+    {
+        self.as_slice().get(index)
+    }
+
+    /// The keys, in order.
     pub fn as_slice(&self) -> &[T]
         ensures keys { result.now ≡ self.now }
         ensures unique { IsDistinct T.eq self.now }
@@ -66,12 +87,14 @@ impl<T: Eq + Hash> KeySet<T> {
         self.set.as_slice()
     }
 
+    /// Whether a key equal to this one is there.
     pub fn contains(&self, key: &T) -> bool
         ensures { result ≡ has_key (T.eq key.now) self.now }
     {
         self.set.contains(key)
     }
 
+    /// The keys, one by one, in order.
     pub fn iter(&self) -> Iter<'_, T>
         ensures rest { result ≡ self.now }
         ensures runs { ShowsInOrder (deref {X = T}) }
@@ -83,7 +106,9 @@ impl<T: Eq + Hash> KeySet<T> {
 }
 
 impl<T: Eq + Hash + Drop> KeySet<T> {
-    /// Puts the key last, or leaves the equal one that is there.
+    /// Puts the key last, or leaves the equal one that is there. Answers whether there was none.
+    ///
+    /// After want of memory the set is as it was, and the error gives the key back.
     pub fn insert(&mut self, key: T) -> Result<bool, AllocFailed<T>>
         ensures added { IfOk result (λ added. added ≡ not (has_key (T.eq key) self.old)) }
         ensures keys { OnOk result (self.new ≡ insert_key T.eq self.old key) }
@@ -95,6 +120,7 @@ impl<T: Eq + Hash + Drop> KeySet<T> {
         self.set.insert(key)
     }
 
+    /// Takes out the key equal to this one. Those after it move up. Answers whether there was one.
     pub fn shift_remove(&mut self, key: &T) -> bool
         ensures found { result ≡ has_key (T.eq key.now) self.old }
         ensures keys { self.new ≡ remove_key (T.eq key.now) self.old }

@@ -1,4 +1,5 @@
-ghost use Rattle.std.specs.Prelude.{◌≡◌, ◌<◌, ◌+◌, ◌^◌, [], ◌∷◌, ◌++◌, length, Some, None, IsSome, IfSome, IfOk, IfErr, OnOk, OnErr, is_some, if◌then◌else◌};
+//! Maps in the order of insertion.
+ghost use Rattle.std.specs.Prelude.{◌≡◌, ◌==◌, ◌<◌, ◌+◌, ◌^◌, [], ◌∷◌, ◌++◌, length, Some, None, IsSome, IfSome, IfOk, IfErr, OnOk, OnErr, is_some, if◌then◌else◌};
 ghost use Rattle.std.specs.Borrow.{sem};
 ghost use Rattle.std.specs.Cmp;
 ghost use Rattle.std.specs.Cmp.{partial_equiv_from_equiv};
@@ -33,6 +34,7 @@ impl<K: Eq + Hash, V> Model for Table<K, V> {
 impl<K: Eq + Hash, V> Table<K, V> {
     ghost use Rattle.graphql_ast.specs.TableLending.{LendsEntry};
 
+    /// No entry.
     pub fn new(alloc: Global) -> Table<K, V>
         ensures { result ≡ [] }
     {
@@ -41,6 +43,7 @@ impl<K: Eq + Hash, V> Table<K, V> {
         }
     }
 
+    /// The entries of the map, in order. No two keys are equal.
     pub fn from_index_map(map: IndexMap<K, V>) -> Table<K, V>
         ensures entries { result ≡ map.entries }
         ensures unique { HasUniqueKeys K.eq result }
@@ -49,6 +52,7 @@ impl<K: Eq + Hash, V> Table<K, V> {
         Table { map }
     }
 
+    /// The entries as an `IndexMap`.
     pub fn into_index_map(self) -> IndexMap<K, V>
         ensures { result.entries ≡ self }
     {
@@ -56,12 +60,14 @@ impl<K: Eq + Hash, V> Table<K, V> {
         map
     }
 
+    /// The map of the entries.
     pub fn as_index_map(&self) -> &IndexMap<K, V>
         ensures { result.now.entries ≡ self.now }
     {
         &self.map
     }
 
+    /// How many entries there are.
     pub fn len(&self) -> usize
         ensures len { result ≡ length self.now }
         ensures small { result < 2 ^ 63 }
@@ -70,19 +76,28 @@ impl<K: Eq + Hash, V> Table<K, V> {
         self.map.len()
     }
 
+    /// Whether there is no entry.
+    pub fn is_empty(&self) -> bool
+        ensures { result ≡ (length self.now == 0) }
+    {
+        self.map.is_empty()
+    }
+
+    /// The value at the key, if there is one.
     pub fn get(&self, key: &K) -> Option<&V>
         ensures { option_copied result ≡ lookup (K.eq key.now) self.now }
     {
         self.map.get(key)
     }
 
+    /// Whether there is an entry with the key.
     pub fn contains_key(&self, key: &K) -> bool
         ensures { result ≡ is_some (lookup (K.eq key.now) self.now) }
     {
         self.map.contains_key(key)
     }
 
-    /// The value at `key`, to write.
+    /// The value at the key, to write to, if there is one. The rest of the table stays.
     #[tactic(auto, using(crate::proofs::TableLemmas::as_found))]
     pub fn get_mut(&mut self, key: &K) -> Option<&mut V>
         ensures* writes_back { sem 𝓛 (LendsEntry K.row V.row K.Hash self.entry (K.eq key.now) result) }
@@ -92,6 +107,7 @@ impl<K: Eq + Hash, V> Table<K, V> {
         self.map.get_mut(key)
     }
 
+    /// The entries, one by one, in order.
     pub fn iter(&self) -> Iter<'_, K, V>
         ensures rest { result ≡ self.now }
         ensures runs { ShowsInOrder (deref_pair {K = K} {X = V}) }
@@ -102,6 +118,7 @@ impl<K: Eq + Hash, V> Table<K, V> {
         self.map.iter()
     }
 
+    /// The keys, one by one, in order.
     pub fn keys(&self) -> Keys<'_, K, V>
         ensures rest { result ≡ keys_of self.now }
         ensures runs { ShowsInOrder (deref {X = K}) }
@@ -111,6 +128,7 @@ impl<K: Eq + Hash, V> Table<K, V> {
         self.map.keys()
     }
 
+    /// The values, one by one, in order.
     pub fn values(&self) -> Values<'_, K, V>
         ensures rest { result ≡ values_of self.now }
         ensures runs { ShowsInOrder (deref {X = V}) }
@@ -121,7 +139,10 @@ impl<K: Eq + Hash, V> Table<K, V> {
 }
 
 impl<K: Eq + Hash + Drop, V> Table<K, V> {
-    /// Puts the value at the key. A key that is there keeps its place, and a new one goes last.
+    /// Puts the value at the key. A key that is there keeps its place, and a new one goes last. Answers the value
+    /// that stood there.
+    ///
+    /// After want of memory the table is as it was, and the error gives the key and value back.
     pub fn insert(&mut self, key: K, value: V) -> Result<Option<V>, AllocFailed<(K, V)>>
         ensures old { IfOk result (λ old. old ≡ lookup (K.eq key) self.old) }
         ensures entries { OnOk result (self.new ≡ insert_entry K.eq self.old key value) }
@@ -133,6 +154,7 @@ impl<K: Eq + Hash + Drop, V> Table<K, V> {
         self.map.insert(key, value)
     }
 
+    /// Takes out the entry with the key. Those after it move up. Answers its value.
     pub fn shift_remove(&mut self, key: &K) -> Option<V>
         ensures value { result ≡ lookup (K.eq key.now) self.old }
         ensures entries { self.new ≡ remove_entry (K.eq key.now) self.old }

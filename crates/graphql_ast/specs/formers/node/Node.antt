@@ -10,7 +10,7 @@ use denote.Sharing.{nothing}
 use denote.HoleLaws.{Alike}
 use denote.HolePlaces.{Recodes, struct_places, laid, one_value}
 use denote.Hole.Fix.{over}
-use denote.Param.Weighed.{Weighed, w_via, w_pair, w_const}
+use denote.Param.Weighed.{Weighed}
 use denote.Model.Placed.{view_places}
 use Rattle.std.specs.Prelude.{Option}
 use Rattle.std.specs.declared.rc.Rc.{Rc}

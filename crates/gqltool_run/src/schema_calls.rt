@@ -1,0 +1,84 @@
+//! Schemas read from the calls of the library: numbers, origins, and documents added one by one.
+
+use crate::printing::print;
+use crate::reading::read;
+use apollo_component::extension::ComponentOrigin;
+use apollo_schema::schema::Schema;
+use apollo_schema::schema_builder::SchemaBuilder;
+use graphql_ast::name::Name;
+use std::alloc::{AllocError, Global};
+use std::test::Fail;
+
+/// The schema that a text of documents makes.
+fn built(alloc: Global, input: &str) -> Result<Schema, Fail> {
+    let mut builder = SchemaBuilder::new(alloc)?;
+    for document in &read(alloc, input)? {
+        builder.add_ast(document)?;
+    }
+    Ok(builder.build().ok().ok_or("no schema")?)
+}
+
+/// Where a component comes from: the definition, or an extension by its number and line.
+fn push_origin(text: &mut String, name: &Name, origin: ComponentOrigin) -> Result<(), AllocError> {
+    let name = name.as_str();
+    match origin {
+        ComponentOrigin::Definition => write!(text, "{name} in the definition\n"),
+        ComponentOrigin::Extension(id) => {
+            let number = id.number();
+            let line = id.location().map_or(0, |span| span.start);
+            write!(text, "{name} in extension {number} of line {line}\n")
+        }
+    }
+}
+
+/// The components of an object type, each with where it comes from.
+fn origins(alloc: Global, schema: &Schema, name: &str) -> Result<String, Fail> {
+    let object = schema
+        .get_object(&Name::new(alloc, name)?)
+        .ok_or("no object type")?;
+    let mut text = String::new(alloc);
+    for directive in object.directives.as_slice() {
+        push_origin(&mut text, &directive.node.name, directive.origin)?;
+    }
+    for interface in object.implements_interfaces.as_slice() {
+        push_origin(&mut text, &interface.name, interface.origin)?;
+    }
+    for field in object.fields.values() {
+        push_origin(&mut text, &field.node.name, field.origin)?;
+    }
+    Ok(text)
+}
+
+const AROUND: &str =
+    "ext object Q\nfield b Int\nfield a Int\next object R\nfield z Int\ndef object Q\nfield a Int\next object Q\n@ d\nimplements N\ndef object R\next object Q\nfield c Int";
+
+#[test]
+fn extensions_are_numbered_as_they_are_folded(rt: HostRuntime) -> Result<(), Fail> {
+    let alloc = rt.alloc();
+    let schema = built(alloc, AROUND)?;
+    let q = origins(alloc, &schema, "Q")?;
+    assert_eq!(rt;
+        q.as_str(),
+        "d in extension 1 of line 8\nN in extension 1 of line 8\na in the definition\nb in extension 0 of line 1\nc in extension 3 of line 12\n"
+    );
+    let r = origins(alloc, &schema, "R")?;
+    assert_eq!(rt; r.as_str(), "z in extension 2 of line 4\n");
+    assert!(rt; schema.get_object(&Name::new(alloc, "S")?).is_none());
+    Ok(())
+}
+
+#[test]
+fn documents_one_by_one_build_as_one_document(rt: HostRuntime) -> Result<(), Fail> {
+    let alloc = rt.alloc();
+    let one = built(alloc, AROUND)?;
+    // The same lines, with the end of a document in the place of what stood between.
+    let parted = AROUND.replace(alloc, "\ndef object R", "\n---\ndef object R")?;
+    let two = built(alloc, parted.as_str())?;
+    assert!(rt; one == two);
+    let first = print(alloc, one.to_ast(alloc)?.as_slice())?;
+    let second = print(alloc, two.to_ast(alloc)?.as_slice())?;
+    assert_eq!(rt; first.as_str(), second.as_str());
+    let copy = one.clone()?;
+    assert!(rt; copy == one);
+    Ok(())
+}

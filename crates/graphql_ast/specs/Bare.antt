@@ -1,0 +1,61 @@
+-- Parts of the syntax tree without their locations. Trees that differ in locations alone have one bare tree.
+use Rattle.std.specs.Prelude.{◌≡◌, None, Bool, map, IsTrue, ◌↔◌}
+use Rattle.graphql_ast.specs.NameView.{NameView}
+use Rattle.graphql_ast.specs.NodeView.{NodeView}
+use Rattle.graphql_ast.specs.declared.name.InvalidNameError.{InvalidNameError}
+use Rattle.graphql_ast.specs.declared.value.Value.{Value, fold-Value, roll-Value}
+use Rattle.graphql_ast.specs.declared.value.Value.TheOpen.{Value-F}
+use Rattle.graphql_ast.specs.declared.type_reference.Type.{«Type» as TypeReference, fold-Type, roll-Type}
+use Rattle.graphql_ast.specs.declared.type_reference.Type.TheOpen.{Type-F}
+use Rattle.graphql_ast.specs.declared.directive.Argument.{Argument}
+use Rattle.graphql_ast.specs.declared.directive.Directive.{Directive}
+use Rattle.graphql_ast.specs.declared.directive.DirectiveList.{DirectiveList}
+
+-- the test is true exactly where f gives the two one value
+abbrev pub ComparesBy : {A B : Type 0} → (A → A → Bool) → (A → B) → Type 0
+ComparesBy {A} test f = (a b : A) → IsTrue (test a b) ↔ (f a ≡ f b)
+
+-- a name, or a shared text
+abbrev pub bare_name : NameView → NameView
+bare_name n = record { text = n.text; location = None }
+
+-- the error of a text that is no name
+abbrev pub bare_invalid_name : InvalidNameError → InvalidNameError
+bare_invalid_name e = record { name = e.name; location = None }
+
+abbrev pub bare_node : {A B : Type 0} → (A → B) → NodeView A → NodeView B
+bare_node f n = record { value = f n.value; location = None }
+
+-- one level of a value, where each value inside is bare
+abbrev pub value_step : Value-F Value → Value
+value_step Value-F.Null = roll-Value Value-F.Null
+value_step (Value-F.Enum n) = roll-Value (Value-F.Enum (bare_name n))
+value_step (Value-F.Variable n) = roll-Value (Value-F.Variable (bare_name n))
+value_step (Value-F.String t) = roll-Value (Value-F.String t)
+value_step (Value-F.Float t) = roll-Value (Value-F.Float t)
+value_step (Value-F.Int t) = roll-Value (Value-F.Int t)
+value_step (Value-F.Boolean b) = roll-Value (Value-F.Boolean b)
+value_step (Value-F.List items) = roll-Value (Value-F.List (map (bare_node (λ v. v)) items))
+value_step (Value-F.Object members) = roll-Value (Value-F.Object (map (λ m. (bare_name m.0, bare_node (λ v. v) m.1)) members))
+
+abbrev pub bare_value : Value → Value
+bare_value = fold-Value Value value_step
+
+-- one level of a type reference, where what is inside a list is bare
+abbrev pub type_step : Type-F TypeReference → TypeReference
+type_step (Type-F.Named n) = roll-Type (Type-F.Named (bare_name n))
+type_step (Type-F.NonNullNamed n) = roll-Type (Type-F.NonNullNamed (bare_name n))
+type_step (Type-F.List t) = roll-Type (Type-F.List t)
+type_step (Type-F.NonNullList t) = roll-Type (Type-F.NonNullList t)
+
+abbrev pub bare_type : TypeReference → TypeReference
+bare_type = fold-Type TypeReference type_step
+
+abbrev pub bare_argument : Argument → Argument
+bare_argument a = record { name = bare_name a.name; value = bare_node bare_value a.value }
+
+abbrev pub bare_directive : Directive → Directive
+bare_directive d = record { name = bare_name d.name; arguments = map (bare_node bare_argument) d.arguments }
+
+abbrev pub bare_directive_list : DirectiveList → DirectiveList
+bare_directive_list l = record { 0 = map (bare_node bare_directive) l.0 }

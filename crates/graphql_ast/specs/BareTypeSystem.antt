@@ -1,0 +1,81 @@
+-- Definitions and extensions of the type system without their locations.
+use Rattle.std.specs.Prelude.{map, option_map}
+use Rattle.graphql_ast.specs.NameView.{NameView}
+use Rattle.graphql_ast.specs.Bare.{bare_name, bare_node, bare_value, bare_type, bare_directive_list}
+use Rattle.graphql_ast.specs.declared.operation_type.OperationType.{OperationType}
+use Rattle.graphql_ast.specs.declared.type_system.FieldDefinition.{FieldDefinition}
+use Rattle.graphql_ast.specs.declared.type_system.InputValueDefinition.{InputValueDefinition}
+use Rattle.graphql_ast.specs.declared.type_system.EnumValueDefinition.{EnumValueDefinition}
+use Rattle.graphql_ast.specs.declared.type_system.DirectiveDefinition.{DirectiveDefinition}
+use Rattle.graphql_ast.specs.declared.type_system.SchemaDefinition.{SchemaDefinition}
+use Rattle.graphql_ast.specs.declared.type_system.ScalarTypeDefinition.{ScalarTypeDefinition}
+use Rattle.graphql_ast.specs.declared.type_system.ObjectTypeDefinition.{ObjectTypeDefinition}
+use Rattle.graphql_ast.specs.declared.type_system.InterfaceTypeDefinition.{InterfaceTypeDefinition}
+use Rattle.graphql_ast.specs.declared.type_system.UnionTypeDefinition.{UnionTypeDefinition}
+use Rattle.graphql_ast.specs.declared.type_system.EnumTypeDefinition.{EnumTypeDefinition}
+use Rattle.graphql_ast.specs.declared.type_system.InputObjectTypeDefinition.{InputObjectTypeDefinition}
+use Rattle.graphql_ast.specs.declared.type_system.SchemaExtension.{SchemaExtension}
+use Rattle.graphql_ast.specs.declared.type_system.ScalarTypeExtension.{ScalarTypeExtension}
+use Rattle.graphql_ast.specs.declared.type_system.ObjectTypeExtension.{ObjectTypeExtension}
+use Rattle.graphql_ast.specs.declared.type_system.InterfaceTypeExtension.{InterfaceTypeExtension}
+use Rattle.graphql_ast.specs.declared.type_system.UnionTypeExtension.{UnionTypeExtension}
+use Rattle.graphql_ast.specs.declared.type_system.EnumTypeExtension.{EnumTypeExtension}
+use Rattle.graphql_ast.specs.declared.type_system.InputObjectTypeExtension.{InputObjectTypeExtension}
+
+abbrev pub bare_input_value_definition : InputValueDefinition → InputValueDefinition
+bare_input_value_definition d = record { description = option_map bare_name d.description; name = bare_name d.name; ty = bare_node bare_type d.ty; default_value = option_map (bare_node bare_value) d.default_value; directives = bare_directive_list d.directives }
+
+abbrev pub bare_field_definition : FieldDefinition → FieldDefinition
+bare_field_definition d = record { description = option_map bare_name d.description; name = bare_name d.name; arguments = map (bare_node bare_input_value_definition) d.arguments; ty = bare_type d.ty; directives = bare_directive_list d.directives }
+
+abbrev pub bare_enum_value_definition : EnumValueDefinition → EnumValueDefinition
+bare_enum_value_definition d = record { description = option_map bare_name d.description; value = bare_name d.value; directives = bare_directive_list d.directives }
+
+abbrev pub bare_directive_definition : DirectiveDefinition → DirectiveDefinition
+bare_directive_definition d = record { description = option_map bare_name d.description; name = bare_name d.name; arguments = map (bare_node bare_input_value_definition) d.arguments; repeatable = d.repeatable; locations = d.locations }
+
+-- the name of the root type of a kind of operation
+abbrev pub bare_root_operation : OperationType × NameView → OperationType × NameView
+bare_root_operation r = (r.0, bare_name r.1)
+
+abbrev pub bare_schema_definition : SchemaDefinition → SchemaDefinition
+bare_schema_definition d = record { description = option_map bare_name d.description; directives = bare_directive_list d.directives; root_operations = map (bare_node bare_root_operation) d.root_operations }
+
+abbrev pub bare_scalar_type_definition : ScalarTypeDefinition → ScalarTypeDefinition
+bare_scalar_type_definition d = record { description = option_map bare_name d.description; name = bare_name d.name; directives = bare_directive_list d.directives }
+
+abbrev pub bare_object_type_definition : ObjectTypeDefinition → ObjectTypeDefinition
+bare_object_type_definition d = record { description = option_map bare_name d.description; name = bare_name d.name; implements_interfaces = map bare_name d.implements_interfaces; directives = bare_directive_list d.directives; fields = map (bare_node bare_field_definition) d.fields }
+
+abbrev pub bare_interface_type_definition : InterfaceTypeDefinition → InterfaceTypeDefinition
+bare_interface_type_definition d = record { description = option_map bare_name d.description; name = bare_name d.name; implements_interfaces = map bare_name d.implements_interfaces; directives = bare_directive_list d.directives; fields = map (bare_node bare_field_definition) d.fields }
+
+abbrev pub bare_union_type_definition : UnionTypeDefinition → UnionTypeDefinition
+bare_union_type_definition d = record { description = option_map bare_name d.description; name = bare_name d.name; directives = bare_directive_list d.directives; members = map bare_name d.members }
+
+abbrev pub bare_enum_type_definition : EnumTypeDefinition → EnumTypeDefinition
+bare_enum_type_definition d = record { description = option_map bare_name d.description; name = bare_name d.name; directives = bare_directive_list d.directives; values = map (bare_node bare_enum_value_definition) d.values }
+
+abbrev pub bare_input_object_type_definition : InputObjectTypeDefinition → InputObjectTypeDefinition
+bare_input_object_type_definition d = record { description = option_map bare_name d.description; name = bare_name d.name; directives = bare_directive_list d.directives; fields = map (bare_node bare_input_value_definition) d.fields }
+
+abbrev pub bare_schema_extension : SchemaExtension → SchemaExtension
+bare_schema_extension d = record { directives = bare_directive_list d.directives; root_operations = map (bare_node bare_root_operation) d.root_operations }
+
+abbrev pub bare_scalar_type_extension : ScalarTypeExtension → ScalarTypeExtension
+bare_scalar_type_extension d = record { name = bare_name d.name; directives = bare_directive_list d.directives }
+
+abbrev pub bare_object_type_extension : ObjectTypeExtension → ObjectTypeExtension
+bare_object_type_extension d = record { name = bare_name d.name; implements_interfaces = map bare_name d.implements_interfaces; directives = bare_directive_list d.directives; fields = map (bare_node bare_field_definition) d.fields }
+
+abbrev pub bare_interface_type_extension : InterfaceTypeExtension → InterfaceTypeExtension
+bare_interface_type_extension d = record { name = bare_name d.name; implements_interfaces = map bare_name d.implements_interfaces; directives = bare_directive_list d.directives; fields = map (bare_node bare_field_definition) d.fields }
+
+abbrev pub bare_union_type_extension : UnionTypeExtension → UnionTypeExtension
+bare_union_type_extension d = record { name = bare_name d.name; directives = bare_directive_list d.directives; members = map bare_name d.members }
+
+abbrev pub bare_enum_type_extension : EnumTypeExtension → EnumTypeExtension
+bare_enum_type_extension d = record { name = bare_name d.name; directives = bare_directive_list d.directives; values = map (bare_node bare_enum_value_definition) d.values }
+
+abbrev pub bare_input_object_type_extension : InputObjectTypeExtension → InputObjectTypeExtension
+bare_input_object_type_extension d = record { name = bare_name d.name; directives = bare_directive_list d.directives; fields = map (bare_node bare_input_value_definition) d.fields }

@@ -1,0 +1,138 @@
+//! What `==` answers at each type of the tree, which is whether the two are one with every location left out; and that
+//! clones are the originals.
+//!
+//! Each law is a function that does nothing. A proof cites it by a call, and finds a clause for each type there.
+//! That equal values have equal hashes is part of each type's `Hash`.
+ghost use Rattle.std.specs.Prelude.{map};
+ghost use Rattle.graphql_ast.specs.Bare.{ComparesBy, bare_name, bare_invalid_name, bare_node, bare_value, bare_type, bare_argument, bare_directive, bare_directive_list};
+ghost use Rattle.graphql_ast.specs.BareSelections.{bare_selection, bare_field, bare_inline_fragment, bare_fragment_spread};
+ghost use Rattle.graphql_ast.specs.BareTypeSystem.{bare_field_definition, bare_input_value_definition, bare_enum_value_definition, bare_directive_definition, bare_schema_definition, bare_scalar_type_definition, bare_object_type_definition, bare_interface_type_definition, bare_union_type_definition, bare_enum_type_definition, bare_input_object_type_definition, bare_schema_extension, bare_scalar_type_extension, bare_object_type_extension, bare_interface_type_extension, bare_union_type_extension, bare_enum_type_extension, bare_input_object_type_extension};
+ghost use Rattle.graphql_ast.specs.BareDocuments.{bare_variable_definition, bare_operation_definition, bare_fragment_definition, bare_definition, bare_document};
+ghost use Rattle.graphql_ast.specs.Clones.{IsExact};
+
+use crate::collections::boxed::Boxed;
+use crate::collections::items::Items;
+use crate::collections::key_set::KeySet;
+use crate::collections::shared::Shared;
+use crate::collections::table::Table;
+use crate::definition::Definition;
+use crate::directive::{Argument, Directive, DirectiveList};
+use crate::document::Document;
+use crate::name::{InvalidNameError, Name};
+use crate::node::Node;
+use crate::node_str::NodeStr;
+use crate::operation::{FragmentDefinition, OperationDefinition, VariableDefinition};
+use crate::selection::{Field, FragmentSpread, InlineFragment, Selection};
+use crate::source::SourceFile;
+use crate::type_reference::Type;
+use crate::type_system::{
+    DirectiveDefinition, EnumTypeDefinition, EnumTypeExtension, EnumValueDefinition,
+    FieldDefinition, InputObjectTypeDefinition, InputObjectTypeExtension, InputValueDefinition,
+    InterfaceTypeDefinition, InterfaceTypeExtension, ObjectTypeDefinition, ObjectTypeExtension,
+    ScalarTypeDefinition, ScalarTypeExtension, SchemaDefinition, SchemaExtension,
+    UnionTypeDefinition, UnionTypeExtension,
+};
+use crate::value::Value;
+use std::hash::Hash;
+
+/// Nodes are equal where their values are, lists where their elements are in order, and a box or shared value where
+/// what it holds is.
+pub fn equality_of_containers<T: PartialEq>()
+    ensures node { (f : T → T) → ComparesBy T.eq f → ComparesBy ⟦<Node<T> as PartialEq>⟧.eq (bare_node f) }
+    ensures items { (f : T → T) → ComparesBy T.eq f → ComparesBy ⟦<Items<T> as PartialEq>⟧.eq (map f) }
+    ensures boxed { (f : T → T) → ComparesBy T.eq f → ComparesBy ⟦<Boxed<T> as PartialEq>⟧.eq f }
+    ensures shared { (f : T → T) → ComparesBy T.eq f → ComparesBy ⟦<Shared<T> as PartialEq>⟧.eq f }
+{}
+
+/// Names, texts, values and what is made of them are equal exactly where they are one without their locations.
+pub fn equality_of_names_and_values()
+    ensures name { ComparesBy ⟦<Name as PartialEq>⟧.eq bare_name }
+    ensures node_str { ComparesBy ⟦<NodeStr as PartialEq>⟧.eq bare_name }
+    ensures invalid_name_error { ComparesBy ⟦<InvalidNameError as PartialEq>⟧.eq bare_invalid_name }
+    ensures value { ComparesBy ⟦<Value as PartialEq>⟧.eq bare_value }
+    ensures ty { ComparesBy ⟦<Type as PartialEq>⟧.eq bare_type }
+    ensures argument { ComparesBy ⟦<Argument as PartialEq>⟧.eq bare_argument }
+    ensures directive { ComparesBy ⟦<Directive as PartialEq>⟧.eq bare_directive }
+    ensures directive_list { ComparesBy ⟦<DirectiveList as PartialEq>⟧.eq bare_directive_list }
+{}
+
+/// Selections are equal exactly where they are one without their locations.
+pub fn equality_of_selections()
+    ensures selection { ComparesBy ⟦<Selection as PartialEq>⟧.eq bare_selection }
+    ensures field { ComparesBy ⟦<Field as PartialEq>⟧.eq bare_field }
+    ensures fragment_spread { ComparesBy ⟦<FragmentSpread as PartialEq>⟧.eq bare_fragment_spread }
+    ensures inline_fragment { ComparesBy ⟦<InlineFragment as PartialEq>⟧.eq bare_inline_fragment }
+{}
+
+/// Definitions and extensions of the type system are equal exactly where they are one without their locations.
+pub fn equality_of_the_type_system()
+    ensures field_definition { ComparesBy ⟦<FieldDefinition as PartialEq>⟧.eq bare_field_definition }
+    ensures input_value_definition { ComparesBy ⟦<InputValueDefinition as PartialEq>⟧.eq bare_input_value_definition }
+    ensures enum_value_definition { ComparesBy ⟦<EnumValueDefinition as PartialEq>⟧.eq bare_enum_value_definition }
+    ensures directive_definition { ComparesBy ⟦<DirectiveDefinition as PartialEq>⟧.eq bare_directive_definition }
+    ensures schema_definition { ComparesBy ⟦<SchemaDefinition as PartialEq>⟧.eq bare_schema_definition }
+    ensures scalar_type_definition { ComparesBy ⟦<ScalarTypeDefinition as PartialEq>⟧.eq bare_scalar_type_definition }
+    ensures object_type_definition { ComparesBy ⟦<ObjectTypeDefinition as PartialEq>⟧.eq bare_object_type_definition }
+    ensures interface_type_definition { ComparesBy ⟦<InterfaceTypeDefinition as PartialEq>⟧.eq bare_interface_type_definition }
+    ensures union_type_definition { ComparesBy ⟦<UnionTypeDefinition as PartialEq>⟧.eq bare_union_type_definition }
+    ensures enum_type_definition { ComparesBy ⟦<EnumTypeDefinition as PartialEq>⟧.eq bare_enum_type_definition }
+    ensures input_object_type_definition { ComparesBy ⟦<InputObjectTypeDefinition as PartialEq>⟧.eq bare_input_object_type_definition }
+    ensures schema_extension { ComparesBy ⟦<SchemaExtension as PartialEq>⟧.eq bare_schema_extension }
+    ensures scalar_type_extension { ComparesBy ⟦<ScalarTypeExtension as PartialEq>⟧.eq bare_scalar_type_extension }
+    ensures object_type_extension { ComparesBy ⟦<ObjectTypeExtension as PartialEq>⟧.eq bare_object_type_extension }
+    ensures interface_type_extension { ComparesBy ⟦<InterfaceTypeExtension as PartialEq>⟧.eq bare_interface_type_extension }
+    ensures union_type_extension { ComparesBy ⟦<UnionTypeExtension as PartialEq>⟧.eq bare_union_type_extension }
+    ensures enum_type_extension { ComparesBy ⟦<EnumTypeExtension as PartialEq>⟧.eq bare_enum_type_extension }
+    ensures input_object_type_extension { ComparesBy ⟦<InputObjectTypeExtension as PartialEq>⟧.eq bare_input_object_type_extension }
+{}
+
+/// Operations, fragments and documents are equal exactly where they are one without their locations, and documents
+/// also without the files that they come from.
+pub fn equality_of_documents()
+    ensures variable_definition { ComparesBy ⟦<VariableDefinition as PartialEq>⟧.eq bare_variable_definition }
+    ensures operation_definition { ComparesBy ⟦<OperationDefinition as PartialEq>⟧.eq bare_operation_definition }
+    ensures fragment_definition { ComparesBy ⟦<FragmentDefinition as PartialEq>⟧.eq bare_fragment_definition }
+    ensures definition { ComparesBy ⟦<Definition as PartialEq>⟧.eq bare_definition }
+    ensures document { ComparesBy ⟦<Document as PartialEq>⟧.eq bare_document }
+{}
+
+/// Each clone of a list, table or set is the original, where each clone of what is in it is.
+pub fn clones_of_containers_are_exact<T: Eq + Hash + Clone, V: Clone>()
+    ensures items { IsExact T.is_clone → IsExact ⟦<Items<T> as Clone>⟧.is_clone }
+    ensures table { IsExact T.is_clone → IsExact V.is_clone → IsExact ⟦<Table<T, V> as Clone>⟧.is_clone }
+    ensures key_set { IsExact T.is_clone → IsExact ⟦<KeySet<T> as Clone>⟧.is_clone }
+{}
+
+/// Each clone of a part of a tree is the original, with its locations and the sources of a document.
+///
+/// The `Clone` of the other types says so itself.
+pub fn clones_are_exact()
+    ensures invalid_name_error { IsExact ⟦<InvalidNameError as Clone>⟧.is_clone }
+    ensures argument { IsExact ⟦<Argument as Clone>⟧.is_clone }
+    ensures directive { IsExact ⟦<Directive as Clone>⟧.is_clone }
+    ensures directive_list { IsExact ⟦<DirectiveList as Clone>⟧.is_clone }
+    ensures fragment_spread { IsExact ⟦<FragmentSpread as Clone>⟧.is_clone }
+    ensures variable_definition { IsExact ⟦<VariableDefinition as Clone>⟧.is_clone }
+    ensures operation_definition { IsExact ⟦<OperationDefinition as Clone>⟧.is_clone }
+    ensures fragment_definition { IsExact ⟦<FragmentDefinition as Clone>⟧.is_clone }
+    ensures field_definition { IsExact ⟦<FieldDefinition as Clone>⟧.is_clone }
+    ensures input_value_definition { IsExact ⟦<InputValueDefinition as Clone>⟧.is_clone }
+    ensures enum_value_definition { IsExact ⟦<EnumValueDefinition as Clone>⟧.is_clone }
+    ensures directive_definition { IsExact ⟦<DirectiveDefinition as Clone>⟧.is_clone }
+    ensures schema_definition { IsExact ⟦<SchemaDefinition as Clone>⟧.is_clone }
+    ensures scalar_type_definition { IsExact ⟦<ScalarTypeDefinition as Clone>⟧.is_clone }
+    ensures object_type_definition { IsExact ⟦<ObjectTypeDefinition as Clone>⟧.is_clone }
+    ensures interface_type_definition { IsExact ⟦<InterfaceTypeDefinition as Clone>⟧.is_clone }
+    ensures union_type_definition { IsExact ⟦<UnionTypeDefinition as Clone>⟧.is_clone }
+    ensures enum_type_definition { IsExact ⟦<EnumTypeDefinition as Clone>⟧.is_clone }
+    ensures input_object_type_definition { IsExact ⟦<InputObjectTypeDefinition as Clone>⟧.is_clone }
+    ensures schema_extension { IsExact ⟦<SchemaExtension as Clone>⟧.is_clone }
+    ensures scalar_type_extension { IsExact ⟦<ScalarTypeExtension as Clone>⟧.is_clone }
+    ensures object_type_extension { IsExact ⟦<ObjectTypeExtension as Clone>⟧.is_clone }
+    ensures interface_type_extension { IsExact ⟦<InterfaceTypeExtension as Clone>⟧.is_clone }
+    ensures union_type_extension { IsExact ⟦<UnionTypeExtension as Clone>⟧.is_clone }
+    ensures enum_type_extension { IsExact ⟦<EnumTypeExtension as Clone>⟧.is_clone }
+    ensures input_object_type_extension { IsExact ⟦<InputObjectTypeExtension as Clone>⟧.is_clone }
+    ensures source_file { IsExact ⟦<SourceFile as Clone>⟧.is_clone }
+    ensures document { IsExact ⟦<Document as Clone>⟧.is_clone }
+{}
