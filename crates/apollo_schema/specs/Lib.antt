@@ -3,6 +3,7 @@ pub mod DefinitionList
 pub mod Places
 pub mod Prefixes
 pub mod Refusals
+pub mod SchemaFaults
 pub mod SchemaMeaning
 pub mod SchemaWriteOut
 pub mod Sources
@@ -10,3 +11,4 @@ pub mod Stands
 pub mod TypeKinds
 pub mod TypeMeaning
 pub mod TypeParts
+pub mod WorkedRow

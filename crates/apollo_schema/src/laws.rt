@@ -1,13 +1,23 @@
 //! Laws of the definitions, for those who build on them.
-ghost use Rattle.std.specs.Prelude.{◌≡◌, ℕ, List, Some, filter};
+ghost use Rattle.std.specs.Prelude.{◌≡◌, ℕ, List, [], ◌∷◌, Some, codes, filter, map, option_map};
 ghost use Rattle.graphql_ast.specs.declared.definition.Definition.{Definition};
 ghost use Rattle.apollo_schema.specs.TypeParts.{TypePart, items_of, kind_of, key_of, same};
 ghost use Rattle.apollo_schema.specs.DefinitionList.{first, extensions_of, of_kind};
-ghost use Rattle.apollo_schema.specs.Places.{folded_in_order};
+ghost use Rattle.apollo_schema.specs.Places.{folded_in_order, folding_order};
+ghost use Rattle.apollo_schema.specs.TypeMeaning.{type_of};
+ghost use Rattle.apollo_schema.specs.WorkedRow.{extensions_around, written_around};
+ghost use Rattle.apollo_types.specs.TypeWriteOut.{write_type};
 
 /// The extensions that are folded for a name are those of its kind, in the order of the list, whatever stands between
 /// them: GraphQL specification of October 2021, section 3.4.3.
 pub fn folded_extensions()
     ensures { (xs : List Definition) (n : List ℕ) (d : TypePart) → first (items_of xs) n ≡ Some d
         → filter (λ p. same n (key_of p)) (folded_in_order (items_of xs)) ≡ of_kind (kind_of d) (extensions_of (items_of xs) n) }
+{}
+
+/// The definitions on a list with an extension on either side of the definition: the places in folding order, and the
+/// write-out of the type that the name means, computed.
+pub fn extensions_on_either_side()
+    ensures order { map (λ e. e.0) (folding_order (items_of extensions_around)) ≡ 0 ∷ 2 ∷ [] }
+    ensures writes { option_map write_type (type_of 0 (folded_in_order (items_of extensions_around)) (items_of extensions_around) (codes "Q")) ≡ Some written_around }
 {}

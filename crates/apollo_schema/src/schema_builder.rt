@@ -9,6 +9,7 @@ ghost use Rattle.apollo_schema.specs.TypeParts.{TypePart, TypeItem, Defined, Ext
 ghost use Rattle.apollo_schema.specs.DefinitionList.{of_kind};
 ghost use Rattle.apollo_schema.specs.TypeMeaning.{type_from, extension_part, numbered};
 ghost use Rattle.apollo_schema.specs.SchemaMeaning.{by_text, MeansTypes};
+ghost use Rattle.apollo_schema.specs.SchemaFaults.{faults_of, IfFaults};
 ghost use Rattle.apollo_schema.specs.Prefixes.{folded};
 ghost use Rattle.apollo_schema.specs.Refusals.{RefusedAs};
 ghost use Rattle.apollo_schema.specs.Stands.{parts_held, Stands};
@@ -259,9 +260,13 @@ impl SchemaBuilder {
     /// The schema of what was added: each name's type is its first definition with its extensions folded in, wherever
     /// they stand, and the types stand in the order of first definition.
     ///
+    /// `Faults`, with what could be built, comes exactly where what was added has faults; nothing has one yet.
     /// `Failed` comes exactly after a refusal.
     pub fn build(self) -> Result<Schema, BuildFailure>
         ensures built { IfOk result (λ schema. (start : ℕ) (xs : List AnyDefinition) → StandsFor start xs self → MeansTypes start xs schema.types) }
+        ensures faultless { OnOk result ((start : ℕ) (xs : List AnyDefinition) → StandsFor start xs self → faults_of xs ≡ []) }
+        ensures faults { IfErr result (λ failure. IfFaults failure (λ partial faults. (start : ℕ) (xs : List AnyDefinition) → StandsFor start xs self
+            → MeansTypes start xs partial.types × (faults ≡ faults_of xs))) }
         ensures sources { IfOk result (λ schema. schema.sources ≡ sources_of self) }
         ensures failed { MatchResult result (λ _. HasFailed self → ⊥) (λ failure. (failure ≡ BuildFailure.Failed) × HasFailed self) }
     {

@@ -1,0 +1,52 @@
+-- A list of definitions with what it means, computed.
+use Rattle.std.specs.Prelude.{ℕ, List, [], ◌∷◌, Option, None, Some, codes}
+use Rattle.graphql_ast.specs.NameView.{NameView}
+use Rattle.graphql_ast.specs.NodeView.{NodeView}
+use Rattle.graphql_ast.specs.declared.source.SourceSpan.{SourceSpan}
+use Rattle.graphql_ast.specs.declared.type_reference.Type.{«Type» as TypeReference, Named}
+use Rattle.graphql_ast.specs.declared.type_system.FieldDefinition.{FieldDefinition}
+use Rattle.graphql_ast.specs.declared.definition.Definition.{Definition}
+use Rattle.graphql_ast.specs.declared.definition.Definition.TheVariants.{ObjectTypeDefinition, ObjectTypeExtension}
+
+-- the place of a line
+abbrev pub line : ℕ → Option SourceSpan
+line n = Some (record { file = record { 0 = 1 }; start = n; end = n })
+
+abbrev pub name_at : List ℕ → ℕ → NameView
+name_at text n = record { text = text; location = line n }
+
+-- a field of type `Int`
+abbrev pub field_at : List ℕ → ℕ → NodeView FieldDefinition
+field_at text n = record {
+  value = record { description = None; name = name_at text n; arguments = []; ty = Named (name_at (codes "Int") n); directives = record { 0 = [] } };
+  location = line n;
+}
+
+abbrev pub definition_at : ℕ → List ℕ → List NameView → List (NodeView FieldDefinition) → Definition
+definition_at n text interfaces fields = ObjectTypeDefinition (record {
+  value = record { description = None; name = name_at text n; implements_interfaces = interfaces; directives = record { 0 = [] }; fields = fields };
+  location = line n;
+})
+
+abbrev pub extension_at : ℕ → NameView → List NameView → List (NodeView FieldDefinition) → Definition
+extension_at n name interfaces fields = ObjectTypeExtension (record {
+  value = record { name = name; implements_interfaces = interfaces; directives = record { 0 = [] }; fields = fields };
+  location = line n;
+})
+
+-- an extension before its definition, and one after it, which repeats a field
+abbrev pub extensions_around : List Definition
+extensions_around =
+    extension_at 1 (name_at (codes "Q") 1) [] (field_at (codes "b") 2 ∷ [])
+    ∷ definition_at 3 (codes "Q") [] (field_at (codes "a") 4 ∷ [])
+    ∷ extension_at 5 (name_at (codes "Q") 5) (name_at (codes "N") 6 ∷ []) (field_at (codes "a") 7 ∷ [])
+    ∷ []
+
+-- how they are written again: the repeated field is dropped, interfaces come before fields, each extension stands where
+-- it stood, and the name is the type's, which its definition wrote
+abbrev pub written_around : List Definition
+written_around =
+    definition_at 3 (codes "Q") [] (field_at (codes "a") 4 ∷ [])
+    ∷ extension_at 5 (name_at (codes "Q") 3) (name_at (codes "N") 6 ∷ []) []
+    ∷ extension_at 1 (name_at (codes "Q") 3) [] (field_at (codes "b") 2 ∷ [])
+    ∷ []
