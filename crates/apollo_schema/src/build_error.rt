@@ -8,7 +8,7 @@ use std::alloc::{AllocError, AllocFailed};
 use thiserror::Error;
 
 /// What is wrong with a definition. There is no variant yet: what a build drops gives no fault so far.
-#[derive(Debug, Drop)]
+#[derive(Drop)]
 pub enum BuildError {}
 
 /// The faults of a build, in order of discovery, each with the place that it is about.
