@@ -4,6 +4,8 @@ use Rattle.gqltool_run.specs.declared.status.Status.{Status}
 use Rattle.gqltool_run.specs.declared.status.Status.TheVariants as s
 use Rattle.gqltool_run.specs.declared.failure.Failure.{Failure}
 use Rattle.gqltool_run.specs.declared.failure.Failure.TheVariants as f
+use Rattle.gqltool_run.specs.declared.refusal.ReadError.{ReadError}
+use Rattle.gqltool_run.specs.declared.refusal.ReadError.TheVariants as r
 
 -- the exit status
 abbrev pub exit_code : Status → ℕ
@@ -20,3 +22,8 @@ status_of f.CannotRead = s.Refused
 status_of (f.RefusedLine refused) = s.Refused
 status_of f.Memory = s.Exhausted
 status_of f.ExtensionIds = s.Exhausted
+
+-- why a run has nothing to write whose input was not read
+abbrev pub failure_of_read : ReadError → Failure
+failure_of_read (r.Refused line) = f.RefusedLine line
+failure_of_read r.Memory = f.Memory

@@ -34,6 +34,11 @@ impl From<AllocError> for Failure {
 }
 
 impl From<ReadError> for Failure {
+    ghost use Rattle.std.specs.Prelude.{◌≡◌};
+    ghost use Rattle.gqltool_run.specs.Status.{failure_of_read};
+
+    ghost from_gives = { λ error failure. failure ≡ failure_of_read error };
+
     fn from(error: ReadError) -> Failure {
         match error {
             ReadError::Refused(line) => Failure::RefusedLine(line),

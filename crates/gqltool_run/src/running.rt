@@ -30,6 +30,8 @@ pub fn run<R: Read, O: Write, E: Write>(
     ensures read { result ≡ Status.Done → IfSome (R.remaining reader.old) (λ input. All IsLine (lines_of input)) }
     ensures means { result ≡ Status.Done → IfSome (R.remaining reader.old) (λ input. (text : List ℕ)
         × (IsAnswer input text × Appends (O.contents output.old) (O.contents output.new) text)) }
+    ensures not_written { result ≡ Status.NotWritten → IfSome (R.remaining reader.old) (λ input. (text : List ℕ) × IsAnswer input text) }
+    ensures faultless { result ≢ Status.Faults }
     ensures done { result ≡ Status.Done → (definitions : List Definition) × Appends (O.contents output.old) (O.contents output.new) (definitions_text definitions) }
     ensures quiet { result ≡ Status.Done → errors.new ≡ errors.old }
     ensures usage { map (λ word. word.now) words.now ≢ codes "schema" ∷ [] → (result ≡ Status.Refused) × (reader.new ≡ reader.old) }

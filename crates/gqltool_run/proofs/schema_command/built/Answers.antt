@@ -24,8 +24,8 @@ loop-document-preserved c =
     subst (λ (l : List Definition). StandsFor 0 l c.add_ast.new.self) (sym (definitions-turn ds i d (omega arith) c.document-item.is))
     (c.in_default.ensures.stands 0 (all_definitions (take i ds)) c.loop-document.invariant)
 
-pub returns-in-Ok : goal.returns-in-Ok
-returns-in-Ok c =
+pub returns-in-Ok-clause-means : goal.returns-in-Ok-clause-means
+returns-in-Ok-clause-means c =
     let ds = c.args.documents.now in
     let i = c.loop-document.document-index in
     subst (λ (l : List Document). MeansTypes 0 (all_definitions l) c.in-Ok.schema.types) (take_all i ds (omega arith))
