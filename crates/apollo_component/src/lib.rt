@@ -5,3 +5,4 @@ pub mod component;
 pub mod directive_list;
 pub mod extension;
 pub mod named;
+mod tests;

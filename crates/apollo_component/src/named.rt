@@ -1,5 +1,5 @@
 //! Collections of named things, of which the first of each name stays.
-ghost use Rattle.std.specs.Prelude.{◌≡◌, List, [], ◌∷◌, ◌++◌, not, IfOk, OnOk, map};
+ghost use Rattle.std.specs.Prelude.{◌≡◌, List, [], ◌∷◌, ◌++◌, not, IfOk, OnErr};
 ghost use Rattle.std.specs.List.{list_any};
 ghost use Rattle.apollo_component.specs.FirstOfEach.{first_of_each, same_key};
 
@@ -19,7 +19,8 @@ pub fn add_entry<K: Eq + Hash + Drop, V: Drop>(
     key: K,
     value: V,
 ) -> Result<bool, AllocError>
-    ensures { IfOk result (λ added. (es : List (K × V)) → table.old ≡ first_of_each (same_key K.eq) es
+    ensures refused { OnErr result (table.new ≡ table.old) }
+    ensures added { IfOk result (λ added. (es : List (K × V)) → table.old ≡ first_of_each (same_key K.eq) es
         → (table.new ≡ first_of_each (same_key K.eq) (es ++ (key, value) ∷ [])) × (not added ≡ list_any (λ e. K.eq key e.0) es)) }
 {
     if table.contains_key(&key) {
@@ -31,7 +32,8 @@ pub fn add_entry<K: Eq + Hash + Drop, V: Drop>(
 
 /// Puts a key last, unless it is there, and answers whether it did. The error is want of memory.
 pub fn add_key<T: Eq + Hash + Drop>(set: &mut KeySet<T>, key: T) -> Result<bool, AllocError>
-    ensures { IfOk result (λ added. (ks : List T) → set.old ≡ first_of_each T.eq ks
+    ensures refused { OnErr result (set.new ≡ set.old) }
+    ensures added { IfOk result (λ added. (ks : List T) → set.old ≡ first_of_each T.eq ks
         → (set.new ≡ first_of_each T.eq (ks ++ key ∷ [])) × (not added ≡ list_any (T.eq key) ks)) }
 {
     let added = set.insert(key)?;

@@ -266,7 +266,7 @@ impl SchemaBuilder {
         ensures built { IfOk result (λ schema. (start : ℕ) (xs : List AnyDefinition) → StandsFor start xs self → MeansTypes start xs schema.types) }
         ensures faultless { OnOk result ((start : ℕ) (xs : List AnyDefinition) → StandsFor start xs self → faults_of xs ≡ []) }
         ensures faults { IfErr result (λ failure. IfFaults failure (λ partial faults. (start : ℕ) (xs : List AnyDefinition) → StandsFor start xs self
-            → MeansTypes start xs partial.types × (faults ≡ faults_of xs))) }
+            → MeansTypes start xs partial.types × (faults ≡ faults_of xs × partial.sources ≡ sources_of self))) }
         ensures sources { IfOk result (λ schema. schema.sources ≡ sources_of self) }
         ensures failed { MatchResult result (λ _. HasFailed self → ⊥) (λ failure. (failure ≡ BuildFailure.Failed) × HasFailed self) }
     {

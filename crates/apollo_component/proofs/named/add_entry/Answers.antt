@@ -5,8 +5,8 @@ use Rattle.apollo_component.specs.FirstOfEach.{first_of_each, same_key}
 use Rattle.apollo_component.proofs.FirstOfEachLemmas.{list_any-first_of_each, first_of_each-push_new, first_of_each-push_old, is_some-lookup, insert_entry-last}
 use Rattle.apollo_component.proofs.named.add_entry.Goals as goal
 
-pub returns-then-contains_key : goal.returns-then-contains_key
-returns-then-contains_key g c = λ es was.
+pub returns-then-contains_key-clause-added : goal.returns-then-contains_key-clause-added
+returns-then-contains_key-clause-added g c = λ es was.
     let eq = g.K.PartialEq.eq in
     let laws = on_equiv (λ (e : g.row.K.Denot × g.row.V.Denot). e.0) g.met.K.Eq.laws in
     let n : g.row.K.Denot × g.row.V.Denot = (c.args.key, c.args.value) in
@@ -14,8 +14,8 @@ returns-then-contains_key g c = λ es was.
     sym (list_any-first_of_each (same_key eq) laws n es) ∙ ap (list_any (same_key eq n)) (sym was) ∙ sym (is_some-lookup (eq c.args.key) c.args.table.now) ∙ sym c.contains_key.ensures ∙ c.if-contains_key.true in
     (was ∙ sym (first_of_each-push_old (same_key eq) laws es n there), sym there)
 
-pub returns : goal.returns
-returns g c = λ es was.
+pub returns-clause-added : goal.returns-clause-added
+returns-clause-added g c = λ es was.
     let eq = g.K.PartialEq.eq in
     let laws = on_equiv (λ (e : g.row.K.Denot × g.row.V.Denot). e.0) g.met.K.Eq.laws in
     let n : g.row.K.Denot × g.row.V.Denot = (c.args.key, c.args.value) in

@@ -17,8 +17,8 @@ not-not : (b : Bool) → not (not b) ≡ b
 not-not true = refl
 not-not false = refl
 
-pub returns : goal.returns
-returns g c = λ ks was.
+pub returns-clause-added : goal.returns-clause-added
+returns-clause-added g c = λ ks was.
     let eq = g.T.PartialEq.eq in
     let laws = g.met.T.Eq.laws in (
       c.in_ok-added.ensures.keys ∙ ap (λ l. if list_any (eq c.args.key) l then l else l ++ c.args.key ∷ []) was ∙ inserted eq laws ks c.args.key,

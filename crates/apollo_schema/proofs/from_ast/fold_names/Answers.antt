@@ -15,6 +15,6 @@ loop-name-preserved c = λ ks was.
     let xs = c.args.names.now in
     let i = c.loop-name.name-index in
     let key : c.with_origin.result ≡ f c.name-item.result = search rules in
-    (c.in_ok-_added.ensures (ks ++ map f (take i xs)) (c.loop-name.invariant ks was)).0
+    (c.in_ok-_added.ensures.added (ks ++ map f (take i xs)) (c.loop-name.invariant ks was)).0
     ∙ ap (λ k. first_of_each same_component_name ((ks ++ map f (take i xs)) ++ k ∷ [])) key
     ∙ ap (first_of_each same_component_name) (sym (map-turn f ks xs i c.name-item.result (omega arith) c.name-item.is))

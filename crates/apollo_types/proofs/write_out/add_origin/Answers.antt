@@ -14,7 +14,7 @@ ids-push os o = filter_map-append id_of os (o ∷ [])
 
 pub returns-in_ok-add_key : goal.returns-in_ok-add_key
 returns-in_ok-add_key c = λ os was.
-    (c.in_ok-add_key.ensures (filter_map id_of os) was).0
+    (c.in_ok-add_key.ensures.added (filter_map id_of os) was).0
     ∙ sym (ap (first_of_each same_id) (ids-push os c.args.origin ∙ ap (λ o. filter_map id_of os ++ filter_map id_of (o ∷ [])) c.in-Extension.is))
 
 pub returns-in_default : goal.returns-in_default
