@@ -6,3 +6,4 @@ mod from_ast;
 pub mod laws;
 pub mod schema;
 pub mod schema_builder;
+mod tests;
