@@ -6,4 +6,5 @@ mod from_ast;
 pub mod laws;
 pub mod schema;
 pub mod schema_builder;
+#[cfg(test)]
 mod tests;
