@@ -1,12 +1,12 @@
 -- What `first_of_each` leaves of a list with one more element.
-use Rattle.std.proofs.Common.{◌≡◌, Bool, true, false, cond, not, ◌||◌, List, [], ◌∷◌, ◌++◌, Option, Some, None, is_some, filter, refl, sym, ap, ◌∙◌, true≢false}
+use Rattle.std.proofs.Common.{◌≡◌, Bool, true, false, cond, not, ◌||◌, List, [], ◌∷◌, ◌++◌, Some, is_some, filter, refl, sym, ap, ◌∙◌, true≢false}
 use Rattle.std.proofs.lemmas.List.{append-nil}
 use Rattle.std.proofs.lemmas.List.Elements.{filter-append}
 use Rattle.std.specs.Cmp.{IsEquivalence}
 use Rattle.std.specs.List.{list_any}
 use Rattle.std.specs.Map.{lookup}
 use Rattle.indexmap.specs.IndexMap.{insert_entry}
-use Rattle.apollo_component.specs.FirstOfEach.{first_of_each, same_key}
+use Rattle.apollo_component.specs.FirstOfEach.{first_of_each}
 
 module _ {X : Type 0} (same : X → X → Bool) (laws : IsEquivalence same) where
   -- taking out what is the same as one thing leaves what is the same as another

@@ -1,15 +1,14 @@
 -- Extensions that are folded one after another.
-use Rattle.std.proofs.Common.{◌≡◌, ℕ, ◌+◌, ◌<◌, ◌≤◌, get_or, take, drop, List, [], ◌∷◌, ◌++◌, length, map, filter, refl, sym, ap, ◌∙◌, append_assoc, length-append, arith}
+use Rattle.std.proofs.Common.{◌≡◌, ℕ, ◌+◌, ◌<◌, ◌≤◌, get_or, take, drop, List, [], ◌∷◌, ◌++◌, length, map, refl, sym, ap, ◌∙◌, append_assoc, length-append, arith}
 use Rattle.std.specs.List.{filter_map, enumerate_from}
 use Rattle.std.proofs.lemmas.List.{map-append, take_more, take-append-drop}
 use Rattle.std.proofs.lemmas.List.Elements.{filter-append, filter_map-append}
 use Rattle.graphql_ast.specs.declared.type_kind.TypeKind.{TypeKind}
 use Rattle.graphql_ast.specs.declared.definition.Definition.{Definition}
-use Rattle.apollo_types.specs.declared.extended_type.ExtendedType.{ExtendedType}
-use Rattle.apollo_schema.specs.TypeParts.{TypePart, TypeBody, ObjectBody, TypeItem, item_of, items_of, extended_part, extended_parts, body_kind, kind_of}
+use Rattle.apollo_schema.specs.TypeParts.{TypePart, TypeBody, ScalarBody, ObjectBody, InterfaceBody, UnionBody, EnumBody, InputObjectBody, item_of, items_of, extended_part, extended_parts, body_kind, kind_of}
 use Rattle.apollo_schema.specs.DefinitionList.{same_kind, of_kind}
 use Rattle.apollo_schema.specs.TypeMeaning.{Sourced, type_at, type_from, extension_part, numbered}
-use Rattle.apollo_schema.specs.TypeKinds.{type_kind}
+use Rattle.apollo_types.specs.TypeWriteOut.{type_kind}
 
 -- numbers go on
 pub enumerate_from-append : {X : Type 0} (n : ℕ) (xs ys : List X) → enumerate_from n (xs ++ ys) ≡ enumerate_from n xs ++ enumerate_from (n + length xs) ys
@@ -52,4 +51,9 @@ pub type_kind-from : (head : TypePart) (done : List Sourced) → type_kind (type
 type_kind-from head done = by head.body
   where
     by : (b : TypeBody) → type_kind (type_at b head done) ≡ body_kind b
+    by ScalarBody = refl
     by (ObjectBody interfaces fields) = refl
+    by (InterfaceBody interfaces fields) = refl
+    by (UnionBody members) = refl
+    by (EnumBody values) = refl
+    by (InputObjectBody fields) = refl

@@ -1,11 +1,12 @@
 pub mod FoldingLemmas
 pub mod HeldLemmas
 pub mod ItemLemmas
+pub mod KindParts
 pub mod NameTables
-pub mod ObjectParts
 pub mod PartLemmas
 pub mod PlaceLemmas
 pub mod RefusalLemmas
+pub mod RoleLemmas
 pub mod StandsLemmas
 pub mod Texts
 pub mod TypeLemmas

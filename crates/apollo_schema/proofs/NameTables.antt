@@ -1,10 +1,9 @@
 -- Tables under names, looked up by text.
-use Rattle.std.proofs.Common.{◌≡◌, ℕ, Bool, true, false, cond, List, [], ◌∷◌, ◌++◌, Option, Some, None, is_some, IsSome, refl, sym, ap, ◌∙◌, true≢false}
+use Rattle.std.proofs.Common.{◌≡◌, ℕ, Bool, true, false, cond, List, [], ◌∷◌, ◌++◌, Some, None, is_some, IsSome, refl, sym, ap, ◌∙◌}
 use Rattle.std.specs.Map.{lookup, keys_of, set_value}
-use Rattle.std.specs.List.{list_any}
 use Rattle.std.specs.Cmp.{on_equiv}
 use Rattle.std.specs.Cmp.Lexicographic.{nat_list_eq_equiv}
-use Rattle.std.proofs.lemmas.Map.{lookup-set_value, keys-set_value}
+use Rattle.std.proofs.lemmas.Map.{lookup-set_value}
 use Rattle.std.proofs.lemmas.List.{map-append}
 use Rattle.indexmap.specs.IndexMap.{insert_entry}
 use Rattle.graphql_ast.specs.NameView.{NameView}

@@ -1,5 +1,5 @@
 -- The order of folding by places is the order in which the code folds.
-use Rattle.std.proofs.Common.{◌≡◌, ℕ, ◌+◌, ◌<◌, ◌≤◌, Bool, true, false, cond, ◌&&◌, eqb, max, List, [], ◌∷◌, ◌++◌, length, map, zero, suc, Option, Some, None, filter, refl, sym, ap, subst, ◌∙◌, append_assoc, length-append, arith}
+use Rattle.std.proofs.Common.{◌≡◌, ℕ, ◌+◌, ◌<◌, Bool, true, false, cond, ◌&&◌, eqb, max, List, [], ◌∷◌, ◌++◌, length, map, zero, suc, Option, Some, None, filter, refl, sym, ap, subst, ◌∙◌, append_assoc, length-append, arith}
 use Rattle.std.specs.List.{filter_map, flat_map, enumerate_from, range_with_len}
 use Rattle.std.specs.Option.{option_map, option_map_or, option_or}
 use Rattle.std.specs.Map.{lookup}
@@ -9,9 +9,9 @@ use Rattle.std.proofs.lemmas.Grind.{flat_map-append}
 use Rattle.std.proofs.lemmas.List.{append-nil, map-append}
 use Rattle.std.proofs.lemmas.List.Elements.{filter-append, filter_map-append}
 use Rattle.apollo_schema.specs.TypeParts.{TypePart, TypeItem, Defined, Extended, defined_part, extended_part, kind_of, key_of, same}
-use Rattle.apollo_schema.specs.DefinitionList.{same_kind, named, definitions, first, extensions_of, of_kind}
+use Rattle.apollo_schema.specs.DefinitionList.{same_kind, named, first}
 use Rattle.apollo_schema.specs.Prefixes.{folded_at, folded}
-use Rattle.apollo_schema.specs.Places.{Placed, placed_by, definition_places, extension_places, first_place, is_folded, when, folded_when, folding_order, folded_in_order}
+use Rattle.apollo_schema.specs.Places.{Placed, placed_by, definition_places, extension_places, first_place, folded_when, folding_order}
 use Rattle.apollo_schema.proofs.Texts.{same-true, same-is, same-flip}
 use Rattle.apollo_schema.proofs.FoldingLemmas.{enumerate_from-append}
 use Rattle.apollo_schema.proofs.ItemLemmas.{lookup-push, folded-push}

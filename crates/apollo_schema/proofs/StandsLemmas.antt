@@ -8,16 +8,15 @@ use Rattle.std.proofs.lemmas.Map.{keys-set_value}
 use Rattle.indexmap.specs.IndexMap.{insert_entry}
 use Rattle.graphql_ast.specs.ArgumentsByName.{same_text}
 use Rattle.apollo_component.specs.Extensions.{next_number, source_at}
-use Rattle.apollo_component.specs.declared.extension.ExtensionSource.{ExtensionSource}
 use Rattle.apollo_component.specs.declared.extension.ComponentOrigin.TheVariants as origins
 use Rattle.apollo_types.specs.declared.extended_type.ExtendedType.{ExtendedType}
 use Rattle.apollo_schema.specs.declared.schema_builder.Tables.{Tables}
 use Rattle.apollo_schema.specs.TypeParts.{TypePart, TypeItem, Defined, Extended, extended_part, kind_of, key_of, same}
 use Rattle.apollo_schema.specs.DefinitionList.{first, extensions_of, of_kind}
 use Rattle.apollo_schema.specs.TypeMeaning.{Sourced, type_from, extension_part, numbered, parts, type_of}
-use Rattle.apollo_schema.specs.TypeKinds.{type_kind}
-use Rattle.apollo_schema.specs.SchemaMeaning.{by_text, AreTypesOf}
-use Rattle.apollo_schema.specs.Prefixes.{folded_at, folded, waiting_of}
+use Rattle.apollo_types.specs.TypeWriteOut.{type_kind}
+use Rattle.apollo_schema.specs.SchemaMeaning.{by_text}
+use Rattle.apollo_schema.specs.Prefixes.{folded_at, folded}
 use Rattle.apollo_schema.specs.Stands.{Stands, parts_held}
 use Rattle.apollo_schema.proofs.Texts.{same-true, same-is}
 use Rattle.apollo_schema.proofs.NameTables.{lookup-put, keys-put, lookup-write}

@@ -1,5 +1,5 @@
 -- Definitions and extensions of a name in a list.
-use Rattle.std.specs.Prelude.{ℕ, Bool, true, false, List, Option, None, Some, filter, map}
+use Rattle.std.specs.Prelude.{ℕ, Bool, true, false, List, Option, filter, map}
 use Rattle.std.specs.List.{filter_map}
 use Rattle.std.specs.Map.{lookup}
 use Rattle.graphql_ast.specs.declared.type_kind.TypeKind.{TypeKind}

@@ -3,12 +3,12 @@ pub mod DefinitionList
 pub mod Places
 pub mod Prefixes
 pub mod Refusals
+pub mod Roles
 pub mod SchemaFaults
 pub mod SchemaMeaning
 pub mod SchemaWriteOut
 pub mod Sources
 pub mod Stands
-pub mod TypeKinds
 pub mod TypeMeaning
 pub mod TypeParts
 pub mod WorkedRow

@@ -1,10 +1,9 @@
 -- The faults of a list of definitions.
-use Rattle.std.specs.Prelude.{◌≡◌, List, [], Option}
+use Rattle.std.specs.Prelude.{List, [], Option}
 use Rattle.graphql_ast.specs.declared.source.SourceSpan.{SourceSpan}
 use Rattle.graphql_ast.specs.declared.definition.Definition.{Definition}
 use Rattle.apollo_schema.specs.declared.schema.Schema.{Schema}
 use Rattle.apollo_schema.specs.declared.build_error.BuildError.{BuildError}
-use Rattle.apollo_schema.specs.declared.build_error.WithErrors.{WithErrors}
 use Rattle.apollo_schema.specs.declared.build_error.BuildFailure.{BuildFailure}
 use Rattle.apollo_schema.specs.declared.build_error.BuildFailure.TheVariants.{Faults, Memory, ExtensionIds, Failed}
 

@@ -1,7 +1,7 @@
 -- The schema that a list of definitions means. GraphQL specification of October 2021, section 3.
 use Rattle.std.specs.Prelude.{◌≡◌, ℕ, Bool, List, map}
 use Rattle.graphql_ast.specs.NameView.{NameView}
-use Rattle.graphql_ast.specs.Tables.{keys_of, values_of, lookup}
+use Rattle.graphql_ast.specs.Tables.{keys_of, lookup}
 use Rattle.graphql_ast.specs.declared.definition.Definition.{Definition}
 use Rattle.apollo_component.specs.FirstOfEach.{first_of_each, same_key}
 use Rattle.apollo_types.specs.declared.extended_type.ExtendedType.{ExtendedType}

@@ -18,6 +18,7 @@ write_schema s = flat_map write_type (values_of s.types)
 abbrev pub as_object : Option ExtendedType → Option (NodeView ObjectType)
 as_object None = None
 as_object (Some (Object n)) = Some n
+as_object (Some _) = None
 
 -- the object type of a name
 abbrev pub object_at : Schema → NameView → Option (NodeView ObjectType)

@@ -9,14 +9,31 @@ use Rattle.graphql_ast.specs.declared.directive.Directive.{Directive}
 use Rattle.graphql_ast.specs.declared.type_kind.TypeKind.{TypeKind}
 use Rattle.graphql_ast.specs.declared.type_kind.TypeKind.TheVariants as kinds
 use Rattle.graphql_ast.specs.declared.type_system.FieldDefinition.{FieldDefinition}
+use Rattle.graphql_ast.specs.declared.type_system.EnumValueDefinition.{EnumValueDefinition}
+use Rattle.graphql_ast.specs.declared.type_system.InputValueDefinition.{InputValueDefinition}
+use Rattle.graphql_ast.specs.declared.type_system.ScalarTypeDefinition.{ScalarTypeDefinition}
+use Rattle.graphql_ast.specs.declared.type_system.ScalarTypeExtension.{ScalarTypeExtension}
 use Rattle.graphql_ast.specs.declared.type_system.ObjectTypeDefinition.{ObjectTypeDefinition}
 use Rattle.graphql_ast.specs.declared.type_system.ObjectTypeExtension.{ObjectTypeExtension}
+use Rattle.graphql_ast.specs.declared.type_system.InterfaceTypeDefinition.{InterfaceTypeDefinition}
+use Rattle.graphql_ast.specs.declared.type_system.InterfaceTypeExtension.{InterfaceTypeExtension}
+use Rattle.graphql_ast.specs.declared.type_system.UnionTypeDefinition.{UnionTypeDefinition}
+use Rattle.graphql_ast.specs.declared.type_system.UnionTypeExtension.{UnionTypeExtension}
+use Rattle.graphql_ast.specs.declared.type_system.EnumTypeDefinition.{EnumTypeDefinition}
+use Rattle.graphql_ast.specs.declared.type_system.EnumTypeExtension.{EnumTypeExtension}
+use Rattle.graphql_ast.specs.declared.type_system.InputObjectTypeDefinition.{InputObjectTypeDefinition}
+use Rattle.graphql_ast.specs.declared.type_system.InputObjectTypeExtension.{InputObjectTypeExtension}
 use Rattle.graphql_ast.specs.declared.definition.Definition.{Definition}
 use Rattle.graphql_ast.specs.declared.definition.Definition.TheVariants as ast
 
 -- what the definitions and extensions of one kind hold besides directives
 pub data TypeBody : Type 0 where
+  ScalarBody : TypeBody
   ObjectBody : List NameView → List (NodeView FieldDefinition) → TypeBody
+  InterfaceBody : List NameView → List (NodeView FieldDefinition) → TypeBody
+  UnionBody : List NameView → TypeBody
+  EnumBody : List (NodeView EnumValueDefinition) → TypeBody
+  InputObjectBody : List (NodeView InputValueDefinition) → TypeBody
 
 -- a definition or extension of a type
 pub record TypePart : Type 0 where
@@ -39,6 +56,24 @@ abbrev pub extended_part : TypeItem → Option TypePart
 extended_part (Defined p) = None
 extended_part (Extended p) = Some p
 
+abbrev pub scalar_definition_part : NodeView ScalarTypeDefinition → TypePart
+scalar_definition_part n = record {
+  name = n.value.name;
+  location = n.location;
+  description = n.value.description;
+  directives = n.value.directives.0;
+  body = ScalarBody;
+}
+
+abbrev pub scalar_extension_part : NodeView ScalarTypeExtension → TypePart
+scalar_extension_part n = record {
+  name = n.value.name;
+  location = n.location;
+  description = None;
+  directives = n.value.directives.0;
+  body = ScalarBody;
+}
+
 abbrev pub object_definition_part : NodeView ObjectTypeDefinition → TypePart
 object_definition_part n = record {
   name = n.value.name;
@@ -57,10 +92,92 @@ object_extension_part n = record {
   body = ObjectBody n.value.implements_interfaces n.value.fields;
 }
 
+abbrev pub interface_definition_part : NodeView InterfaceTypeDefinition → TypePart
+interface_definition_part n = record {
+  name = n.value.name;
+  location = n.location;
+  description = n.value.description;
+  directives = n.value.directives.0;
+  body = InterfaceBody n.value.implements_interfaces n.value.fields;
+}
+
+abbrev pub interface_extension_part : NodeView InterfaceTypeExtension → TypePart
+interface_extension_part n = record {
+  name = n.value.name;
+  location = n.location;
+  description = None;
+  directives = n.value.directives.0;
+  body = InterfaceBody n.value.implements_interfaces n.value.fields;
+}
+
+abbrev pub union_definition_part : NodeView UnionTypeDefinition → TypePart
+union_definition_part n = record {
+  name = n.value.name;
+  location = n.location;
+  description = n.value.description;
+  directives = n.value.directives.0;
+  body = UnionBody n.value.members;
+}
+
+abbrev pub union_extension_part : NodeView UnionTypeExtension → TypePart
+union_extension_part n = record {
+  name = n.value.name;
+  location = n.location;
+  description = None;
+  directives = n.value.directives.0;
+  body = UnionBody n.value.members;
+}
+
+abbrev pub enum_definition_part : NodeView EnumTypeDefinition → TypePart
+enum_definition_part n = record {
+  name = n.value.name;
+  location = n.location;
+  description = n.value.description;
+  directives = n.value.directives.0;
+  body = EnumBody n.value.values;
+}
+
+abbrev pub enum_extension_part : NodeView EnumTypeExtension → TypePart
+enum_extension_part n = record {
+  name = n.value.name;
+  location = n.location;
+  description = None;
+  directives = n.value.directives.0;
+  body = EnumBody n.value.values;
+}
+
+abbrev pub input_object_definition_part : NodeView InputObjectTypeDefinition → TypePart
+input_object_definition_part n = record {
+  name = n.value.name;
+  location = n.location;
+  description = n.value.description;
+  directives = n.value.directives.0;
+  body = InputObjectBody n.value.fields;
+}
+
+abbrev pub input_object_extension_part : NodeView InputObjectTypeExtension → TypePart
+input_object_extension_part n = record {
+  name = n.value.name;
+  location = n.location;
+  description = None;
+  directives = n.value.directives.0;
+  body = InputObjectBody n.value.fields;
+}
+
 -- what a definition of a document says of types
 abbrev pub item_of : Definition → Option TypeItem
+item_of (ast.ScalarTypeDefinition n) = Some (Defined (scalar_definition_part n))
 item_of (ast.ObjectTypeDefinition n) = Some (Defined (object_definition_part n))
+item_of (ast.InterfaceTypeDefinition n) = Some (Defined (interface_definition_part n))
+item_of (ast.UnionTypeDefinition n) = Some (Defined (union_definition_part n))
+item_of (ast.EnumTypeDefinition n) = Some (Defined (enum_definition_part n))
+item_of (ast.InputObjectTypeDefinition n) = Some (Defined (input_object_definition_part n))
+item_of (ast.ScalarTypeExtension n) = Some (Extended (scalar_extension_part n))
 item_of (ast.ObjectTypeExtension n) = Some (Extended (object_extension_part n))
+item_of (ast.InterfaceTypeExtension n) = Some (Extended (interface_extension_part n))
+item_of (ast.UnionTypeExtension n) = Some (Extended (union_extension_part n))
+item_of (ast.EnumTypeExtension n) = Some (Extended (enum_extension_part n))
+item_of (ast.InputObjectTypeExtension n) = Some (Extended (input_object_extension_part n))
 item_of _ = None
 
 -- the definition of a type that it is
@@ -76,7 +193,12 @@ abbrev pub extended_parts : List Definition → List TypePart
 extended_parts xs = filter_map extended_part (items_of xs)
 
 abbrev pub body_kind : TypeBody → TypeKind
+body_kind ScalarBody = kinds.Scalar
 body_kind (ObjectBody interfaces fields) = kinds.Object
+body_kind (InterfaceBody interfaces fields) = kinds.Interface
+body_kind (UnionBody members) = kinds.Union
+body_kind (EnumBody values) = kinds.Enum
+body_kind (InputObjectBody fields) = kinds.InputObject
 
 abbrev pub kind_of : TypePart → TypeKind
 kind_of p = body_kind p.body

@@ -3,7 +3,7 @@ use Rattle.std.specs.Prelude.{ℕ, List, [], ◌∷◌, Option, None, Some, code
 use Rattle.graphql_ast.specs.NameView.{NameView}
 use Rattle.graphql_ast.specs.NodeView.{NodeView}
 use Rattle.graphql_ast.specs.declared.source.SourceSpan.{SourceSpan}
-use Rattle.graphql_ast.specs.declared.type_reference.Type.{«Type» as TypeReference, Named}
+use Rattle.graphql_ast.specs.declared.type_reference.Type.{Named}
 use Rattle.graphql_ast.specs.declared.type_system.FieldDefinition.{FieldDefinition}
 use Rattle.graphql_ast.specs.declared.definition.Definition.{Definition}
 use Rattle.graphql_ast.specs.declared.definition.Definition.TheVariants.{ObjectTypeDefinition, ObjectTypeExtension}

@@ -31,7 +31,7 @@ impl Schema {
     {
         match self.types.get(name) {
             Some(ExtendedType::Object(node)) => Some(node),
-            None => None,
+            _ => None,
         }
     }
 

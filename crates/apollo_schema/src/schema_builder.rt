@@ -17,7 +17,7 @@ ghost use Rattle.apollo_schema.specs.Sources.{merged};
 ghost use Rattle.apollo_schema.specs.BuilderStands.{StandsFor, HasFailed, SpendsIds, sources_of};
 
 use crate::build_error::{BuildFailure, BuilderError};
-use crate::from_ast::{extend_type, extend_type_by_all, type_from_ast};
+use crate::from_ast::{Role, extend_type, extend_type_by_all, type_from_ast, type_role};
 use crate::schema::Schema;
 use apollo_component::extension::ExtensionSource;
 use apollo_types::extended_type::ExtendedType;
@@ -157,10 +157,13 @@ impl Tables {
         ensures refused { IfErr result (λ error. RefusedAs error ((start : ℕ) (xs : List TypeItem) → Stands start xs self.old → 2 ^ 64 ≤ start + length (folded (xs ++ items_of (definition.now ∷ []))))) }
         ensures sources { self.new.sources ≡ self.old.sources }
     {
-        match definition {
-            Definition::ObjectTypeDefinition(node) => self.define(&node.name, definition)?,
-            Definition::ObjectTypeExtension(node) => self.extend(&node.name, definition)?,
-            _ => {}
+        let Some(name) = definition.name() else {
+            return Ok(());
+        };
+        match type_role(definition) {
+            Some(Role::Definition) => self.define(name, definition)?,
+            Some(Role::Extension) => self.extend(name, definition)?,
+            None => {}
         }
         Ok(())
     }
@@ -211,7 +214,7 @@ pub enum State {
 /// definitions and extensions in any order.
 ///
 /// The first definition of a name stays, and a later one is dropped. An extension before its definition waits for it.
-/// Definitions of anything but object types are passed over so far.
+/// Definitions of anything but types are passed over so far.
 ///
 /// After a refusal the builder holds nothing more, and each later call answers `Failed`.
 #[derive(Drop)]

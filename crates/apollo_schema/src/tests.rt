@@ -1,5 +1,7 @@
 //! What the proofs don't show: that calls succeed with memory, on documents that hold all that an object type can.
 
+mod kinds;
+
 use crate::build_error::BuilderError;
 use crate::schema_builder::SchemaBuilder;
 use apollo_component::extension::IdsSpent;

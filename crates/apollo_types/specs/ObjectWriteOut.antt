@@ -1,5 +1,5 @@
--- What an object type is written out as.
-use Rattle.std.specs.Prelude.{List, ◌∷◌, ◌++◌, map, Option}
+-- What an object type is written out as: GraphQL specification of October 2021, section 3.6.
+use Rattle.std.specs.Prelude.{List, ◌++◌, map, Option}
 use Rattle.graphql_ast.specs.Tables.{values_of}
 use Rattle.graphql_ast.specs.declared.source.SourceSpan.{SourceSpan}
 use Rattle.graphql_ast.specs.declared.definition.Definition.{Definition}
@@ -8,7 +8,7 @@ use Rattle.apollo_component.specs.Extensions.{place_of}
 use Rattle.apollo_component.specs.declared.extension.ComponentOrigin.{ComponentOrigin}
 use Rattle.apollo_component.specs.declared.extension.ComponentOrigin.TheVariants as origins
 use Rattle.apollo_component.specs.declared.extension.ExtensionId.{ExtensionId}
-use Rattle.apollo_types.specs.WriteOut.{origin_of, name_origin_of, identities, nodes_of_origin, names_of_origin}
+use Rattle.apollo_types.specs.WriteOut.{origin_of, name_origin_of, nodes_of_origin, names_of_origin, written_as}
 use Rattle.apollo_types.specs.declared.object_type.ObjectType.{ObjectType}
 
 -- the origins of the components: directives, interfaces, fields
@@ -42,4 +42,4 @@ object_extension t e = ObjectTypeExtension (record {
 
 -- the definition, then an extension for each identity
 abbrev pub write_object : ObjectType → Option SourceSpan → List Definition
-write_object t place = object_definition t place ∷ map (object_extension t) (identities (object_origins t))
+write_object t place = written_as (object_origins t) (object_definition t place) (object_extension t)

@@ -1,8 +1,9 @@
 -- What types are written out as: the identities of their extensions, and what is of one origin.
-use Rattle.std.specs.Prelude.{List, map, filter}
+use Rattle.std.specs.Prelude.{List, ◌∷◌, map, filter}
 use Rattle.std.specs.List.{filter_map}
 use Rattle.graphql_ast.specs.NameView.{NameView}
 use Rattle.graphql_ast.specs.NodeView.{NodeView}
+use Rattle.graphql_ast.specs.declared.definition.Definition.{Definition}
 use Rattle.apollo_component.specs.Extensions.{id_of, same_id, same_origin}
 use Rattle.apollo_component.specs.FirstOfEach.{first_of_each}
 use Rattle.apollo_component.specs.declared.component.Component.{Component}
@@ -27,3 +28,7 @@ nodes_of_origin origin components = map (λ c. c.node) (filter (λ c. same_origi
 -- the names of one origin
 abbrev pub names_of_origin : ComponentOrigin → List ComponentName → List NameView
 names_of_origin origin names = map (λ c. c.name) (filter (λ c. same_origin origin c.origin) names)
+
+-- a definition, then an extension for each identity among these origins
+abbrev pub written_as : List ComponentOrigin → Definition → (ExtensionId → Definition) → List Definition
+written_as origins definition extension = definition ∷ map extension (identities origins)

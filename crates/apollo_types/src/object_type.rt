@@ -1,8 +1,9 @@
 //! Object types: GraphQL specification of October 2021, section 3.6.
-ghost use Rattle.std.specs.Prelude.{◌≡◌, ◌++◌, IfOk};
+ghost use Rattle.std.specs.Prelude.{◌≡◌, IfOk};
 
 use crate::write_out::{
-    add_name_origins, add_origins, add_value_origins, names_from, nodes_from, values_from,
+    WriteOut, add_name_origins, add_origins, add_value_origins, names_from, nodes_from,
+    values_from, write_out,
 };
 use apollo_component::component::{Component, ComponentName};
 use apollo_component::directive_list::DirectiveList;
@@ -44,10 +45,10 @@ impl Clone for ObjectType {
 
 impl ObjectType {
     ghost use Rattle.apollo_types.specs.WriteOut.{identities};
-    ghost use Rattle.apollo_types.specs.ObjectWriteOut.{object_origins, object_definition, object_extension, write_object};
+    ghost use Rattle.apollo_types.specs.ObjectWriteOut.{object_origins, write_object};
 
-    /// The identities of the extensions that the components come from, by first appearance among directives,
-    /// then interfaces, then fields. The error is want of memory.
+    /// The identities of the extensions that the components come from, by first appearance among directives, then interfaces, then fields.
+    /// The error is want of memory.
     pub fn extensions(&self, alloc: Global) -> Result<KeySet<ExtensionId>, AllocError>
         ensures { IfOk result (λ ids. ids ≡ identities (object_origins self.now)) }
     {
@@ -68,22 +69,29 @@ impl ObjectType {
     ) -> Result<Vec<Definition>, AllocError>
         ensures { IfOk result (λ written. written.items ≡ write_object self.now location) }
     {
-        let ids = self.extensions(alloc)?;
-        let mut written = Vec::new(alloc);
-        written.push(self.definition(alloc, location)?)?;
-        for id in ids.as_slice() {
-            written.push(self.extension(alloc, *id)?)?;
-        }
+        let written = write_out(self, alloc, location)?;
         Ok(written)
+    }
+}
+
+impl WriteOut for ObjectType {
+    ghost use Rattle.apollo_types.specs.ObjectWriteOut.{object_origins, object_definition, object_extension};
+
+    ghost origins = { object_origins };
+
+    ghost definition = { object_definition };
+
+    ghost extension = { object_extension };
+
+    fn identities(&self, alloc: Global) -> Result<KeySet<ExtensionId>, AllocError> {
+        self.extensions(alloc)
     }
 
     fn definition(
         &self,
         alloc: Global,
         location: Option<SourceSpan>,
-    ) -> Result<Definition, AllocError>
-        ensures { IfOk result (λ written. written ≡ object_definition self.now location) }
-    {
+    ) -> Result<Definition, AllocError> {
         let origin = ComponentOrigin::Definition;
         let definition = ObjectTypeDefinition {
             description: self.description.clone()?,
@@ -100,12 +108,11 @@ impl ObjectType {
             )?),
             fields: values_from(alloc, &self.fields, origin)?,
         };
-        Ok(Definition::ObjectTypeDefinition(Node::new_opt_location(alloc, definition, location)?))
+        let node = Node::new_opt_location(alloc, definition, location)?;
+        Ok(Definition::ObjectTypeDefinition(node))
     }
 
-    fn extension(&self, alloc: Global, id: ExtensionId) -> Result<Definition, AllocError>
-        ensures { IfOk result (λ written. written ≡ object_extension self.now id) }
-    {
+    fn extension(&self, alloc: Global, id: ExtensionId) -> Result<Definition, AllocError> {
         let origin = ComponentOrigin::Extension(id);
         let extension = ObjectTypeExtension {
             name: self.name.clone()?,
@@ -121,6 +128,7 @@ impl ObjectType {
             )?),
             fields: values_from(alloc, &self.fields, origin)?,
         };
-        Ok(Definition::ObjectTypeExtension(id.same_location(alloc, extension)?))
+        let node = id.same_location(alloc, extension)?;
+        Ok(Definition::ObjectTypeExtension(node))
     }
 }

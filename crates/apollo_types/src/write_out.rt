@@ -3,7 +3,7 @@ ghost use Rattle.std.specs.Prelude.{◌≡◌, List, [], ◌∷◌, ◌++◌, ma
 ghost use Rattle.apollo_component.specs.Extensions.{same_origin};
 ghost use Rattle.apollo_component.specs.declared.extension.ComponentOrigin.{ComponentOrigin as Origin};
 ghost use Rattle.graphql_ast.specs.Tables.{values_of};
-ghost use Rattle.apollo_types.specs.WriteOut.{origin_of, name_origin_of, identities, nodes_of_origin, names_of_origin};
+ghost use Rattle.apollo_types.specs.WriteOut.{origin_of, name_origin_of, identities, nodes_of_origin, names_of_origin, written_as};
 
 use apollo_component::component::{Component, ComponentName};
 use apollo_component::extension::{ComponentOrigin, ExtensionId};
@@ -11,9 +11,59 @@ use apollo_component::named::add_key;
 use graphql_ast::collections::items::Items;
 use graphql_ast::collections::key_set::KeySet;
 use graphql_ast::collections::table::Table;
+use graphql_ast::definition::Definition;
 use graphql_ast::name::Name;
 use graphql_ast::node::Node;
+use graphql_ast::source::SourceSpan;
 use std::alloc::{AllocError, Global};
+
+/// A type or the like that is written out as a definition, and an extension for each identity of its components.
+pub trait WriteOut {
+    ghost use Rattle.std.specs.Prelude.{List, Option};
+    ghost use Rattle.graphql_ast.specs.declared.source.SourceSpan.{SourceSpan};
+    ghost use Rattle.graphql_ast.specs.declared.definition.Definition.{Definition};
+    ghost use Rattle.apollo_component.specs.declared.extension.ComponentOrigin.{ComponentOrigin};
+    ghost use Rattle.apollo_component.specs.declared.extension.ExtensionId.{ExtensionId};
+
+    ghost origins: { Self → List ComponentOrigin };
+
+    ghost definition: { Self → Option SourceSpan → Definition };
+
+    ghost extension: { Self → ExtensionId → Definition };
+
+    /// The identities of the extensions, by first appearance.
+    fn identities(&self, alloc: Global) -> Result<KeySet<ExtensionId>, AllocError>
+        ensures { IfOk result (λ ids. ids ≡ identities (origins self.now)) };
+
+    /// The definition, at this place.
+    fn definition(
+        &self,
+        alloc: Global,
+        location: Option<SourceSpan>,
+    ) -> Result<Definition, AllocError>
+        ensures { IfOk result (λ written. written ≡ definition self.now location) };
+
+    /// The extension of this identity.
+    fn extension(&self, alloc: Global, id: ExtensionId) -> Result<Definition, AllocError>
+        ensures { IfOk result (λ written. written ≡ extension self.now id) };
+}
+
+/// The definition, then an extension for each identity.
+pub fn write_out<T: WriteOut>(
+    ty: &T,
+    alloc: Global,
+    location: Option<SourceSpan>,
+) -> Result<Vec<Definition>, AllocError>
+    ensures { IfOk result (λ written. written.items ≡ written_as (T.origins ty.now) (T.definition ty.now location) (T.extension ty.now)) }
+{
+    let ids = ty.identities(alloc)?;
+    let mut written = Vec::new(alloc);
+    written.push(ty.definition(alloc, location)?)?;
+    for id in ids.as_slice() {
+        written.push(ty.extension(alloc, *id)?)?;
+    }
+    Ok(written)
+}
 
 /// Adds the identity of an origin, if it is an extension and new.
 fn add_origin(ids: &mut KeySet<ExtensionId>, origin: ComponentOrigin) -> Result<(), AllocError>

@@ -1,7 +1,7 @@
-use Rattle.std.proofs.Common.{◌≡◌, List, [], ◌∷◌, ◌++◌, true, false, sym, ap, ◌∙◌}
+use Rattle.std.proofs.Common.{◌≡◌, [], ◌∷◌, ◌++◌, true, false, sym, ap, ◌∙◌}
 use Rattle.std.specs.List.{list_any}
-use Rattle.std.specs.Cmp.{IsEquivalence, on_equiv}
-use Rattle.apollo_component.specs.FirstOfEach.{first_of_each, same_key}
+use Rattle.std.specs.Cmp.{on_equiv}
+use Rattle.apollo_component.specs.FirstOfEach.{same_key}
 use Rattle.apollo_component.proofs.FirstOfEachLemmas.{list_any-first_of_each, first_of_each-push_new, first_of_each-push_old, is_some-lookup, insert_entry-last}
 use Rattle.apollo_component.proofs.named.add_entry.Goals as goal
 

@@ -1,29 +1,35 @@
-use Rattle.std.proofs.Common.{refl, ◌≡◌, ℕ, List, [], ◌∷◌, ◌++◌, map, sym, ap, ◌∙◌}
-use Rattle.graphql_ast.specs.NodeView.{NodeView}
-use Rattle.graphql_ast.specs.declared.type_kind.TypeKind.{TypeKind}
+use Rattle.std.proofs.Common.{[], ◌∷◌, sym, ◌∙◌}
 use Rattle.apollo_component.specs.Extensions.{next_number}
-use Rattle.apollo_types.specs.declared.object_type.ObjectType.{ObjectType}
-use Rattle.apollo_types.specs.declared.extended_type.ExtendedType.{ExtendedType}
-use Rattle.apollo_types.specs.declared.extended_type.ExtendedType.TheVariants.{Object}
-use Rattle.apollo_schema.specs.TypeParts.{extended_parts, kind_of}
-use Rattle.apollo_schema.specs.DefinitionList.{of_kind}
-use Rattle.apollo_schema.specs.TypeMeaning.{object_of, type_from, extension_part, numbered}
-use Rattle.apollo_schema.proofs.ObjectParts.{type_from-object, kind_of-object, node_of}
+use Rattle.apollo_schema.specs.TypeParts.{extended_parts}
+use Rattle.apollo_schema.proofs.KindParts.{IsOf-grown, is_scalar, is_object, is_interface, is_union, is_enum, is_input_object}
 use Rattle.apollo_schema.proofs.from_ast.extend_type.Goals as goal
 
-pub returns-clause-folded : goal.returns-clause-folded
-returns-clause-folded c = λ head done was.
-    let t = c.args.ty.now in
-    let e : t ≡ Object (node_of t) = only t in
-    let is : t ≡ Object (record { value = object_of head done; location = head.location }) = was ∙ type_from-object head done in
-    let more = λ (k : TypeKind). done ++ map extension_part (numbered (next_number c.args.ids.now) (of_kind k (extended_parts (c.args.extension.now ∷ [])))) in
-    let folded = rw e at c.in_ok-extend_object_node.ensures.folded in
-    let place = rw e at c.in_ok-extend_object_node.ensures.place in
-    let value = folded head done (ap (λ (t : ExtendedType). (node_of t).value) is) ∙ ap (λ k. object_of head (more k)) (sym (kind_of-object head)) in
-    let location = place ∙ ap (λ (t : ExtendedType). (node_of t).location) is in
-    let whole : ◌≡◌ {A = ExtendedType} (Object c.extend_object_node.new.node) (type_from head (more (kind_of head))) =
-    (λ i. Object (record { value = value i; location = location i })) ∙ sym (type_from-object head (more (kind_of head))) in
-    rw e whole
-  where
-    only : (t : ExtendedType) → t ≡ Object (node_of t)
-    only (Object n) = refl
+pub returns-in_ok-extend_scalar-in-Scalar-clause-folded : goal.returns-in_ok-extend_scalar-in-Scalar-clause-folded
+returns-in_ok-extend_scalar-in-Scalar-clause-folded c = λ head done was.
+    let grew = c.in_ok-extend_scalar-in-Scalar.ensures in
+    IsOf-grown (is_scalar head.body head done c.in-Scalar.node (sym was ∙ c.in-Scalar.is)) c.extend_scalar.new.node (next_number c.args.ids.now) (extended_parts (c.args.extension.now ∷ [])) grew.place (grew.folded head done)
+
+pub returns-in_ok-extend_object-in-Object-clause-folded : goal.returns-in_ok-extend_object-in-Object-clause-folded
+returns-in_ok-extend_object-in-Object-clause-folded c = λ head done was.
+    let grew = c.in_ok-extend_object-in-Object.ensures in
+    IsOf-grown (is_object head.body head done c.in-Object.node (sym was ∙ c.in-Object.is)) c.extend_object.new.node (next_number c.args.ids.now) (extended_parts (c.args.extension.now ∷ [])) grew.place (grew.folded head done)
+
+pub returns-in_ok-extend_interface-in-Interface-clause-folded : goal.returns-in_ok-extend_interface-in-Interface-clause-folded
+returns-in_ok-extend_interface-in-Interface-clause-folded c = λ head done was.
+    let grew = c.in_ok-extend_interface-in-Interface.ensures in
+    IsOf-grown (is_interface head.body head done c.in-Interface.node (sym was ∙ c.in-Interface.is)) c.extend_interface.new.node (next_number c.args.ids.now) (extended_parts (c.args.extension.now ∷ [])) grew.place (grew.folded head done)
+
+pub returns-in_ok-extend_union-in-Union-clause-folded : goal.returns-in_ok-extend_union-in-Union-clause-folded
+returns-in_ok-extend_union-in-Union-clause-folded c = λ head done was.
+    let grew = c.in_ok-extend_union-in-Union.ensures in
+    IsOf-grown (is_union head.body head done c.in-Union.node (sym was ∙ c.in-Union.is)) c.extend_union.new.node (next_number c.args.ids.now) (extended_parts (c.args.extension.now ∷ [])) grew.place (grew.folded head done)
+
+pub returns-in_ok-extend_enum-in-Enum-clause-folded : goal.returns-in_ok-extend_enum-in-Enum-clause-folded
+returns-in_ok-extend_enum-in-Enum-clause-folded c = λ head done was.
+    let grew = c.in_ok-extend_enum-in-Enum.ensures in
+    IsOf-grown (is_enum head.body head done c.in-Enum.node (sym was ∙ c.in-Enum.is)) c.extend_enum.new.node (next_number c.args.ids.now) (extended_parts (c.args.extension.now ∷ [])) grew.place (grew.folded head done)
+
+pub returns-in_ok-extend_input_object-in-InputObject-clause-folded : goal.returns-in_ok-extend_input_object-in-InputObject-clause-folded
+returns-in_ok-extend_input_object-in-InputObject-clause-folded c = λ head done was.
+    let grew = c.in_ok-extend_input_object-in-InputObject.ensures in
+    IsOf-grown (is_input_object head.body head done c.in-InputObject.node (sym was ∙ c.in-InputObject.is)) c.extend_input_object.new.node (next_number c.args.ids.now) (extended_parts (c.args.extension.now ∷ [])) grew.place (grew.folded head done)

@@ -1,12 +1,11 @@
-use Rattle.std.proofs.Common.{◌≡◌, ℕ, ◌+◌, ◌<◌, ◌≤◌, ◌^◌, List, [], ◌∷◌, ◌++◌, map, length, take, sym, ap, ◌∙◌, arith, length-append}
+use Rattle.std.proofs.Common.{◌≡◌, ℕ, ◌+◌, [], ◌∷◌, ◌++◌, map, length, take, sym, ap, ◌∙◌, arith, length-append}
 use Rattle.std.proofs.lemmas.Result.{err_from_is_err_and}
 use Rattle.graphql_ast.specs.declared.type_kind.TypeKind.{TypeKind}
 use Rattle.apollo_component.specs.Extensions.{next_number, source_at}
-use Rattle.apollo_component.specs.declared.extension.ExtensionSource.{ExtensionSource}
-use Rattle.apollo_schema.specs.TypeParts.{TypePart, extended_parts, kind_of}
+use Rattle.apollo_schema.specs.TypeParts.{extended_parts, kind_of}
 use Rattle.apollo_schema.specs.DefinitionList.{of_kind}
 use Rattle.apollo_schema.specs.TypeMeaning.{type_from, extension_part, numbered}
-use Rattle.apollo_schema.specs.TypeKinds.{type_kind}
+use Rattle.apollo_types.specs.TypeWriteOut.{type_kind}
 use Rattle.apollo_schema.proofs.FoldingLemmas.{numbered-more, of_kind-turn, of_kind-past, type_kind-from}
 use Rattle.apollo_schema.proofs.RefusalLemmas.{RefusedAs-weaker}
 use Rattle.apollo_schema.proofs.from_ast.extend_type_by_all.Goals as goal

@@ -1,9 +1,9 @@
-use Rattle.std.proofs.Common.{◌≡◌, ℕ, ◌+◌, List, ◌++◌, map, length, take}
+use Rattle.std.proofs.Common.{◌≡◌, ◌+◌, List, ◌++◌, map, length, take}
 use Rattle.apollo_component.specs.Extensions.{next_number, source_at}
 use Rattle.apollo_schema.specs.TypeParts.{TypePart, extended_parts, kind_of}
 use Rattle.apollo_schema.specs.DefinitionList.{of_kind}
 use Rattle.apollo_schema.specs.TypeMeaning.{Sourced, type_from, extension_part, numbered}
-use Rattle.apollo_schema.specs.TypeKinds.{type_kind}
+use Rattle.apollo_types.specs.TypeWriteOut.{type_kind}
 use Rattle.apollo_schema.proofs.from_ast.extend_type_by_all.Given as goal
 
 abbrev pub invariant-loop-extension : goal.invariant-loop-extension

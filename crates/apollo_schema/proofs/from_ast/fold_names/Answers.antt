@@ -1,7 +1,6 @@
 use Rattle.std.proofs.Common.{◌≡◌, ◌+◌, ◌<◌, ℕ, List, [], ◌∷◌, ◌++◌, length, map, take, get_or, sym, ap, ◌∙◌, append_assoc, arith, rules}
 use Rattle.std.proofs.lemmas.List.{take_more, map-append}
 use Rattle.apollo_component.specs.FirstOfEach.{first_of_each}
-use Rattle.apollo_component.specs.declared.component.ComponentName.{ComponentName}
 use Rattle.apollo_schema.specs.TypeMeaning.{component_name, same_component_name}
 use Rattle.apollo_schema.proofs.from_ast.fold_names.Goals as goal
 

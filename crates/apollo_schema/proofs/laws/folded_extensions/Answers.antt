@@ -1,4 +1,4 @@
-use Rattle.std.proofs.Common.{◌≡◌, ℕ, List, filter, ap, ◌∙◌}
+use Rattle.std.proofs.Common.{filter, ap, ◌∙◌}
 use Rattle.apollo_schema.specs.TypeParts.{TypePart, items_of, key_of, same}
 use Rattle.apollo_schema.proofs.PlaceLemmas.{folding_order-forget}
 use Rattle.apollo_schema.proofs.PartLemmas.{of_name}

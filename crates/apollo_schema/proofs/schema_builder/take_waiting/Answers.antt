@@ -1,8 +1,6 @@
-use Rattle.std.proofs.Common.{◌≡◌, [], List, IsSome, is_some, Some, cond, sym, ap, ◌∙◌, rules}
+use Rattle.std.proofs.Common.{◌≡◌, [], Some, sym, ap, ◌∙◌}
 use Rattle.std.specs.Map.{lookup, set_value}
 use Rattle.std.specs.Option.{option_copied_mut}
-use Rattle.graphql_ast.specs.declared.definition.Definition.{Definition}
-use Rattle.apollo_schema.specs.TypeParts.{extended_parts, same}
 use Rattle.apollo_schema.specs.SchemaMeaning.{by_text}
 use Rattle.apollo_schema.specs.Stands.{parts_held}
 use Rattle.apollo_schema.proofs.HeldLemmas.{held-write}

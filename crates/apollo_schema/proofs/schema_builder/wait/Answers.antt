@@ -1,10 +1,8 @@
-use Rattle.std.proofs.Common.{◌≡◌, [], ◌∷◌, ◌++◌, List, IsSome, is_some, Option, Some, None, cond, sym, ap, ◌∙◌, rules}
+use Rattle.std.proofs.Common.{◌≡◌, [], ◌∷◌, ◌++◌, Some, None, sym, ap, ◌∙◌, rules}
 use Rattle.std.specs.Map.{lookup, set_value}
 use Rattle.std.specs.Option.{option_copied_mut}
 use Rattle.indexmap.specs.IndexMap.{insert_entry}
 use Rattle.graphql_ast.specs.ArgumentsByName.{same_text}
-use Rattle.graphql_ast.specs.declared.definition.Definition.{Definition}
-use Rattle.apollo_schema.specs.TypeParts.{extended_parts, same}
 use Rattle.apollo_schema.specs.SchemaMeaning.{by_text}
 use Rattle.apollo_schema.specs.Stands.{parts_held}
 use Rattle.apollo_schema.proofs.HeldLemmas.{held-write_more, held-put}

@@ -1,4 +1,4 @@
-use Rattle.std.proofs.Common.{◌≡◌, List, ◌++◌, map, ap, ◌∙◌, rules}
+use Rattle.std.proofs.Common.{◌≡◌, ◌++◌, map, ap, ◌∙◌, rules}
 use Rattle.std.proofs.lemmas.Map.Iter.{iter_end}
 use Rattle.graphql_ast.specs.Tables.{values_of}
 use Rattle.apollo_types.specs.WriteOut.{origin_of, identities}

@@ -1,8 +1,5 @@
-use Rattle.std.proofs.Common.{◌≡◌, List, ◌++◌, map, filter, take}
-use Rattle.graphql_ast.specs.Tables.{values_of}
-use Rattle.apollo_component.specs.Extensions.{same_origin}
-use Rattle.apollo_component.specs.declared.extension.ComponentOrigin.{ComponentOrigin}
-use Rattle.apollo_types.specs.WriteOut.{origin_of, name_origin_of, identities, nodes_of_origin, names_of_origin}
+use Rattle.std.proofs.Common.{◌≡◌, map}
+use Rattle.apollo_types.specs.WriteOut.{nodes_of_origin}
 use Rattle.apollo_types.proofs.write_out.values_from.Given as goal
 
 abbrev pub invariant-loop-component : goal.invariant-loop-component

@@ -1,4 +1,4 @@
-use Rattle.std.proofs.Common.{◌≡◌, List, sym, subst, ◌∙◌}
+use Rattle.std.proofs.Common.{List, sym, subst}
 use Rattle.apollo_schema.specs.TypeParts.{TypePart, items_of}
 use Rattle.apollo_schema.specs.SchemaMeaning.{AreTypesOf}
 use Rattle.apollo_schema.specs.Stands.{StateStands}

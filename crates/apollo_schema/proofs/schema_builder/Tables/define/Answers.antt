@@ -1,4 +1,4 @@
-use Rattle.std.proofs.Common.{◌≡◌, ℕ, ◌+◌, ◌^◌, ◌≤◌, Bool, true, false, cond, List, [], ◌∷◌, ◌++◌, length, map, Option, Some, None, is_some, sym, ap, subst, ◌∙◌, arith}
+use Rattle.std.proofs.Common.{◌≡◌, cond, [], ◌∷◌, map, Some, None, is_some, sym, ap, ◌∙◌}
 use Rattle.std.specs.Map.{lookup}
 use Rattle.std.specs.Option.{unwrap_or, option_and_then}
 use Rattle.std.proofs.lemmas.Result.{err_from_is_err_and}
@@ -7,8 +7,7 @@ use Rattle.graphql_ast.specs.NameView.{NameView}
 use Rattle.graphql_ast.specs.ArgumentsByName.{same_text}
 use Rattle.apollo_component.specs.declared.extension.ComponentOrigin.TheVariants as origins
 use Rattle.apollo_component.specs.Extensions.{next_number}
-use Rattle.apollo_types.specs.declared.extended_type.ExtendedType.{ExtendedType}
-use Rattle.apollo_schema.specs.TypeParts.{TypePart, TypeItem, Defined, defined_part, definition_part, extended_parts, kind_of, key_of, same}
+use Rattle.apollo_schema.specs.TypeParts.{defined_part, extended_parts, kind_of, same}
 use Rattle.apollo_schema.specs.DefinitionList.{of_kind}
 use Rattle.apollo_schema.specs.TypeMeaning.{type_from, extension_part, numbered}
 use Rattle.apollo_schema.specs.SchemaMeaning.{by_text}

@@ -1,7 +1,7 @@
-use Rattle.std.proofs.Common.{◌≡◌, ℕ, ◌+◌, ◌^◌, ◌≤◌, List, ◌++◌, length, sym, subst}
+use Rattle.std.proofs.Common.{◌≡◌, ◌+◌, ◌^◌, ◌≤◌, List, ◌++◌, length, sym, subst}
 use Rattle.std.proofs.lemmas.Result.{err_from_is_err_and}
 use Rattle.graphql_ast.specs.declared.definition.Definition.{Definition}
-use Rattle.apollo_schema.specs.TypeParts.{TypeItem, items_of}
+use Rattle.apollo_schema.specs.TypeParts.{items_of}
 use Rattle.apollo_schema.specs.Prefixes.{folded}
 use Rattle.apollo_schema.specs.Stands.{Stands}
 use Rattle.apollo_schema.proofs.RefusalLemmas.{RefusedAs-weaker}

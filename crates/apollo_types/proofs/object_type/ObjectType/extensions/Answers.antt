@@ -1,4 +1,4 @@
-use Rattle.std.proofs.Common.{◌≡◌, List, [], ◌++◌, map, ap, ◌∙◌}
+use Rattle.std.proofs.Common.{◌≡◌, [], ◌++◌, map, ap, ◌∙◌}
 use Rattle.apollo_types.specs.WriteOut.{origin_of, name_origin_of, identities}
 use Rattle.apollo_types.proofs.object_type.ObjectType.extensions.Goals as goal
 

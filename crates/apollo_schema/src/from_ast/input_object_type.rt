@@ -1,0 +1,111 @@
+//! Input object types from definitions and extensions.
+ghost use Rattle.std.specs.Prelude.{◌≡◌, ◌+◌, ◌^◌, ◌≤◌, List, [], ◌∷◌, ◌++◌, length, map, IfOk, IfErr, OnOk};
+ghost use Rattle.graphql_ast.specs.declared.type_kind.TypeKind.TheVariants as kinds;
+ghost use Rattle.apollo_component.specs.Extensions.{next_number, source_at};
+ghost use Rattle.apollo_component.specs.declared.extension.ComponentOrigin.TheVariants as origins;
+ghost use Rattle.apollo_schema.specs.TypeParts.{TypePart, InputObjectBody, input_object_definition_part, input_object_extension_part, extended_parts};
+ghost use Rattle.apollo_schema.specs.DefinitionList.{of_kind};
+ghost use Rattle.apollo_schema.specs.TypeMeaning.{Sourced, input_object_of, extension_part, numbered};
+ghost use Rattle.apollo_schema.specs.Refusals.{RefusedAs};
+
+use crate::build_error::BuilderError;
+use crate::from_ast::{fold_directives, fold_named};
+use apollo_component::directive_list::DirectiveList;
+use apollo_component::extension::{ComponentOrigin, ExtensionId, ExtensionSource};
+use apollo_types::input_object_type::InputObjectType;
+use graphql_ast::collections::table::Table;
+use graphql_ast::definition::Definition;
+use graphql_ast::directive::Directive;
+use graphql_ast::node::Node;
+use graphql_ast::type_system::{
+    InputObjectTypeDefinition, InputObjectTypeExtension, InputValueDefinition,
+};
+use std::alloc::{AllocError, Global};
+
+/// Folds the components of a definition or extension in.
+fn fold(
+    ty: &mut InputObjectType,
+    directives: &[Node<Directive>],
+    fields: &[Node<InputValueDefinition>],
+    origin: ComponentOrigin,
+) -> Result<(), AllocError>
+    ensures { OnOk result ((head part : TypePart) (done : List Sourced)
+        → part.directives ≡ directives.now → part.body ≡ InputObjectBody fields.now → ty.old ≡ input_object_of head done
+        → ty.new ≡ input_object_of head (done ++ (origin, part) ∷ [])) }
+{
+    fold_directives(&mut ty.directives, directives, origin)?;
+    fold_named(&mut ty.fields, fields, origin)?;
+    Ok(())
+}
+
+/// The type of a definition without its components.
+fn bare(
+    alloc: Global,
+    definition: &InputObjectTypeDefinition,
+) -> Result<InputObjectType, AllocError>
+    ensures { IfOk result (λ ty. ty ≡ record { description = definition.now.description; name = definition.now.name; directives = record { 0 = [] }; fields = [] }) }
+{
+    Ok(InputObjectType {
+        description: definition.description.clone()?,
+        name: definition.name.clone()?,
+        directives: DirectiveList::new(alloc),
+        fields: Table::new(alloc),
+    })
+}
+
+/// The type of a definition alone.
+pub fn input_object_from_ast(
+    alloc: Global,
+    node: &Node<InputObjectTypeDefinition>,
+) -> Result<Node<InputObjectType>, AllocError>
+    ensures { IfOk result (λ ty. let head = input_object_definition_part node.now in
+        ty ≡ record { value = input_object_of head ((origins.Definition, head) ∷ []); location = head.location }) }
+{
+    let mut ty = bare(alloc, node)?;
+    fold(
+        &mut ty,
+        node.directives.as_slice(),
+        node.fields.as_slice(),
+        ComponentOrigin::Definition,
+    )?;
+    let made = node.same_location(alloc, ty)?;
+    Ok(made)
+}
+
+/// Folds an extension of this kind in.
+fn extend(
+    ty: &mut InputObjectType,
+    node: &Node<InputObjectTypeExtension>,
+    origin: ComponentOrigin,
+) -> Result<(), AllocError>
+    ensures { OnOk result ((head : TypePart) (done : List Sourced) → ty.old ≡ input_object_of head done
+        → ty.new ≡ input_object_of head (done ++ (origin, input_object_extension_part node.now) ∷ [])) }
+{
+    fold(
+        ty,
+        node.directives.as_slice(),
+        node.fields.as_slice(),
+        origin,
+    )?;
+    Ok(())
+}
+
+/// Folds an extension into an input object type under the source's next identity, if it is one of that kind.
+pub fn extend_input_object(
+    node: &mut Node<InputObjectType>,
+    extension: &Definition,
+    ids: &mut ExtensionSource,
+) -> Result<(), BuilderError>
+    ensures folded { OnOk result ((head : TypePart) (done : List Sourced) → node.old.value ≡ input_object_of head done
+        → node.new.value ≡ input_object_of head (done ++ map extension_part (numbered (next_number ids.old) (of_kind kinds.InputObject (extended_parts (extension.now ∷ [])))))) }
+    ensures place { OnOk result (node.new.location ≡ node.old.location) }
+    ensures next { OnOk result (ids.new ≡ source_at (next_number ids.old + length (of_kind kinds.InputObject (extended_parts (extension.now ∷ []))))) }
+    ensures refused { IfErr result (λ error. RefusedAs error (2 ^ 64 ≤ next_number ids.old + length (of_kind kinds.InputObject (extended_parts (extension.now ∷ []))))) }
+{
+    let Definition::InputObjectTypeExtension(extension) = extension else {
+        return Ok(());
+    };
+    let id = ExtensionId::new(ids, extension)?;
+    extend(node.make_mut()?, extension, ComponentOrigin::Extension(id))?;
+    Ok(())
+}

@@ -1,0 +1,113 @@
+//! Object types from definitions and extensions.
+ghost use Rattle.std.specs.Prelude.{◌≡◌, ◌+◌, ◌^◌, ◌≤◌, List, [], ◌∷◌, ◌++◌, length, map, IfOk, IfErr, OnOk};
+ghost use Rattle.graphql_ast.specs.declared.type_kind.TypeKind.TheVariants as kinds;
+ghost use Rattle.apollo_component.specs.Extensions.{next_number, source_at};
+ghost use Rattle.apollo_component.specs.declared.extension.ComponentOrigin.TheVariants as origins;
+ghost use Rattle.apollo_schema.specs.TypeParts.{TypePart, ObjectBody, object_definition_part, object_extension_part, extended_parts};
+ghost use Rattle.apollo_schema.specs.DefinitionList.{of_kind};
+ghost use Rattle.apollo_schema.specs.TypeMeaning.{Sourced, object_of, extension_part, numbered};
+ghost use Rattle.apollo_schema.specs.Refusals.{RefusedAs};
+
+use crate::build_error::BuilderError;
+use crate::from_ast::{fold_directives, fold_named, fold_names};
+use apollo_component::directive_list::DirectiveList;
+use apollo_component::extension::{ComponentOrigin, ExtensionId, ExtensionSource};
+use apollo_types::object_type::ObjectType;
+use graphql_ast::collections::key_set::KeySet;
+use graphql_ast::collections::table::Table;
+use graphql_ast::definition::Definition;
+use graphql_ast::directive::Directive;
+use graphql_ast::name::Name;
+use graphql_ast::node::Node;
+use graphql_ast::type_system::{FieldDefinition, ObjectTypeDefinition, ObjectTypeExtension};
+use std::alloc::{AllocError, Global};
+
+/// Folds the components of a definition or extension in.
+fn fold(
+    ty: &mut ObjectType,
+    directives: &[Node<Directive>],
+    interfaces: &[Name],
+    fields: &[Node<FieldDefinition>],
+    origin: ComponentOrigin,
+) -> Result<(), AllocError>
+    ensures { OnOk result ((head part : TypePart) (done : List Sourced)
+        → part.directives ≡ directives.now → part.body ≡ ObjectBody interfaces.now fields.now → ty.old ≡ object_of head done
+        → ty.new ≡ object_of head (done ++ (origin, part) ∷ [])) }
+{
+    fold_directives(&mut ty.directives, directives, origin)?;
+    fold_names(&mut ty.implements_interfaces, interfaces, origin)?;
+    fold_named(&mut ty.fields, fields, origin)?;
+    Ok(())
+}
+
+/// The type of a definition without its components.
+fn bare(alloc: Global, definition: &ObjectTypeDefinition) -> Result<ObjectType, AllocError>
+    ensures { IfOk result (λ ty. ty ≡ record { description = definition.now.description; name = definition.now.name; implements_interfaces = []; directives = record { 0 = [] }; fields = [] }) }
+{
+    Ok(ObjectType {
+        description: definition.description.clone()?,
+        name: definition.name.clone()?,
+        implements_interfaces: KeySet::new(alloc),
+        directives: DirectiveList::new(alloc),
+        fields: Table::new(alloc),
+    })
+}
+
+/// The type of a definition alone.
+pub fn object_from_ast(
+    alloc: Global,
+    node: &Node<ObjectTypeDefinition>,
+) -> Result<Node<ObjectType>, AllocError>
+    ensures { IfOk result (λ ty. let head = object_definition_part node.now in
+        ty ≡ record { value = object_of head ((origins.Definition, head) ∷ []); location = head.location }) }
+{
+    let mut ty = bare(alloc, node)?;
+    fold(
+        &mut ty,
+        node.directives.as_slice(),
+        node.implements_interfaces.as_slice(),
+        node.fields.as_slice(),
+        ComponentOrigin::Definition,
+    )?;
+    let made = node.same_location(alloc, ty)?;
+    Ok(made)
+}
+
+/// Folds an extension of this kind in.
+fn extend(
+    ty: &mut ObjectType,
+    node: &Node<ObjectTypeExtension>,
+    origin: ComponentOrigin,
+) -> Result<(), AllocError>
+    ensures { OnOk result ((head : TypePart) (done : List Sourced) → ty.old ≡ object_of head done
+        → ty.new ≡ object_of head (done ++ (origin, object_extension_part node.now) ∷ [])) }
+{
+    fold(
+        ty,
+        node.directives.as_slice(),
+        node.implements_interfaces.as_slice(),
+        node.fields.as_slice(),
+        origin,
+    )?;
+    Ok(())
+}
+
+/// Folds an extension into an object type under the source's next identity, if it is one of that kind.
+pub fn extend_object(
+    node: &mut Node<ObjectType>,
+    extension: &Definition,
+    ids: &mut ExtensionSource,
+) -> Result<(), BuilderError>
+    ensures folded { OnOk result ((head : TypePart) (done : List Sourced) → node.old.value ≡ object_of head done
+        → node.new.value ≡ object_of head (done ++ map extension_part (numbered (next_number ids.old) (of_kind kinds.Object (extended_parts (extension.now ∷ [])))))) }
+    ensures place { OnOk result (node.new.location ≡ node.old.location) }
+    ensures next { OnOk result (ids.new ≡ source_at (next_number ids.old + length (of_kind kinds.Object (extended_parts (extension.now ∷ []))))) }
+    ensures refused { IfErr result (λ error. RefusedAs error (2 ^ 64 ≤ next_number ids.old + length (of_kind kinds.Object (extended_parts (extension.now ∷ []))))) }
+{
+    let Definition::ObjectTypeExtension(extension) = extension else {
+        return Ok(());
+    };
+    let id = ExtensionId::new(ids, extension)?;
+    extend(node.make_mut()?, extension, ComponentOrigin::Extension(id))?;
+    Ok(())
+}

@@ -1,0 +1,120 @@
+//! Enum types: GraphQL specification of October 2021, section 3.9.
+ghost use Rattle.std.specs.Prelude.{◌≡◌, IfOk};
+
+use crate::write_out::{
+    WriteOut, add_origins, add_value_origins, nodes_from, values_from, write_out,
+};
+use apollo_component::component::Component;
+use apollo_component::directive_list::DirectiveList;
+use apollo_component::extension::{ComponentOrigin, ExtensionId};
+use graphql_ast::collections::key_set::KeySet;
+use graphql_ast::collections::table::Table;
+use graphql_ast::definition::Definition;
+use graphql_ast::directive as ast_directive;
+use graphql_ast::name::Name;
+use graphql_ast::node::Node;
+use graphql_ast::node_str::NodeStr;
+use graphql_ast::source::SourceSpan;
+use graphql_ast::type_system::{EnumTypeDefinition, EnumTypeExtension, EnumValueDefinition};
+use std::alloc::{AllocError, Global};
+
+/// An enum type. Equality ignores places and origins, and the order of values.
+#[derive(Drop, PartialEq, Eq)]
+pub struct EnumType {
+    pub description: Option<NodeStr>,
+    pub name: Name,
+    pub directives: DirectiveList,
+    pub values: Table<Name, Component<EnumValueDefinition>>,
+}
+
+impl Clone for EnumType {
+    ghost is_clone = { λ a b. b ≡ a };
+
+    fn clone(&self) -> Result<EnumType, AllocError> {
+        Ok(EnumType {
+            description: self.description.clone()?,
+            name: self.name.clone()?,
+            directives: self.directives.clone()?,
+            values: self.values.clone()?,
+        })
+    }
+}
+
+impl EnumType {
+    ghost use Rattle.apollo_types.specs.WriteOut.{identities};
+    ghost use Rattle.apollo_types.specs.EnumWriteOut.{enum_origins, write_enum};
+
+    /// The identities of the extensions that the components come from, by first appearance among directives, then values.
+    /// The error is want of memory.
+    pub fn extensions(&self, alloc: Global) -> Result<KeySet<ExtensionId>, AllocError>
+        ensures { IfOk result (λ ids. ids ≡ identities (enum_origins self.now)) }
+    {
+        let mut ids = KeySet::new(alloc);
+        add_origins(&mut ids, self.directives.as_slice())?;
+        add_value_origins(&mut ids, &self.values)?;
+        Ok(ids)
+    }
+
+    /// The type as syntax: its definition, at this place, with the components of the definition, then an extension
+    /// for each identity of [`extensions`](EnumType::extensions), with that identity's components and place. Each
+    /// list is in the type's own order. The error is want of memory.
+    pub fn to_ast(
+        &self,
+        alloc: Global,
+        location: Option<SourceSpan>,
+    ) -> Result<Vec<Definition>, AllocError>
+        ensures { IfOk result (λ written. written.items ≡ write_enum self.now location) }
+    {
+        let written = write_out(self, alloc, location)?;
+        Ok(written)
+    }
+}
+
+impl WriteOut for EnumType {
+    ghost use Rattle.apollo_types.specs.EnumWriteOut.{enum_origins, enum_definition, enum_extension};
+
+    ghost origins = { enum_origins };
+
+    ghost definition = { enum_definition };
+
+    ghost extension = { enum_extension };
+
+    fn identities(&self, alloc: Global) -> Result<KeySet<ExtensionId>, AllocError> {
+        self.extensions(alloc)
+    }
+
+    fn definition(
+        &self,
+        alloc: Global,
+        location: Option<SourceSpan>,
+    ) -> Result<Definition, AllocError> {
+        let origin = ComponentOrigin::Definition;
+        let definition = EnumTypeDefinition {
+            description: self.description.clone()?,
+            name: self.name.clone()?,
+            directives: ast_directive::DirectiveList(nodes_from(
+                alloc,
+                self.directives.as_slice(),
+                origin,
+            )?),
+            values: values_from(alloc, &self.values, origin)?,
+        };
+        let node = Node::new_opt_location(alloc, definition, location)?;
+        Ok(Definition::EnumTypeDefinition(node))
+    }
+
+    fn extension(&self, alloc: Global, id: ExtensionId) -> Result<Definition, AllocError> {
+        let origin = ComponentOrigin::Extension(id);
+        let extension = EnumTypeExtension {
+            name: self.name.clone()?,
+            directives: ast_directive::DirectiveList(nodes_from(
+                alloc,
+                self.directives.as_slice(),
+                origin,
+            )?),
+            values: values_from(alloc, &self.values, origin)?,
+        };
+        let node = id.same_location(alloc, extension)?;
+        Ok(Definition::EnumTypeExtension(node))
+    }
+}

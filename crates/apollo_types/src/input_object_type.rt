@@ -1,0 +1,122 @@
+//! Input object types: GraphQL specification of October 2021, section 3.10.
+ghost use Rattle.std.specs.Prelude.{◌≡◌, IfOk};
+
+use crate::write_out::{
+    WriteOut, add_origins, add_value_origins, nodes_from, values_from, write_out,
+};
+use apollo_component::component::Component;
+use apollo_component::directive_list::DirectiveList;
+use apollo_component::extension::{ComponentOrigin, ExtensionId};
+use graphql_ast::collections::key_set::KeySet;
+use graphql_ast::collections::table::Table;
+use graphql_ast::definition::Definition;
+use graphql_ast::directive as ast_directive;
+use graphql_ast::name::Name;
+use graphql_ast::node::Node;
+use graphql_ast::node_str::NodeStr;
+use graphql_ast::source::SourceSpan;
+use graphql_ast::type_system::{
+    InputObjectTypeDefinition, InputObjectTypeExtension, InputValueDefinition,
+};
+use std::alloc::{AllocError, Global};
+
+/// An input object type. Equality ignores places and origins, and the order of fields.
+#[derive(Drop, PartialEq, Eq)]
+pub struct InputObjectType {
+    pub description: Option<NodeStr>,
+    pub name: Name,
+    pub directives: DirectiveList,
+    pub fields: Table<Name, Component<InputValueDefinition>>,
+}
+
+impl Clone for InputObjectType {
+    ghost is_clone = { λ a b. b ≡ a };
+
+    fn clone(&self) -> Result<InputObjectType, AllocError> {
+        Ok(InputObjectType {
+            description: self.description.clone()?,
+            name: self.name.clone()?,
+            directives: self.directives.clone()?,
+            fields: self.fields.clone()?,
+        })
+    }
+}
+
+impl InputObjectType {
+    ghost use Rattle.apollo_types.specs.WriteOut.{identities};
+    ghost use Rattle.apollo_types.specs.InputObjectWriteOut.{input_object_origins, write_input_object};
+
+    /// The identities of the extensions that the components come from, by first appearance among directives, then fields.
+    /// The error is want of memory.
+    pub fn extensions(&self, alloc: Global) -> Result<KeySet<ExtensionId>, AllocError>
+        ensures { IfOk result (λ ids. ids ≡ identities (input_object_origins self.now)) }
+    {
+        let mut ids = KeySet::new(alloc);
+        add_origins(&mut ids, self.directives.as_slice())?;
+        add_value_origins(&mut ids, &self.fields)?;
+        Ok(ids)
+    }
+
+    /// The type as syntax: its definition, at this place, with the components of the definition, then an extension
+    /// for each identity of [`extensions`](InputObjectType::extensions), with that identity's components and place. Each
+    /// list is in the type's own order. The error is want of memory.
+    pub fn to_ast(
+        &self,
+        alloc: Global,
+        location: Option<SourceSpan>,
+    ) -> Result<Vec<Definition>, AllocError>
+        ensures { IfOk result (λ written. written.items ≡ write_input_object self.now location) }
+    {
+        let written = write_out(self, alloc, location)?;
+        Ok(written)
+    }
+}
+
+impl WriteOut for InputObjectType {
+    ghost use Rattle.apollo_types.specs.InputObjectWriteOut.{input_object_origins, input_object_definition, input_object_extension};
+
+    ghost origins = { input_object_origins };
+
+    ghost definition = { input_object_definition };
+
+    ghost extension = { input_object_extension };
+
+    fn identities(&self, alloc: Global) -> Result<KeySet<ExtensionId>, AllocError> {
+        self.extensions(alloc)
+    }
+
+    fn definition(
+        &self,
+        alloc: Global,
+        location: Option<SourceSpan>,
+    ) -> Result<Definition, AllocError> {
+        let origin = ComponentOrigin::Definition;
+        let definition = InputObjectTypeDefinition {
+            description: self.description.clone()?,
+            name: self.name.clone()?,
+            directives: ast_directive::DirectiveList(nodes_from(
+                alloc,
+                self.directives.as_slice(),
+                origin,
+            )?),
+            fields: values_from(alloc, &self.fields, origin)?,
+        };
+        let node = Node::new_opt_location(alloc, definition, location)?;
+        Ok(Definition::InputObjectTypeDefinition(node))
+    }
+
+    fn extension(&self, alloc: Global, id: ExtensionId) -> Result<Definition, AllocError> {
+        let origin = ComponentOrigin::Extension(id);
+        let extension = InputObjectTypeExtension {
+            name: self.name.clone()?,
+            directives: ast_directive::DirectiveList(nodes_from(
+                alloc,
+                self.directives.as_slice(),
+                origin,
+            )?),
+            fields: values_from(alloc, &self.fields, origin)?,
+        };
+        let node = id.same_location(alloc, extension)?;
+        Ok(Definition::InputObjectTypeExtension(node))
+    }
+}

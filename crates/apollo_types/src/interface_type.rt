@@ -1,0 +1,134 @@
+//! Interface types: GraphQL specification of October 2021, section 3.7.
+ghost use Rattle.std.specs.Prelude.{◌≡◌, IfOk};
+
+use crate::write_out::{
+    WriteOut, add_name_origins, add_origins, add_value_origins, names_from, nodes_from,
+    values_from, write_out,
+};
+use apollo_component::component::{Component, ComponentName};
+use apollo_component::directive_list::DirectiveList;
+use apollo_component::extension::{ComponentOrigin, ExtensionId};
+use graphql_ast::collections::key_set::KeySet;
+use graphql_ast::collections::table::Table;
+use graphql_ast::definition::Definition;
+use graphql_ast::directive as ast_directive;
+use graphql_ast::name::Name;
+use graphql_ast::node::Node;
+use graphql_ast::node_str::NodeStr;
+use graphql_ast::source::SourceSpan;
+use graphql_ast::type_system::{FieldDefinition, InterfaceTypeDefinition, InterfaceTypeExtension};
+use std::alloc::{AllocError, Global};
+
+/// An interface type. Equality ignores places and origins, and the order of interfaces and fields.
+#[derive(Drop, PartialEq, Eq)]
+pub struct InterfaceType {
+    pub description: Option<NodeStr>,
+    pub name: Name,
+    pub implements_interfaces: KeySet<ComponentName>,
+    pub directives: DirectiveList,
+    pub fields: Table<Name, Component<FieldDefinition>>,
+}
+
+impl Clone for InterfaceType {
+    ghost is_clone = { λ a b. b ≡ a };
+
+    fn clone(&self) -> Result<InterfaceType, AllocError> {
+        Ok(InterfaceType {
+            description: self.description.clone()?,
+            name: self.name.clone()?,
+            implements_interfaces: self.implements_interfaces.clone()?,
+            directives: self.directives.clone()?,
+            fields: self.fields.clone()?,
+        })
+    }
+}
+
+impl InterfaceType {
+    ghost use Rattle.apollo_types.specs.WriteOut.{identities};
+    ghost use Rattle.apollo_types.specs.InterfaceWriteOut.{interface_origins, write_interface};
+
+    /// The identities of the extensions that the components come from, by first appearance among directives, then interfaces, then fields.
+    /// The error is want of memory.
+    pub fn extensions(&self, alloc: Global) -> Result<KeySet<ExtensionId>, AllocError>
+        ensures { IfOk result (λ ids. ids ≡ identities (interface_origins self.now)) }
+    {
+        let mut ids = KeySet::new(alloc);
+        add_origins(&mut ids, self.directives.as_slice())?;
+        add_name_origins(&mut ids, self.implements_interfaces.as_slice())?;
+        add_value_origins(&mut ids, &self.fields)?;
+        Ok(ids)
+    }
+
+    /// The type as syntax: its definition, at this place, with the components of the definition, then an extension
+    /// for each identity of [`extensions`](InterfaceType::extensions), with that identity's components and place. Each
+    /// list is in the type's own order. The error is want of memory.
+    pub fn to_ast(
+        &self,
+        alloc: Global,
+        location: Option<SourceSpan>,
+    ) -> Result<Vec<Definition>, AllocError>
+        ensures { IfOk result (λ written. written.items ≡ write_interface self.now location) }
+    {
+        let written = write_out(self, alloc, location)?;
+        Ok(written)
+    }
+}
+
+impl WriteOut for InterfaceType {
+    ghost use Rattle.apollo_types.specs.InterfaceWriteOut.{interface_origins, interface_definition, interface_extension};
+
+    ghost origins = { interface_origins };
+
+    ghost definition = { interface_definition };
+
+    ghost extension = { interface_extension };
+
+    fn identities(&self, alloc: Global) -> Result<KeySet<ExtensionId>, AllocError> {
+        self.extensions(alloc)
+    }
+
+    fn definition(
+        &self,
+        alloc: Global,
+        location: Option<SourceSpan>,
+    ) -> Result<Definition, AllocError> {
+        let origin = ComponentOrigin::Definition;
+        let definition = InterfaceTypeDefinition {
+            description: self.description.clone()?,
+            name: self.name.clone()?,
+            implements_interfaces: names_from(
+                alloc,
+                self.implements_interfaces.as_slice(),
+                origin,
+            )?,
+            directives: ast_directive::DirectiveList(nodes_from(
+                alloc,
+                self.directives.as_slice(),
+                origin,
+            )?),
+            fields: values_from(alloc, &self.fields, origin)?,
+        };
+        let node = Node::new_opt_location(alloc, definition, location)?;
+        Ok(Definition::InterfaceTypeDefinition(node))
+    }
+
+    fn extension(&self, alloc: Global, id: ExtensionId) -> Result<Definition, AllocError> {
+        let origin = ComponentOrigin::Extension(id);
+        let extension = InterfaceTypeExtension {
+            name: self.name.clone()?,
+            implements_interfaces: names_from(
+                alloc,
+                self.implements_interfaces.as_slice(),
+                origin,
+            )?,
+            directives: ast_directive::DirectiveList(nodes_from(
+                alloc,
+                self.directives.as_slice(),
+                origin,
+            )?),
+            fields: values_from(alloc, &self.fields, origin)?,
+        };
+        let node = id.same_location(alloc, extension)?;
+        Ok(Definition::InterfaceTypeExtension(node))
+    }
+}
