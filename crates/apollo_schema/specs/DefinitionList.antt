@@ -1,4 +1,4 @@
--- Definitions and extensions of a name in a list.
+-- Definitions and extensions of a name in a list: GraphQL specification of October 2021, sections 3 and 3.4.3.
 use Rattle.std.specs.Prelude.{ℕ, Bool, true, false, List, Option, filter, map}
 use Rattle.std.specs.List.{filter_map}
 use Rattle.std.specs.Map.{lookup}

@@ -1,4 +1,5 @@
--- The order in which extensions are folded, by places of the whole list.
+-- The order in which type extensions (GraphQL specification of October 2021, section 3.4.3) are folded, by places of
+-- the whole list.
 use Rattle.std.specs.Prelude.{ℕ, Bool, false, ◌==◌, ◌&&◌, max, List, filter, map, length, Option}
 use Rattle.std.specs.List.{filter_map, flat_map, enumerate_from, range_with_len}
 use Rattle.std.specs.Option.{option_map, option_map_or}

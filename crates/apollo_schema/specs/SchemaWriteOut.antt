@@ -1,4 +1,4 @@
--- What a schema is written out as, and what a name of it gives.
+-- What a schema is written out as, and what a name of it gives: GraphQL specification of October 2021, section 3.3.
 use Rattle.std.specs.Prelude.{List, Option, None, Some, flat_map}
 use Rattle.graphql_ast.specs.NameView.{NameView}
 use Rattle.graphql_ast.specs.NodeView.{NodeView}

@@ -1,4 +1,5 @@
--- The definitions and extensions of types in a list, whatever their kind.
+-- The definitions and extensions of types in a list, whatever their kind: GraphQL specification of October 2021,
+-- sections 3.4, and 3.5 to 3.10.
 use Rattle.std.specs.Prelude.{ℕ, Bool, List, Option, None, Some, option_and_then, nat_eq}
 use Rattle.std.specs.Cmp.Lexicographic.{pointwise}
 use Rattle.std.specs.List.{filter_map}

@@ -1,4 +1,5 @@
--- What types are written out as: the identities of their extensions, and what is of one origin.
+-- What types are written out as: the identities of their extensions, and what is of one origin. GraphQL specification
+-- of October 2021, section 3.4.3.
 use Rattle.std.specs.Prelude.{List, ◌∷◌, map, filter}
 use Rattle.std.specs.List.{filter_map}
 use Rattle.graphql_ast.specs.NameView.{NameView}

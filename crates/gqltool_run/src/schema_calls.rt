@@ -75,6 +75,11 @@ fn documents_one_by_one_build_as_one_document(rt: HostRuntime) -> Result<(), Fai
     let parted = AROUND.replace(alloc, "\ndef object R", "\n---\ndef object R")?;
     let two = built(alloc, parted.as_str())?;
     assert!(rt; one == two);
+    for name in ["Q", "R"] {
+        let together = origins(alloc, &one, name)?;
+        let apart = origins(alloc, &two, name)?;
+        assert_eq!(rt; together.as_str(), apart.as_str());
+    }
     let first = print(alloc, one.to_ast(alloc)?.as_slice())?;
     let second = print(alloc, two.to_ast(alloc)?.as_slice())?;
     assert_eq!(rt; first.as_str(), second.as_str());

@@ -86,7 +86,7 @@ fn extend(
     Ok(())
 }
 
-/// Folds an extension into an union type under the source's next identity, if it is one of that kind.
+/// Folds an extension into a union type under the source's next identity, if it is one of that kind.
 pub fn extend_union(
     node: &mut Node<UnionType>,
     extension: &Definition,
