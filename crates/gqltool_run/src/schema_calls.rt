@@ -50,7 +50,7 @@ fn origins(alloc: Global, schema: &Schema, name: &str) -> Result<String, Fail> {
 }
 
 const AROUND: &str =
-    "ext object Q\nfield b Int\nfield a Int\next object R\nfield z Int\ndef object Q\nfield a Int\next object Q\n@ d\nimplements N\ndef object R\next object Q\nfield c Int";
+    "ext object Q\nfield b Int\nfield a Int\next object R\nfield z Int\ndef object Q\nfield a Int\next object Q\n@ d\nimplements N\n\ndef object R\next object Q\nfield c Int";
 
 #[test]
 fn extensions_are_numbered_as_they_are_folded(rt: HostRuntime) -> Result<(), Fail> {
@@ -59,7 +59,7 @@ fn extensions_are_numbered_as_they_are_folded(rt: HostRuntime) -> Result<(), Fai
     let q = origins(alloc, &schema, "Q")?;
     assert_eq!(rt;
         q.as_str(),
-        "d in extension 1 of line 8\nN in extension 1 of line 8\na in the definition\nb in extension 0 of line 1\nc in extension 3 of line 12\n"
+        "d in extension 1 of line 8\nN in extension 1 of line 8\na in the definition\nb in extension 0 of line 1\nc in extension 3 of line 13\n"
     );
     let r = origins(alloc, &schema, "R")?;
     assert_eq!(rt; r.as_str(), "z in extension 2 of line 4\n");
@@ -71,8 +71,8 @@ fn extensions_are_numbered_as_they_are_folded(rt: HostRuntime) -> Result<(), Fai
 fn documents_one_by_one_build_as_one_document(rt: HostRuntime) -> Result<(), Fail> {
     let alloc = rt.alloc();
     let one = built(alloc, AROUND)?;
-    // The same lines, with the end of a document in the place of what stood between.
-    let parted = AROUND.replace(alloc, "\ndef object R", "\n---\ndef object R")?;
+    // The same lines, with the end of a document in the place of the empty one.
+    let parted = AROUND.replace(alloc, "\n\n", "\n---\n")?;
     let two = built(alloc, parted.as_str())?;
     assert!(rt; one == two);
     for name in ["Q", "R"] {
