@@ -1,4 +1,4 @@
--- A list of definitions with what it means, computed.
+-- Lists of definitions with what they mean, computed.
 use Rattle.std.specs.Prelude.{ℕ, List, [], ◌∷◌, Option, None, Some, codes}
 use Rattle.graphql_ast.specs.NameView.{NameView}
 use Rattle.graphql_ast.specs.NodeView.{NodeView}
@@ -6,7 +6,7 @@ use Rattle.graphql_ast.specs.declared.source.SourceSpan.{SourceSpan}
 use Rattle.graphql_ast.specs.declared.type_reference.Type.{Named}
 use Rattle.graphql_ast.specs.declared.type_system.FieldDefinition.{FieldDefinition}
 use Rattle.graphql_ast.specs.declared.definition.Definition.{Definition}
-use Rattle.graphql_ast.specs.declared.definition.Definition.TheVariants.{ObjectTypeDefinition, ObjectTypeExtension}
+use Rattle.graphql_ast.specs.declared.definition.Definition.TheVariants.{ObjectTypeDefinition, ObjectTypeExtension, ScalarTypeExtension}
 
 -- the place of a line
 abbrev pub line : ℕ → Option SourceSpan
@@ -49,4 +49,23 @@ written_around =
     definition_at 3 (codes "Q") [] (field_at (codes "a") 4 ∷ [])
     ∷ extension_at 5 (name_at (codes "Q") 3) (name_at (codes "N") 6 ∷ []) []
     ∷ extension_at 1 (name_at (codes "Q") 3) [] (field_at (codes "b") 2 ∷ [])
+    ∷ []
+
+-- extensions of two names, some of which wait for their definitions, and of a name that is never defined
+abbrev pub extensions_that_wait : List Definition
+extensions_that_wait =
+    extension_at 1 (name_at (codes "A") 1) [] (field_at (codes "x") 2 ∷ [])
+    ∷ extension_at 3 (name_at (codes "B") 3) [] (field_at (codes "y") 4 ∷ [])
+    ∷ definition_at 5 (codes "B") [] []
+    ∷ extension_at 6 (name_at (codes "B") 6) [] (field_at (codes "z") 7 ∷ [])
+    ∷ definition_at 8 (codes "A") [] []
+    ∷ extension_at 9 (name_at (codes "C") 9) [] (field_at (codes "u") 10 ∷ [])
+    ∷ extension_at 11 (name_at (codes "A") 11) [] (field_at (codes "w") 12 ∷ [])
+    ∷ []
+
+-- an extension of another kind than the definition's
+abbrev pub extension_of_another_kind : List Definition
+extension_of_another_kind =
+    definition_at 1 (codes "Q") [] (field_at (codes "a") 2 ∷ [])
+    ∷ ScalarTypeExtension (record { value = record { name = name_at (codes "Q") 3; directives = record { 0 = [] } }; location = line 3 })
     ∷ []

@@ -5,7 +5,7 @@ ghost use Rattle.apollo_schema.specs.TypeParts.{TypePart, items_of, kind_of, key
 ghost use Rattle.apollo_schema.specs.DefinitionList.{first, extensions_of, of_kind};
 ghost use Rattle.apollo_schema.specs.Places.{folded_in_order, folding_order};
 ghost use Rattle.apollo_schema.specs.TypeMeaning.{type_of};
-ghost use Rattle.apollo_schema.specs.WorkedRow.{extensions_around, written_around};
+ghost use Rattle.apollo_schema.specs.WorkedRow.{extensions_around, written_around, extensions_that_wait, extension_of_another_kind};
 ghost use Rattle.apollo_types.specs.TypeWriteOut.{write_type};
 
 /// The extensions that are folded for a name are those of its kind, in the order of the list, whatever stands between
@@ -20,4 +20,15 @@ pub fn folded_extensions()
 pub fn extensions_on_either_side()
     ensures order { map (λ e. e.0) (folding_order (items_of extensions_around)) ≡ 0 ∷ 2 ∷ [] }
     ensures writes { option_map write_type (type_of 0 (folded_in_order (items_of extensions_around)) (items_of extensions_around) (codes "Q")) ≡ Some written_around }
+{}
+
+/// The definitions on a list whose extensions wait for their definitions: the places in folding order, computed. One
+/// of a name that is never defined is not folded.
+pub fn extensions_that_wait()
+    ensures { map (λ e. e.0) (folding_order (items_of extensions_that_wait)) ≡ 1 ∷ 3 ∷ 0 ∷ 6 ∷ [] }
+{}
+
+/// The definitions on a list with an extension of another kind than its name's, computed: it is not folded.
+pub fn extension_of_another_kind()
+    ensures { folding_order (items_of extension_of_another_kind) ≡ [] }
 {}
