@@ -3,10 +3,10 @@ use Rattle.std.proofs.Common.{◌≡◌, Bool, true, false, cond, not, ◌||◌,
 use Rattle.std.proofs.lemmas.List.{append-nil}
 use Rattle.std.proofs.lemmas.List.Elements.{filter-append}
 use Rattle.std.specs.Cmp.{IsEquivalence}
-use Rattle.std.specs.List.{list_any}
-use Rattle.std.specs.Map.{lookup}
+use Rattle.std.specs.List.{find, list_any}
+use Rattle.std.specs.Map.{keys_of, lookup, lookup_key}
 use Rattle.indexmap.specs.IndexMap.{insert_entry}
-use Rattle.apollo_component.specs.FirstOfEach.{first_of_each}
+use Rattle.apollo_component.specs.FirstOfEach.{first_of_each, same_key}
 
 module _ {X : Type 0} (same : X → X → Bool) (laws : IsEquivalence same) where
   -- taking out what is the same as one thing leaves what is the same as another
@@ -56,6 +56,45 @@ module _ {X : Type 0} (same : X → X → Bool) (laws : IsEquivalence same) wher
           ap (λ l. x ∷ filter (λ y. not (same x y)) l) (new q) ∙ ap (λ l. x ∷ l) (filter-append (λ y. not (same x y)) (first_of_each same xs) (n ∷ [])
           ∙ ap (λ b. filter (λ y. not (same x y)) (first_of_each same xs) ++ cond (not b) (n ∷ []) []) (laws.symm x n ∙ p) ∙ append-nil (filter (λ y. not (same x y)) (first_of_each same xs)))
       by false p false q h new old = absurd (true≢false (sym h ∙ q))
+
+  -- what is found first is left
+  find-filter_other : (n m : X) (xs : List X) → same n m ≡ false → find (same n) (filter (λ x. not (same m x)) xs) ≡ find (same n) xs
+  find-filter_other n m [] apart = refl
+  find-filter_other n m (x ∷ xs) apart = by (same m x) refl (same n x) refl (find-filter_other n m xs apart)
+    where
+      by : (b : Bool) → same m x ≡ b → (c : Bool) → same n x ≡ c → find (same n) (filter (λ y. not (same m y)) xs) ≡ find (same n) xs
+          → find (same n) (cond (not b) (x ∷ filter (λ y. not (same m y)) xs) (filter (λ y. not (same m y)) xs)) ≡ cond c (Some x) (find (same n) xs)
+      by true p true q rest = absurd (true≢false (sym (laws.congr m x n p ∙ laws.symm x n ∙ q) ∙ laws.symm m n ∙ apart))
+      by true p false q rest = rest
+      by false p c q rest = ap (λ d. cond d (Some x) (find (same n) (filter (λ y. not (same m y)) xs))) q ∙ ap (cond c (Some x)) rest
+
+  pub find-first_of_each : (n : X) (xs : List X) → find (same n) (first_of_each same xs) ≡ find (same n) xs
+  find-first_of_each n [] = refl
+  find-first_of_each n (x ∷ xs) = by (same n x) refl (find-first_of_each n xs)
+    where
+      by : (b : Bool) → same n x ≡ b → find (same n) (first_of_each same xs) ≡ find (same n) xs
+          → cond b (Some x) (find (same n) (filter (λ y. not (same x y)) (first_of_each same xs))) ≡ cond b (Some x) (find (same n) xs)
+      by true p rest = refl
+      by false p rest = find-filter_other n x (first_of_each same xs) p ∙ rest
+
+-- the keys that are left are the first of each key
+pub keys_of-first_of_each : {K V : Type 0} (eq : K → K → Bool) (es : List (K × V)) → keys_of (first_of_each (same_key eq) es) ≡ first_of_each eq (keys_of es)
+keys_of-first_of_each eq [] = refl
+keys_of-first_of_each {K} {V} eq (e ∷ es) = ap (λ l. e.0 ∷ l) (keys-filter (first_of_each (same_key eq) es) ∙ ap (filter (λ k. not (eq e.0 k))) (keys_of-first_of_each eq es))
+  where
+    keys-filter : (fs : List (K × V)) → keys_of (filter (λ f. not (eq e.0 f.0)) fs) ≡ filter (λ k. not (eq e.0 k)) (keys_of fs)
+    keys-filter [] = refl
+    keys-filter (f ∷ fs) = by (not (eq e.0 f.0)) (keys-filter fs)
+      where
+        by : (b : Bool) → keys_of (filter (λ f. not (eq e.0 f.0)) fs) ≡ filter (λ k. not (eq e.0 k)) (keys_of fs)
+            → keys_of (cond b (f ∷ filter (λ f. not (eq e.0 f.0)) fs) (filter (λ f. not (eq e.0 f.0)) fs)) ≡ cond b (f.0 ∷ filter (λ k. not (eq e.0 k)) (keys_of fs)) (filter (λ k. not (eq e.0 k)) (keys_of fs))
+        by true rest = ap (λ l. f.0 ∷ l) rest
+        by false rest = rest
+
+-- a key that is looked up is the first of the keys that passes the test
+pub lookup_key-find : {K V : Type 0} (test : K → Bool) (es : List (K × V)) → lookup_key test es ≡ find test (keys_of es)
+lookup_key-find test [] = refl
+lookup_key-find test (e ∷ es) = ap (cond (test e.0) (Some e.0)) (lookup_key-find test es)
 
 -- a look-up finds something where some key passes the test
 pub is_some-lookup : {K V : Type 0} (test : K → Bool) (es : List (K × V)) → is_some (lookup test es) ≡ list_any (λ e. test e.0) es

@@ -8,7 +8,7 @@ use Rattle.graphql_ast.specs.declared.definition.Definition.{Definition}
 use Rattle.apollo_schema.specs.TypeParts.{TypePart, TypeBody, ScalarBody, ObjectBody, InterfaceBody, UnionBody, EnumBody, InputObjectBody, item_of, items_of, extended_part, extended_parts, body_kind, kind_of}
 use Rattle.apollo_schema.specs.DefinitionList.{same_kind, of_kind}
 use Rattle.apollo_schema.specs.TypeMeaning.{Sourced, type_at, type_from, extension_part, numbered}
-use Rattle.apollo_types.specs.TypeWriteOut.{type_kind}
+use Rattle.apollo_types.specs.TypeWriteOut.{type_kind, type_name}
 
 -- numbers go on
 pub enumerate_from-append : {X : Type 0} (n : ℕ) (xs ys : List X) → enumerate_from n (xs ++ ys) ≡ enumerate_from n xs ++ enumerate_from (n + length xs) ys
@@ -22,15 +22,17 @@ numbered-more done start ps qs =
     rw (enumerate_from-append start ps qs, map-append) (sym (append_assoc done (map extension_part (numbered start ps)) (map extension_part (numbered (start + length ps) qs))))
 
 pub extended_parts-append : (xs ys : List Definition) → extended_parts (xs ++ ys) ≡ extended_parts xs ++ extended_parts ys
-extended_parts-append xs ys = ap (filter_map extended_part) (filter_map-append item_of xs ys) ∙ filter_map-append extended_part (items_of xs) (items_of ys)
+extended_parts-append xs ys = ap (filter_map extended_part) (map-append item_of xs ys) ∙ filter_map-append extended_part (items_of xs) (items_of ys)
+
+-- one more definition of a list
+pub extended_parts-turn : (xs : List Definition) (i : ℕ) (x : Definition) → i < length xs → x ≡ get_or xs i x → extended_parts (take (i + 1) xs) ≡ extended_parts (take i xs) ++ extended_parts (x ∷ [])
+extended_parts-turn xs i x lt is = ap extended_parts (take_more xs i x lt ∙ ap (λ y. take i xs ++ y ∷ []) (sym is)) ∙ extended_parts-append (take i xs) (x ∷ [])
 
 -- the extensions of a kind among one more definition
 module _ (k : TypeKind) (xs : List Definition) (i : ℕ) (x : Definition) (lt : i < length xs) (is : x ≡ get_or xs i x) where
   pub of_kind-turn : of_kind k (extended_parts (take (i + 1) xs)) ≡ of_kind k (extended_parts (take i xs)) ++ of_kind k (extended_parts (x ∷ []))
   of_kind-turn =
-      ap (λ l. of_kind k (extended_parts l)) (take_more xs i x lt ∙ ap (λ y. take i xs ++ y ∷ []) (sym is))
-      ∙ ap (of_kind k) (extended_parts-append (take i xs) (x ∷ []))
-      ∙ filter-append (λ p. same_kind k (kind_of p)) (extended_parts (take i xs)) (extended_parts (x ∷ []))
+      ap (of_kind k) (extended_parts-turn xs i x lt is) ∙ filter-append (λ p. same_kind k (kind_of p)) (extended_parts (take i xs)) (extended_parts (x ∷ []))
 
   -- those so far and this one are no more than all
   pub of_kind-past : length (of_kind k (extended_parts (take i xs))) + length (of_kind k (extended_parts (x ∷ []))) ≤ length (of_kind k (extended_parts xs))
@@ -51,6 +53,18 @@ pub type_kind-from : (head : TypePart) (done : List Sourced) → type_kind (type
 type_kind-from head done = by head.body
   where
     by : (b : TypeBody) → type_kind (type_at b head done) ≡ body_kind b
+    by ScalarBody = refl
+    by (ObjectBody interfaces fields) = refl
+    by (InterfaceBody interfaces fields) = refl
+    by (UnionBody members) = refl
+    by (EnumBody values) = refl
+    by (InputObjectBody fields) = refl
+
+-- and its name
+pub type_name-from : (head : TypePart) (done : List Sourced) → type_name (type_from head done) ≡ head.name
+type_name-from head done = by head.body
+  where
+    by : (b : TypeBody) → type_name (type_at b head done) ≡ head.name
     by ScalarBody = refl
     by (ObjectBody interfaces fields) = refl
     by (InterfaceBody interfaces fields) = refl

@@ -4,9 +4,10 @@ use Rattle.std.specs.Option.{option_or}
 use Rattle.std.specs.Map.{lookup}
 use Rattle.std.proofs.lemmas.List.{append-nil, map-append}
 use Rattle.std.proofs.lemmas.List.Elements.{filter-append, filter_map-append}
-use Rattle.apollo_schema.specs.TypeParts.{TypePart, TypeItem, Defined, Extended, key_of, same}
+use Rattle.graphql_ast.specs.declared.definition.Definition.{Definition}
+use Rattle.apollo_schema.specs.TypeParts.{TypePart, TypeItem, Defined, Extended, Other, key_of, same}
 use Rattle.apollo_schema.specs.DefinitionList.{definitions, first, extensions_of}
-use Rattle.apollo_schema.specs.Prefixes.{folded_at, folded_after, folded}
+use Rattle.apollo_schema.specs.Prefixes.{added_after, folded_at, folded, found_at, found, waited_at, waited}
 use Rattle.apollo_schema.specs.TypeMeaning.{sourced}
 use Rattle.apollo_schema.proofs.FoldingLemmas.{enumerate_from-append}
 
@@ -39,14 +40,33 @@ module _ (xs : List TypeItem) (p : TypePart) where
   pub extensions_of-push_extension : (n : List ℕ) → extensions_of (xs ++ Extended p ∷ []) n ≡ extensions_of xs n ++ cond (same n (key_of p)) (p ∷ []) []
   extensions_of-push_extension n = rw (filter_map-append, filter-append)
 
--- one more item folds its own extensions, after the others
-pub folded_after-push : (before xs : List TypeItem) (x : TypeItem) → folded_after before (xs ++ x ∷ []) ≡ folded_after before xs ++ folded_at (before ++ xs) x
-folded_after-push before [] x = rw (append-nil before) (append-nil (folded_at before x))
-folded_after-push before (y ∷ ys) x =
-    rw (folded_after-push (before ++ y ∷ []) ys x, append_assoc before (y ∷ []) ys) (sym (append_assoc (folded_at before y) (folded_after (before ++ y ∷ []) ys) (folded_at (before ++ y ∷ ys) x)))
+-- something else changes no definition and no extension
+module _ (xs : List TypeItem) (d : Definition) where
+  pub definitions-push_other : definitions (xs ++ Other d ∷ []) ≡ definitions xs
+  definitions-push_other = rw (filter_map-append, append-nil)
 
-pub folded-push : (xs : List TypeItem) (x : TypeItem) → folded (xs ++ x ∷ []) ≡ folded xs ++ folded_at xs x
-folded-push xs x = folded_after-push [] xs x
+  pub first-push_other : (n : List ℕ) → first (xs ++ Other d ∷ []) n ≡ first xs n
+  first-push_other n = ap (lookup (same n)) definitions-push_other
+
+  pub extensions_of-push_other : (n : List ℕ) → extensions_of (xs ++ Other d ∷ []) n ≡ extensions_of xs n
+  extensions_of-push_other n = rw (filter_map-append, append-nil)
+
+-- one more item adds its own, after the others
+pub added_after-push : {X : Type 0} (at : List TypeItem → TypeItem → List X) (before xs : List TypeItem) (x : TypeItem)
+    → added_after at before (xs ++ x ∷ []) ≡ added_after at before xs ++ at (before ++ xs) x
+added_after-push at before [] x = rw (append-nil before) (append-nil (at before x))
+added_after-push at before (y ∷ ys) x =
+    rw (added_after-push at (before ++ y ∷ []) ys x, append_assoc before (y ∷ []) ys) (sym (append_assoc (at before y) (added_after at (before ++ y ∷ []) ys) (at (before ++ y ∷ ys) x)))
+
+module _ (xs : List TypeItem) (x : TypeItem) where
+  pub folded-push : folded (xs ++ x ∷ []) ≡ folded xs ++ folded_at xs x
+  folded-push = added_after-push folded_at [] xs x
+
+  pub found-push : found (xs ++ x ∷ []) ≡ found xs ++ found_at xs x
+  found-push = added_after-push found_at [] xs x
+
+  pub waited-push : waited (xs ++ x ∷ []) ≡ waited xs ++ waited_at xs x
+  waited-push = added_after-push waited_at [] xs x
 
 -- the folded extensions of a name, after others
 pub sourced-append : (n : List ℕ) (start : ℕ) (ps qs : List TypePart) → sourced n start (ps ++ qs) ≡ sourced n start ps ++ sourced n (start + length ps) qs

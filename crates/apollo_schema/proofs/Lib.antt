@@ -1,9 +1,17 @@
+pub mod DirectiveLemmas
+pub mod EachLemmas
+pub mod FaultLemmas
 pub mod FoldingLemmas
+pub mod FoundLemmas
 pub mod HeldLemmas
 pub mod ItemLemmas
+pub mod JoiningLemmas
+pub mod KeptLemmas
 pub mod KindParts
 pub mod NameTables
+pub mod OrphanLemmas
 pub mod PartLemmas
+pub mod PartNames
 pub mod PlaceLemmas
 pub mod RefusalLemmas
 pub mod RoleLemmas

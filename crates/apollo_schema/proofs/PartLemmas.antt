@@ -4,11 +4,11 @@ use Rattle.std.specs.List.{filter_map}
 use Rattle.std.specs.Option.{option_or, unwrap_or}
 use Rattle.std.proofs.lemmas.List.{append-nil}
 use Rattle.std.proofs.lemmas.List.Elements.{filter-append}
-use Rattle.apollo_schema.specs.TypeParts.{TypePart, TypeItem, Defined, Extended, extended_part, kind_of, key_of, same}
+use Rattle.apollo_schema.specs.TypeParts.{TypePart, TypeItem, Defined, Extended, Other, extended_part, kind_of, key_of, same}
 use Rattle.apollo_schema.specs.DefinitionList.{same_kind, first, extensions_of, of_kind}
 use Rattle.apollo_schema.specs.Prefixes.{folded_at, folded}
 use Rattle.apollo_schema.proofs.Texts.{same-true, same-is}
-use Rattle.apollo_schema.proofs.ItemLemmas.{first-push_definition, first-push_extension, extensions_of-push_definition, extensions_of-push_extension, folded-push}
+use Rattle.apollo_schema.proofs.ItemLemmas.{first-push_definition, first-push_extension, first-push_other, extensions_of-push_definition, extensions_of-push_extension, extensions_of-push_other, folded-push}
 use Rattle.apollo_schema.proofs.TypeLemmas.{Own, Apart, Own-named, Own-of_kind, Apart-own, Apart-folded, folded_at-new, folded_at-again, folded_at-early, folded_at-late}
 use Rattle.apollo_schema.proofs.PlaceLemmas.{snoc_ind}
 
@@ -74,3 +74,6 @@ of_name = snoc_ind OfName (λ n d h. absurd (let g : None ≡ Some d = h in cc))
     step : (xs : List TypeItem) (x : TypeItem) → OfName xs → OfName (xs ++ x ∷ [])
     step xs (Defined p) before = step-definition xs p before
     step xs (Extended p) before = step-extension xs p before
+    step xs (Other o) before = λ n d h.
+        ap (filter (λ q. same n (key_of q))) (folded-push xs (Other o) ∙ append-nil (folded xs))
+        ∙ before n d (sym (first-push_other xs o n) ∙ h) ∙ ap (of_kind (kind_of d)) (sym (extensions_of-push_other xs o n))

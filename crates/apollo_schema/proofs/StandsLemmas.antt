@@ -1,29 +1,41 @@
 -- Tables that stand for a list stand for it with one more item, once the code has taken the item.
 use Rattle.std.proofs.Common.{◌≡◌, ℕ, ◌+◌, ◌^◌, ◌≤◌, Bool, true, false, cond, List, [], ◌∷◌, ◌++◌, length, map, Option, Some, None, is_some, refl, sym, ap, subst, ◌∙◌, append_assoc, arith, length-append}
-use Rattle.std.specs.List.{filter_map}
+use Rattle.std.specs.List.{filter_map, flat_map}
 use Rattle.std.specs.Option.{option_map, unwrap_or}
-use Rattle.std.specs.Map.{lookup, keys_of, set_value}
+use Rattle.std.specs.Map.{lookup, keys_of, values_of, set_value}
 use Rattle.std.proofs.lemmas.List.{append-nil}
+use Rattle.std.proofs.lemmas.List.Elements.{filter_map-append}
+use Rattle.std.proofs.lemmas.List.Folds.{flat_map-map}
 use Rattle.std.proofs.lemmas.Map.{keys-set_value}
 use Rattle.indexmap.specs.IndexMap.{insert_entry}
+use Rattle.graphql_ast.specs.NameView.{NameView}
 use Rattle.graphql_ast.specs.ArgumentsByName.{same_text}
+use Rattle.graphql_ast.specs.declared.definition.Definition.{Definition}
 use Rattle.apollo_component.specs.Extensions.{next_number, source_at}
 use Rattle.apollo_component.specs.declared.extension.ComponentOrigin.TheVariants as origins
 use Rattle.apollo_types.specs.declared.extended_type.ExtendedType.{ExtendedType}
 use Rattle.apollo_schema.specs.declared.schema_builder.Tables.{Tables}
-use Rattle.apollo_schema.specs.TypeParts.{TypePart, TypeItem, Defined, Extended, extended_part, kind_of, key_of, same}
+use Rattle.apollo_schema.specs.TypeParts.{TypePart, TypeItem, Defined, Extended, Other, extended_part, extended_parts, kind_of, key_of, same}
 use Rattle.apollo_schema.specs.DefinitionList.{first, extensions_of, of_kind}
 use Rattle.apollo_schema.specs.TypeMeaning.{Sourced, type_from, extension_part, numbered, parts, type_of}
 use Rattle.apollo_types.specs.TypeWriteOut.{type_kind}
 use Rattle.apollo_schema.specs.SchemaMeaning.{by_text}
-use Rattle.apollo_schema.specs.Prefixes.{folded_at, folded}
+use Rattle.apollo_schema.specs.DirectiveMeaning.{directive_part, directive_definitions, AreDirectivesOf}
+use Rattle.apollo_schema.specs.Collisions.{Fault}
+use Rattle.apollo_schema.specs.TypeFaults.{part_faults, further_definition, orphan}
+use Rattle.apollo_schema.specs.SchemaFaults.{other_faults, faults_in}
+use Rattle.apollo_schema.specs.Joining.{joining_faults}
+use Rattle.apollo_schema.specs.Prefixes.{folded_at, folded, found_at, found, waited_at, waited}
 use Rattle.apollo_schema.specs.Stands.{Stands, parts_held}
 use Rattle.apollo_schema.proofs.Texts.{same-true, same-is}
 use Rattle.apollo_schema.proofs.NameTables.{lookup-put, keys-put, lookup-write}
-use Rattle.apollo_schema.proofs.ItemLemmas.{first-push_extension, folded-push}
+use Rattle.apollo_schema.proofs.ItemLemmas.{first-push_extension, first-push_other, folded-push, found-push, waited-push}
+use Rattle.apollo_schema.proofs.FaultLemmas.{found_at-new, found_at-again, found_at-early, found_at-late, parts-forget}
+use Rattle.apollo_schema.proofs.FoundLemmas.{found_in-order}
+use Rattle.apollo_schema.proofs.OrphanLemmas.{held-orphans, waited-early, waited-late}
 use Rattle.apollo_schema.proofs.FoldingLemmas.{type_kind-from}
 use Rattle.apollo_schema.proofs.TypeLemmas.{Own, Apart, Own-named, Own-of_kind, Apart-own, folded_at-new, folded_at-again, folded_at-early, folded_at-late, type_of-same, type_of-more, type_of-new}
-use Rattle.apollo_schema.proofs.WaitingLemmas.{waiting_of-undefined, type_names-new, type_names-again, type_names-extension, first-again, first-other, first-own, waiting_of-new, waiting_of-again, waiting_of-late, waiting_of-early}
+use Rattle.apollo_schema.proofs.WaitingLemmas.{waiting_of-undefined, type_names-new, type_names-again, type_names-extension, type_names-other, first-again, first-other, first-own, waiting_of-new, waiting_of-again, waiting_of-late, waiting_of-early, waiting_of-other}
 
 -- a longer list folds no less
 pub length-folded-front : (xs ys : List TypeItem) → length (folded xs) ≤ length (folded (xs ++ ys))
@@ -101,19 +113,40 @@ module _ {start : ℕ} {xs : List TypeItem} {t : Tables} (was : Stands start xs 
   late-spent p ty there full =
       omega (arith, counted start xs (Extended p) (of_kind (type_kind ty) (p ∷ [])) (next_number t.ids) at (late-folded p ty there))
 
-  -- a further definition of a name changes nothing
-  pub Stands-again : (p : TypePart) → is_some (lookup (by_text (key_of p)) t.types) ≡ true → Stands start (xs ++ Defined p ∷ []) t
-  Stands-again p there =
-      let d = (defined (key_of p) there).0 in
-      let some : first xs (key_of p) ≡ Some d = (defined (key_of p) there).1 in
+  -- the directive definitions after an item that is none
+  same_directives : (x : TypeItem) (u : Tables) → u.directive_definitions ≡ t.directive_definitions → directive_definitions (xs ++ x ∷ []) ≡ directive_definitions xs
+      → AreDirectivesOf (directive_definitions (xs ++ x ∷ [])) u.directive_definitions
+  same_directives x u same none = subst (λ ds. AreDirectivesOf ds u.directive_definitions) (sym none) (subst (AreDirectivesOf (directive_definitions xs)) (sym same) was.directives)
+
+  -- the names under which something waits after an item that adds none
+  same_names : (x : TypeItem) (u : Tables) → keys_of u.waiting ≡ keys_of t.waiting → waited_at xs x ≡ [] → keys_of u.waiting ≡ waited (xs ++ x ∷ [])
+  same_names x u same none = same ∙ was.names ∙ sym (waited-push xs x ∙ ap (λ l. waited xs ++ l) none ∙ append-nil (waited xs))
+
+  -- the faults after an item at which these are found
+  more_faults : (x : TypeItem) (u : Tables) (es : List Fault) → u.errors ≡ t.errors ++ es → found_at xs x ≡ es → u.errors ≡ found (xs ++ x ∷ [])
+  more_faults x u es more is = more ∙ ap (λ l. l ++ es) was.faults ∙ ap (λ l. found xs ++ l) (sym is) ∙ sym (found-push xs x)
+
+  -- a further definition of a name changes nothing, and is at fault
+  pub Stands-again : (p : TypePart) (u : Tables) (ty : ExtendedType) (fault : Fault) → lookup (by_text (key_of p)) t.types ≡ Some ty
+      → u.types ≡ t.types → u.directive_definitions ≡ t.directive_definitions → u.waiting ≡ t.waiting → u.ids ≡ t.ids
+      → u.errors ≡ t.errors ++ fault ∷ []
+      → ((d : TypePart) (done : List Sourced) → ty ≡ type_from d done → fault ≡ further_definition d p)
+      → Stands start (xs ++ Defined p ∷ []) u
+  Stands-again p u ty fault there types directives waiting next errors is_further =
+      let d = (defined (key_of p) (ap is_some there)).0 in
+      let some : first xs (key_of p) ≡ Some d = (defined (key_of p) (ap is_some there)).1 in
+      let is = is_further d (parts start (folded xs) (key_of p) d) (late-type p ty d there some) in
       let none_folded = folded_at-again xs p d some in
       record {
         types = record {
-          names = was.types.names ∙ sym (type_names-again xs p (ap is_some some));
-          each = λ n. was.types.each n ∙ sym (type_of-same start xs (Defined p) n (first-again xs p n d some) (subst (Apart n) (sym none_folded) tt));
+          names = ap keys_of types ∙ was.types.names ∙ sym (type_names-again xs p (ap is_some some));
+          each = λ n. ap (lookup (by_text n)) types ∙ was.types.each n ∙ sym (type_of-same start xs (Defined p) n (first-again xs p n d some) (subst (Apart n) (sym none_folded) tt));
         };
-        waiting = λ n. was.waiting n ∙ sym (waiting_of-again xs p n d some);
-        next = was.next ∙ ap source_at (sym at ∙ omega arith ∙ counted start xs (Defined p) [] (next_number t.ids) at none_folded);
+        directives = same_directives (Defined p) u directives (filter_map-append directive_part xs (Defined p ∷ []) ∙ append-nil (directive_definitions xs));
+        waiting = λ n. ap (λ l. parts_held (lookup (by_text n) l)) waiting ∙ was.waiting n ∙ sym (waiting_of-again xs p n d some);
+        names = same_names (Defined p) u (ap keys_of waiting) refl;
+        faults = more_faults (Defined p) u (further_definition d p ∷ []) (errors ∙ ap (λ f. t.errors ++ f ∷ []) is) (found_at-again xs p d some);
+        next = next ∙ was.next ∙ ap source_at (sym at ∙ omega arith ∙ counted start xs (Defined p) [] (next_number t.ids) at none_folded);
       }
 
   -- the first definition of a name makes its type
@@ -122,10 +155,13 @@ module _ {start : ℕ} {xs : List TypeItem} {t : Tables} (was : Stands start xs 
       → es ≡ parts_held (lookup (by_text (key_of p)) t.waiting)
       → ty ≡ type_from p ((origins.Definition, p) ∷ map extension_part (numbered (next_number t.ids) (of_kind (kind_of p) es)))
       → u.types ≡ insert_entry same_text t.types p.name ty
+      → u.directive_definitions ≡ t.directive_definitions
+      → keys_of u.waiting ≡ keys_of t.waiting
+      → u.errors ≡ t.errors ++ (part_faults [] p ++ joining_faults p (p ∷ []) es)
       → ((n : List ℕ) → parts_held (lookup (by_text n) u.waiting) ≡ cond (same n (key_of p)) [] (parts_held (lookup (by_text n) t.waiting)))
       → u.ids ≡ source_at (next_number t.ids + length (of_kind (kind_of p) es))
       → Stands start (xs ++ Defined p ∷ []) u
-  Stands-new p u ty es absent were made types waiting next =
+  Stands-new p u ty es absent were made types directives names errors waiting next =
       let none = undefined (key_of p) absent in
       let folding : folded_at xs (Defined p) ≡ of_kind (kind_of p) es = new-folded p es absent were in
       let own : Own (key_of p) (folded_at xs (Defined p)) = subst (Own (key_of p)) (sym (folded_at-new xs p none)) (Own-of_kind (key_of p) (kind_of p) (extensions_of xs (key_of p)) (Own-named (key_of p) (filter_map extended_part xs))) in
@@ -144,16 +180,20 @@ module _ {start : ℕ} {xs : List TypeItem} {t : Tables} (was : Stands start xs 
           names = ap keys_of types ∙ keys-put t.types p.name ty absent ∙ ap (λ l. l ++ p.name ∷ []) was.types.names ∙ sym (type_names-new xs p (ap is_some none));
           each = λ n. ap (lookup (by_text n)) types ∙ lookup-put n t.types p.name ty ∙ each n (same n (key_of p)) refl;
         };
+        directives = same_directives (Defined p) u directives (filter_map-append directive_part xs (Defined p ∷ []) ∙ append-nil (directive_definitions xs));
+        names = same_names (Defined p) u names refl;
+        faults = more_faults (Defined p) u _ errors (found_at-new xs p none ∙ ap (λ l. part_faults [] p ++ joining_faults p (p ∷ []) l) (sym (new-were p es absent were)));
         waiting = λ n. waiting n ∙ ap (cond (same n (key_of p)) []) (was.waiting n) ∙ sym (waiting_of-new xs p n none);
         next = next ∙ ap source_at (counted start xs (Defined p) (of_kind (kind_of p) es) (next_number t.ids) at folding);
       }
 
   -- an extension before its definition waits
-  pub Stands-early : (p : TypePart) (u : Tables) → u.types ≡ t.types → u.ids ≡ t.ids
+  pub Stands-early : (p : TypePart) (u : Tables) → u.types ≡ t.types → u.directive_definitions ≡ t.directive_definitions → u.errors ≡ t.errors → u.ids ≡ t.ids
+      → keys_of u.waiting ≡ cond (is_some (lookup (by_text (key_of p)) t.waiting)) (keys_of t.waiting) (keys_of t.waiting ++ p.name ∷ [])
       → is_some (lookup (by_text (key_of p)) t.types) ≡ false
       → ((n : List ℕ) → parts_held (lookup (by_text n) u.waiting) ≡ cond (same n (key_of p)) (parts_held (lookup (by_text n) t.waiting) ++ p ∷ []) (parts_held (lookup (by_text n) t.waiting)))
       → Stands start (xs ++ Extended p ∷ []) u
-  Stands-early p u types next absent waiting =
+  Stands-early p u types directives errors next names absent waiting =
       let none = undefined (key_of p) absent in
       let none_folded = folded_at-early xs p none in
       record {
@@ -161,6 +201,9 @@ module _ {start : ℕ} {xs : List TypeItem} {t : Tables} (was : Stands start xs 
           names = ap keys_of types ∙ was.types.names ∙ sym (type_names-extension xs p);
           each = λ n. ap (lookup (by_text n)) types ∙ was.types.each n ∙ sym (type_of-same start xs (Extended p) n (first-push_extension xs p n) (subst (Apart n) (sym none_folded) tt));
         };
+        directives = same_directives (Extended p) u directives (filter_map-append directive_part xs (Extended p ∷ []) ∙ append-nil (directive_definitions xs));
+        names = waited-early xs p t.waiting (keys_of u.waiting) none was.names names;
+        faults = more_faults (Extended p) u [] (errors ∙ sym (append-nil t.errors)) (found_at-early xs p none);
         waiting = λ n. waiting n ∙ ap (λ l. cond (same n (key_of p)) (l ++ p ∷ []) l) (was.waiting n) ∙ sym (waiting_of-early xs p n none);
         next = next ∙ was.next ∙ ap source_at (sym at ∙ omega arith ∙ counted start xs (Extended p) [] (next_number t.ids) at none_folded);
       }
@@ -169,11 +212,13 @@ module _ {start : ℕ} {xs : List TypeItem} {t : Tables} (was : Stands start xs 
   pub Stands-late : (p : TypePart) (u : Tables) (ty grown : ExtendedType)
       → lookup (by_text (key_of p)) t.types ≡ Some ty
       → u.types ≡ set_value (by_text (key_of p)) t.types grown
+      → u.directive_definitions ≡ t.directive_definitions
       → u.waiting ≡ t.waiting
+      → ((head : TypePart) (done : List Sourced) → ty ≡ type_from head done → u.errors ≡ t.errors ++ joining_faults head (map (λ (s : Sourced). s.1) done) (p ∷ []))
       → ((head : TypePart) (done : List Sourced) → ty ≡ type_from head done → grown ≡ type_from head (done ++ map extension_part (numbered (next_number t.ids) (of_kind (kind_of head) (p ∷ [])))))
       → u.ids ≡ source_at (next_number t.ids + length (of_kind (type_kind ty) (p ∷ [])))
       → Stands start (xs ++ Extended p ∷ []) u
-  Stands-late p u ty grown there types waiting made next =
+  Stands-late p u ty grown there types directives waiting errors made next =
       let d = (defined (key_of p) (ap is_some there)).0 in
       let some : first xs (key_of p) ≡ Some d = (defined (key_of p) (ap is_some there)).1 in
       let is = late-type p ty d there some in
@@ -194,6 +239,33 @@ module _ {start : ℕ} {xs : List TypeItem} {t : Tables} (was : Stands start xs 
           names = ap keys_of types ∙ keys-set_value (by_text (key_of p)) t.types grown ∙ was.types.names ∙ sym (type_names-extension xs p);
           each = λ n. ap (lookup (by_text n)) types ∙ lookup-write n (key_of p) t.types ty grown there ∙ each n (same n (key_of p)) refl;
         };
+        directives = same_directives (Extended p) u directives (filter_map-append directive_part xs (Extended p ∷ []) ∙ append-nil (directive_definitions xs));
         waiting = λ n. ap (λ l. parts_held (lookup (by_text n) l)) waiting ∙ was.waiting n ∙ sym (waiting_of-late xs p n d some);
+        names = same_names (Extended p) u (ap keys_of waiting) (waited-late xs p d some);
+        faults = more_faults (Extended p) u _ (errors d (parts start (folded xs) (key_of p) d) is)
+            (found_at-late xs p d some ∙ ap (λ l. joining_faults d l (p ∷ [])) (sym (parts-forget start xs (key_of p) d some)));
         next = next ∙ ap source_at (counted start xs (Extended p) (of_kind (type_kind ty) (p ∷ [])) (next_number t.ids) at (late-folded p ty there));
       }
+
+  -- something else changes no type, nothing that waits, and no number
+  pub Stands-other : (d : Definition) (u : Tables) → u.types ≡ t.types → u.waiting ≡ t.waiting → u.ids ≡ t.ids
+      → AreDirectivesOf (directive_definitions xs ++ directive_definitions (Other d ∷ [])) u.directive_definitions
+      → u.errors ≡ t.errors ++ other_faults (directive_definitions xs) d
+      → Stands start (xs ++ Other d ∷ []) u
+  Stands-other d u types waiting next directives errors = record {
+    types = record {
+      names = ap keys_of types ∙ was.types.names ∙ sym (type_names-other xs d);
+      each = λ n. ap (lookup (by_text n)) types ∙ was.types.each n ∙ sym (type_of-same start xs (Other d) n (first-push_other xs d n) tt);
+    };
+    directives = subst (λ ds. AreDirectivesOf ds u.directive_definitions) (sym (filter_map-append directive_part xs (Other d ∷ []))) directives;
+    waiting = λ n. ap (λ l. parts_held (lookup (by_text n) l)) waiting ∙ was.waiting n ∙ sym (waiting_of-other xs d n);
+    names = same_names (Other d) u (ap keys_of waiting) refl;
+    faults = more_faults (Other d) u (other_faults (directive_definitions xs) d) errors refl;
+    next = next ∙ was.next ∙ ap source_at (sym at ∙ omega arith ∙ counted start xs (Other d) [] (next_number t.ids) at refl);
+  }
+
+  -- what was found and what still waits are the faults of the list
+  pub all-faults : t.errors ++ map orphan (flat_map extended_parts (values_of t.waiting)) ≡ faults_in xs
+  all-faults =
+      (λ i. was.faults i ++ map orphan (flat_map-map extended_parts (λ (e : NameView × List Definition). e.1) t.waiting i))
+      ∙ (λ i. sym (found_in-order xs) i ++ map orphan (held-orphans xs t.waiting was.names was.waiting i))

@@ -7,9 +7,9 @@ use Rattle.std.proofs.lemmas.List.{append-nil, map-append}
 use Rattle.std.proofs.lemmas.List.Elements.{filter_map-append}
 use Rattle.graphql_ast.specs.declared.type_kind.TypeKind.{TypeKind}
 use Rattle.apollo_component.specs.declared.extension.ComponentOrigin.TheVariants as origins
-use Rattle.apollo_schema.specs.TypeParts.{TypePart, TypeItem, Defined, Extended, defined_part, extended_part, kind_of, key_of, same}
+use Rattle.apollo_schema.specs.TypeParts.{TypePart, TypeItem, Defined, Extended, Other, defined_part, extended_part, kind_of, key_of, same}
 use Rattle.apollo_schema.specs.DefinitionList.{same_kind, named, definitions, first, extensions_of, of_kind}
-use Rattle.apollo_schema.specs.Prefixes.{folded_at, folded_after, folded}
+use Rattle.apollo_schema.specs.Prefixes.{added_after, folded_at, folded}
 use Rattle.apollo_schema.specs.TypeMeaning.{Sourced, type_from, extension_part, numbered, sourced, parts, type_of}
 use Rattle.apollo_schema.proofs.Texts.{same-true, same-is}
 use Rattle.apollo_schema.proofs.ItemLemmas.{first-push_definition, folded-push, sourced-append}
@@ -65,7 +65,7 @@ lookup-front n (e ∷ es) fs none = by (same n e.0) refl (lookup-front n es fs)
     by true p rest = let h = rw p at none in cc
     by false p rest = let h = rw p at none in rw p (rest h)
 
-first-front : (n : List ℕ) (xs ys : List TypeItem) → first (xs ++ ys) n ≡ None → first xs n ≡ None
+pub first-front : (n : List ℕ) (xs ys : List TypeItem) → first (xs ++ ys) n ≡ None → first xs n ≡ None
 first-front n xs ys none = lookup-front n (definitions xs) (definitions ys) (sym (ap (lookup (same n)) (ap named (filter_map-append defined_part xs ys) ∙ map-append (λ p. (key_of p, p)) (filter_map defined_part xs) (filter_map defined_part ys))) ∙ none)
 
 -- what is folded at the first definition of a name, at a later one, at an extension without definition and at one of a defined name
@@ -100,12 +100,13 @@ Apart-folded_at n xs (Extended p) none = by (same n (key_of p)) refl (first xs (
     by b e None f = subst (Apart n) (sym (folded_at-early xs p f)) tt
     by true e (Some y) f = absurd (let h : first xs (key_of p) ≡ None = subst (λ (q : List ℕ). first xs q ≡ None) (same-true n (key_of p) e) (first-front n xs (Extended p ∷ []) none) in let g = sym f ∙ h in cc)
     by false e (Some y) f = subst (Apart n) (sym (folded_at-late xs p y f)) (Apart-own n (key_of p) (of_kind (kind_of y) (p ∷ [])) e (Own-of_kind (key_of p) (kind_of y) (p ∷ []) (same-is (key_of p) (key_of p) refl, tt)))
+Apart-folded_at n xs (Other d) none = tt
 
-Apart-folded_after : (n : List ℕ) (before xs : List TypeItem) → first (before ++ xs) n ≡ None → Apart n (folded_after before xs)
+Apart-folded_after : (n : List ℕ) (before xs : List TypeItem) → first (before ++ xs) n ≡ None → Apart n (added_after folded_at before xs)
 Apart-folded_after n before [] none = tt
 Apart-folded_after n before (x ∷ xs) none =
     let all : first ((before ++ x ∷ []) ++ xs) n ≡ None = ap (λ l. first l n) (append_assoc before (x ∷ []) xs) ∙ none in
-    Apart-append n (folded_at before x) (folded_after (before ++ x ∷ []) xs) (Apart-folded_at n before x (first-front n (before ++ x ∷ []) xs all)) (Apart-folded_after n (before ++ x ∷ []) xs all)
+    Apart-append n (folded_at before x) (added_after folded_at (before ++ x ∷ []) xs) (Apart-folded_at n before x (first-front n (before ++ x ∷ []) xs all)) (Apart-folded_after n (before ++ x ∷ []) xs all)
 
 pub Apart-folded : (n : List ℕ) (xs : List TypeItem) → first xs n ≡ None → Apart n (folded xs)
 Apart-folded n xs none = Apart-folded_after n [] xs none

@@ -6,12 +6,13 @@ use Rattle.std.specs.Cmp.Lexicographic.{nat_list_eq_equiv}
 use Rattle.std.proofs.lemmas.List.{append-nil, map-append}
 use Rattle.apollo_component.specs.FirstOfEach.{first_of_each, same_key}
 use Rattle.apollo_component.proofs.FirstOfEachLemmas.{is_some-lookup, first_of_each-push_new, first_of_each-push_old}
-use Rattle.apollo_schema.specs.TypeParts.{TypePart, TypeItem, Defined, Extended, key_of, same}
+use Rattle.graphql_ast.specs.declared.definition.Definition.{Definition}
+use Rattle.apollo_schema.specs.TypeParts.{TypePart, TypeItem, Defined, Extended, Other, key_of, same}
 use Rattle.apollo_schema.specs.DefinitionList.{definitions, first, extensions_of}
 use Rattle.apollo_schema.specs.SchemaMeaning.{type_names}
 use Rattle.apollo_schema.specs.Prefixes.{waiting_of}
 use Rattle.apollo_schema.proofs.Texts.{same-true, same-is}
-use Rattle.apollo_schema.proofs.ItemLemmas.{definitions-push_definition, definitions-push_extension, first-push_definition, first-push_extension, extensions_of-push_definition, extensions_of-push_extension}
+use Rattle.apollo_schema.proofs.ItemLemmas.{definitions-push_definition, definitions-push_extension, first-push_definition, first-push_extension, definitions-push_other, first-push_other, extensions_of-push_definition, extensions_of-push_extension, extensions_of-push_other}
 
 by_key : IsEquivalence (same_key {V = TypePart} same)
 by_key = on_equiv (λ e. e.0) nat_list_eq_equiv
@@ -94,3 +95,11 @@ module _ (xs : List TypeItem) (p : TypePart) where
           waiting_of-undefined (xs ++ Extended p ∷ []) n (first-push_extension xs p n ∙ here)
           ∙ extensions_of-push_extension xs p n ∙ ap (λ b. extensions_of xs n ++ cond b (p ∷ []) []) e ∙ ap (λ l. l ++ p ∷ []) (sym (waiting_of-undefined xs n here))
       by false e = waiting_of-same xs (xs ++ Extended p ∷ []) n (first-push_extension xs p n) (extensions_of-other n e)
+
+-- something else leaves names and what waits
+module _ (xs : List TypeItem) (d : Definition) where
+  pub type_names-other : type_names (xs ++ Other d ∷ []) ≡ type_names xs
+  type_names-other = ap (λ l. map (λ e. e.1.name) (first_of_each (same_key same) l)) (definitions-push_other xs d)
+
+  pub waiting_of-other : (n : List ℕ) → waiting_of (xs ++ Other d ∷ []) n ≡ waiting_of xs n
+  waiting_of-other n = waiting_of-same xs (xs ++ Other d ∷ []) n (first-push_other xs d n) (extensions_of-push_other xs d n)

@@ -1,6 +1,6 @@
 -- The order in which type extensions (GraphQL specification of October 2021, section 3.4.3) are folded, by places of
 -- the whole list.
-use Rattle.std.specs.Prelude.{ℕ, Bool, false, ◌==◌, ◌&&◌, max, List, filter, map, length, Option}
+use Rattle.std.specs.Prelude.{ℕ, Bool, false, ◌==◌, max, List, filter, map, length, Option}
 use Rattle.std.specs.List.{filter_map, flat_map, enumerate_from, range_with_len}
 use Rattle.std.specs.Option.{option_map, option_map_or}
 use Rattle.std.specs.Map.{lookup}
@@ -29,13 +29,17 @@ first_place xs n = lookup (same n) (map (λ e. (key_of e.1, e)) (definition_plac
 abbrev pub is_folded : List TypeItem → Placed → Bool
 is_folded xs e = option_map_or (λ f. same_kind (kind_of f.1) (kind_of e.1)) (first_place xs (key_of e.1)) false
 
--- when: at its own place or at that of the definition, whichever is later
-abbrev pub when : List TypeItem → Placed → ℕ
-when xs e = option_map_or (λ f. max e.0 f.0) (first_place xs (key_of e.1)) e.0
+-- an extension is met at its own place or at that of its name's first definition, whichever is later, and never where
+-- its name has none
+abbrev pub is_met : List TypeItem → ℕ → Placed → Bool
+is_met xs i e = option_map_or (λ f. max e.0 f.0 == i) (first_place xs (key_of e.1)) false
 
--- the extensions that are folded at a moment, by their places
+-- the extensions that are met at a moment, and those of them that are folded, by their places
+abbrev pub met_when : List TypeItem → ℕ → List Placed
+met_when xs i = filter (is_met xs i) (extension_places xs)
+
 abbrev pub folded_when : List TypeItem → ℕ → List Placed
-folded_when xs i = filter (λ e. is_folded xs e && (when xs e == i)) (extension_places xs)
+folded_when xs i = filter (is_folded xs) (met_when xs i)
 
 -- the extensions that are folded, by moment and then by place
 abbrev pub folding_order : List TypeItem → List Placed

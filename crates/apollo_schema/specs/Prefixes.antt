@@ -1,23 +1,54 @@
 -- What one more item adds to a list: the form that the builder is proved against.
-use Rattle.std.specs.Prelude.{ℕ, List, [], ◌∷◌, ◌++◌}
+use Rattle.std.specs.Prelude.{ℕ, List, [], ◌∷◌, ◌++◌, length, ◌==◌, if◌then◌else◌}
 use Rattle.std.specs.Option.{option_map_or}
-use Rattle.apollo_schema.specs.TypeParts.{TypePart, TypeItem, Defined, Extended, kind_of, key_of}
+use Rattle.graphql_ast.specs.NameView.{NameView}
+use Rattle.apollo_schema.specs.TypeParts.{TypePart, TypeItem, Defined, Extended, Other, kind_of, key_of}
 use Rattle.apollo_schema.specs.DefinitionList.{first, extensions_of, of_kind}
+use Rattle.apollo_schema.specs.Collisions.{Fault}
+use Rattle.apollo_schema.specs.TypeFaults.{part_faults, extension_faults, further_definition}
+use Rattle.apollo_schema.specs.DirectiveMeaning.{directive_definitions}
+use Rattle.apollo_schema.specs.SchemaFaults.{other_faults, orphans_of}
 
 -- the extensions that are folded at an item, where these items are before it: at the first definition of a name all of
 -- its kind before it; at an extension of a defined name and of its kind, that extension
 abbrev pub folded_at : List TypeItem → TypeItem → List TypePart
 folded_at before (Defined d) = option_map_or (λ _. []) (first before (key_of d)) (of_kind (kind_of d) (extensions_of before (key_of d)))
 folded_at before (Extended e) = option_map_or (λ d. of_kind (kind_of d) (e ∷ [])) (first before (key_of e)) []
+folded_at before (Other d) = []
 
-abbrev pub folded_after : List TypeItem → List TypeItem → List TypePart
-folded_after before [] = []
-folded_after before (x ∷ xs) = folded_at before x ++ folded_after (before ++ x ∷ []) xs
+-- what the items add, one after another, where each adds something to those before it
+abbrev pub added_after : {X : Type 0} → (List TypeItem → TypeItem → List X) → List TypeItem → List TypeItem → List X
+added_after at before [] = []
+added_after at before (x ∷ xs) = at before x ++ added_after at (before ++ x ∷ []) xs
 
 -- the extensions that are folded, in the order of folding
 abbrev pub folded : List TypeItem → List TypePart
-folded xs = folded_after [] xs
+folded xs = added_after folded_at [] xs
 
 -- the extensions of a name that have no definition yet
 abbrev pub waiting_of : List TypeItem → List ℕ → List TypePart
-waiting_of xs n = option_map_or (λ _. []) (first xs n) (extensions_of xs n)
+waiting_of = orphans_of
+
+-- what is wrong with extensions of a name with this first definition, one after another, after these
+abbrev pub faults_after : TypePart → List TypePart → List TypePart → List Fault
+faults_after d before [] = []
+faults_after d before (e ∷ es) = extension_faults d before e ++ faults_after d (before ++ e ∷ []) es
+
+-- what is found at an item, where these items are before it
+abbrev pub found_at : List TypeItem → TypeItem → List Fault
+found_at before (Defined d) = option_map_or (λ f. further_definition f d ∷ []) (first before (key_of d)) (part_faults [] d ++ faults_after d [] (extensions_of before (key_of d)))
+found_at before (Extended e) = option_map_or (λ d. extension_faults d (extensions_of before (key_of e)) e) (first before (key_of e)) []
+found_at before (Other d) = other_faults (directive_definitions before) d
+
+-- what is found, in order, but for the extensions without a definition
+abbrev pub found : List TypeItem → List Fault
+found xs = added_after found_at [] xs
+
+-- the names under which an extension once waited, in order
+abbrev pub waited_at : List TypeItem → TypeItem → List NameView
+waited_at before (Defined d) = []
+waited_at before (Extended e) = option_map_or (λ _. []) (first before (key_of e)) (if length (extensions_of before (key_of e)) == 0 then e.name ∷ [] else [])
+waited_at before (Other d) = []
+
+abbrev pub waited : List TypeItem → List NameView
+waited xs = added_after waited_at [] xs

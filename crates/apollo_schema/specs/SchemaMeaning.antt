@@ -1,14 +1,12 @@
--- The schema that a list of definitions means. GraphQL specification of October 2021, section 3.
+-- The types that a list of definitions means. GraphQL specification of October 2021, section 3.
 use Rattle.std.specs.Prelude.{◌≡◌, ℕ, Bool, List, map}
 use Rattle.graphql_ast.specs.NameView.{NameView}
 use Rattle.graphql_ast.specs.Tables.{keys_of, lookup}
-use Rattle.graphql_ast.specs.declared.definition.Definition.{Definition}
 use Rattle.apollo_component.specs.FirstOfEach.{first_of_each, same_key}
 use Rattle.apollo_types.specs.declared.extended_type.ExtendedType.{ExtendedType}
-use Rattle.apollo_schema.specs.TypeParts.{TypePart, TypeItem, items_of, same}
+use Rattle.apollo_schema.specs.TypeParts.{TypePart, TypeItem, same}
 use Rattle.apollo_schema.specs.DefinitionList.{definitions}
 use Rattle.apollo_schema.specs.TypeMeaning.{type_of}
-use Rattle.apollo_schema.specs.Places.{folded_in_order}
 
 -- the names that are defined, as their first definitions write them, in the order of those
 abbrev pub type_names : List TypeItem → List NameView
@@ -23,7 +21,3 @@ by_text n k = same n k.text
 pub record AreTypesOf (start : ℕ) (folded : List TypePart) (xs : List TypeItem) (types : List (NameView × ExtendedType)) : Type 0 where
   pub names : keys_of types ≡ type_names xs
   pub each : (n : List ℕ) → lookup (by_text n) types ≡ type_of start folded xs n
-
--- these types are those that the list means, with its extensions numbered from `start`
-abbrev pub MeansTypes : ℕ → List Definition → List (NameView × ExtendedType) → Type 0
-MeansTypes start xs types = AreTypesOf start (folded_in_order (items_of xs)) (items_of xs) types

@@ -1,19 +1,31 @@
 -- What a schema is written out as, and what a name of it gives: GraphQL specification of October 2021, section 3.3.
-use Rattle.std.specs.Prelude.{List, Option, None, Some, flat_map}
+use Rattle.std.specs.Prelude.{List, ◌++◌, Option, None, Some, flat_map, map, filter, drop, if◌then◌else◌}
 use Rattle.graphql_ast.specs.NameView.{NameView}
 use Rattle.graphql_ast.specs.NodeView.{NodeView}
 use Rattle.graphql_ast.specs.Tables.{lookup, values_of}
+use Rattle.graphql_ast.specs.BuiltIn.{is_built_in}
 use Rattle.graphql_ast.specs.ArgumentsByName.{same_text}
 use Rattle.graphql_ast.specs.declared.definition.Definition.{Definition}
-use Rattle.apollo_types.specs.TypeWriteOut.{write_type}
+use Rattle.graphql_ast.specs.declared.definition.Definition.TheVariants as ast
+use Rattle.graphql_ast.specs.declared.type_system.DirectiveDefinition.{DirectiveDefinition}
+use Rattle.apollo_types.specs.TypeWriteOut.{type_location, write_type}
 use Rattle.apollo_types.specs.declared.object_type.ObjectType.{ObjectType}
 use Rattle.apollo_types.specs.declared.extended_type.ExtendedType.{ExtendedType}
 use Rattle.apollo_types.specs.declared.extended_type.ExtendedType.TheVariants.{Object}
+use Rattle.apollo_schema.specs.DirectiveMeaning.{is_handed_in}
 use Rattle.apollo_schema.specs.declared.schema.Schema.{Schema}
 
--- each type written out, in order
+-- the directive definitions that are handed in, in order
+abbrev pub write_directives : List (NodeView DirectiveDefinition) → List Definition
+write_directives ds = map ast.DirectiveDefinition (filter is_handed_in ds)
+
+-- a type written out, without its definition where that is a built-in one
+abbrev pub write_held_type : ExtendedType → List Definition
+write_held_type t = if is_built_in (type_location t) then drop 1 (write_type t) else write_type t
+
+-- the directive definitions, and then the types, each in order
 abbrev pub write_schema : Schema → List Definition
-write_schema s = flat_map write_type (values_of s.types)
+write_schema s = write_directives (values_of s.directive_definitions) ++ flat_map write_held_type (values_of s.types)
 
 abbrev pub as_object : Option ExtendedType → Option (NodeView ObjectType)
 as_object None = None

@@ -1,6 +1,6 @@
 -- The definitions and extensions of types in a list, whatever their kind: GraphQL specification of October 2021,
 -- sections 3.4, and 3.5 to 3.10.
-use Rattle.std.specs.Prelude.{ℕ, Bool, List, Option, None, Some, option_and_then, nat_eq}
+use Rattle.std.specs.Prelude.{ℕ, Bool, List, map, Option, None, Some, nat_eq}
 use Rattle.std.specs.Cmp.Lexicographic.{pointwise}
 use Rattle.std.specs.List.{filter_map}
 use Rattle.graphql_ast.specs.NameView.{NameView}
@@ -44,18 +44,21 @@ pub record TypePart : Type 0 where
   pub directives : List (NodeView Directive)
   pub body : TypeBody
 
--- one entry of the list: a type is defined, or extended
+-- one entry of the list: a type is defined, or extended, or something else stands there
 pub data TypeItem : Type 0 where
   Defined : TypePart → TypeItem
   Extended : TypePart → TypeItem
+  Other : Definition → TypeItem
 
 abbrev pub defined_part : TypeItem → Option TypePart
 defined_part (Defined p) = Some p
 defined_part (Extended p) = None
+defined_part (Other d) = None
 
 abbrev pub extended_part : TypeItem → Option TypePart
 extended_part (Defined p) = None
 extended_part (Extended p) = Some p
+extended_part (Other d) = None
 
 abbrev pub scalar_definition_part : NodeView ScalarTypeDefinition → TypePart
 scalar_definition_part n = record {
@@ -166,28 +169,28 @@ input_object_extension_part n = record {
 }
 
 -- what a definition of a document says of types
-abbrev pub item_of : Definition → Option TypeItem
-item_of (ast.ScalarTypeDefinition n) = Some (Defined (scalar_definition_part n))
-item_of (ast.ObjectTypeDefinition n) = Some (Defined (object_definition_part n))
-item_of (ast.InterfaceTypeDefinition n) = Some (Defined (interface_definition_part n))
-item_of (ast.UnionTypeDefinition n) = Some (Defined (union_definition_part n))
-item_of (ast.EnumTypeDefinition n) = Some (Defined (enum_definition_part n))
-item_of (ast.InputObjectTypeDefinition n) = Some (Defined (input_object_definition_part n))
-item_of (ast.ScalarTypeExtension n) = Some (Extended (scalar_extension_part n))
-item_of (ast.ObjectTypeExtension n) = Some (Extended (object_extension_part n))
-item_of (ast.InterfaceTypeExtension n) = Some (Extended (interface_extension_part n))
-item_of (ast.UnionTypeExtension n) = Some (Extended (union_extension_part n))
-item_of (ast.EnumTypeExtension n) = Some (Extended (enum_extension_part n))
-item_of (ast.InputObjectTypeExtension n) = Some (Extended (input_object_extension_part n))
-item_of _ = None
+abbrev pub item_of : Definition → TypeItem
+item_of (ast.ScalarTypeDefinition n) = Defined (scalar_definition_part n)
+item_of (ast.ObjectTypeDefinition n) = Defined (object_definition_part n)
+item_of (ast.InterfaceTypeDefinition n) = Defined (interface_definition_part n)
+item_of (ast.UnionTypeDefinition n) = Defined (union_definition_part n)
+item_of (ast.EnumTypeDefinition n) = Defined (enum_definition_part n)
+item_of (ast.InputObjectTypeDefinition n) = Defined (input_object_definition_part n)
+item_of (ast.ScalarTypeExtension n) = Extended (scalar_extension_part n)
+item_of (ast.ObjectTypeExtension n) = Extended (object_extension_part n)
+item_of (ast.InterfaceTypeExtension n) = Extended (interface_extension_part n)
+item_of (ast.UnionTypeExtension n) = Extended (union_extension_part n)
+item_of (ast.EnumTypeExtension n) = Extended (enum_extension_part n)
+item_of (ast.InputObjectTypeExtension n) = Extended (input_object_extension_part n)
+item_of d = Other d
 
 -- the definition of a type that it is
 abbrev pub definition_part : Definition → Option TypePart
-definition_part d = option_and_then defined_part (item_of d)
+definition_part d = defined_part (item_of d)
 
 -- what a list of definitions says of types, in order
 abbrev pub items_of : List Definition → List TypeItem
-items_of xs = filter_map item_of xs
+items_of xs = map item_of xs
 
 -- the extensions of types among definitions
 abbrev pub extended_parts : List Definition → List TypePart

@@ -1,32 +1,45 @@
 //! The schema builder: documents go in, in any number and order of definitions, and a schema comes out.
-ghost use Rattle.std.specs.Prelude.{◌≡◌, ◌≢◌, ℕ, ◌+◌, ◌^◌, ◌≤◌, List, [], ◌∷◌, ◌++◌, length, map, Err, OnOk, OnErr, IfOk, IfErr, Some, ◌↔◌, MatchResult, if◌then◌else◌};
-ghost use Rattle.graphql_ast.specs.Tables.{lookup, insert_entry};
+ghost use Rattle.std.specs.Prelude.{◌≡◌, ◌≢◌, ℕ, ◌+◌, ◌^◌, ◌≤◌, List, [], ◌∷◌, ◌++◌, length, map, is_some, Err, OnOk, OnErr, IfOk, IfErr, Some, ◌↔◌, if◌then◌else◌};
+ghost use Rattle.std.specs.List.{flat_map};
+ghost use Rattle.graphql_ast.specs.Tables.{keys_of, values_of, lookup, insert_entry};
 ghost use Rattle.graphql_ast.specs.ArgumentsByName.{same_text};
 ghost use Rattle.graphql_ast.specs.declared.definition.Definition.{Definition as AnyDefinition};
 ghost use Rattle.apollo_component.specs.Extensions.{next_number, source_at};
 ghost use Rattle.apollo_component.specs.declared.extension.ComponentOrigin.TheVariants as origins;
-ghost use Rattle.apollo_schema.specs.TypeParts.{TypePart, TypeItem, Defined, Extended, item_of, items_of, definition_part, extended_parts, kind_of, same};
+ghost use Rattle.apollo_schema.specs.TypeParts.{TypePart, TypeItem, Defined, Extended, Other, item_of, items_of, definition_part, extended_parts, kind_of, same};
 ghost use Rattle.apollo_schema.specs.DefinitionList.{of_kind};
-ghost use Rattle.apollo_schema.specs.TypeMeaning.{type_from, extension_part, numbered};
-ghost use Rattle.apollo_schema.specs.SchemaMeaning.{by_text, MeansTypes};
+ghost use Rattle.apollo_schema.specs.TypeMeaning.{Sourced, type_from, extension_part, numbered};
+ghost use Rattle.apollo_schema.specs.TypeFaults.{part_faults, further_definition, orphan};
+ghost use Rattle.apollo_schema.specs.Joining.{joining_faults};
+ghost use Rattle.apollo_schema.specs.SchemaMeaning.{by_text};
+ghost use Rattle.apollo_schema.specs.WholeSchema.{MeansSchema};
 ghost use Rattle.apollo_schema.specs.SchemaFaults.{faults_of, IfFaults};
+ghost use Rattle.apollo_schema.specs.BuiltInTable.{built_in_definitions};
 ghost use Rattle.apollo_schema.specs.Prefixes.{folded};
 ghost use Rattle.apollo_schema.specs.Refusals.{RefusedAs};
 ghost use Rattle.apollo_schema.specs.Stands.{parts_held, Stands};
 ghost use Rattle.apollo_schema.specs.Sources.{merged};
 ghost use Rattle.apollo_schema.specs.BuilderStands.{StandsFor, HasFailed, SpendsIds, sources_of};
 
-use crate::build_error::{BuildFailure, BuilderError};
-use crate::from_ast::{Role, extend_type, extend_type_by_all, type_from_ast, type_role};
+use crate::build_error::{BuildError, BuildFailure, BuilderError, Fault, WithErrors};
+use crate::built_in::built_in_definitions;
+use crate::directive_definition::define_directive;
+use crate::from_ast::{
+    defined_name, extend_type, extend_type_by_all, extended_name, type_from_ast,
+};
 use crate::schema::Schema;
 use apollo_component::extension::ExtensionSource;
 use apollo_types::extended_type::ExtendedType;
 use graphql_ast::collections::items::Items;
+use graphql_ast::collections::static_text::StaticText;
 use graphql_ast::collections::table::Table;
 use graphql_ast::definition::Definition;
 use graphql_ast::document::Document;
 use graphql_ast::name::Name;
+use graphql_ast::node::Node;
 use graphql_ast::source::SourceMap;
+use graphql_ast::type_kind::TypeKind;
+use graphql_ast::type_system::DirectiveDefinition;
 use std::alloc::{AllocError, Global};
 use std::mem;
 
@@ -37,8 +50,10 @@ pub struct Tables {
     alloc: Global,
     sources: SourceMap,
     types: Table<Name, ExtendedType>,
+    directive_definitions: Table<Name, Node<DirectiveDefinition>>,
     waiting: Table<Name, Items<Definition>>,
     ids: ExtensionSource,
+    errors: Items<Fault>,
 }
 
 /// Takes out what waits under a name, and leaves nothing there.
@@ -48,6 +63,7 @@ fn take_waiting(
     name: &Name,
 ) -> Items<Definition>
     ensures taken { extended_parts result ≡ parts_held (lookup (by_text name.now.text) waiting.old) }
+    ensures names { keys_of waiting.new ≡ keys_of waiting.old }
     ensures left { (n : List ℕ) → parts_held (lookup (by_text n) waiting.new)
         ≡ (if same n name.now.text then [] else parts_held (lookup (by_text n) waiting.old)) }
 {
@@ -68,6 +84,7 @@ fn wait(
         ≡ (if same n name.now.text
         then parts_held (lookup (by_text n) waiting.old) ++ extended_parts (extension.now ∷ [])
         else parts_held (lookup (by_text n) waiting.old))) }
+    ensures names { OnOk result (keys_of waiting.new ≡ (if is_some (lookup (by_text name.now.text) waiting.old) then keys_of waiting.old else keys_of waiting.old ++ name.now ∷ [])) }
     ensures refused { IfErr result (λ error. error ≡ BuilderError.Memory) }
 {
     if let Some(extensions) = waiting.get_mut(name) {
@@ -86,18 +103,21 @@ fn begin(
     definition: &Definition,
     extensions: &[Definition],
     ids: &mut ExtensionSource,
+    errors: &mut Items<Fault>,
 ) -> Result<Option<ExtendedType>, BuilderError>
     ensures made { IfOk result (λ ty. (p : TypePart) → definition_part definition.now ≡ Some p
         → ty ≡ Some (type_from p ((origins.Definition, p) ∷ map extension_part (numbered (next_number ids.old) (of_kind (kind_of p) (extended_parts extensions.now)))))) }
+    ensures faults { OnOk result ((p : TypePart) → definition_part definition.now ≡ Some p
+        → errors.new ≡ errors.old ++ (part_faults [] p ++ joining_faults p (p ∷ []) (extended_parts extensions.now))) }
     ensures next { OnOk result ((p : TypePart) → definition_part definition.now ≡ Some p
         → ids.new ≡ source_at (next_number ids.old + length (of_kind (kind_of p) (extended_parts extensions.now)))) }
     ensures refused { IfErr result (λ error. RefusedAs error ((p : TypePart) → definition_part definition.now ≡ Some p
         → 2 ^ 64 ≤ next_number ids.old + length (of_kind (kind_of p) (extended_parts extensions.now)))) }
 {
-    let Some(mut ty) = type_from_ast(alloc, definition)? else {
+    let Some(mut ty) = type_from_ast(alloc, definition, errors)? else {
         return Ok(None);
     };
-    extend_type_by_all(&mut ty, extensions, ids)?;
+    extend_type_by_all(&mut ty, extensions, ids, errors)?;
     Ok(Some(ty))
 }
 
@@ -114,20 +134,114 @@ fn put(
     Ok(())
 }
 
+/// The fault of a further definition of a type's name.
+fn redefinition(
+    previous: &ExtendedType,
+    name: &Name,
+    definition: &Definition,
+) -> Result<Fault, AllocError>
+    ensures { IfOk result (λ fault. (d p : TypePart) (done : List Sourced) → previous.now ≡ type_from d done → item_of definition.now ≡ Defined p → p.name ≡ name.now
+        → fault ≡ further_definition d p) }
+{
+    if previous.is_built_in() && definition.type_kind() == Some(TypeKind::Scalar) {
+        return Ok((
+            definition.location(),
+            BuildError::BuiltInScalarTypeRedefinition,
+        ));
+    }
+    let error = BuildError::TypeDefinitionCollision {
+        previous_location: previous.name().location(),
+        name: name.clone()?,
+    };
+    Ok((name.location(), error))
+}
+
+/// Notes an extension whose name has no definition.
+fn note_orphan(extension: &Definition, errors: &mut Items<Fault>) -> Result<(), AllocError>
+    ensures { OnOk result (errors.new ≡ errors.old ++ map orphan (extended_parts (extension.now ∷ []))) }
+{
+    let Some(name) = extended_name(extension) else {
+        return Ok(());
+    };
+    let error = BuildError::OrphanTypeExtension {
+        name: name.clone()?,
+    };
+    errors.push((name.location(), error))
+}
+
+/// Notes extensions whose name has no definition, in order.
+fn note_orphans_of(extensions: &[Definition], errors: &mut Items<Fault>) -> Result<(), AllocError>
+    ensures { OnOk result (errors.new ≡ errors.old ++ map orphan (extended_parts extensions.now)) }
+{
+    for extension in extensions {
+        note_orphan(extension, errors)?;
+    }
+    Ok(())
+}
+
+/// Notes all that still waits, by name.
+fn note_orphans(
+    waiting: &Table<Name, Items<Definition>>,
+    errors: &mut Items<Fault>,
+) -> Result<(), AllocError>
+    ensures { OnOk result (errors.new ≡ errors.old ++ map orphan (flat_map extended_parts (values_of waiting.now))) }
+{
+    for extensions in waiting.values() {
+        note_orphans_of(extensions.as_slice(), errors)?;
+    }
+    Ok(())
+}
+
 impl Tables {
+    /// Tables of no definition.
+    fn new(alloc: Global) -> Tables
+        ensures stands { Stands 0 [] result }
+        ensures sources { result.sources ≡ [] }
+    {
+        Tables {
+            alloc,
+            sources: Table::new(alloc),
+            types: Table::new(alloc),
+            directive_definitions: Table::new(alloc),
+            waiting: Table::new(alloc),
+            ids: ExtensionSource::new(),
+            errors: Items::new(alloc),
+        }
+    }
+
+    /// Tables of the built-in definitions.
+    fn with_built_ins(alloc: Global) -> Result<Tables, AllocError>
+        ensures stands { IfOk result (Stands 0 (items_of built_in_definitions)) }
+        ensures sources { IfOk result (λ tables. tables.sources ≡ []) }
+    {
+        let mut tables = Tables::new(alloc);
+        let definitions = built_in_definitions(alloc)?;
+        match tables.take(definitions.as_slice()) {
+            Ok(()) => Ok(tables),
+            Err(_) => Err(AllocError),
+        }
+    }
+
     /// Takes the definition of a type.
     fn define(&mut self, name: &Name, definition: &Definition) -> Result<(), BuilderError>
-        ensures stands { OnOk result ((start : ℕ) (xs : List TypeItem) (p : TypePart) → item_of definition.now ≡ Some (Defined p) → p.name ≡ name.now
+        ensures stands { OnOk result ((start : ℕ) (xs : List TypeItem) (p : TypePart) → item_of definition.now ≡ Defined p → p.name ≡ name.now
             → Stands start xs self.old → Stands start (xs ++ Defined p ∷ []) self.new) }
-        ensures refused { IfErr result (λ error. RefusedAs error ((start : ℕ) (xs : List TypeItem) (p : TypePart) → item_of definition.now ≡ Some (Defined p) → p.name ≡ name.now
+        ensures refused { IfErr result (λ error. RefusedAs error ((start : ℕ) (xs : List TypeItem) (p : TypePart) → item_of definition.now ≡ Defined p → p.name ≡ name.now
             → Stands start xs self.old → 2 ^ 64 ≤ start + length (folded (xs ++ Defined p ∷ [])))) }
         ensures sources { self.new.sources ≡ self.old.sources }
     {
-        if self.types.contains_key(name) {
+        if let Some(previous) = self.types.get(name) {
+            self.errors.push(redefinition(previous, name, definition)?)?;
             return Ok(());
         }
         let extensions = take_waiting(self.alloc, &mut self.waiting, name);
-        let made = begin(self.alloc, definition, extensions.as_slice(), &mut self.ids)?;
+        let made = begin(
+            self.alloc,
+            definition,
+            extensions.as_slice(),
+            &mut self.ids,
+            &mut self.errors,
+        )?;
         let Some(ty) = made else {
             return Ok(());
         };
@@ -137,9 +251,9 @@ impl Tables {
 
     /// Takes an extension of a type.
     fn extend(&mut self, name: &Name, extension: &Definition) -> Result<(), BuilderError>
-        ensures stands { OnOk result ((start : ℕ) (xs : List TypeItem) (p : TypePart) → item_of extension.now ≡ Some (Extended p) → p.name ≡ name.now
+        ensures stands { OnOk result ((start : ℕ) (xs : List TypeItem) (p : TypePart) → item_of extension.now ≡ Extended p → p.name ≡ name.now
             → Stands start xs self.old → Stands start (xs ++ Extended p ∷ []) self.new) }
-        ensures refused { IfErr result (λ error. RefusedAs error ((start : ℕ) (xs : List TypeItem) (p : TypePart) → item_of extension.now ≡ Some (Extended p) → p.name ≡ name.now
+        ensures refused { IfErr result (λ error. RefusedAs error ((start : ℕ) (xs : List TypeItem) (p : TypePart) → item_of extension.now ≡ Extended p → p.name ≡ name.now
             → Stands start xs self.old → 2 ^ 64 ≤ start + length (folded (xs ++ Extended p ∷ [])))) }
         ensures sources { self.new.sources ≡ self.old.sources }
     {
@@ -147,23 +261,43 @@ impl Tables {
             wait(self.alloc, &mut self.waiting, name, extension)?;
             return Ok(());
         };
-        extend_type(ty, extension, &mut self.ids)?;
+        extend_type(ty, extension, &mut self.ids, &mut self.errors)?;
         Ok(())
     }
 
-    /// Takes a definition. One that neither defines nor extends a type is passed over.
-    fn take_one(&mut self, definition: &Definition) -> Result<(), BuilderError>
-        ensures stands { OnOk result ((start : ℕ) (xs : List TypeItem) → Stands start xs self.old → Stands start (xs ++ items_of (definition.now ∷ [])) self.new) }
-        ensures refused { IfErr result (λ error. RefusedAs error ((start : ℕ) (xs : List TypeItem) → Stands start xs self.old → 2 ^ 64 ≤ start + length (folded (xs ++ items_of (definition.now ∷ []))))) }
+    /// Takes what neither defines nor extends a type. Schema definitions and their extensions are passed over so far.
+    fn take_other(&mut self, definition: &Definition) -> Result<(), AllocError>
+        ensures stands { OnOk result ((start : ℕ) (xs : List TypeItem) → item_of definition.now ≡ Other definition.now
+            → Stands start xs self.old → Stands start (xs ++ Other definition.now ∷ []) self.new) }
         ensures sources { self.new.sources ≡ self.old.sources }
     {
-        let Some(name) = definition.name() else {
-            return Ok(());
-        };
-        match type_role(definition) {
-            Some(Role::Definition) => self.define(name, definition)?,
-            Some(Role::Extension) => self.extend(name, definition)?,
-            None => {}
+        match definition {
+            Definition::DirectiveDefinition(node) => {
+                define_directive(&mut self.directive_definitions, node, &mut self.errors)?;
+            }
+            Definition::OperationDefinition(_) | Definition::FragmentDefinition(_) => {
+                let error = BuildError::ExecutableDefinition {
+                    describe: StaticText::new(definition.describe()),
+                };
+                self.errors.push((definition.location(), error))?;
+            }
+            _ => {}
+        }
+        Ok(())
+    }
+
+    /// Takes a definition.
+    fn take_one(&mut self, definition: &Definition) -> Result<(), BuilderError>
+        ensures stands { OnOk result ((start : ℕ) (xs : List TypeItem) → Stands start xs self.old → Stands start (xs ++ item_of definition.now ∷ []) self.new) }
+        ensures refused { IfErr result (λ error. RefusedAs error ((start : ℕ) (xs : List TypeItem) → Stands start xs self.old → 2 ^ 64 ≤ start + length (folded (xs ++ item_of definition.now ∷ [])))) }
+        ensures sources { self.new.sources ≡ self.old.sources }
+    {
+        if let Some(name) = defined_name(definition) {
+            self.define(name, definition)?;
+        } else if let Some(name) = extended_name(definition) {
+            self.extend(name, definition)?;
+        } else {
+            self.take_other(definition)?;
         }
         Ok(())
     }
@@ -203,6 +337,43 @@ impl Tables {
     }
 }
 
+impl Tables {
+    /// What was built, or the faults beside it. What still waits is at fault.
+    fn finish(self) -> Result<Schema, BuildFailure>
+        ensures built { IfOk result (λ schema. (start : ℕ) (xs : List AnyDefinition) → Stands start (items_of xs) self → MeansSchema start xs schema) }
+        ensures faultless { OnOk result ((start : ℕ) (xs : List AnyDefinition) → Stands start (items_of xs) self → faults_of xs ≡ []) }
+        ensures faults { IfErr result (λ failure. IfFaults failure (λ partial faults. (start : ℕ) (xs : List AnyDefinition) → Stands start (items_of xs) self
+            → MeansSchema start xs partial × ((faults ≡ faults_of xs × faults ≢ []) × partial.sources ≡ self.sources))) }
+        ensures sources { IfOk result (λ schema. schema.sources ≡ self.sources) }
+        ensures failed { result ≢ Err BuildFailure.Failed }
+        ensures unspent { result ≢ Err BuildFailure.ExtensionIds }
+    {
+        let Tables {
+            sources,
+            types,
+            directive_definitions,
+            waiting,
+            mut errors,
+            ..
+        } = self;
+        if let Err(AllocError) = note_orphans(&waiting, &mut errors) {
+            return Err(BuildFailure::Memory);
+        }
+        let schema = Schema {
+            sources,
+            directive_definitions,
+            types,
+        };
+        if errors.is_empty() {
+            return Ok(schema);
+        }
+        Err(BuildFailure::Faults(WithErrors {
+            partial: schema,
+            errors: errors.into_vec(),
+        }))
+    }
+}
+
 /// The tables, until a call was refused.
 #[derive(Drop)]
 pub enum State {
@@ -213,8 +384,9 @@ pub enum State {
 /// A builder of a schema: GraphQL specification of October 2021, section 3. Documents go in, in any number, and their
 /// definitions and extensions in any order.
 ///
-/// The first definition of a name stays, and a later one is dropped. An extension before its definition waits for it.
-/// Definitions of anything but types are passed over so far.
+/// The built-in definitions stand before the first document. The first definition of a type's name stays, and each later
+/// one is at fault; the first that is added of a directive's name takes the place of a built-in one. An extension before
+/// its definition waits for it. Schema definitions and their extensions are passed over so far.
 ///
 /// After a refusal the builder holds nothing more, and each later call answers `Failed`.
 #[derive(Drop)]
@@ -223,19 +395,13 @@ pub struct SchemaBuilder {
 }
 
 impl SchemaBuilder {
-    /// A builder to which nothing was added, whose first extension has the number 0. The error is want of memory.
+    /// A builder of the built-in definitions alone, whose first extension has the number 0. The error is want of memory.
     pub fn new(alloc: Global) -> Result<SchemaBuilder, AllocError>
-        ensures stands { IfOk result (StandsFor 0 []) }
+        ensures stands { IfOk result (StandsFor 0 built_in_definitions) }
         ensures sources { IfOk result (λ builder. sources_of builder ≡ []) }
     {
         Ok(SchemaBuilder {
-            state: State::Open(Tables {
-                alloc,
-                sources: Table::new(alloc),
-                types: Table::new(alloc),
-                waiting: Table::new(alloc),
-                ids: ExtensionSource::new(),
-            }),
+            state: State::Open(Tables::with_built_ins(alloc)?),
         })
     }
 
@@ -261,24 +427,24 @@ impl SchemaBuilder {
     }
 
     /// The schema of what was added: each name's type is its first definition with its extensions folded in, wherever
-    /// they stand, and the types stand in the order of first definition.
+    /// they stand, and the types stand in the order of first definition. A directive's name means the first definition
+    /// of it that was added, or else the built-in one.
     ///
-    /// `Faults`, with what could be built, comes exactly where what was added has faults; nothing has one yet.
-    /// `Failed` comes exactly after a refusal.
+    /// `Faults`, with what could be built, comes exactly where what was added has faults: they stand in the order of
+    /// discovery, and extensions without a definition last. `Memory` is want of memory. `Failed` comes exactly after a
+    /// refusal.
     pub fn build(self) -> Result<Schema, BuildFailure>
-        ensures built { IfOk result (λ schema. (start : ℕ) (xs : List AnyDefinition) → StandsFor start xs self → MeansTypes start xs schema.types) }
+        ensures built { IfOk result (λ schema. (start : ℕ) (xs : List AnyDefinition) → StandsFor start xs self → MeansSchema start xs schema) }
         ensures faultless { OnOk result ((start : ℕ) (xs : List AnyDefinition) → StandsFor start xs self → faults_of xs ≡ []) }
         ensures faults { IfErr result (λ failure. IfFaults failure (λ partial faults. (start : ℕ) (xs : List AnyDefinition) → StandsFor start xs self
-            → MeansTypes start xs partial.types × (faults ≡ faults_of xs × partial.sources ≡ sources_of self))) }
+            → MeansSchema start xs partial × ((faults ≡ faults_of xs × faults ≢ []) × partial.sources ≡ sources_of self))) }
         ensures sources { IfOk result (λ schema. schema.sources ≡ sources_of self) }
-        ensures failed { MatchResult result (λ _. HasFailed self → ⊥) (λ failure. (failure ≡ BuildFailure.Failed) × HasFailed self) }
+        ensures failed { HasFailed self ↔ (result ≡ Err BuildFailure.Failed) }
+        ensures unspent { result ≢ Err BuildFailure.ExtensionIds }
     {
         let SchemaBuilder { state } = self;
         match state {
-            State::Open(tables) => {
-                let Tables { sources, types, .. } = tables;
-                Ok(Schema { sources, types })
-            }
+            State::Open(tables) => tables.finish(),
             State::Failed => Err(BuildFailure::Failed),
         }
     }

@@ -1,8 +1,11 @@
 //! What the proofs don't show: that calls succeed with memory, on documents that hold all that an object type can.
 
+mod built_in;
+mod faults;
 mod kinds;
 
-use crate::build_error::BuilderError;
+use crate::build_error::{BuildFailure, BuilderError, WithErrors};
+use crate::schema::Schema;
 use crate::schema_builder::SchemaBuilder;
 use apollo_component::extension::IdsSpent;
 use graphql_ast::collections::items::Items;
@@ -103,6 +106,15 @@ fn document(alloc: Global, path: &str, definition: ObjectTypeDefinition) -> Resu
     Ok(document)
 }
 
+/// What a builder makes of what it holds, where that has faults.
+fn faulty(builder: SchemaBuilder) -> Result<WithErrors<Schema>, Fail> {
+    let failure = builder.build().err().ok_or("no failure")?;
+    match failure {
+        BuildFailure::Faults(found) => Ok(found),
+        _ => Err(Fail::from("no faults")),
+    }
+}
+
 #[test]
 fn a_definition_is_written_as_it_was(rt: HostRuntime) -> Result<(), Fail> {
     let alloc = rt.alloc();
@@ -128,10 +140,17 @@ fn the_last_file_of_a_number_stays(rt: HostRuntime) -> Result<(), Fail> {
     let mut builder = SchemaBuilder::new(alloc)?;
     builder.add_ast(&document(alloc, "first.graphql", query(alloc)?)?)?;
     builder.add_ast(&document(alloc, "second.graphql", query(alloc)?)?)?;
-    let schema = builder.build().ok().ok_or("no schema")?;
-    let file = schema.sources.get(&PLACE.file).ok_or("no source")?;
-    assert_eq!(rt; schema.sources.len(), 1);
+    let found = faulty(builder)?;
+    let sources = &found.partial.sources;
+    let file = sources.get(&PLACE.file).ok_or("no source")?;
+    assert_eq!(rt; sources.len(), 1);
     assert_eq!(rt; file.path.as_str(), "second.graphql");
+    let (_, error) = found.errors.as_slice().first().ok_or("no fault")?;
+    assert_eq!(rt; found.errors.len(), 1);
+    assert_eq!(rt;
+        error.to_string(alloc)?.as_str(),
+        "the type `Query` is defined multiple times in the schema"
+    );
     Ok(())
 }
 

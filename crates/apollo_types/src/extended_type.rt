@@ -41,6 +41,7 @@ impl Clone for ExtendedType {
 }
 
 impl ExtendedType {
+    ghost use Rattle.graphql_ast.specs.BuiltIn.{is_built_in};
     ghost use Rattle.apollo_types.specs.TypeWriteOut.{write_type, type_kind, type_name, type_location};
 
     /// The kind of the type.
@@ -82,6 +83,20 @@ impl ExtendedType {
             ExtendedType::Union(node) => node.location(),
             ExtendedType::Enum(node) => node.location(),
             ExtendedType::InputObject(node) => node.location(),
+        }
+    }
+
+    /// Whether the type is defined in the file of built-in definitions.
+    pub fn is_built_in(&self) -> bool
+        ensures { result ≡ is_built_in (type_location self.now) }
+    {
+        match self {
+            ExtendedType::Scalar(node) => node.is_built_in(),
+            ExtendedType::Object(node) => node.is_built_in(),
+            ExtendedType::Interface(node) => node.is_built_in(),
+            ExtendedType::Union(node) => node.is_built_in(),
+            ExtendedType::Enum(node) => node.is_built_in(),
+            ExtendedType::InputObject(node) => node.is_built_in(),
         }
     }
 

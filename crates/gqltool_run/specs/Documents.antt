@@ -1,121 +1,21 @@
 -- What documents the lines of a text say.
-use Rattle.std.specs.Prelude.{ℕ, List, [], ◌∷◌, ◌≡◌, ◌++◌, ◌+◌, Option, None, Some, IsSome, option_map}
-use Rattle.graphql_ast.specs.NameView.{NameView}
-use Rattle.graphql_ast.specs.NodeView.{NodeView}
+use Rattle.std.specs.Prelude.{ℕ, List, [], ◌∷◌, ◌≡◌, ◌++◌, ◌+◌, ◌<◌, All, get_or, length, take, Option, None, Some, option_map}
 use Rattle.graphql_ast.specs.declared.source.SourceSpan.{SourceSpan}
-use Rattle.graphql_ast.specs.declared.type_reference.Type.{«Type» as TypeReference}
-use Rattle.graphql_ast.specs.declared.directive.Directive.{Directive}
-use Rattle.graphql_ast.specs.declared.type_system.FieldDefinition.{FieldDefinition}
-use Rattle.graphql_ast.specs.declared.type_system.InputValueDefinition.{InputValueDefinition}
 use Rattle.graphql_ast.specs.declared.definition.Definition.{Definition}
-use Rattle.graphql_ast.specs.declared.definition.Definition.TheVariants as d
 use Rattle.graphql_ast.specs.declared.document.Document.{Document}
+use Rattle.gqltool_run.specs.declared.above.Above.{Above}
+use Rattle.gqltool_run.specs.declared.above.Above.TheVariants as a
 use Rattle.gqltool_run.specs.declared.line.Line.{Line}
 use Rattle.gqltool_run.specs.declared.line.Line.TheVariants as l
-use Rattle.gqltool_run.specs.declared.line.Header.{Header}
-use Rattle.gqltool_run.specs.declared.line.Header.TheVariants as h
-use Rattle.gqltool_run.specs.declared.line.Role.TheVariants as r
-use Rattle.gqltool_run.specs.declared.line.Component.{Component}
-use Rattle.gqltool_run.specs.declared.line.Component.TheVariants as c
-use Rattle.gqltool_run.specs.declared.line.FieldPart.{FieldPart}
-use Rattle.gqltool_run.specs.declared.line.FieldPart.TheVariants as f
-use Rattle.gqltool_run.specs.declared.line.Above.{Above}
-use Rattle.gqltool_run.specs.declared.line.Above.TheVariants as a
-use Rattle.gqltool_run.specs.declared.item.OpenField.{OpenField}
 use Rattle.gqltool_run.specs.declared.item.OpenItem.{OpenItem}
 use Rattle.gqltool_run.specs.declared.reading.DocumentReader.{DocumentReader}
-use Rattle.gqltool_run.specs.Line.{Says, line_place, lines_of}
-
--- a directive without arguments
-abbrev pub applied_directive : NameView → SourceSpan → NodeView Directive
-applied_directive name place = record { value = record { name = name; arguments = [] }; location = Some place }
-
--- an argument's definition
-abbrev pub argument_definition : NameView → TypeReference → SourceSpan → NodeView InputValueDefinition
-argument_definition name ty place = record {
-  value = record {
-    description = None;
-    name = name;
-    ty = record { value = ty; location = Some place };
-    default_value = None;
-    directives = record { 0 = [] };
-  };
-  location = Some place;
-}
-
--- a field alone
-abbrev pub field_alone : NameView → TypeReference → SourceSpan → OpenField
-field_alone name ty place = record {
-  place = place;
-  definition = record {
-    description = None;
-    name = name;
-    arguments = [];
-    ty = ty;
-    directives = record { 0 = [] };
-  };
-}
-
--- a field and one part more
-abbrev pub with_part : FieldPart → SourceSpan → OpenField → OpenField
-with_part (f.Directive name) place field = record field { definition = record field.definition { directives = record { 0 = field.definition.directives.0 ++ applied_directive name place ∷ [] } } }
-with_part (f.Argument name ty) place field = record field { definition = record field.definition { arguments = field.definition.arguments ++ argument_definition name ty place ∷ [] } }
-
--- a field with its parts
-abbrev pub whole_field : OpenField → NodeView FieldDefinition
-whole_field field = record { value = field.definition; location = Some field.place }
-
--- fields and, if there is one more, that
-abbrev pub with_last : List (NodeView FieldDefinition) → Option OpenField → List (NodeView FieldDefinition)
-with_last fields None = fields
-with_last fields (Some field) = fields ++ whole_field field ∷ []
-
--- a header alone
-abbrev pub header_alone : Header → SourceSpan → OpenItem
-header_alone header place = record {
-  place = place;
-  header = header;
-  directives = record { 0 = [] };
-  interfaces = [];
-  fields = [];
-  last_field = None;
-}
-
--- an item and one component more
-abbrev pub with_component : Component → SourceSpan → OpenItem → OpenItem
-with_component (c.Directive name) place item = record item { directives = record { 0 = item.directives.0 ++ applied_directive name place ∷ [] } }
-with_component (c.Implements name) place item = record item { interfaces = item.interfaces ++ name ∷ [] }
-with_component (c.Field name ty) place item = record item { fields = with_last item.fields item.last_field; last_field = Some (field_alone name ty place) }
-
--- an item and one part more of its last field
-abbrev pub with_field_part : FieldPart → SourceSpan → OpenItem → OpenItem
-with_field_part part place item = record item { last_field = option_map (with_part part place) item.last_field }
-
--- the definition or extension of a header, with these fields
-abbrev pub definition_with : Header → List (NodeView FieldDefinition) → OpenItem → Definition
-definition_with (h.Object r.Definition name) fields item = d.ObjectTypeDefinition record {
-  value = record {
-    description = None;
-    name = name;
-    implements_interfaces = item.interfaces;
-    directives = item.directives;
-    fields = fields;
-  };
-  location = Some item.place;
-}
-definition_with (h.Object r.Extension name) fields item = d.ObjectTypeExtension record {
-  value = record {
-    name = name;
-    implements_interfaces = item.interfaces;
-    directives = item.directives;
-    fields = fields;
-  };
-  location = Some item.place;
-}
-
--- the definition or extension that an item says
-abbrev pub whole_item : OpenItem → Definition
-whole_item item = definition_with item.header (with_last item.fields item.last_field) item
+use Rattle.gqltool_run.specs.Components.{above_below, header_alone, whole_item, with_component}
+use Rattle.gqltool_run.specs.declared.refusal.RefusedLine.{RefusedLine}
+use Rattle.gqltool_run.specs.declared.refusal.ReadError.{ReadError}
+use Rattle.gqltool_run.specs.declared.refusal.ReadError.TheVariants as e
+use Rattle.gqltool_run.specs.Line.{IsLine, Says, line_place, lines_of}
+use Rattle.gqltool_run.specs.Places.{StandsBelow}
+use Rattle.gqltool_run.specs.Refusals.{SaysNothing}
 
 -- definitions and, if there is one more, that
 abbrev pub with_item : List Definition → Option OpenItem → List Definition
@@ -143,30 +43,15 @@ line_added l.Empty place reader = reader
 line_added l.Break place reader = document_ended reader
 line_added (l.Header header) place reader = record (item_ended reader) { item = Some (header_alone header place) }
 line_added (l.Component component) place reader = record reader { item = option_map (with_component component place) reader.item }
-line_added (l.FieldPart part) place reader = record reader { item = option_map (with_field_part part place) reader.item }
-
--- the field that is being read, if there is one
-abbrev pub last_field_of : Option OpenItem → Option OpenField
-last_field_of None = None
-last_field_of (Some item) = item.last_field
-
--- what stands above the next line, where this field is being read, or none
-abbrev pub below_header : Option OpenField → Above
-below_header None = a.Header
-below_header (Some field) = a.Field
 
 -- what stands above the next line, where this item is being read, or none
 abbrev pub above_next : Option OpenItem → Above
 above_next None = a.Nothing
-above_next (Some item) = below_header item.last_field
+above_next (Some item) = above_below item.header item.last_field
 
--- a component stands below a header, and a part of a field below a field
+-- a line may stand where it comes next
 abbrev pub MayStand : Line → DocumentReader → Type 0
-MayStand l.Empty reader = Unit {0}
-MayStand l.Break reader = Unit {0}
-MayStand (l.Header header) reader = Unit {0}
-MayStand (l.Component component) reader = IsSome reader.item
-MayStand (l.FieldPart part) reader = IsSome (last_field_of reader.item)
+MayStand line reader = StandsBelow (above_next reader.item) line
 
 -- one line leads from a state of the reading to another
 pub record Takes (text : List ℕ) (place : SourceSpan) (old new : DocumentReader) : Type 0 where
@@ -183,3 +68,24 @@ ReadTo number (text ∷ texts) reader documents = (next : DocumentReader) × (Ta
 -- the documents that a text says: its lines lead to them, counted from 1
 abbrev pub AreDocumentsOf : List ℕ → List Document → Type 0
 AreDocumentsOf text documents = ReadTo 1 (lines_of text) nothing_read documents
+
+-- these lines, of which the first has this number, lead from a state of the reading to another
+abbrev pub LeadTo : ℕ → List (List ℕ) → DocumentReader → DocumentReader → Type 0
+LeadTo number [] old new = old ≡ new
+LeadTo number (text ∷ texts) old new = (next : DocumentReader) × (Takes text (line_place number) old next × LeadTo (number + 1) texts next new)
+
+-- the refused line is one of these lines; those before it say something, and where they lead, it says nothing that may
+-- stand there
+pub record IsFirstRefused (lines : List (List ℕ)) (refused : RefusedLine) : Type 0 where
+  pub before : ℕ
+  pub number : refused.number ≡ before + 1
+  pub within : before < length lines
+  pub read : All IsLine (take before lines)
+  pub reader : DocumentReader
+  pub leads : LeadTo 1 (take before lines) nothing_read reader
+  pub nothing : SaysNothing (above_next reader.item) (line_place refused.number) (get_or lines before [])
+
+-- an error of reading these lines; want of memory says nothing
+abbrev pub IsReadError : List (List ℕ) → ReadError → Type 0
+IsReadError lines (e.Refused refused) = IsFirstRefused lines refused
+IsReadError lines e.Memory = Unit {0}

@@ -1,6 +1,11 @@
+pub mod Components
 pub mod Documents
+pub mod HeaderWords
 pub mod Line
+pub mod Places
+pub mod Refusals
 pub mod SchemaCommand
 pub mod SchemaFailures
 pub mod Status
 pub mod Text
+pub mod WholeItems

@@ -1,24 +1,19 @@
 -- What the lines of the notation say.
-use Rattle.std.specs.Prelude.{ℕ, List, [], ◌∷◌, ◌≡◌, ◌==◌, ◌≤◌, ◌<◌, ◌+◌, All, Some, codes, length, take}
+use Rattle.std.specs.Prelude.{ℕ, List, [], ◌∷◌, ◌≡◌, ◌==◌, ◌≤◌, Some, codes}
 use Rattle.std.specs.List.{slice_split}
 use Rattle.graphql_ast.specs.NameView.{NameView}
 use Rattle.graphql_ast.specs.NameSyntax.{IsName}
+use Rattle.graphql_ast.specs.LocationTexts.{location_text}
 use Rattle.graphql_ast.specs.TypeReferences.{inner_name}
 use Rattle.graphql_ast.specs.declared.source.SourceSpan.{SourceSpan}
 use Rattle.graphql_ast.specs.declared.type_reference.Type.{«Type» as TypeReference}
-use Rattle.gqltool_run.specs.declared.refusal.RefusedLine.{RefusedLine}
-use Rattle.gqltool_run.specs.declared.refusal.ReadError.{ReadError}
-use Rattle.gqltool_run.specs.declared.refusal.ReadError.TheVariants as e
 use Rattle.gqltool_run.specs.declared.line.Line.{Line}
 use Rattle.gqltool_run.specs.declared.line.Line.TheVariants as l
 use Rattle.gqltool_run.specs.declared.line.Header.{Header}
 use Rattle.gqltool_run.specs.declared.line.Header.TheVariants as h
-use Rattle.gqltool_run.specs.declared.line.Role.{Role}
-use Rattle.gqltool_run.specs.declared.line.Role.TheVariants as r
 use Rattle.gqltool_run.specs.declared.line.Component.{Component}
 use Rattle.gqltool_run.specs.declared.line.Component.TheVariants as c
-use Rattle.gqltool_run.specs.declared.line.FieldPart.{FieldPart}
-use Rattle.gqltool_run.specs.declared.line.FieldPart.TheVariants as f
+use Rattle.gqltool_run.specs.HeaderWords.{role_word, kind_word}
 use Rattle.gqltool_run.specs.Text.{type_text, opened_brackets}
 
 -- the lines of a text, each ended by a line feed, which the last may lack
@@ -41,24 +36,38 @@ IsNameAt place name = IsName name.text × (name.location ≡ Some place)
 abbrev pub IsTypeAt : SourceSpan → TypeReference → Type 0
 IsTypeAt place ty = (opened_brackets ty ≤ 200) × IsNameAt place (inner_name ty)
 
-abbrev pub role_word : Role → List ℕ
-role_word r.Definition = codes "def"
-role_word r.Extension = codes "ext"
+-- these words are a name that stands at this place
+abbrev pub AreName : SourceSpan → List (List ℕ) → NameView → Type 0
+AreName place words name = (words ≡ name.text ∷ []) × IsNameAt place name
+
+-- these words are a name and a type that stand at this place
+abbrev pub AreNameAndType : SourceSpan → List (List ℕ) → NameView → TypeReference → Type 0
+AreNameAndType place words name ty = (words ≡ name.text ∷ type_text ty ∷ []) × (IsNameAt place name × IsTypeAt place ty)
+
+-- a word, then a name that stands at this place
+abbrev pub SaysName : SourceSpan → List (List ℕ) → List ℕ → NameView → Type 0
+SaysName place words word name = (words ≡ word ∷ name.text ∷ []) × IsNameAt place name
+
+-- a word, then a name and a type that stand at this place
+abbrev pub SaysNameAndType : SourceSpan → List (List ℕ) → List ℕ → NameView → TypeReference → Type 0
+SaysNameAndType place words word name ty = (words ≡ word ∷ name.text ∷ type_text ty ∷ []) × (IsNameAt place name × IsTypeAt place ty)
 
 -- what a header line says
 abbrev pub SaysHeader : SourceSpan → List (List ℕ) → Header → Type 0
-SaysHeader place words (h.Object role name) = (words ≡ role_word role ∷ codes "object" ∷ name.text ∷ []) × IsNameAt place name
+SaysHeader place words (h.Type role kind name) = (words ≡ role_word role ∷ kind_word kind ∷ name.text ∷ []) × IsNameAt place name
+SaysHeader place words (h.Directive name) = SaysName place words (codes "directive") name
 
 -- what a line below a header says
 abbrev pub SaysComponent : SourceSpan → List (List ℕ) → Component → Type 0
-SaysComponent place words (c.Directive name) = (words ≡ codes "@" ∷ name.text ∷ []) × IsNameAt place name
-SaysComponent place words (c.Implements name) = (words ≡ codes "implements" ∷ name.text ∷ []) × IsNameAt place name
-SaysComponent place words (c.Field name ty) = (words ≡ codes "field" ∷ name.text ∷ type_text ty ∷ []) × (IsNameAt place name × IsTypeAt place ty)
-
--- what a line below a field says
-abbrev pub SaysFieldPart : SourceSpan → List (List ℕ) → FieldPart → Type 0
-SaysFieldPart place words (f.Directive name) = (words ≡ codes "field@" ∷ name.text ∷ []) × IsNameAt place name
-SaysFieldPart place words (f.Argument name ty) = (words ≡ codes "arg" ∷ name.text ∷ type_text ty ∷ []) × (IsNameAt place name × IsTypeAt place ty)
+SaysComponent place words (c.Directive name) = SaysName place words (codes "@") name
+SaysComponent place words (c.Implements name) = SaysName place words (codes "implements") name
+SaysComponent place words (c.Field name ty) = SaysNameAndType place words (codes "field") name ty
+SaysComponent place words (c.FieldDirective name) = SaysName place words (codes "field@") name
+SaysComponent place words (c.Argument name ty) = SaysNameAndType place words (codes "arg") name ty
+SaysComponent place words (c.Member name) = SaysName place words (codes "member") name
+SaysComponent place words (c.Value name) = SaysName place words (codes "value") name
+SaysComponent place words (c.On location) = words ≡ codes "on" ∷ location_text location ∷ []
+SaysComponent place words c.Repeatable = words ≡ codes "repeatable" ∷ []
 
 -- what a line says, of which each name stands at this place
 abbrev pub Says : SourceSpan → List ℕ → Line → Type 0
@@ -66,22 +75,9 @@ Says place text l.Empty = text ≡ []
 Says place text l.Break = words_of text ≡ codes "---" ∷ []
 Says place text (l.Header header) = SaysHeader place (words_of text) header
 Says place text (l.Component component) = SaysComponent place (words_of text) component
-Says place text (l.FieldPart part) = SaysFieldPart place (words_of text) part
 
 -- a line that says something
 pub record IsLine (text : List ℕ) : Type 0 where
   pub place : SourceSpan
   pub line : Line
   pub says : Says place text line
-
--- the refused line is one of these lines, and those before it say something
-pub record IsFirstRefused (lines : List (List ℕ)) (refused : RefusedLine) : Type 0 where
-  pub before : ℕ
-  pub number : refused.number ≡ before + 1
-  pub within : before < length lines
-  pub read : All IsLine (take before lines)
-
--- an error of reading these lines; want of memory says nothing
-abbrev pub IsReadError : List (List ℕ) → ReadError → Type 0
-IsReadError lines (e.Refused refused) = IsFirstRefused lines refused
-IsReadError lines e.Memory = Unit {0}

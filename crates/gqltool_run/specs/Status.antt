@@ -15,6 +15,12 @@ exit_code s.Refused = 2
 exit_code s.Exhausted = 3
 exit_code s.NotWritten = 4
 
+-- all of the output is written
+abbrev pub Writes : Status → Type 0
+Writes s.Done = Unit {0}
+Writes s.Faults = Unit {0}
+Writes _ = ⊥
+
 -- how a run ends that has nothing to write
 abbrev pub status_of : Failure → Status
 status_of f.Usage = s.Refused

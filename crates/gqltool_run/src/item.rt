@@ -1,63 +1,80 @@
 //! What has been read of the definition or extension that is being read.
-ghost use Rattle.std.specs.Prelude.{◌≡◌, IfOk, OnOk, IsOkUnless, IsSome, None, ◌↔◌, IsTrue};
-ghost use Rattle.gqltool_run.specs.Documents.{applied_directive, argument_definition};
+ghost use Rattle.std.specs.Prelude.{◌≡◌, IfOk, OnOk, None};
+ghost use Rattle.gqltool_run.specs.Components.{applied_directive, enum_value, input_value};
 
-use crate::line::{Component, FieldPart, Header, Role};
-use crate::refusal::{LineError, Reason};
+use crate::above::Above;
+use crate::kind_words::Role;
+use crate::line::{Component, Header};
+use crate::whole_item::{Parts, directive_definition, type_definition, type_extension};
 use graphql_ast::collections::items::Items;
 use graphql_ast::definition::Definition;
 use graphql_ast::directive::{Directive, DirectiveList};
 use graphql_ast::name::Name;
 use graphql_ast::node::Node;
 use graphql_ast::source::SourceSpan;
+use graphql_ast::type_kind::TypeKind;
 use graphql_ast::type_reference::Type;
-use graphql_ast::type_system::{
-    FieldDefinition, InputValueDefinition, ObjectTypeDefinition, ObjectTypeExtension,
-};
+use graphql_ast::type_system::{EnumValueDefinition, FieldDefinition, InputValueDefinition};
 use std::alloc::{AllocError, Global};
 
 /// A field whose directives and arguments may still come.
 #[derive(Drop)]
 struct OpenField {
     place: SourceSpan,
-    definition: FieldDefinition,
+    name: Name,
+    ty: Type,
+    arguments: Items<Node<InputValueDefinition>>,
+    directives: DirectiveList,
 }
 
 impl OpenField {
-    ghost use Rattle.gqltool_run.specs.Documents.{field_alone, with_part, whole_field};
+    ghost use Rattle.gqltool_run.specs.Components.{field_alone, field_node, input_field_node};
 
     fn new(alloc: Global, name: Name, ty: Type, place: SourceSpan) -> OpenField
         ensures { result ≡ field_alone name ty place }
     {
-        let definition = FieldDefinition {
-            description: None,
+        OpenField {
+            place,
             name,
-            arguments: Items::new(alloc),
             ty,
+            arguments: Items::new(alloc),
             directives: DirectiveList::new(alloc),
-        };
-        OpenField { place, definition }
-    }
-
-    fn add(&mut self, alloc: Global, part: FieldPart, place: SourceSpan) -> Result<(), AllocError>
-        ensures { OnOk result (self.new ≡ with_part part place self.old) }
-    {
-        match part {
-            FieldPart::Directive(name) => {
-                let directive = applied_directive(alloc, name, place)?;
-                self.definition.directives.push(directive)
-            }
-            FieldPart::Argument(name, ty) => {
-                let argument = argument_definition(alloc, name, ty, place)?;
-                self.definition.arguments.push(argument)
-            }
         }
     }
 
+    /// The field as one of an object or interface type.
     fn close(self, alloc: Global) -> Result<Node<FieldDefinition>, AllocError>
-        ensures { IfOk result (λ node. node ≡ whole_field self) }
+        ensures { IfOk result (λ node. node ≡ field_node self) }
     {
-        Node::new_opt_location(alloc, self.definition, Some(self.place))
+        let OpenField {
+            place,
+            name,
+            ty,
+            arguments,
+            directives,
+        } = self;
+        let definition = FieldDefinition {
+            description: None,
+            name,
+            arguments,
+            ty,
+            directives,
+        };
+        Node::new_opt_location(alloc, definition, Some(place))
+    }
+
+    /// The field as one of an input object type, where it has no arguments.
+    fn close_as_input(self, alloc: Global) -> Result<Node<InputValueDefinition>, AllocError>
+        ensures { IfOk result (λ node. node ≡ input_field_node self) }
+    {
+        let OpenField {
+            place,
+            name,
+            ty,
+            arguments: _,
+            directives,
+        } = self;
+        input_value(alloc, name, ty, directives, place)
     }
 }
 
@@ -66,14 +83,13 @@ impl OpenField {
 pub struct OpenItem {
     place: SourceSpan,
     header: Header,
-    directives: DirectiveList,
-    interfaces: Items<Name>,
-    fields: Items<Node<FieldDefinition>>,
+    /// The components, without the last field.
+    parts: Parts,
     last_field: Option<OpenField>,
 }
 
 impl OpenItem {
-    ghost use Rattle.gqltool_run.specs.Documents.{header_alone, with_component, with_field_part, with_last, whole_item};
+    ghost use Rattle.gqltool_run.specs.Components.{header_alone, above_below, with_component, with_field_directive, with_argument, field_closed, is_input_object, whole_item};
 
     /// The item of a header, without components.
     pub fn new(alloc: Global, header: Header, place: SourceSpan) -> OpenItem
@@ -82,21 +98,23 @@ impl OpenItem {
         OpenItem {
             place,
             header,
-            directives: DirectiveList::new(alloc),
-            interfaces: Items::new(alloc),
-            fields: Items::new(alloc),
+            parts: Parts::new(alloc),
             last_field: None,
         }
     }
 
-    /// Whether there is a field.
-    pub fn has_field(&self) -> bool
-        ensures { IsTrue result ↔ IsSome self.now.last_field }
+    /// What stands above a line that comes next.
+    pub fn above(&self) -> Above
+        ensures { result ≡ above_below self.now.header self.now.last_field }
     {
-        self.last_field.is_some()
+        match (&self.header, &self.last_field) {
+            (Header::Type(_, kind, _), None) => Above::Type(*kind),
+            (Header::Type(_, kind, _), Some(_)) => Above::Field(*kind),
+            (Header::Directive(_), _) => Above::Directive,
+        }
     }
 
-    /// Adds a component.
+    /// Adds a component. A directive of a field, where there is no field, adds nothing.
     pub fn add(
         &mut self,
         alloc: Global,
@@ -108,41 +126,74 @@ impl OpenItem {
         match component {
             Component::Directive(name) => {
                 let directive = applied_directive(alloc, name, place)?;
-                self.directives.push(directive)
+                self.parts.directives.push(directive)
             }
-            Component::Implements(name) => self.interfaces.push(name),
+            Component::Implements(name) | Component::Member(name) => self.parts.names.push(name),
             Component::Field(name, ty) => {
                 self.close_field(alloc)?;
                 self.last_field = Some(OpenField::new(alloc, name, ty, place));
                 Ok(())
             }
+            Component::FieldDirective(name) => {
+                let directive = applied_directive(alloc, name, place)?;
+                self.add_field_directive(directive)
+            }
+            Component::Argument(name, ty) => {
+                let argument = input_value(alloc, name, ty, DirectiveList::new(alloc), place)?;
+                self.add_argument(argument)
+            }
+            Component::Value(name) => {
+                let value = enum_value(alloc, name, place)?;
+                self.parts.values.push(value)
+            }
+            Component::On(location) => self.parts.locations.push(location),
+            Component::Repeatable => {
+                self.parts.is_repeatable = true;
+                Ok(())
+            }
         }
     }
 
-    /// Adds a part to the last field. Without a field the part is misplaced.
-    pub fn add_to_field(
-        &mut self,
-        alloc: Global,
-        part: FieldPart,
-        place: SourceSpan,
-    ) -> Result<(), LineError>
-        ensures added { OnOk result (self.new ≡ with_field_part part place self.old) }
-        ensures stands { OnOk result (IsSome self.old.last_field) }
-        ensures err { IsSome self.old.last_field → IsOkUnless result LineError.Memory }
+    /// Adds a directive to the last field, if there is one.
+    fn add_field_directive(&mut self, directive: Node<Directive>) -> Result<(), AllocError>
+        ensures { OnOk result (self.new ≡ with_field_directive directive self.old) }
     {
         match &mut self.last_field {
-            Some(field) => Ok(field.add(alloc, part, place)?),
-            None => Err(LineError::Refused(Reason::MisplacedLine)),
+            Some(field) => field.directives.push(directive),
+            None => Ok(()),
+        }
+    }
+
+    /// Adds an argument to the last field, and where there is none, to the directive that is being read.
+    fn add_argument(&mut self, argument: Node<InputValueDefinition>) -> Result<(), AllocError>
+        ensures { OnOk result (self.new ≡ with_argument argument self.old) }
+    {
+        match &mut self.last_field {
+            Some(field) => field.arguments.push(argument),
+            None => self.parts.inputs.push(argument),
         }
     }
 
     fn close_field(&mut self, alloc: Global) -> Result<(), AllocError>
-        ensures { OnOk result (self.new ≡ record self.old { fields = with_last self.old.fields self.old.last_field; last_field = None }) }
+        ensures { OnOk result (self.new ≡ field_closed self.old) }
     {
+        let is_input = self.is_input_object();
         match self.last_field.take() {
-            Some(field) => self.fields.push(field.close(alloc)?),
+            Some(field) => {
+                if is_input {
+                    self.parts.inputs.push(field.close_as_input(alloc)?)
+                } else {
+                    self.parts.fields.push(field.close(alloc)?)
+                }
+            }
             None => Ok(()),
         }
+    }
+
+    fn is_input_object(&self) -> bool
+        ensures { result ≡ is_input_object self.now.header }
+    {
+        matches!(&self.header, Header::Type(_, TypeKind::InputObject, _))
     }
 
     /// The definition or extension.
@@ -153,33 +204,17 @@ impl OpenItem {
         let OpenItem {
             place,
             header,
-            directives,
-            interfaces,
-            fields,
+            parts,
             last_field: _,
         } = self;
         match header {
-            Header::Object(Role::Definition, name) => {
-                let object = ObjectTypeDefinition {
-                    description: None,
-                    name,
-                    implements_interfaces: interfaces,
-                    directives,
-                    fields,
-                };
-                let node = Node::new_opt_location(alloc, object, Some(place))?;
-                Ok(Definition::ObjectTypeDefinition(node))
+            Header::Type(Role::Definition, kind, name) => {
+                type_definition(alloc, kind, name, parts, place)
             }
-            Header::Object(Role::Extension, name) => {
-                let object = ObjectTypeExtension {
-                    name,
-                    implements_interfaces: interfaces,
-                    directives,
-                    fields,
-                };
-                let node = Node::new_opt_location(alloc, object, Some(place))?;
-                Ok(Definition::ObjectTypeExtension(node))
+            Header::Type(Role::Extension, kind, name) => {
+                type_extension(alloc, kind, name, parts, place)
             }
+            Header::Directive(name) => directive_definition(alloc, name, parts, place),
         }
     }
 }
@@ -198,20 +233,37 @@ fn applied_directive(
     Node::new_opt_location(alloc, directive, Some(place))
 }
 
-fn argument_definition(
+/// An argument, or a field of an input object type.
+fn input_value(
     alloc: Global,
     name: Name,
     ty: Type,
+    directives: DirectiveList,
     place: SourceSpan,
 ) -> Result<Node<InputValueDefinition>, AllocError>
-    ensures { IfOk result (λ node. node ≡ argument_definition name ty place) }
+    ensures { IfOk result (λ node. node ≡ input_value name ty directives place) }
 {
-    let argument = InputValueDefinition {
+    let value = InputValueDefinition {
         description: None,
         name,
         ty: Node::new_opt_location(alloc, ty, Some(place))?,
         default_value: None,
+        directives,
+    };
+    Node::new_opt_location(alloc, value, Some(place))
+}
+
+fn enum_value(
+    alloc: Global,
+    value: Name,
+    place: SourceSpan,
+) -> Result<Node<EnumValueDefinition>, AllocError>
+    ensures { IfOk result (λ node. node ≡ enum_value value place) }
+{
+    let value = EnumValueDefinition {
+        description: None,
+        value,
         directives: DirectiveList::new(alloc),
     };
-    Node::new_opt_location(alloc, argument, Some(place))
+    Node::new_opt_location(alloc, value, Some(place))
 }

@@ -3,8 +3,15 @@
 //! [`run`](running::run) is the program. [`read`](reading::read) and [`print`](printing::print) are the notation.
 #![tactic(auto)]
 
+pub mod above;
 pub mod failure;
+mod fault_printing;
+#[cfg(test)]
+mod fault_rows;
 mod item;
+#[cfg(test)]
+mod kind_rows;
+pub mod kind_words;
 pub mod line;
 pub mod printing;
 pub mod reading;
@@ -19,4 +26,5 @@ pub mod status;
 #[cfg(test)]
 mod tests;
 pub mod type_notation;
+mod whole_item;
 mod words;

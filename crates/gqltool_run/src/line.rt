@@ -1,31 +1,35 @@
 //! One line of the notation.
-ghost use Rattle.std.specs.Prelude.{◌≡◌, [], ◌∷◌, codes, map, IfOk};
-ghost use Rattle.gqltool_run.specs.Line.{Says, SaysHeader, SaysComponent, SaysFieldPart, IsNameAt, IsTypeAt, words_of, role_word};
-ghost use Rattle.gqltool_run.specs.Text.{type_text};
+ghost use Rattle.std.specs.Prelude.{◌≡◌, [], ◌∷◌, codes, map, true, false, IfErr, IfOk};
+ghost use Rattle.graphql_ast.specs.NameView.{NameView};
+ghost use Rattle.graphql_ast.specs.declared.type_reference.Type.{«Type» as TypeReference};
+ghost use Rattle.graphql_ast.specs.LocationTexts.{location_text};
+ghost use Rattle.gqltool_run.specs.HeaderWords.{role_word};
+ghost use Rattle.gqltool_run.specs.Line.{Says, SaysHeader, SaysComponent, AreName, AreNameAndType};
+ghost use Rattle.gqltool_run.specs.Places.{stands, StandsBelow};
+ghost use Rattle.gqltool_run.specs.Refusals.{SayNoComponent, SaysNothing, WhenRefused};
 
+use crate::above::Above;
+use crate::kind_words::{Role, kind_of_word};
 use crate::refusal::{LineError, Reason};
 use crate::type_notation::{MOST_BRACKETS, read_type};
 use crate::words::{read_name, words_of};
+use graphql_ast::directive_location::DirectiveLocation;
 use graphql_ast::name::Name;
 use graphql_ast::source::SourceSpan;
+use graphql_ast::type_kind::TypeKind;
 use graphql_ast::type_reference::Type;
 use std::alloc::Global;
-
-/// What a header line begins.
-#[derive(Debug, Clone, Copy, PartialEq, Eq)]
-pub enum Role {
-    Definition,
-    Extension,
-}
 
 /// A header line, which begins a definition or an extension.
 #[derive(Drop)]
 pub enum Header {
-    /// `def object NAME` or `ext object NAME`
-    Object(Role, Name),
+    /// `def KIND NAME` or `ext KIND NAME`
+    Type(Role, TypeKind, Name),
+    /// `directive NAME`
+    Directive(Name),
 }
 
-/// A line that belongs to the header line above it.
+/// A line that belongs to the header line above it, or to a field of that header.
 #[derive(Drop)]
 pub enum Component {
     /// `@ NAME`
@@ -34,15 +38,18 @@ pub enum Component {
     Implements(Name),
     /// `field NAME TYPE`
     Field(Name, Type),
-}
-
-/// A line that belongs to the field above it.
-#[derive(Drop)]
-pub enum FieldPart {
     /// `field@ NAME`
-    Directive(Name),
+    FieldDirective(Name),
     /// `arg NAME TYPE`
     Argument(Name, Type),
+    /// `member NAME`
+    Member(Name),
+    /// `value NAME`
+    Value(Name),
+    /// `on LOCATION`
+    On(DirectiveLocation),
+    /// `repeatable`
+    Repeatable,
 }
 
 /// What a line says.
@@ -53,30 +60,6 @@ pub enum Line {
     Break,
     Header(Header),
     Component(Component),
-    FieldPart(FieldPart),
-}
-
-/// What stands above a line in its document.
-#[derive(Debug, Clone, Copy, PartialEq, Eq)]
-pub enum Above {
-    /// No header.
-    Nothing,
-    /// A header, and no field of it.
-    Header,
-    /// A field of the last header.
-    Field,
-}
-
-impl Above {
-    /// Whether a component may stand here.
-    fn has_header(self) -> bool {
-        self != Above::Nothing
-    }
-
-    /// Whether a part of a field may stand here.
-    fn has_field(self) -> bool {
-        self == Above::Field
-    }
 }
 
 /// Reads a line. Its names get this place.
@@ -86,7 +69,9 @@ pub fn read_line(
     above: Above,
     place: SourceSpan,
 ) -> Result<Line, LineError>
-    ensures { IfOk result (Says place text.now) }
+    ensures says { IfOk result (Says place text.now) }
+    ensures stands { IfOk result (StandsBelow above) }
+    ensures refused { IfErr result (WhenRefused (SaysNothing above place text.now)) }
 {
     if text.is_empty() {
         return Ok(Line::Empty);
@@ -100,39 +85,72 @@ pub fn read_line(
             end_of_words(rest)?;
             Ok(Line::Break)
         }
-        "def" => Ok(Line::Header(read_header(alloc, Role::Definition, rest, place)?)),
-        "ext" => Ok(Line::Header(read_header(alloc, Role::Extension, rest, place)?)),
+        "def" => Ok(Line::Header(read_type_header(alloc, Role::Definition, rest, place)?)),
+        "ext" => Ok(Line::Header(read_type_header(alloc, Role::Extension, rest, place)?)),
+        "directive" => Ok(Line::Header(Header::Directive(only_name(alloc, rest, place)?))),
+        word => Ok(Line::Component(read_component(alloc, word, rest, above, place)?)),
+    }
+}
+
+/// A component line, by its first word and the rest of its words.
+fn read_component(
+    alloc: Global,
+    first: &str,
+    rest: &[&str],
+    above: Above,
+    place: SourceSpan,
+) -> Result<Component, LineError>
+    ensures says { IfOk result (SaysComponent place (first.now ∷ map (λ word. word.now) rest.now)) }
+    ensures stands { IfOk result (λ component. stands above component ≡ true) }
+    ensures refused { IfErr result (WhenRefused (SayNoComponent above place (first.now ∷ map (λ word. word.now) rest.now))) }
+{
+    match first {
         "@" => {
-            allow(above.has_header())?;
-            let name = only_name(alloc, rest, place)?;
-            Ok(Line::Component(Component::Directive(name)))
+            let name = allowed_name(alloc, above.is_type(), rest, place)?;
+            Ok(Component::Directive(name))
         }
         "implements" => {
-            allow(above.has_header())?;
-            let name = only_name(alloc, rest, place)?;
-            Ok(Line::Component(Component::Implements(name)))
+            let name = allowed_name(alloc, above.is_object_or_interface(), rest, place)?;
+            Ok(Component::Implements(name))
         }
         "field" => {
-            allow(above.has_header())?;
-            let (name, ty) = name_and_type(alloc, rest, place)?;
-            Ok(Line::Component(Component::Field(name, ty)))
+            let (name, ty) = name_and_type(alloc, above.has_fields(), rest, place)?;
+            Ok(Component::Field(name, ty))
         }
         "field@" => {
-            allow(above.has_field())?;
-            let name = only_name(alloc, rest, place)?;
-            Ok(Line::FieldPart(FieldPart::Directive(name)))
+            let name = allowed_name(alloc, above.is_field(), rest, place)?;
+            Ok(Component::FieldDirective(name))
         }
         "arg" => {
-            allow(above.has_field())?;
-            let (name, ty) = name_and_type(alloc, rest, place)?;
-            Ok(Line::FieldPart(FieldPart::Argument(name, ty)))
+            let (name, ty) = name_and_type(alloc, above.takes_arguments(), rest, place)?;
+            Ok(Component::Argument(name, ty))
+        }
+        "member" => {
+            let name = allowed_name(alloc, above.is_union(), rest, place)?;
+            Ok(Component::Member(name))
+        }
+        "value" => {
+            let name = allowed_name(alloc, above.is_enum(), rest, place)?;
+            Ok(Component::Value(name))
+        }
+        "on" => {
+            allow(above.is_directive())?;
+            Ok(Component::On(only_location(rest)?))
+        }
+        "repeatable" => {
+            allow(above.is_directive())?;
+            end_of_words(rest)?;
+            Ok(Component::Repeatable)
         }
         _ => Err(LineError::Refused(Reason::UnknownLine)),
     }
 }
 
 /// Refuses a line that may not stand where it does.
-fn allow(is_allowed: bool) -> Result<(), Reason> {
+fn allow(is_allowed: bool) -> Result<(), Reason>
+    ensures ok { IfOk result (λ _. is_allowed ≡ true) }
+    ensures err { IfErr result (λ _. is_allowed ≡ false) }
+{
     if is_allowed {
         Ok(())
     } else {
@@ -141,34 +159,52 @@ fn allow(is_allowed: bool) -> Result<(), Reason> {
 }
 
 fn end_of_words(words: &[&str]) -> Result<(), Reason>
-    ensures { IfOk result (λ _. map (λ word. word.now) words.now ≡ []) }
+    ensures ok { IfOk result (λ _. map (λ word. word.now) words.now ≡ []) }
+    ensures err { IfErr result (λ _. ¬ (map (λ word. word.now) words.now ≡ [])) }
 {
-    if words.is_empty() {
-        Ok(())
-    } else {
-        Err(Reason::WrongNumberOfWords)
+    match words {
+        [] => Ok(()),
+        _ => Err(Reason::WrongNumberOfWords),
     }
 }
 
 /// The words that follow `def` or `ext`.
-fn read_header(
+fn read_type_header(
     alloc: Global,
     role: Role,
     words: &[&str],
     place: SourceSpan,
 ) -> Result<Header, LineError>
-    ensures { IfOk result (SaysHeader place (role_word role ∷ map (λ word. word.now) words.now)) }
+    ensures says { IfOk result (SaysHeader place (role_word role ∷ map (λ word. word.now) words.now)) }
+    ensures refused { IfErr result (WhenRefused ((header : Header) → ¬ SaysHeader place (role_word role ∷ map (λ word. word.now) words.now) header)) }
 {
-    match words {
-        ["object", name] => Ok(Header::Object(role, read_name(alloc, *name, place)?)),
-        [_, _] => Err(LineError::Refused(Reason::BadWord)),
-        _ => Err(LineError::Refused(Reason::WrongNumberOfWords)),
-    }
+    let [kind, name] = words else {
+        return Err(LineError::Refused(Reason::WrongNumberOfWords));
+    };
+    let Some(kind) = kind_of_word(*kind) else {
+        return Err(LineError::Refused(Reason::BadWord));
+    };
+    Ok(Header::Type(role, kind, read_name(alloc, *name, place)?))
+}
+
+/// The only word that follows, a name, on a line that is allowed here or not.
+fn allowed_name(
+    alloc: Global,
+    is_allowed: bool,
+    words: &[&str],
+    place: SourceSpan,
+) -> Result<Name, LineError>
+    ensures allowed { IfOk result (λ _. is_allowed ≡ true) }
+    ensures says { IfOk result (AreName place (map (λ word. word.now) words.now)) }
+    ensures refused { IfErr result (WhenRefused ((name : NameView) → AreName place (map (λ word. word.now) words.now) name → ¬ (is_allowed ≡ true))) }
+{
+    allow(is_allowed)?;
+    only_name(alloc, words, place)
 }
 
 fn only_name(alloc: Global, words: &[&str], place: SourceSpan) -> Result<Name, LineError>
-    ensures words { IfOk result (λ name. map (λ word. word.now) words.now ≡ name.text ∷ []) }
-    ensures name { IfOk result (IsNameAt place) }
+    ensures says { IfOk result (AreName place (map (λ word. word.now) words.now)) }
+    ensures refused { IfErr result (WhenRefused ((name : NameView) → ¬ AreName place (map (λ word. word.now) words.now) name)) }
 {
     let [name] = words else {
         return Err(LineError::Refused(Reason::WrongNumberOfWords));
@@ -176,19 +212,35 @@ fn only_name(alloc: Global, words: &[&str], place: SourceSpan) -> Result<Name, L
     read_name(alloc, *name, place)
 }
 
+/// The two words that follow, a name and a type, on a line that is allowed here or not.
 fn name_and_type(
     alloc: Global,
+    is_allowed: bool,
     words: &[&str],
     place: SourceSpan,
 ) -> Result<(Name, Type), LineError>
-    ensures words { IfOk result (λ both. map (λ word. word.now) words.now ≡ both.0.text ∷ type_text both.1 ∷ []) }
-    ensures name { IfOk result (λ both. IsNameAt place both.0) }
-    ensures ty { IfOk result (λ both. IsTypeAt place both.1) }
+    ensures allowed { IfOk result (λ _. is_allowed ≡ true) }
+    ensures says { IfOk result (λ both. AreNameAndType place (map (λ word. word.now) words.now) both.0 both.1) }
+    ensures refused { IfErr result (WhenRefused ((name : NameView) (ty : TypeReference) → AreNameAndType place (map (λ word. word.now) words.now) name ty → ¬ (is_allowed ≡ true))) }
 {
+    allow(is_allowed)?;
     let [name, ty] = words else {
         return Err(LineError::Refused(Reason::WrongNumberOfWords));
     };
     let name = read_name(alloc, *name, place)?;
     let ty = read_type(alloc, *ty, MOST_BRACKETS, place)?;
     Ok((name, ty))
+}
+
+fn only_location(words: &[&str]) -> Result<DirectiveLocation, Reason>
+    ensures ok { IfOk result (λ location. map (λ word. word.now) words.now ≡ location_text location ∷ []) }
+    ensures err { IfErr result (λ _. (location : DirectiveLocation) → ¬ (map (λ word. word.now) words.now ≡ location_text location ∷ [])) }
+{
+    let [word] = words else {
+        return Err(Reason::WrongNumberOfWords);
+    };
+    match DirectiveLocation::from_name(*word) {
+        Some(location) => Ok(location),
+        None => Err(Reason::BadWord),
+    }
 }

@@ -1,15 +1,18 @@
 //! Definitions as text.
 ghost use Rattle.std.specs.Prelude.{◌≡◌, ◌++◌, OnOk, IfOk, string_bytes};
 ghost use Rattle.std.specs.List.{flat_map};
-ghost use Rattle.gqltool_run.specs.Text.{named_line, typed_line, directives_text, names_text, arguments_text, field_text, object_text, definition_text, definitions_text};
+ghost use Rattle.gqltool_run.specs.Text.{word_line, named_line, typed_line, directives_text, names_text, arguments_text, field_line_text, field_text, input_field_text, values_text, head_text, fields_text, repeatable_text, locations_text, definition_text, definitions_text};
 
+use crate::kind_words::{Role, kind_word};
 use crate::type_notation::push_type;
 use graphql_ast::definition::Definition;
 use graphql_ast::directive::Directive;
+use graphql_ast::directive_location::DirectiveLocation;
 use graphql_ast::name::Name;
 use graphql_ast::node::Node;
+use graphql_ast::type_kind::TypeKind;
 use graphql_ast::type_reference::Type;
-use graphql_ast::type_system::{FieldDefinition, InputValueDefinition};
+use graphql_ast::type_system::{EnumValueDefinition, FieldDefinition, InputValueDefinition};
 use std::alloc::{AllocError, Global};
 
 /// The text of definitions and extensions. Those that the notation does not have are passed over.
@@ -27,40 +30,168 @@ fn push_definition(text: &mut String, definition: &Definition) -> Result<(), All
     ensures { OnOk result (string_bytes text.new ≡ string_bytes text.old ++ definition_text definition.now) }
 {
     match definition {
-        Definition::ObjectTypeDefinition(object) => push_object(
-            text,
-            "def object ",
-            &object.name,
-            object.directives.as_slice(),
-            object.implements_interfaces.as_slice(),
-            object.fields.as_slice(),
-        ),
-        Definition::ObjectTypeExtension(object) => push_object(
-            text,
-            "ext object ",
-            &object.name,
-            object.directives.as_slice(),
-            object.implements_interfaces.as_slice(),
-            object.fields.as_slice(),
-        ),
-        _ => Ok(()),
+        Definition::DirectiveDefinition(item) => {
+            push_named_line(text, "directive ", &item.name)?;
+            push_arguments(text, item.arguments.as_slice())?;
+            push_repeatable(text, item.repeatable)?;
+            push_locations(text, item.locations.as_slice())
+        }
+        Definition::ScalarTypeDefinition(item) => {
+            push_head(
+                text,
+                Role::Definition,
+                TypeKind::Scalar,
+                &item.name,
+                item.directives.as_slice(),
+            )
+        }
+        Definition::ObjectTypeDefinition(item) => {
+            push_head(
+                text,
+                Role::Definition,
+                TypeKind::Object,
+                &item.name,
+                item.directives.as_slice(),
+            )?;
+            push_fields(
+                text,
+                item.implements_interfaces.as_slice(),
+                item.fields.as_slice(),
+            )
+        }
+        Definition::InterfaceTypeDefinition(item) => {
+            push_head(
+                text,
+                Role::Definition,
+                TypeKind::Interface,
+                &item.name,
+                item.directives.as_slice(),
+            )?;
+            push_fields(
+                text,
+                item.implements_interfaces.as_slice(),
+                item.fields.as_slice(),
+            )
+        }
+        Definition::UnionTypeDefinition(item) => {
+            push_head(
+                text,
+                Role::Definition,
+                TypeKind::Union,
+                &item.name,
+                item.directives.as_slice(),
+            )?;
+            push_names(text, "member ", item.members.as_slice())
+        }
+        Definition::EnumTypeDefinition(item) => {
+            push_head(
+                text,
+                Role::Definition,
+                TypeKind::Enum,
+                &item.name,
+                item.directives.as_slice(),
+            )?;
+            push_values(text, item.values.as_slice())
+        }
+        Definition::InputObjectTypeDefinition(item) => {
+            push_head(
+                text,
+                Role::Definition,
+                TypeKind::InputObject,
+                &item.name,
+                item.directives.as_slice(),
+            )?;
+            push_input_fields(text, item.fields.as_slice())
+        }
+        Definition::ScalarTypeExtension(item) => {
+            push_head(
+                text,
+                Role::Extension,
+                TypeKind::Scalar,
+                &item.name,
+                item.directives.as_slice(),
+            )
+        }
+        Definition::ObjectTypeExtension(item) => {
+            push_head(
+                text,
+                Role::Extension,
+                TypeKind::Object,
+                &item.name,
+                item.directives.as_slice(),
+            )?;
+            push_fields(
+                text,
+                item.implements_interfaces.as_slice(),
+                item.fields.as_slice(),
+            )
+        }
+        Definition::InterfaceTypeExtension(item) => {
+            push_head(
+                text,
+                Role::Extension,
+                TypeKind::Interface,
+                &item.name,
+                item.directives.as_slice(),
+            )?;
+            push_fields(
+                text,
+                item.implements_interfaces.as_slice(),
+                item.fields.as_slice(),
+            )
+        }
+        Definition::UnionTypeExtension(item) => {
+            push_head(
+                text,
+                Role::Extension,
+                TypeKind::Union,
+                &item.name,
+                item.directives.as_slice(),
+            )?;
+            push_names(text, "member ", item.members.as_slice())
+        }
+        Definition::EnumTypeExtension(item) => {
+            push_head(
+                text,
+                Role::Extension,
+                TypeKind::Enum,
+                &item.name,
+                item.directives.as_slice(),
+            )?;
+            push_values(text, item.values.as_slice())
+        }
+        Definition::InputObjectTypeExtension(item) => {
+            push_head(
+                text,
+                Role::Extension,
+                TypeKind::InputObject,
+                &item.name,
+                item.directives.as_slice(),
+            )?;
+            push_input_fields(text, item.fields.as_slice())
+        }
+        Definition::OperationDefinition(_)
+        | Definition::FragmentDefinition(_)
+        | Definition::SchemaDefinition(_)
+        | Definition::SchemaExtension(_) => Ok(()),
     }
 }
 
-fn push_object(
+/// The header of a type, and the directives of the type.
+fn push_head(
     text: &mut String,
-    header: &str,
+    role: Role,
+    kind: TypeKind,
     name: &Name,
     directives: &[Node<Directive>],
-    interfaces: &[Name],
-    fields: &[Node<FieldDefinition>],
 ) -> Result<(), AllocError>
-    ensures { OnOk result (string_bytes text.new ≡ string_bytes text.old ++ object_text header.now name.now directives.now interfaces.now fields.now) }
+    ensures { OnOk result (string_bytes text.new ≡ string_bytes text.old ++ head_text role kind name.now directives.now) }
 {
-    push_named_line(text, header, name)?;
-    push_directives(text, "@ ", directives)?;
-    push_names(text, "implements ", interfaces)?;
-    push_fields(text, fields)
+    text.push_str(role.word())?;
+    text.push_str(" ")?;
+    text.push_str(kind_word(kind))?;
+    push_named_line(text, " ", name)?;
+    push_directives(text, "@ ", directives)
 }
 
 fn push_directives(
@@ -85,9 +216,14 @@ fn push_names(text: &mut String, word: &str, names: &[Name]) -> Result<(), Alloc
     Ok(())
 }
 
-fn push_fields(text: &mut String, fields: &[Node<FieldDefinition>]) -> Result<(), AllocError>
-    ensures { OnOk result (string_bytes text.new ≡ string_bytes text.old ++ flat_map field_text fields.now) }
+fn push_fields(
+    text: &mut String,
+    interfaces: &[Name],
+    fields: &[Node<FieldDefinition>],
+) -> Result<(), AllocError>
+    ensures { OnOk result (string_bytes text.new ≡ string_bytes text.old ++ fields_text interfaces.now fields.now) }
 {
+    push_names(text, "implements ", interfaces)?;
     for field in fields {
         push_field(text, field)?;
     }
@@ -97,9 +233,61 @@ fn push_fields(text: &mut String, fields: &[Node<FieldDefinition>]) -> Result<()
 fn push_field(text: &mut String, field: &Node<FieldDefinition>) -> Result<(), AllocError>
     ensures { OnOk result (string_bytes text.new ≡ string_bytes text.old ++ field_text field.now) }
 {
-    push_typed_line(text, "field ", &field.name, &field.ty)?;
-    push_directives(text, "field@ ", field.directives.as_slice())?;
+    push_field_line(text, &field.name, &field.ty, field.directives.as_slice())?;
     push_arguments(text, field.arguments.as_slice())
+}
+
+fn push_input_fields(
+    text: &mut String,
+    fields: &[Node<InputValueDefinition>],
+) -> Result<(), AllocError>
+    ensures { OnOk result (string_bytes text.new ≡ string_bytes text.old ++ flat_map input_field_text fields.now) }
+{
+    for field in fields {
+        push_field_line(text, &field.name, &field.ty, field.directives.as_slice())?;
+    }
+    Ok(())
+}
+
+/// A field, and its directives.
+fn push_field_line(
+    text: &mut String,
+    name: &Name,
+    ty: &Type,
+    directives: &[Node<Directive>],
+) -> Result<(), AllocError>
+    ensures { OnOk result (string_bytes text.new ≡ string_bytes text.old ++ field_line_text name.now ty.now directives.now) }
+{
+    push_typed_line(text, "field ", name, ty)?;
+    push_directives(text, "field@ ", directives)
+}
+
+fn push_values(text: &mut String, values: &[Node<EnumValueDefinition>]) -> Result<(), AllocError>
+    ensures { OnOk result (string_bytes text.new ≡ string_bytes text.old ++ values_text values.now) }
+{
+    for value in values {
+        push_named_line(text, "value ", &value.value)?;
+    }
+    Ok(())
+}
+
+fn push_repeatable(text: &mut String, is_repeatable: bool) -> Result<(), AllocError>
+    ensures { OnOk result (string_bytes text.new ≡ string_bytes text.old ++ repeatable_text is_repeatable) }
+{
+    if is_repeatable {
+        text.push_str("repeatable\n")
+    } else {
+        Ok(())
+    }
+}
+
+fn push_locations(text: &mut String, locations: &[DirectiveLocation]) -> Result<(), AllocError>
+    ensures { OnOk result (string_bytes text.new ≡ string_bytes text.old ++ locations_text locations.now) }
+{
+    for location in locations {
+        push_line(text, "on ", location.name())?;
+    }
+    Ok(())
 }
 
 fn push_arguments(
@@ -117,8 +305,14 @@ fn push_arguments(
 fn push_named_line(text: &mut String, word: &str, name: &Name) -> Result<(), AllocError>
     ensures { OnOk result (string_bytes text.new ≡ string_bytes text.old ++ named_line word.now name.now) }
 {
+    push_line(text, word, name.as_str())
+}
+
+fn push_line(text: &mut String, first: &str, word: &str) -> Result<(), AllocError>
+    ensures { OnOk result (string_bytes text.new ≡ string_bytes text.old ++ word_line first.now word.now) }
+{
+    text.push_str(first)?;
     text.push_str(word)?;
-    text.push_str(name.as_str())?;
     text.push_str("\n")
 }
 

@@ -1,11 +1,13 @@
 //! Reading a whole text of the notation.
-ghost use Rattle.std.specs.Prelude.{◌≡◌, All, IfErr, IfOk, IsOkUnless, OnOk, map};
-ghost use Rattle.gqltool_run.specs.Documents.{AreDocumentsOf, ReadTo, nothing_read};
-ghost use Rattle.gqltool_run.specs.Line.{IsLine, IsReadError, lines_of, line_place};
+ghost use Rattle.std.specs.Prelude.{◌≡◌, All, IfErr, IfOk, OnOk, map};
+ghost use Rattle.gqltool_run.specs.Documents.{AreDocumentsOf, IsReadError, ReadTo, nothing_read};
+ghost use Rattle.gqltool_run.specs.Line.{IsLine, lines_of, line_place};
+ghost use Rattle.gqltool_run.specs.Refusals.{SaysNothing, WhenRefused};
 
+use crate::above::Above;
 use crate::item::OpenItem;
-use crate::line::{Above, Line, read_line};
-use crate::refusal::{LineError, ReadError, Reason, RefusedLine};
+use crate::line::{Line, read_line};
+use crate::refusal::{LineError, ReadError, RefusedLine};
 use crate::words::lines_of;
 use graphql_ast::collections::items::Items;
 use graphql_ast::document::Document;
@@ -37,7 +39,7 @@ struct DocumentReader {
 }
 
 impl DocumentReader {
-    ghost use Rattle.gqltool_run.specs.Documents.{nothing_read, above_next, item_ended, document_ended, line_added, MayStand, Takes};
+    ghost use Rattle.gqltool_run.specs.Documents.{nothing_read, above_next, item_ended, document_ended, line_added, Takes};
 
     fn new(alloc: Global) -> DocumentReader
         ensures { result ≡ nothing_read }
@@ -54,41 +56,36 @@ impl DocumentReader {
         ensures { result ≡ above_next self.now.item }
     {
         match &self.item {
-            Some(item) if item.has_field() => Above::Field,
-            Some(_) => Above::Header,
+            Some(item) => item.above(),
             None => Above::Nothing,
         }
     }
 
     /// Takes one more line.
     fn take_line(&mut self, alloc: Global, text: &str, number: usize) -> Result<(), LineError>
-        ensures { OnOk result (Takes text.now (line_place number) self.old self.new) }
+        ensures taken { OnOk result (Takes text.now (line_place number) self.old self.new) }
+        ensures refused { IfErr result (WhenRefused (SaysNothing (above_next self.old.item) (line_place number) text.now)) }
     {
         let place = line_place(number);
         let line = read_line(alloc, text, self.above(), place)?;
-        self.add(alloc, line, place)
+        Ok(self.add(alloc, line, place)?)
     }
 
-    fn add(&mut self, alloc: Global, line: Line, place: SourceSpan) -> Result<(), LineError>
-        ensures added { OnOk result (self.new ≡ line_added line place self.old) }
-        ensures stands { OnOk result (MayStand line self.old) }
-        ensures err { MayStand line self.old → IsOkUnless result LineError.Memory }
+    /// Adds what a line says. A component with no header above it adds nothing.
+    fn add(&mut self, alloc: Global, line: Line, place: SourceSpan) -> Result<(), AllocError>
+        ensures { OnOk result (self.new ≡ line_added line place self.old) }
     {
         match line {
             Line::Empty => Ok(()),
-            Line::Break => Ok(self.end_document(alloc)?),
+            Line::Break => self.end_document(alloc),
             Line::Header(header) => {
                 self.end_item(alloc)?;
                 self.item = Some(OpenItem::new(alloc, header, place));
                 Ok(())
             }
             Line::Component(component) => match &mut self.item {
-                Some(item) => Ok(item.add(alloc, component, place)?),
-                None => Err(LineError::Refused(Reason::MisplacedLine)),
-            },
-            Line::FieldPart(part) => match &mut self.item {
-                Some(item) => item.add_to_field(alloc, part, place),
-                None => Err(LineError::Refused(Reason::MisplacedLine)),
+                Some(item) => item.add(alloc, component, place),
+                None => Ok(()),
             },
         }
     }

@@ -1,15 +1,17 @@
 //! The run of the program.
-ghost use Rattle.std.specs.Prelude.{All, ◌≡◌, ◌≢◌, ℕ, List, [], ◌∷◌, codes, map, IfOk, OnOk, IfSome, string_bytes};
+ghost use Rattle.std.specs.Prelude.{All, ◌≡◌, ◌≢◌, ℕ, Bool, true, false, List, [], ◌∷◌, codes, map, IfOk, OnOk, IfSome, string_bytes};
 ghost use Rattle.std.specs.Io.KnownBytes.{Appends};
 ghost use Rattle.graphql_ast.specs.declared.definition.Definition.{Definition};
 ghost use Rattle.gqltool_run.specs.Line.{IsLine, lines_of};
 ghost use Rattle.gqltool_run.specs.SchemaCommand.{IsAnswer};
+ghost use Rattle.gqltool_run.specs.Status.{Writes};
 ghost use Rattle.gqltool_run.specs.Text.{definitions_text};
 
 use crate::failure::Failure;
+use crate::fault_printing::push_faults;
 use crate::printing::print;
 use crate::reading::read;
-use crate::schema_command::written;
+use crate::schema_command::built;
 use crate::status::Status;
 use std::alloc::Global;
 use std::io::{self, ErrorKind, Read, Write};
@@ -27,23 +29,25 @@ pub fn run<R: Read, O: Write, E: Write>(
 ) -> Status
     ensures refused { result ≡ Status.Refused → output.new ≡ output.old }
     ensures exhausted { result ≡ Status.Exhausted → output.new ≡ output.old }
-    ensures read { result ≡ Status.Done → IfSome (R.remaining reader.old) (λ input. All IsLine (lines_of input)) }
+    ensures read { Writes result → IfSome (R.remaining reader.old) (λ input. All IsLine (lines_of input)) }
     ensures means { result ≡ Status.Done → IfSome (R.remaining reader.old) (λ input. (text : List ℕ)
-        × (IsAnswer input text × Appends (O.contents output.old) (O.contents output.new) text)) }
-    ensures not_written { result ≡ Status.NotWritten → IfSome (R.remaining reader.old) (λ input. (text : List ℕ) × IsAnswer input text) }
-    ensures faultless { result ≢ Status.Faults }
+        × (IsAnswer input text false × Appends (O.contents output.old) (O.contents output.new) text)) }
+    ensures faults { result ≡ Status.Faults → IfSome (R.remaining reader.old) (λ input. (text : List ℕ)
+        × (IsAnswer input text true × Appends (O.contents output.old) (O.contents output.new) text)) }
+    ensures not_written { result ≡ Status.NotWritten → IfSome (R.remaining reader.old) (λ input. (text : List ℕ) × ((has_faults : Bool) × IsAnswer input text has_faults)) }
     ensures done { result ≡ Status.Done → (definitions : List Definition) × Appends (O.contents output.old) (O.contents output.new) (definitions_text definitions) }
-    ensures quiet { result ≡ Status.Done → errors.new ≡ errors.old }
+    ensures quiet { Writes result → errors.new ≡ errors.old }
     ensures usage { map (λ word. word.now) words.now ≢ codes "schema" ∷ [] → (result ≡ Status.Refused) × (reader.new ≡ reader.old) }
 {
-    let text = match answer(alloc, words, reader) {
-        Ok(text) => text,
+    let answer = match answer(alloc, words, reader) {
+        Ok(answer) => answer,
         Err(failure) => {
             let _ = writeln!(errors, "{failure}");
             return failure.status();
         }
     };
-    match write_out(output, text.as_str()) {
+    match write_out(output, answer.text.as_str()) {
+        Ok(()) if answer.has_faults => Status::Faults,
         Ok(()) => Status::Done,
         Err(_) => {
             let _ = writeln!(errors, "cannot write output");
@@ -52,21 +56,41 @@ pub fn run<R: Read, O: Write, E: Write>(
     }
 }
 
-/// What is to be written for the words and the input. Nothing is read where the words are refused.
-fn answer<R: Read>(alloc: Global, words: &[&str], reader: &mut R) -> Result<String, Failure>
+/// What is to be written, and whether something is at fault.
+#[derive(Drop)]
+struct WholeAnswer {
+    text: String,
+    has_faults: bool,
+}
+
+/// The answer to the words and the input. Nothing is read where the words are refused.
+fn answer<R: Read>(alloc: Global, words: &[&str], reader: &mut R) -> Result<WholeAnswer, Failure>
     ensures read { OnOk result (IfSome (R.remaining reader.old) (λ input. All IsLine (lines_of input))) }
-    ensures means { IfOk result (λ text. IfSome (R.remaining reader.old) (λ input. IsAnswer input (string_bytes text))) }
-    ensures printed { IfOk result (λ text. (definitions : List Definition) × (string_bytes text ≡ definitions_text definitions)) }
+    ensures means { IfOk result (λ answer. IfSome (R.remaining reader.old) (λ input. IsAnswer input (string_bytes answer.text) answer.has_faults)) }
+    ensures printed { IfOk result (λ answer. answer.has_faults ≡ false → (definitions : List Definition) × (string_bytes answer.text ≡ definitions_text definitions)) }
     ensures usage { map (λ word. word.now) words.now ≢ codes "schema" ∷ [] → (result ≡ Err Failure.Usage) × (reader.new ≡ reader.old) }
 {
     let ["schema"] = words else {
         return Err(Failure::Usage);
     };
     let input = read_all(alloc, reader)?;
-    let documents = read(alloc, input.as_str())?;
-    let definitions = written(alloc, documents.as_slice())?;
-    let text = print(alloc, definitions.as_slice())?;
-    Ok(text)
+    schema_answer(alloc, input.as_str())
+}
+
+/// The answer of `schema` to an input.
+fn schema_answer(alloc: Global, input: &str) -> Result<WholeAnswer, Failure>
+    ensures read { OnOk result (All IsLine (lines_of input.now)) }
+    ensures means { IfOk result (λ answer. IsAnswer input.now (string_bytes answer.text) answer.has_faults) }
+    ensures printed { IfOk result (λ answer. answer.has_faults ≡ false → (definitions : List Definition) × (string_bytes answer.text ≡ definitions_text definitions)) }
+{
+    let documents = read(alloc, input)?;
+    let (schema, faults) = built(alloc, documents.as_slice())?;
+    let mut text = print(alloc, schema.to_ast(alloc)?.as_slice())?;
+    push_faults(alloc, &mut text, faults.as_slice())?;
+    Ok(WholeAnswer {
+        text,
+        has_faults: !faults.is_empty(),
+    })
 }
 
 /// The whole input.

@@ -50,7 +50,7 @@ fn origins(alloc: Global, schema: &Schema, name: &str) -> Result<String, Fail> {
 }
 
 const AROUND: &str =
-    "ext object Q\nfield b Int\nfield a Int\next object R\nfield z Int\ndef object Q\nfield a Int\next object Q\n@ d\nimplements N\n\ndef object R\next object Q\nfield c Int";
+    "ext object Q\nfield b Int\nfield e Int\next object R\nfield z Int\ndef object Q\nfield a Int\next object Q\n@ d\nimplements N\n\ndef object R\next object Q\nfield c Int";
 
 #[test]
 fn extensions_are_numbered_as_they_are_folded(rt: HostRuntime) -> Result<(), Fail> {
@@ -59,7 +59,7 @@ fn extensions_are_numbered_as_they_are_folded(rt: HostRuntime) -> Result<(), Fai
     let q = origins(alloc, &schema, "Q")?;
     assert_eq!(rt;
         q.as_str(),
-        "d in extension 1 of line 8\nN in extension 1 of line 8\na in the definition\nb in extension 0 of line 1\nc in extension 3 of line 13\n"
+        "d in extension 1 of line 8\nN in extension 1 of line 8\na in the definition\nb in extension 0 of line 1\ne in extension 0 of line 1\nc in extension 3 of line 13\n"
     );
     let r = origins(alloc, &schema, "R")?;
     assert_eq!(rt; r.as_str(), "z in extension 2 of line 4\n");

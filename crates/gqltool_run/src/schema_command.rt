@@ -1,33 +1,24 @@
 //! What the command `schema` makes of its documents.
 ghost use Rattle.std.specs.Prelude.{◌≡◌, IfOk, IfErr};
-ghost use Rattle.apollo_schema.specs.SchemaMeaning.{MeansTypes};
-ghost use Rattle.gqltool_run.specs.SchemaCommand.{all_definitions, IsWriteOut};
+ghost use Rattle.apollo_schema.specs.SchemaFaults.{faults_of};
+ghost use Rattle.apollo_schema.specs.WholeSchema.{MeansSchema};
+ghost use Rattle.gqltool_run.specs.SchemaCommand.{list_of};
 ghost use Rattle.gqltool_run.specs.Status.{status_of};
 ghost use Rattle.gqltool_run.specs.declared.status.Status.{Status};
 ghost use Rattle.gqltool_run.specs.declared.status.Status.TheVariants as Status;
 
 use crate::failure::Failure;
-use apollo_schema::build_error::{BuildFailure, BuilderError};
+use apollo_schema::build_error::{BuildFailure, BuilderError, Faults};
 use apollo_schema::schema::Schema;
 use apollo_schema::schema_builder::SchemaBuilder;
-use graphql_ast::definition::Definition;
 use graphql_ast::document::Document;
 use std::alloc::Global;
 
-/// The definitions and extensions that the schema of the documents is written as.
-pub fn written(alloc: Global, documents: &[Document]) -> Result<Vec<Definition>, Failure>
+/// The schema of the documents, and its faults.
+pub fn built(alloc: Global, documents: &[Document]) -> Result<(Schema, Faults), Failure>
     ensures exhausted { IfErr result (λ failure. status_of failure ≡ Status.Exhausted) }
-    ensures written { IfOk result (λ written. IsWriteOut documents.now written.items) }
-{
-    let schema = built(alloc, documents)?;
-    let written = schema.to_ast(alloc)?;
-    Ok(written)
-}
-
-/// The schema of the documents.
-fn built(alloc: Global, documents: &[Document]) -> Result<Schema, Failure>
-    ensures exhausted { IfErr result (λ failure. status_of failure ≡ Status.Exhausted) }
-    ensures means { IfOk result (λ schema. MeansTypes 0 (all_definitions documents.now) schema.types) }
+    ensures means { IfOk result (λ built. MeansSchema 0 (list_of documents.now) built.0) }
+    ensures faults { IfOk result (λ built. built.1.items ≡ faults_of (list_of documents.now)) }
 {
     let mut builder = SchemaBuilder::new(alloc)?;
     for document in documents {
@@ -36,8 +27,10 @@ fn built(alloc: Global, documents: &[Document]) -> Result<Schema, Failure>
         }
     }
     match builder.build() {
-        Ok(schema) => Ok(schema),
-        Err(failure) => Err(Failure::from(failure)),
+        Ok(schema) => Ok((schema, Vec::new(alloc))),
+        Err(BuildFailure::Faults(built)) => Ok((built.partial, built.errors)),
+        Err(BuildFailure::ExtensionIds) => Err(Failure::ExtensionIds),
+        Err(BuildFailure::Memory | BuildFailure::Failed) => Err(Failure::Memory),
     }
 }
 
@@ -52,22 +45,6 @@ impl From<BuilderError> for Failure {
         match error {
             BuilderError::ExtensionIds => Failure::ExtensionIds,
             BuilderError::Memory | BuilderError::Failed => Failure::Memory,
-        }
-    }
-}
-
-// No build has faults yet.
-impl From<BuildFailure> for Failure {
-    ghost use Rattle.std.specs.Prelude.{◌≡◌};
-    ghost use Rattle.gqltool_run.specs.SchemaFailures.{failure_of_building};
-
-    ghost from_gives = { λ error failure. failure ≡ failure_of_building error };
-
-    fn from(failure: BuildFailure) -> Failure {
-        match failure {
-            BuildFailure::ExtensionIds => Failure::ExtensionIds,
-            BuildFailure::Memory | BuildFailure::Failed | BuildFailure::Faults(_) =>
-                Failure::Memory,
         }
     }
 }

@@ -35,18 +35,6 @@ fn components_stand_under_their_origins(rt: HostRuntime) -> Result<(), Fail> {
             "ext object Query\nfield b Int\n---\ndef object Query\nfield a Int\n---\next object Query\nimplements N",
             QUERY,
         ),
-        // The first field of a name stays, and the definition's comes before the extension's.
-        (
-            "ext object T\nfield a Int\ndef object T\nfield a String",
-            "def object T\nfield a String\n",
-        ),
-        // An extension without a definition is dropped.
-        ("ext object T\nfield a Int", ""),
-        (
-            "ext object T\nfield a Int\ndef object U\nfield a Int",
-            "def object U\nfield a Int\n",
-        ),
-        ("", ""),
     ];
     for (input, output) in rows {
         expect_written(&rt, alloc, input, output);

@@ -244,8 +244,7 @@ fn bad_words(rt: HostRuntime) -> Result<(), Fail> {
     let alloc = rt.alloc();
     let rows = [
         ("def thing T", "line 1: bad word\n"),
-        ("def interface T", "line 1: bad word\n"),
-        ("ext scalar T", "line 1: bad word\n"),
+        ("ext Object T", "line 1: bad word\n"),
         ("def object 9", "line 1: bad word\n"),
         ("def object a-b", "line 1: bad word\n"),
         ("def  T", "line 1: bad word\n"),

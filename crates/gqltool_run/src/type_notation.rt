@@ -1,7 +1,8 @@
 //! Types in the notation: `NAME`, `NAME!`, `[TYPE]` and `[TYPE]!`.
-ghost use Rattle.std.specs.Prelude.{◌≡◌, ◌++◌, ◌≤◌, IfOk, OnOk, Some, string_bytes};
+ghost use Rattle.std.specs.Prelude.{◌≡◌, ◌++◌, ◌≤◌, IfErr, IfOk, OnOk, Some, string_bytes};
 ghost use Rattle.graphql_ast.specs.TypeReferences.{inner_name};
 ghost use Rattle.gqltool_run.specs.Line.{IsNameAt};
+ghost use Rattle.gqltool_run.specs.Refusals.{IsBody, IsNoType, WhenRefused};
 ghost use Rattle.gqltool_run.specs.Text.{type_text, opened_brackets};
 
 use crate::refusal::{LineError, Reason};
@@ -25,12 +26,10 @@ pub fn read_type(
     ensures text { IfOk result (λ ty. type_text ty ≡ word.now) }
     ensures depth { IfOk result (λ ty. opened_brackets ty ≤ brackets) }
     ensures name { IfOk result (λ ty. IsNameAt place (inner_name ty)) }
+    ensures refused { IfErr result (WhenRefused (IsNoType brackets word.now)) }
 {
-    let (body, is_required) = match before(word, '!') {
-        Some(body) => (body, true),
-        None => (word, false),
-    };
-    let Some(opened) = after(body, '[') else {
+    let (body, is_required) = body_of(word);
+    let Some(opened) = after(body, "[") else {
         let name = read_name(alloc, body, place)?;
         return Ok(if is_required {
             Type::NonNullNamed(name)
@@ -38,7 +37,7 @@ pub fn read_type(
             Type::Named(name)
         });
     };
-    let Some(inner) = before(opened, ']') else {
+    let Some(inner) = before(opened, "]") else {
         return Err(LineError::Refused(Reason::BadWord));
     };
     if brackets == 0 {
@@ -51,6 +50,16 @@ pub fn read_type(
     } else {
         Type::List(element)
     })
+}
+
+/// A word without its last `!`, and whether it had one.
+fn body_of<'a>(word: &'a str) -> (&'a str, bool)
+    ensures { IsBody word.now result.0.now result.1 }
+{
+    match before(word, "!") {
+        Some(body) => (body, true),
+        None => (word, false),
+    }
 }
 
 /// Adds a type to a text.

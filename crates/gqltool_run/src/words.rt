@@ -1,6 +1,8 @@
 //! The lines of a text, the words of a line, and names.
-ghost use Rattle.std.specs.Prelude.{◌≡◌, ◌<◌, [], ◌∷◌, ◌++◌, map, IfOk, IfSome, Some};
+ghost use Rattle.std.specs.Prelude.{◌≡◌, ◌≢◌, ◌++◌, ℕ, List, map, IfErr, IfOk, MatchOption, Some};
+ghost use Rattle.graphql_ast.specs.NameSyntax.{IsName};
 ghost use Rattle.gqltool_run.specs.Line.{lines_of, words_of, IsNameAt};
+ghost use Rattle.gqltool_run.specs.Refusals.{WhenRefused};
 
 use crate::refusal::{LineError, Reason};
 use graphql_ast::name::Name;
@@ -21,26 +23,25 @@ pub fn words_of(alloc: Global, line: &str) -> Result<Vec<&str>, AllocError>
     line.split(' ').collect(alloc)
 }
 
-/// What follows `first` in a text that begins with it.
-pub fn after(text: &str, first: char) -> Option<&str>
-    requires { first < 128 }
-    ensures { IfSome result (λ rest. text.now ≡ first ∷ rest.now) }
+/// What follows `prefix` in a text that begins with it, and none in any other.
+pub fn after<'a>(text: &'a str, prefix: &str) -> Option<&'a str>
+    ensures { MatchOption result ((rest : List ℕ) → text.now ≢ prefix.now ++ rest) (λ rest. text.now ≡ prefix.now ++ rest.now) }
 {
-    text.strip_prefix(first)
+    text.strip_prefix(prefix)
 }
 
-/// What comes before `last` in a text that ends with it.
-pub fn before(text: &str, last: char) -> Option<&str>
-    requires { last < 128 }
-    ensures { IfSome result (λ front. text.now ≡ front.now ++ last ∷ []) }
+/// What comes before `suffix` in a text that ends with it, and none in any other.
+pub fn before<'a>(text: &'a str, suffix: &str) -> Option<&'a str>
+    ensures { MatchOption result ((front : List ℕ) → text.now ≢ front ++ suffix.now) (λ front. text.now ≡ front.now ++ suffix.now) }
 {
-    text.strip_suffix(last)
+    text.strip_suffix(suffix)
 }
 
 /// The name that a word is, at this place. A word that is no name is a bad word.
 pub fn read_name(alloc: Global, word: &str, place: SourceSpan) -> Result<Name, LineError>
     ensures text { IfOk result (λ name. name.text ≡ word.now) }
     ensures name { IfOk result (IsNameAt place) }
+    ensures refused { IfErr result (WhenRefused (¬ IsName word.now)) }
 {
     if !Name::is_valid_syntax(word) {
         return Err(LineError::Refused(Reason::BadWord));

@@ -7,5 +7,6 @@ pub mod boxed;
 pub mod items;
 pub mod key_set;
 pub mod shared;
+pub mod static_text;
 pub mod table;
 pub mod text;

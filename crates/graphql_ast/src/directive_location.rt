@@ -1,5 +1,5 @@
 //! The places where a directive may be applied: GraphQL specification of October 2021, section 3.13.
-ghost use Rattle.std.specs.Prelude.{◌≡◌, Some};
+ghost use Rattle.std.specs.Prelude.{◌≡◌, ◌≢◌, MatchOption, Some};
 ghost use Rattle.graphql_ast.specs.LocationTexts.{location_text};
 
 use std::fmt;
@@ -29,6 +29,41 @@ pub enum DirectiveLocation {
 }
 
 impl DirectiveLocation {
+    /// Every place, in the order of the specification.
+    pub const ALL: [DirectiveLocation; 19] = [
+        DirectiveLocation::Query,
+        DirectiveLocation::Mutation,
+        DirectiveLocation::Subscription,
+        DirectiveLocation::Field,
+        DirectiveLocation::FragmentDefinition,
+        DirectiveLocation::FragmentSpread,
+        DirectiveLocation::InlineFragment,
+        DirectiveLocation::VariableDefinition,
+        DirectiveLocation::Schema,
+        DirectiveLocation::Scalar,
+        DirectiveLocation::Object,
+        DirectiveLocation::FieldDefinition,
+        DirectiveLocation::ArgumentDefinition,
+        DirectiveLocation::Interface,
+        DirectiveLocation::Union,
+        DirectiveLocation::Enum,
+        DirectiveLocation::EnumValue,
+        DirectiveLocation::InputObject,
+        DirectiveLocation::InputFieldDefinition,
+    ];
+
+    /// The place of this name, and none for a text that names no place.
+    pub fn from_name(name: &str) -> Option<DirectiveLocation>
+        ensures { MatchOption result ((location : DirectiveLocation) → location_text location ≢ name.now) (λ location. location_text location ≡ name.now) }
+    {
+        for location in DirectiveLocation::ALL {
+            if location.name() == name {
+                return Some(location);
+            }
+        }
+        None
+    }
+
     /// The name as the specification writes it, as `FIELD_DEFINITION`.
     pub fn name(self) -> &'static str
         ensures { result.now ≡ location_text self }

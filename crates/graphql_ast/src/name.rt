@@ -214,3 +214,9 @@ impl fmt::Display for Name {
         fmt::Display::fmt(&self.shared, f)
     }
 }
+
+impl fmt::Debug for Name {
+    fn fmt<W: fmt::Write>(&self, f: &mut fmt::Formatter<W>) -> fmt::Result {
+        fmt::Debug::fmt(&self.shared, f)
+    }
+}

@@ -1,7 +1,7 @@
 //! Nodes of the syntax tree.
-ghost use Rattle.std.specs.Prelude.{◌≡◌, IfOk, None, Some, ◌↔◌, IsTrue};
+ghost use Rattle.std.specs.Prelude.{◌≡◌, IfOk, None, Some};
 ghost use Rattle.std.specs.Borrow.{sem};
-ghost use Rattle.graphql_ast.specs.BuiltIn.{IsBuiltIn};
+ghost use Rattle.graphql_ast.specs.BuiltIn.{is_built_in};
 ghost use Rattle.std.specs.Cmp.{on_equiv, on_per};
 ghost use Rattle.std.specs.Cmp.Rules.{hashing};
 ghost use Rattle.std.proofs.Common.{rules};
@@ -86,7 +86,7 @@ impl<T> Node<T> {
 
     /// Whether the node stands in the file of built-in definitions.
     pub fn is_built_in(&self) -> bool
-        ensures { IsTrue result ↔ IsBuiltIn self.now.location }
+        ensures { result ≡ is_built_in self.now.location }
     {
         match self.shared.place {
             Some(span) => span.file == FileId::BUILT_IN,

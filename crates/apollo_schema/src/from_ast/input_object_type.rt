@@ -1,21 +1,26 @@
 //! Input object types from definitions and extensions.
 ghost use Rattle.std.specs.Prelude.{◌≡◌, ◌+◌, ◌^◌, ◌≤◌, List, [], ◌∷◌, ◌++◌, length, map, IfOk, IfErr, OnOk};
+ghost use Rattle.std.specs.List.{flat_map};
 ghost use Rattle.graphql_ast.specs.declared.type_kind.TypeKind.TheVariants as kinds;
 ghost use Rattle.apollo_component.specs.Extensions.{next_number, source_at};
 ghost use Rattle.apollo_component.specs.declared.extension.ComponentOrigin.TheVariants as origins;
 ghost use Rattle.apollo_schema.specs.TypeParts.{TypePart, InputObjectBody, input_object_definition_part, input_object_extension_part, extended_parts};
 ghost use Rattle.apollo_schema.specs.DefinitionList.{of_kind};
 ghost use Rattle.apollo_schema.specs.TypeMeaning.{Sourced, input_object_of, extension_part, numbered};
+ghost use Rattle.apollo_schema.specs.TypeFaults.{body_faults, part_faults};
 ghost use Rattle.apollo_schema.specs.Refusals.{RefusedAs};
 
-use crate::build_error::BuilderError;
-use crate::from_ast::{fold_directives, fold_named};
+use crate::build_error::{BuilderError, Fault};
+use crate::collision::Collection;
+use crate::from_ast::folding::{fold_directives, fold_named};
 use apollo_component::directive_list::DirectiveList;
 use apollo_component::extension::{ComponentOrigin, ExtensionId, ExtensionSource};
 use apollo_types::input_object_type::InputObjectType;
+use graphql_ast::collections::items::Items;
 use graphql_ast::collections::table::Table;
 use graphql_ast::definition::Definition;
 use graphql_ast::directive::Directive;
+use graphql_ast::name::Name;
 use graphql_ast::node::Node;
 use graphql_ast::type_system::{
     InputObjectTypeDefinition, InputObjectTypeExtension, InputValueDefinition,
@@ -28,13 +33,24 @@ fn fold(
     directives: &[Node<Directive>],
     fields: &[Node<InputValueDefinition>],
     origin: ComponentOrigin,
+    type_name: &Name,
+    errors: &mut Items<Fault>,
 ) -> Result<(), AllocError>
-    ensures { OnOk result ((head part : TypePart) (done : List Sourced)
+    ensures folded { OnOk result ((head part : TypePart) (done : List Sourced)
         → part.directives ≡ directives.now → part.body ≡ InputObjectBody fields.now → ty.old ≡ input_object_of head done
         → ty.new ≡ input_object_of head (done ++ (origin, part) ∷ [])) }
+    ensures faults { OnOk result ((head : TypePart) (done : List Sourced) → ty.old ≡ input_object_of head done
+        → errors.new ≡ errors.old ++ body_faults (InputObjectBody fields.now) type_name.now (map (λ s. s.1) done)) }
 {
     fold_directives(&mut ty.directives, directives, origin)?;
-    fold_named(&mut ty.fields, fields, origin)?;
+    fold_named(
+        &mut ty.fields,
+        fields,
+        origin,
+        Collection::InputFields,
+        type_name,
+        errors,
+    )?;
     Ok(())
 }
 
@@ -57,9 +73,11 @@ fn bare(
 pub fn input_object_from_ast(
     alloc: Global,
     node: &Node<InputObjectTypeDefinition>,
+    errors: &mut Items<Fault>,
 ) -> Result<Node<InputObjectType>, AllocError>
-    ensures { IfOk result (λ ty. let head = input_object_definition_part node.now in
+    ensures made { IfOk result (λ ty. let head = input_object_definition_part node.now in
         ty ≡ record { value = input_object_of head ((origins.Definition, head) ∷ []); location = head.location }) }
+    ensures faults { OnOk result (errors.new ≡ errors.old ++ part_faults [] (input_object_definition_part node.now)) }
 {
     let mut ty = bare(alloc, node)?;
     fold(
@@ -67,6 +85,8 @@ pub fn input_object_from_ast(
         node.directives.as_slice(),
         node.fields.as_slice(),
         ComponentOrigin::Definition,
+        &node.name,
+        errors,
     )?;
     let made = node.same_location(alloc, ty)?;
     Ok(made)
@@ -77,15 +97,20 @@ fn extend(
     ty: &mut InputObjectType,
     node: &Node<InputObjectTypeExtension>,
     origin: ComponentOrigin,
+    errors: &mut Items<Fault>,
 ) -> Result<(), AllocError>
-    ensures { OnOk result ((head : TypePart) (done : List Sourced) → ty.old ≡ input_object_of head done
+    ensures folded { OnOk result ((head : TypePart) (done : List Sourced) → ty.old ≡ input_object_of head done
         → ty.new ≡ input_object_of head (done ++ (origin, input_object_extension_part node.now) ∷ [])) }
+    ensures faults { OnOk result ((head : TypePart) (done : List Sourced) → ty.old ≡ input_object_of head done
+        → errors.new ≡ errors.old ++ part_faults (map (λ s. s.1) done) (input_object_extension_part node.now)) }
 {
     fold(
         ty,
         node.directives.as_slice(),
         node.fields.as_slice(),
         origin,
+        &node.name,
+        errors,
     )?;
     Ok(())
 }
@@ -95,9 +120,12 @@ pub fn extend_input_object(
     node: &mut Node<InputObjectType>,
     extension: &Definition,
     ids: &mut ExtensionSource,
+    errors: &mut Items<Fault>,
 ) -> Result<(), BuilderError>
     ensures folded { OnOk result ((head : TypePart) (done : List Sourced) → node.old.value ≡ input_object_of head done
         → node.new.value ≡ input_object_of head (done ++ map extension_part (numbered (next_number ids.old) (of_kind kinds.InputObject (extended_parts (extension.now ∷ [])))))) }
+    ensures faults { OnOk result ((head : TypePart) (done : List Sourced) → node.old.value ≡ input_object_of head done
+        → errors.new ≡ errors.old ++ flat_map (part_faults (map (λ s. s.1) done)) (of_kind kinds.InputObject (extended_parts (extension.now ∷ [])))) }
     ensures place { OnOk result (node.new.location ≡ node.old.location) }
     ensures next { OnOk result (ids.new ≡ source_at (next_number ids.old + length (of_kind kinds.InputObject (extended_parts (extension.now ∷ []))))) }
     ensures refused { IfErr result (λ error. RefusedAs error (2 ^ 64 ≤ next_number ids.old + length (of_kind kinds.InputObject (extended_parts (extension.now ∷ []))))) }
@@ -106,6 +134,11 @@ pub fn extend_input_object(
         return Ok(());
     };
     let id = ExtensionId::new(ids, extension)?;
-    extend(node.make_mut()?, extension, ComponentOrigin::Extension(id))?;
+    extend(
+        node.make_mut()?,
+        extension,
+        ComponentOrigin::Extension(id),
+        errors,
+    )?;
     Ok(())
 }

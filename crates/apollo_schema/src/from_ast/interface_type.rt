@@ -1,18 +1,22 @@
 //! Interface types from definitions and extensions.
 ghost use Rattle.std.specs.Prelude.{◌≡◌, ◌+◌, ◌^◌, ◌≤◌, List, [], ◌∷◌, ◌++◌, length, map, IfOk, IfErr, OnOk};
+ghost use Rattle.std.specs.List.{flat_map};
 ghost use Rattle.graphql_ast.specs.declared.type_kind.TypeKind.TheVariants as kinds;
 ghost use Rattle.apollo_component.specs.Extensions.{next_number, source_at};
 ghost use Rattle.apollo_component.specs.declared.extension.ComponentOrigin.TheVariants as origins;
 ghost use Rattle.apollo_schema.specs.TypeParts.{TypePart, InterfaceBody, interface_definition_part, interface_extension_part, extended_parts};
 ghost use Rattle.apollo_schema.specs.DefinitionList.{of_kind};
 ghost use Rattle.apollo_schema.specs.TypeMeaning.{Sourced, interface_of, extension_part, numbered};
+ghost use Rattle.apollo_schema.specs.TypeFaults.{body_faults, part_faults};
 ghost use Rattle.apollo_schema.specs.Refusals.{RefusedAs};
 
-use crate::build_error::BuilderError;
-use crate::from_ast::{fold_directives, fold_named, fold_names};
+use crate::build_error::{BuilderError, Fault};
+use crate::collision::Collection;
+use crate::from_ast::folding::{fold_directives, fold_named, fold_names};
 use apollo_component::directive_list::DirectiveList;
 use apollo_component::extension::{ComponentOrigin, ExtensionId, ExtensionSource};
 use apollo_types::interface_type::InterfaceType;
+use graphql_ast::collections::items::Items;
 use graphql_ast::collections::key_set::KeySet;
 use graphql_ast::collections::table::Table;
 use graphql_ast::definition::Definition;
@@ -29,14 +33,32 @@ fn fold(
     interfaces: &[Name],
     fields: &[Node<FieldDefinition>],
     origin: ComponentOrigin,
+    type_name: &Name,
+    errors: &mut Items<Fault>,
 ) -> Result<(), AllocError>
-    ensures { OnOk result ((head part : TypePart) (done : List Sourced)
+    ensures folded { OnOk result ((head part : TypePart) (done : List Sourced)
         → part.directives ≡ directives.now → part.body ≡ InterfaceBody interfaces.now fields.now → ty.old ≡ interface_of head done
         → ty.new ≡ interface_of head (done ++ (origin, part) ∷ [])) }
+    ensures faults { OnOk result ((head : TypePart) (done : List Sourced) → ty.old ≡ interface_of head done
+        → errors.new ≡ errors.old ++ body_faults (InterfaceBody interfaces.now fields.now) type_name.now (map (λ s. s.1) done)) }
 {
     fold_directives(&mut ty.directives, directives, origin)?;
-    fold_names(&mut ty.implements_interfaces, interfaces, origin)?;
-    fold_named(&mut ty.fields, fields, origin)?;
+    fold_names(
+        &mut ty.implements_interfaces,
+        interfaces,
+        origin,
+        Collection::InterfaceInterfaces,
+        type_name,
+        errors,
+    )?;
+    fold_named(
+        &mut ty.fields,
+        fields,
+        origin,
+        Collection::InterfaceFields,
+        type_name,
+        errors,
+    )?;
     Ok(())
 }
 
@@ -57,9 +79,11 @@ fn bare(alloc: Global, definition: &InterfaceTypeDefinition) -> Result<Interface
 pub fn interface_from_ast(
     alloc: Global,
     node: &Node<InterfaceTypeDefinition>,
+    errors: &mut Items<Fault>,
 ) -> Result<Node<InterfaceType>, AllocError>
-    ensures { IfOk result (λ ty. let head = interface_definition_part node.now in
+    ensures made { IfOk result (λ ty. let head = interface_definition_part node.now in
         ty ≡ record { value = interface_of head ((origins.Definition, head) ∷ []); location = head.location }) }
+    ensures faults { OnOk result (errors.new ≡ errors.old ++ part_faults [] (interface_definition_part node.now)) }
 {
     let mut ty = bare(alloc, node)?;
     fold(
@@ -68,6 +92,8 @@ pub fn interface_from_ast(
         node.implements_interfaces.as_slice(),
         node.fields.as_slice(),
         ComponentOrigin::Definition,
+        &node.name,
+        errors,
     )?;
     let made = node.same_location(alloc, ty)?;
     Ok(made)
@@ -78,9 +104,12 @@ fn extend(
     ty: &mut InterfaceType,
     node: &Node<InterfaceTypeExtension>,
     origin: ComponentOrigin,
+    errors: &mut Items<Fault>,
 ) -> Result<(), AllocError>
-    ensures { OnOk result ((head : TypePart) (done : List Sourced) → ty.old ≡ interface_of head done
+    ensures folded { OnOk result ((head : TypePart) (done : List Sourced) → ty.old ≡ interface_of head done
         → ty.new ≡ interface_of head (done ++ (origin, interface_extension_part node.now) ∷ [])) }
+    ensures faults { OnOk result ((head : TypePart) (done : List Sourced) → ty.old ≡ interface_of head done
+        → errors.new ≡ errors.old ++ part_faults (map (λ s. s.1) done) (interface_extension_part node.now)) }
 {
     fold(
         ty,
@@ -88,6 +117,8 @@ fn extend(
         node.implements_interfaces.as_slice(),
         node.fields.as_slice(),
         origin,
+        &node.name,
+        errors,
     )?;
     Ok(())
 }
@@ -97,9 +128,12 @@ pub fn extend_interface(
     node: &mut Node<InterfaceType>,
     extension: &Definition,
     ids: &mut ExtensionSource,
+    errors: &mut Items<Fault>,
 ) -> Result<(), BuilderError>
     ensures folded { OnOk result ((head : TypePart) (done : List Sourced) → node.old.value ≡ interface_of head done
         → node.new.value ≡ interface_of head (done ++ map extension_part (numbered (next_number ids.old) (of_kind kinds.Interface (extended_parts (extension.now ∷ [])))))) }
+    ensures faults { OnOk result ((head : TypePart) (done : List Sourced) → node.old.value ≡ interface_of head done
+        → errors.new ≡ errors.old ++ flat_map (part_faults (map (λ s. s.1) done)) (of_kind kinds.Interface (extended_parts (extension.now ∷ [])))) }
     ensures place { OnOk result (node.new.location ≡ node.old.location) }
     ensures next { OnOk result (ids.new ≡ source_at (next_number ids.old + length (of_kind kinds.Interface (extended_parts (extension.now ∷ []))))) }
     ensures refused { IfErr result (λ error. RefusedAs error (2 ^ 64 ≤ next_number ids.old + length (of_kind kinds.Interface (extended_parts (extension.now ∷ []))))) }
@@ -108,6 +142,11 @@ pub fn extend_interface(
         return Ok(());
     };
     let id = ExtensionId::new(ids, extension)?;
-    extend(node.make_mut()?, extension, ComponentOrigin::Extension(id))?;
+    extend(
+        node.make_mut()?,
+        extension,
+        ComponentOrigin::Extension(id),
+        errors,
+    )?;
     Ok(())
 }

@@ -9,7 +9,7 @@ ghost use Rattle.apollo_schema.specs.TypeMeaning.{Sourced, scalar_of, extension_
 ghost use Rattle.apollo_schema.specs.Refusals.{RefusedAs};
 
 use crate::build_error::BuilderError;
-use crate::from_ast::fold_directives;
+use crate::from_ast::folding::fold_directives;
 use apollo_component::directive_list::DirectiveList;
 use apollo_component::extension::{ComponentOrigin, ExtensionId, ExtensionSource};
 use apollo_types::scalar_type::ScalarType;

@@ -1,5 +1,6 @@
 use crate::schema::Schema;
 use crate::schema_builder::SchemaBuilder;
+use crate::tests::faulty;
 use graphql_ast::collections::items::Items;
 use graphql_ast::definition::Definition;
 use graphql_ast::directive::{Directive, DirectiveList};
@@ -267,7 +268,12 @@ fn extensions_fold_into_their_kind_alone(rt: HostRuntime) -> Result<(), Fail> {
     document
         .definitions
         .push(extension(alloc, TypeKind::Enum, "N")?)?;
-    let written = built(alloc, &document)?.to_ast(alloc)?;
+    let mut builder = SchemaBuilder::new(alloc)?;
+    builder.add_ast(&document)?;
+    let found = faulty(builder)?;
+    let written = found.partial.to_ast(alloc)?;
     assert!(rt; written.as_slice() == in_order(alloc)?.definitions.as_slice());
+    // two extensions of another kind, and a second definition of each name
+    assert_eq!(rt; found.errors.len(), 8);
     Ok(())
 }

@@ -3,7 +3,7 @@ ghost use Rattle.std.specs.Prelude.{◌≡◌, ◌==◌, ◌<◌, ◌^◌, [], l
 ghost use Rattle.std.specs.Cmp;
 ghost use Rattle.std.specs.Option.{option_copied};
 ghost use Rattle.std.specs.Map.Iter.{ShowsInOrder, deref};
-ghost use Rattle.std.specs.List.{list_any, IsDistinct};
+ghost use Rattle.std.specs.List.{find, list_any, IsDistinct};
 ghost use Rattle.graphql_ast.specs.KeySets.{set_eq, set_eq_equiv, insert_key, remove_key, has_key, IsSetClone};
 
 use indexmap::IndexSet;
@@ -85,6 +85,13 @@ impl<T: Eq + Hash> KeySet<T> {
         ensures unique { IsDistinct T.eq self.now }
     {
         self.set.as_slice()
+    }
+
+    /// The key that is there and equal to this one, if there is one.
+    pub fn get(&self, key: &T) -> Option<&T>
+        ensures { option_copied result ≡ find (T.eq key.now) self.now }
+    {
+        self.set.get(key)
     }
 
     /// Whether a key equal to this one is there.

@@ -1,5 +1,5 @@
 //! Maps in the order of insertion.
-ghost use Rattle.std.specs.Prelude.{◌≡◌, ◌==◌, ◌<◌, ◌+◌, ◌^◌, [], ◌∷◌, ◌++◌, length, Some, None, IsSome, IfSome, IfOk, IfErr, OnOk, OnErr, is_some, if◌then◌else◌};
+ghost use Rattle.std.specs.Prelude.{◌≡◌, ◌==◌, ◌<◌, ◌+◌, ◌^◌, [], ◌∷◌, ◌++◌, length, Some, None, IsSome, IfSome, IfOk, IfErr, OnOk, OnErr, is_some, option_map, if◌then◌else◌};
 ghost use Rattle.std.specs.Borrow.{sem};
 ghost use Rattle.std.specs.Cmp;
 ghost use Rattle.std.specs.Cmp.{partial_equiv_from_equiv};
@@ -88,6 +88,14 @@ impl<K: Eq + Hash, V> Table<K, V> {
         ensures { option_copied result ≡ lookup (K.eq key.now) self.now }
     {
         self.map.get(key)
+    }
+
+    /// The key that is there, with its value, if there is an entry with the key.
+    pub fn get_key_value(&self, key: &K) -> Option<(&K, &V)>
+        ensures key { option_map (λ e. e.0.now) result ≡ lookup_key (K.eq key.now) self.now }
+        ensures value { option_map (λ e. e.1.now) result ≡ lookup (K.eq key.now) self.now }
+    {
+        self.map.get_key_value(key)
     }
 
     /// Whether there is an entry with the key.

@@ -11,6 +11,7 @@ pub const PLACE: SourceSpan = SourceSpan {
     end: 17,
 };
 
+/// A hash of the value, for tests to compare. It has no clause, since no contract says what the value of a hash is.
 pub fn hash_of<T: Hash>(value: &T) -> u64 {
     let mut state = DefaultHasher::new();
     value.hash(&mut state);

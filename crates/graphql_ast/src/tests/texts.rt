@@ -62,6 +62,10 @@ fn directive_locations(rt: HostRuntime) -> Result<(), Fail> {
     ] {
         assert_eq!(rt; location.name(), text);
         assert_eq!(rt; location.to_string(alloc)?.as_str(), text);
+        assert_eq!(rt; DirectiveLocation::from_name(text), Some(location));
+    }
+    for text in ["", "NOWHERE", "query", "QUERY ", "FIELD_", "ENUM_VALUES"] {
+        assert_eq!(rt; DirectiveLocation::from_name(text), None);
     }
     Ok(())
 }

@@ -1,12 +1,14 @@
-use Rattle.std.proofs.Common.{◌≡◌, ℕ, ◌+◌, [], ◌∷◌, ◌++◌, map, length, take, sym, ap, ◌∙◌, arith, length-append}
+use Rattle.std.proofs.Common.{◌≡◌, ℕ, ◌+◌, [], ◌∷◌, ◌++◌, map, length, take, sym, ap, ◌∙◌, append_assoc, arith, length-append}
 use Rattle.std.proofs.lemmas.Result.{err_from_is_err_and}
 use Rattle.graphql_ast.specs.declared.type_kind.TypeKind.{TypeKind}
 use Rattle.apollo_component.specs.Extensions.{next_number, source_at}
 use Rattle.apollo_schema.specs.TypeParts.{extended_parts, kind_of}
 use Rattle.apollo_schema.specs.DefinitionList.{of_kind}
 use Rattle.apollo_schema.specs.TypeMeaning.{type_from, extension_part, numbered}
+use Rattle.apollo_schema.specs.Joining.{joining_faults}
 use Rattle.apollo_types.specs.TypeWriteOut.{type_kind}
 use Rattle.apollo_schema.proofs.FoldingLemmas.{numbered-more, of_kind-turn, of_kind-past, type_kind-from}
+use Rattle.apollo_schema.proofs.JoiningLemmas.{parts-numbered, joining-turn}
 use Rattle.apollo_schema.proofs.RefusalLemmas.{RefusedAs-weaker}
 use Rattle.apollo_schema.proofs.from_ast.extend_type_by_all.Goals as goal
 
@@ -29,6 +31,15 @@ loop-extension-preserved c =
           now.folded head (done ++ map extension_part (numbered start (before (kind_of head)))) (was.folded head done h)
           ∙ ap (λ (n : ℕ). type_from head ((done ++ map extension_part (numbered start (before (kind_of head)))) ++ map extension_part (numbered n (these (kind_of head))))) (at ∙ ap (λ k. start + length (before k)) kinds)
           ∙ ap (type_from head) (sym (numbered-more done start (before (kind_of head)) (these (kind_of head))) ∙ ap (λ l. done ++ map extension_part (numbered start l)) (sym (turn (kind_of head))));
+      faults = λ head done h.
+          let base = map (λ s. s.1) done in
+          let early = extended_parts (take i xs) in
+          let this = extended_parts (x ∷ []) in
+          let faults = c.args.errors.now in
+          now.faults head (done ++ map extension_part (numbered start (before (kind_of head)))) (was.folded head done h)
+          ∙ (λ i. was.faults head done h i ++ joining_faults head (parts-numbered done start (before (kind_of head)) i) this)
+          ∙ append_assoc faults (joining_faults head base early) (joining_faults head (base ++ before (kind_of head)) this)
+          ∙ ap (λ l. faults ++ l) (sym (joining-turn head base xs i x (omega arith) c.extension-item.is));
       kind = now.kind ∙ was.kind;
       next =
           let kinds : type_kind c.loop-extension.ty ≡ k = was.kind in

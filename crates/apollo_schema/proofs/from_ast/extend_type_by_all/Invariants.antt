@@ -3,6 +3,7 @@ use Rattle.apollo_component.specs.Extensions.{next_number, source_at}
 use Rattle.apollo_schema.specs.TypeParts.{TypePart, extended_parts, kind_of}
 use Rattle.apollo_schema.specs.DefinitionList.{of_kind}
 use Rattle.apollo_schema.specs.TypeMeaning.{Sourced, type_from, extension_part, numbered}
+use Rattle.apollo_schema.specs.Joining.{joining_faults}
 use Rattle.apollo_types.specs.TypeWriteOut.{type_kind}
 use Rattle.apollo_schema.proofs.from_ast.extend_type_by_all.Given as goal
 
@@ -12,6 +13,8 @@ invariant-loop-extension l =
     record {
       folded : (head : TypePart) (done : List Sourced) → l.fn.ty ≡ type_from head done
           → l.ty ≡ type_from head (done ++ map extension_part (numbered (next_number l.fn.ids) (of_kind (kind_of head) so_far)));
+      faults : (head : TypePart) (done : List Sourced) → l.fn.ty ≡ type_from head done
+          → l.errors ≡ l.fn.errors ++ joining_faults head (map (λ s. s.1) done) so_far;
       kind : type_kind l.ty ≡ type_kind l.fn.ty;
       next : l.ids ≡ source_at (next_number l.fn.ids + length (of_kind (type_kind l.fn.ty) so_far));
     }

@@ -1,13 +1,14 @@
--- Each line so far says something, and what the lines left lead to, all lines lead to.
+-- Each line so far says something, the lines so far lead to the state, and what the lines left lead to, all lines lead to.
 use Rattle.std.proofs.Common.{◌+◌, ℕ, List, Bor, take, drop, map, All}
 use Rattle.graphql_ast.specs.declared.document.Document.{Document}
 use Rattle.gqltool_run.specs.Line.{IsLine}
-use Rattle.gqltool_run.specs.Documents.{ReadTo, nothing_read}
+use Rattle.gqltool_run.specs.Documents.{LeadTo, ReadTo, nothing_read}
 use Rattle.gqltool_run.specs.declared.reading.DocumentReader.{DocumentReader}
 use Rattle.gqltool_run.proofs.reading.read_lines.Given as goal
 
 pub record HasRead (lines : List (Bor (List ℕ))) (index : ℕ) (reader : DocumentReader) : Type 0 where
   pub read : All (λ line. IsLine line.now) (take index lines)
+  pub led : LeadTo 1 (map (λ line. line.now) (take index lines)) nothing_read reader
   pub leads : (documents : List Document) → ReadTo (index + 1) (map (λ line. line.now) (drop index lines)) reader documents → ReadTo 1 (map (λ line. line.now) lines) nothing_read documents
 
 abbrev pub invariant-loop-index : goal.invariant-loop-index

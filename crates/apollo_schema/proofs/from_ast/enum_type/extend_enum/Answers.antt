@@ -1,5 +1,7 @@
 use Rattle.std.proofs.Common.{◌≡◌, [], ◌∷◌, ◌++◌, map, sym, ap, ◌∙◌, rules}
 use Rattle.std.specs.Result.{IsOk}
+use Rattle.std.specs.List.{flat_map}
+use Rattle.std.proofs.lemmas.List.{append-nil}
 use Rattle.graphql_ast.specs.NodeView.{NodeView}
 use Rattle.graphql_ast.specs.declared.definition.Definition.{Definition}
 use Rattle.graphql_ast.specs.declared.type_kind.TypeKind.TheVariants as kinds
@@ -9,6 +11,7 @@ use Rattle.apollo_types.specs.declared.enum_type.EnumType.{EnumType}
 use Rattle.apollo_schema.specs.TypeParts.{enum_extension_part, extended_parts}
 use Rattle.apollo_schema.specs.DefinitionList.{of_kind}
 use Rattle.apollo_schema.specs.TypeMeaning.{enum_of, extension_part, numbered}
+use Rattle.apollo_schema.specs.TypeFaults.{part_faults}
 use Rattle.apollo_schema.proofs.from_ast.enum_type.extend_enum.Goals as goal
 
 pub returns-clause-folded : goal.returns-clause-folded
@@ -16,6 +19,14 @@ returns-clause-folded c = λ head done was.
     let e = c.in-EnumTypeExtension.extension in
     let ok : IsOk c.make_mut.result = search rules in
     let lent : (c.make_mut.follows.lender c.extend.new.ty).value ≡ c.extend.new.ty = ap (λ (n : NodeView EnumType). n.value) (c.make_mut.follows.holds c.extend.new.ty ok) in
-    lent ∙ c.in_ok-extend.ensures head done (c.in_ok-make_mut.ensures.value ∙ was)
+    lent ∙ c.in_ok-extend.ensures.folded head done (c.in_ok-make_mut.ensures.value ∙ was)
     ∙ ap (λ id. enum_of head (done ++ (Extension id, enum_extension_part e) ∷ [])) c.in_ok-id.ensures.drawn.0
     ∙ ap (λ (d : Definition). enum_of head (done ++ map extension_part (numbered (next_number c.args.ids.now) (of_kind kinds.Enum (extended_parts (d ∷ [])))))) (sym c.in-EnumTypeExtension.is)
+
+pub returns-clause-faults : goal.returns-clause-faults
+returns-clause-faults c = λ head done was.
+    let before = c.args.errors.now in
+    let parts = map (λ s. s.1) done in
+    c.in_ok-extend.ensures.faults head done (c.in_ok-make_mut.ensures.value ∙ was)
+    ∙ ap (λ l. before ++ l) (sym (append-nil (part_faults parts (enum_extension_part c.in-EnumTypeExtension.extension))))
+    ∙ ap (λ (d : Definition). before ++ flat_map (part_faults parts) (of_kind kinds.Enum (extended_parts (d ∷ [])))) (sym c.in-EnumTypeExtension.is)

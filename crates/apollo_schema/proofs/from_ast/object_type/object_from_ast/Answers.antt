@@ -1,17 +1,30 @@
-use Rattle.std.proofs.Common.{◌≡◌, [], ◌∷◌, ◌∙◌}
+use Rattle.std.proofs.Common.{◌≡◌, [], ◌∷◌, ◌∙◌, ◌++◌}
 use Rattle.apollo_component.specs.declared.extension.ComponentOrigin.TheVariants.{Definition}
 use Rattle.apollo_schema.specs.TypeParts.{ObjectBody, object_definition_part}
 use Rattle.apollo_schema.specs.TypeMeaning.{object_of}
+use Rattle.apollo_schema.specs.TypeFaults.{body_faults}
 use Rattle.apollo_schema.proofs.from_ast.object_type.object_from_ast.Goals as goal
 
-pub returns : goal.returns
-returns c =
+-- before its components are folded in, the type is that of no parts
+bare_type : (c : goal.In_ok-made) → c.in_ok-ty.ty ≡ object_of (object_definition_part c.args.node.now) []
+bare_type c = c.in_ok-ty.ensures
+    ∙ λ i. record { description = (c.deref.ensures i).description; name = (c.deref.ensures i).name; implements_interfaces = []; directives = record { 0 = [] }; fields = [] }
+
+pub returns-clause-made : goal.returns-clause-made
+returns-clause-made c =
     let n = c.args.node.now in
     let head = object_definition_part n in
     let directives : n.value.directives.0 ≡ c.as_slice.result.now = cc in
     let interfaces : n.value.implements_interfaces ≡ c.as_slice-2.result.now = cc in
     let fields : n.value.fields ≡ c.as_slice-3.result.now = cc in
-    let start : c.in_ok-ty.ty ≡ object_of head [] = c.in_ok-ty.ensures
-    ∙ λ i. record { description = (c.deref.ensures i).description; name = (c.deref.ensures i).name; implements_interfaces = []; directives = record { 0 = [] }; fields = [] } in
-    let folded : c.fold.new.ty ≡ object_of head ((Definition, head) ∷ []) = c.in_ok-fold.ensures head head [] directives (λ i. ObjectBody (interfaces i) (fields i)) start in
+    let folded : c.fold.new.ty ≡ object_of head ((Definition, head) ∷ []) = c.in_ok-fold.ensures.folded head head [] directives (λ i. ObjectBody (interfaces i) (fields i)) (bare_type c) in
     c.in_ok-made.ensures ∙ λ i. record { value = folded i; location = n.location }
+
+pub returns-clause-faults : goal.returns-clause-faults
+returns-clause-faults c =
+    let n = c.args.node.now in
+    let head = object_definition_part n in
+    let interfaces : c.as_slice-2.result.now ≡ n.value.implements_interfaces = cc in
+    let fields : c.as_slice-3.result.now ≡ n.value.fields = cc in
+    let name : c.deref-6.result.now.name ≡ n.value.name = cc in
+    c.in_ok-fold.ensures.faults head [] (bare_type c) ∙ λ i. c.args.errors.now ++ body_faults (ObjectBody (interfaces i) (fields i)) (name i) []

@@ -1,5 +1,5 @@
 use Rattle.std.proofs.Common.{◌≡◌, ℕ, ◌+◌, ◌^◌, ◌≤◌, List, ◌++◌, length, sym, ap, subst, ◌∙◌}
-use Rattle.std.proofs.lemmas.List.Elements.{filter_map-append}
+use Rattle.std.proofs.lemmas.List.{map-append}
 use Rattle.apollo_schema.specs.declared.build_error.BuilderError.{BuilderError}
 use Rattle.apollo_schema.specs.declared.build_error.BuilderError.TheVariants.{ExtensionIds}
 use Rattle.apollo_schema.specs.TypeParts.{TypePart, TypeItem, item_of, items_of}
@@ -13,7 +13,7 @@ use Rattle.apollo_schema.proofs.schema_builder.SchemaBuilder.add_ast.Goals as go
 pub returns-clause-stands : goal.returns-clause-stands
 returns-clause-stands c = λ start xs was.
     let ds = c.args.document.now.definitions in
-    subst (λ (l : List TypeItem). Stands start l c.take_document.new.self) (sym (filter_map-append item_of xs ds))
+    subst (λ (l : List TypeItem). Stands start l c.take_document.new.self) (sym (map-append item_of xs ds))
     (c.in_default-take_document.ensures.stands start (items_of xs) (subst (StateStands start (items_of xs)) c.in-Open.is was))
 
 pub returns-in-Err-clause-spent : goal.returns-in-Err-clause-spent
@@ -23,5 +23,5 @@ returns-in-Err-clause-spent c = λ spent start xs was.
     let reason = subst (λ (e : BuilderError). RefusedAs e ((start : ℕ) (xs : List TypeItem) → Stands start xs c.in-Open.tables → 2 ^ 64 ≤ start + length (folded (xs ++ items_of ds)))) is c.in-Err.ensures.refused in
     let full = reason start (items_of xs) (subst (StateStands start (items_of xs)) c.in-Open.is was) in
     let whole : folded (items_of xs ++ items_of ds) ≡ folded_in_order (items_of (xs ++ ds)) =
-    ap folded (sym (filter_map-append item_of xs ds)) ∙ sym (folding_order-forget (items_of (xs ++ ds))) in
+    ap folded (sym (map-append item_of xs ds)) ∙ sym (folding_order-forget (items_of (xs ++ ds))) in
     subst (λ (l : List TypePart). 2 ^ 64 ≤ start + length l) whole full

@@ -1,6 +1,5 @@
 use Rattle.std.proofs.Common.{◌≡◌, ℕ, ◌+◌, ◌<◌, get_or, take, drop, List, [], ◌∷◌, ◌++◌, length, sym, ap, subst, ◌∙◌, append_assoc, arith}
-use Rattle.std.proofs.lemmas.List.{take_more, take-append-drop, take_all}
-use Rattle.std.proofs.lemmas.List.Elements.{filter_map-append}
+use Rattle.std.proofs.lemmas.List.{map-append, take_more, take-append-drop, take_all}
 use Rattle.std.proofs.lemmas.Result.{err_from_is_err_and}
 use Rattle.graphql_ast.specs.declared.definition.Definition.{Definition}
 use Rattle.apollo_schema.specs.TypeParts.{TypeItem, item_of, items_of}
@@ -15,7 +14,7 @@ items-turn : (xs : List TypeItem) (ds : List Definition) (i : ℕ) (d : Definiti
     → xs ++ items_of (take (i + 1) ds) ≡ (xs ++ items_of (take i ds)) ++ items_of (d ∷ [])
 items-turn xs ds i d lt is =
     ap (λ l. xs ++ items_of l) (take_more ds i d lt ∙ ap (λ e. take i ds ++ e ∷ []) (sym is))
-    ∙ ap (λ l. xs ++ l) (filter_map-append item_of (take i ds) (d ∷ []))
+    ∙ ap (λ l. xs ++ l) (map-append item_of (take i ds) (d ∷ []))
     ∙ sym (append_assoc xs (items_of (take i ds)) (items_of (d ∷ [])))
 
 pub loop-definition-preserved : goal.loop-definition-preserved
@@ -40,7 +39,7 @@ returns-in_err-take_one-clause-refused c =
     let turn = items-turn xs ds i d (omega arith) c.definition-item.is in
     let whole : (xs ++ items_of (take (i + 1) ds)) ++ items_of (drop (i + 1) ds) ≡ xs ++ items_of ds =
     append_assoc xs (items_of (take (i + 1) ds)) (items_of (drop (i + 1) ds))
-    ∙ ap (λ l. xs ++ l) (sym (filter_map-append item_of (take (i + 1) ds) (drop (i + 1) ds)) ∙ ap items_of (take-append-drop (i + 1) ds)) in
+    ∙ ap (λ l. xs ++ l) (sym (map-append item_of (take (i + 1) ds) (drop (i + 1) ds)) ∙ ap items_of (take-append-drop (i + 1) ds)) in
     omega (arith, some, ap (λ l. length (folded l)) turn, length-folded-front (xs ++ items_of (take (i + 1) ds)) (items_of (drop (i + 1) ds)), ap (λ l. length (folded l)) whole))
     c.in_err-take_one.ensures.refused)
 

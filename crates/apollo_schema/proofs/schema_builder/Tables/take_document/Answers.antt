@@ -12,7 +12,7 @@ returns-clause-stands c = λ start xs was.
     let t = c.take.new.self in
     let all : c.as_slice.result.now ≡ c.args.document.now.definitions = c.as_slice.ensures in
     let stands = subst (λ (l : List Definition). Stands start (xs ++ items_of l) t) all (c.in_ok-take.ensures.stands start xs was) in
-    subst (Stands start (xs ++ items_of c.args.document.now.definitions)) (sym c.in_ok-take_sources.ensures.merged) (record { types = stands.types; waiting = stands.waiting; next = stands.next })
+    subst (Stands start (xs ++ items_of c.args.document.now.definitions)) (sym c.in_ok-take_sources.ensures.merged) (record { types = stands.types; directives = stands.directives; waiting = stands.waiting; names = stands.names; faults = stands.faults; next = stands.next })
 
 pub returns-in_err-take-clause-refused : goal.returns-in_err-take-clause-refused
 returns-in_err-take-clause-refused c =

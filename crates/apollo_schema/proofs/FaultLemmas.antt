@@ -1,0 +1,53 @@
+-- What is found at one more item.
+use Rattle.std.proofs.Common.{◌≡◌, ℕ, ◌+◌, Bool, true, false, cond, List, [], ◌∷◌, ◌++◌, map, Some, None, filter, refl, sym, ap, ◌∙◌}
+use Rattle.std.specs.List.{enumerate_from}
+use Rattle.std.specs.Option.{option_map_or}
+use Rattle.std.proofs.lemmas.List.{append-nil}
+use Rattle.std.proofs.lemmas.List.Elements.{filter-append}
+use Rattle.apollo_schema.specs.TypeParts.{TypePart, TypeItem, Defined, Extended, kind_of, key_of, same}
+use Rattle.apollo_schema.specs.DefinitionList.{same_kind, first, extensions_of, of_kind}
+use Rattle.apollo_schema.specs.TypeMeaning.{Sourced, extension_part, sourced, parts}
+use Rattle.apollo_schema.specs.TypeFaults.{part_faults, extension_faults, further_definition}
+use Rattle.apollo_schema.specs.Joining.{joining_faults}
+use Rattle.apollo_schema.specs.Prefixes.{faults_after, found_at, folded}
+use Rattle.apollo_schema.proofs.PartLemmas.{of_name}
+
+-- extensions that join a definition and those before them
+pub joining-after : (d : TypePart) (before es : List TypePart) → joining_faults d (d ∷ of_kind (kind_of d) before) es ≡ faults_after d before es
+joining-after d before [] = refl
+joining-after d before (e ∷ es) =
+    ap (λ l. extension_faults d before e ++ joining_faults d (d ∷ l) es) (sym (filter-append (λ p. same_kind (kind_of d) (kind_of p)) before (e ∷ [])))
+    ∙ ap (λ l. extension_faults d before e ++ l) (joining-after d (before ++ e ∷ []) es)
+
+-- the folded extensions of a name, their origins forgotten
+sourced-parts : (n : List ℕ) (start : ℕ) (ps : List TypePart) → map (λ (s : Sourced). s.1) (sourced n start ps) ≡ filter (λ p. same n (key_of p)) ps
+sourced-parts n start [] = refl
+sourced-parts n start (p ∷ ps) = by (same n (key_of p)) (sourced-parts n (start + 1) ps)
+  where
+    by : (b : Bool) → map (λ (s : Sourced). s.1) (sourced n (start + 1) ps) ≡ filter (λ p. same n (key_of p)) ps
+        → map (λ (s : Sourced). s.1) (map extension_part (cond b ((start, p) ∷ filter (λ e. same n (key_of e.1)) (enumerate_from (start + 1) ps)) (filter (λ e. same n (key_of e.1)) (enumerate_from (start + 1) ps))))
+        ≡ cond b (p ∷ filter (λ p. same n (key_of p)) ps) (filter (λ p. same n (key_of p)) ps)
+    by true rest = ap (λ l. p ∷ l) rest
+    by false rest = rest
+
+-- the parts of a name are its definition and the extensions of its kind
+pub parts-forget : (start : ℕ) (xs : List TypeItem) (n : List ℕ) (d : TypePart) → first xs n ≡ Some d
+    → map (λ (s : Sourced). s.1) (parts start (folded xs) n d) ≡ d ∷ of_kind (kind_of d) (extensions_of xs n)
+parts-forget start xs n d some = ap (λ l. d ∷ l) (sourced-parts n start (folded xs) ∙ of_name xs n d some)
+
+module _ (xs : List TypeItem) (p : TypePart) where
+  pub found_at-new : first xs (key_of p) ≡ None → found_at xs (Defined p) ≡ part_faults [] p ++ joining_faults p (p ∷ []) (extensions_of xs (key_of p))
+  found_at-new none =
+      ap (λ o. option_map_or (λ f. further_definition f p ∷ []) o (part_faults [] p ++ faults_after p [] (extensions_of xs (key_of p)))) none
+      ∙ ap (λ l. part_faults [] p ++ l) (sym (joining-after p [] (extensions_of xs (key_of p))))
+
+  pub found_at-again : (d : TypePart) → first xs (key_of p) ≡ Some d → found_at xs (Defined p) ≡ further_definition d p ∷ []
+  found_at-again d some = ap (λ o. option_map_or (λ f. further_definition f p ∷ []) o (part_faults [] p ++ faults_after p [] (extensions_of xs (key_of p)))) some
+
+  pub found_at-early : first xs (key_of p) ≡ None → found_at xs (Extended p) ≡ []
+  found_at-early none = ap (λ o. option_map_or (λ d. extension_faults d (extensions_of xs (key_of p)) p) o []) none
+
+  pub found_at-late : (d : TypePart) → first xs (key_of p) ≡ Some d → found_at xs (Extended p) ≡ joining_faults d (d ∷ of_kind (kind_of d) (extensions_of xs (key_of p))) (p ∷ [])
+  found_at-late d some =
+      ap (λ o. option_map_or (λ d. extension_faults d (extensions_of xs (key_of p)) p) o []) some
+      ∙ sym (append-nil (extension_faults d (extensions_of xs (key_of p)) p))

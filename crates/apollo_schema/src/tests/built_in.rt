@@ -1,0 +1,37 @@
+use crate::built_in::built_in_definitions;
+use graphql_ast::source::FileId;
+use std::test::Fail;
+
+const NAMES: [&str; 17] = [
+    "Int",
+    "Float",
+    "String",
+    "Boolean",
+    "ID",
+    "skip",
+    "include",
+    "deprecated",
+    "specifiedBy",
+    "__Schema",
+    "__Type",
+    "__TypeKind",
+    "__Field",
+    "__InputValue",
+    "__EnumValue",
+    "__Directive",
+    "__DirectiveLocation",
+];
+
+#[test]
+fn the_table_has_these_names(rt: HostRuntime) -> Result<(), Fail> {
+    let alloc = rt.alloc();
+    let definitions = built_in_definitions(alloc)?;
+    assert_eq!(rt; definitions.len(), NAMES.len());
+    for (definition, text) in definitions.as_slice().iter().zip(NAMES.iter()) {
+        let name = definition.name().ok_or("no name")?;
+        let place = definition.location().ok_or("no location")?;
+        assert_eq!(rt; name.as_str(), *text);
+        assert_eq!(rt; place.file, FileId::BUILT_IN);
+    }
+    Ok(())
+}

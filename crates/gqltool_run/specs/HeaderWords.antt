@@ -1,0 +1,18 @@
+-- The words with which the header of a type begins: docs/NOTATION.md.
+use Rattle.std.specs.Prelude.{ℕ, List, codes}
+use Rattle.graphql_ast.specs.declared.type_kind.TypeKind.{TypeKind}
+use Rattle.graphql_ast.specs.declared.type_kind.TypeKind.TheVariants as k
+use Rattle.gqltool_run.specs.declared.kind_words.Role.{Role}
+use Rattle.gqltool_run.specs.declared.kind_words.Role.TheVariants as r
+
+abbrev pub role_word : Role → List ℕ
+role_word r.Definition = codes "def"
+role_word r.Extension = codes "ext"
+
+abbrev pub kind_word : TypeKind → List ℕ
+kind_word k.Scalar = codes "scalar"
+kind_word k.Object = codes "object"
+kind_word k.Interface = codes "interface"
+kind_word k.Union = codes "union"
+kind_word k.Enum = codes "enum"
+kind_word k.InputObject = codes "input"

@@ -1,0 +1,77 @@
+-- Where the component lines of the notation may stand: docs/NOTATION.md.
+use Rattle.std.specs.Prelude.{◌≡◌, Bool, true, false, Option, None, Some}
+use Rattle.graphql_ast.specs.declared.type_kind.TypeKind.{TypeKind}
+use Rattle.graphql_ast.specs.declared.type_kind.TypeKind.TheVariants as k
+use Rattle.gqltool_run.specs.declared.above.Above.{Above}
+use Rattle.gqltool_run.specs.declared.above.Above.TheVariants as a
+use Rattle.gqltool_run.specs.declared.line.Line.{Line}
+use Rattle.gqltool_run.specs.declared.line.Line.TheVariants as l
+use Rattle.gqltool_run.specs.declared.line.Component.{Component}
+use Rattle.gqltool_run.specs.declared.line.Component.TheVariants as c
+
+-- the kind of the type whose header is the last one
+abbrev pub kind_above : Above → Option TypeKind
+kind_above a.Nothing = None
+kind_above (a.Type kind) = Some kind
+kind_above (a.Field kind) = Some kind
+kind_above a.Directive = None
+
+abbrev pub is_type : Option TypeKind → Bool
+is_type None = false
+is_type (Some kind) = true
+
+abbrev pub is_object_or_interface : Option TypeKind → Bool
+is_object_or_interface (Some k.Object) = true
+is_object_or_interface (Some k.Interface) = true
+is_object_or_interface _ = false
+
+-- object types, interfaces and input object types have fields
+abbrev pub has_fields : Option TypeKind → Bool
+has_fields (Some k.Object) = true
+has_fields (Some k.Interface) = true
+has_fields (Some k.InputObject) = true
+has_fields _ = false
+
+abbrev pub is_union : Option TypeKind → Bool
+is_union (Some k.Union) = true
+is_union _ = false
+
+abbrev pub is_enum : Option TypeKind → Bool
+is_enum (Some k.Enum) = true
+is_enum _ = false
+
+-- below a field
+abbrev pub is_field : Above → Bool
+is_field (a.Field kind) = true
+is_field _ = false
+
+-- below the header of a directive
+abbrev pub is_directive : Above → Bool
+is_directive a.Directive = true
+is_directive _ = false
+
+-- below the header of a directive, or below a field of an object type or interface
+abbrev pub takes_arguments : Above → Bool
+takes_arguments a.Nothing = false
+takes_arguments (a.Type kind) = false
+takes_arguments (a.Field kind) = is_object_or_interface (Some kind)
+takes_arguments a.Directive = true
+
+-- whether a component may stand where this is above it
+abbrev pub stands : Above → Component → Bool
+stands above (c.Directive name) = is_type (kind_above above)
+stands above (c.Implements name) = is_object_or_interface (kind_above above)
+stands above (c.Field name ty) = has_fields (kind_above above)
+stands above (c.FieldDirective name) = is_field above
+stands above (c.Argument name ty) = takes_arguments above
+stands above (c.Member name) = is_union (kind_above above)
+stands above (c.Value name) = is_enum (kind_above above)
+stands above (c.On location) = is_directive above
+stands above c.Repeatable = is_directive above
+
+-- what may stand below this: a component where it has its place, any other line anywhere
+abbrev pub StandsBelow : Above → Line → Type 0
+StandsBelow above l.Empty = Unit {0}
+StandsBelow above l.Break = Unit {0}
+StandsBelow above (l.Header header) = Unit {0}
+StandsBelow above (l.Component component) = stands above component ≡ true
