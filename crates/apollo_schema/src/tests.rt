@@ -106,6 +106,23 @@ fn document(alloc: Global, path: &str, definition: ObjectTypeDefinition) -> Resu
     Ok(document)
 }
 
+/// A builder that holds this document alone.
+fn holding(alloc: Global, document: &Document) -> Result<SchemaBuilder, Fail> {
+    let builder = SchemaBuilder::new(alloc)?;
+    with(builder, document)
+}
+
+/// This builder, after the document is added.
+fn with(mut builder: SchemaBuilder, document: &Document) -> Result<SchemaBuilder, Fail> {
+    builder.add_ast(document)?;
+    Ok(builder)
+}
+
+/// What a builder makes of what it holds, where that has no faults.
+fn faultless(builder: SchemaBuilder) -> Result<Schema, Fail> {
+    Ok(builder.build().ok().ok_or("no schema")?)
+}
+
 /// What a builder makes of what it holds, where that has faults.
 fn faulty(builder: SchemaBuilder) -> Result<WithErrors<Schema>, Fail> {
     let failure = builder.build().err().ok_or("no failure")?;
@@ -119,9 +136,7 @@ fn faulty(builder: SchemaBuilder) -> Result<WithErrors<Schema>, Fail> {
 fn a_definition_is_written_as_it_was(rt: HostRuntime) -> Result<(), Fail> {
     let alloc = rt.alloc();
     let document = document(alloc, "first.graphql", query(alloc)?)?;
-    let mut builder = SchemaBuilder::new(alloc)?;
-    builder.add_ast(&document)?;
-    let schema = builder.build().ok().ok_or("no schema")?;
+    let schema = faultless(holding(alloc, &document)?)?;
     let written = schema.to_ast(alloc)?;
     assert!(rt; written.as_slice() == document.definitions.as_slice());
     let ty = schema
@@ -137,10 +152,9 @@ fn a_definition_is_written_as_it_was(rt: HostRuntime) -> Result<(), Fail> {
 #[test]
 fn the_last_file_of_a_number_stays(rt: HostRuntime) -> Result<(), Fail> {
     let alloc = rt.alloc();
-    let mut builder = SchemaBuilder::new(alloc)?;
-    builder.add_ast(&document(alloc, "first.graphql", query(alloc)?)?)?;
-    builder.add_ast(&document(alloc, "second.graphql", query(alloc)?)?)?;
-    let found = faulty(builder)?;
+    let first = document(alloc, "first.graphql", query(alloc)?)?;
+    let second = document(alloc, "second.graphql", query(alloc)?)?;
+    let found = faulty(with(holding(alloc, &first)?, &second)?)?;
     let sources = &found.partial.sources;
     let file = sources.get(&PLACE.file).ok_or("no source")?;
     assert_eq!(rt; sources.len(), 1);

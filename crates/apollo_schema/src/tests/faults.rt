@@ -1,7 +1,6 @@
 use crate::build_error::BuildError;
 use crate::collision::Collection;
-use crate::schema_builder::SchemaBuilder;
-use crate::tests::{PLACE, faulty};
+use crate::tests::{PLACE, faulty, holding};
 use graphql_ast::collections::items::Items;
 use graphql_ast::collections::static_text::StaticText;
 use graphql_ast::definition::Definition;
@@ -158,9 +157,7 @@ fn operation(alloc: Global) -> Result<Document, AllocError> {
 #[test]
 fn an_operation_is_at_fault(rt: HostRuntime) -> Result<(), Fail> {
     let alloc = rt.alloc();
-    let mut builder = SchemaBuilder::new(alloc)?;
-    builder.add_ast(&operation(alloc)?)?;
-    let found = faulty(builder)?;
+    let found = faulty(holding(alloc, &operation(alloc)?)?)?;
     let (place, error) = found.errors.as_slice().first().ok_or("no fault")?;
     assert_eq!(rt; found.errors.len(), 1);
     assert_eq!(rt; *place, Some(PLACE));

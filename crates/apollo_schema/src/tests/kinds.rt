@@ -1,6 +1,4 @@
-use crate::schema::Schema;
-use crate::schema_builder::SchemaBuilder;
-use crate::tests::faulty;
+use crate::tests::{faultless, faulty, holding};
 use graphql_ast::collections::items::Items;
 use graphql_ast::definition::Definition;
 use graphql_ast::directive::{Directive, DirectiveList};
@@ -214,12 +212,6 @@ const KINDS: [(TypeKind, &str); 6] = [
     (TypeKind::InputObject, "N"),
 ];
 
-fn built(alloc: Global, document: &Document) -> Result<Schema, Fail> {
-    let mut builder = SchemaBuilder::new(alloc)?;
-    builder.add_ast(document)?;
-    Ok(builder.build().ok().ok_or("no schema")?)
-}
-
 /// Each kind's definition, with its extension behind it.
 fn in_order(alloc: Global) -> Result<Document, AllocError> {
     let mut document = Document::new(alloc);
@@ -234,7 +226,7 @@ fn in_order(alloc: Global) -> Result<Document, AllocError> {
 fn each_kind_is_written_as_it_was(rt: HostRuntime) -> Result<(), Fail> {
     let alloc = rt.alloc();
     let document = in_order(alloc)?;
-    let schema = built(alloc, &document)?;
+    let schema = faultless(holding(alloc, &document)?)?;
     let written = schema.to_ast(alloc)?;
     assert!(rt; written.as_slice() == document.definitions.as_slice());
     for (kind, text) in KINDS {
@@ -268,9 +260,7 @@ fn extensions_fold_into_their_kind_alone(rt: HostRuntime) -> Result<(), Fail> {
     document
         .definitions
         .push(extension(alloc, TypeKind::Enum, "N")?)?;
-    let mut builder = SchemaBuilder::new(alloc)?;
-    builder.add_ast(&document)?;
-    let found = faulty(builder)?;
+    let found = faulty(holding(alloc, &document)?)?;
     let written = found.partial.to_ast(alloc)?;
     assert!(rt; written.as_slice() == in_order(alloc)?.definitions.as_slice());
     // two extensions of another kind, and a second definition of each name
