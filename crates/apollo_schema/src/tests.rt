@@ -1,26 +1,26 @@
-//! What the proofs don't show: that calls succeed with memory, on documents that hold all that an object type can.
+//! What the proofs don't show: that calls succeed with memory, and the texts that no run of the program prints.
 
 mod built_in;
 mod faults;
-mod kinds;
 
-use crate::build_error::{BuildFailure, BuilderError, WithErrors};
+use crate::build_error::{BuildFailure, BuilderError, Fault, WithErrors};
 use crate::schema::Schema;
 use crate::schema_builder::SchemaBuilder;
 use apollo_component::extension::IdsSpent;
+use apollo_types::extended_type::ExtendedType;
 use graphql_ast::collections::items::Items;
 use graphql_ast::collections::shared::Shared;
+use graphql_ast::collections::table::Table;
 use graphql_ast::collections::text::Text;
 use graphql_ast::definition::Definition;
-use graphql_ast::directive::{Argument, Directive, DirectiveList};
+use graphql_ast::directive::{Directive, DirectiveList};
 use graphql_ast::document::Document;
 use graphql_ast::name::Name;
 use graphql_ast::node::Node;
 use graphql_ast::node_str::NodeStr;
-use graphql_ast::source::{FileId, SourceFile, SourceSpan};
+use graphql_ast::source::{FileId, SourceFile, SourceMap, SourceSpan};
 use graphql_ast::type_reference::Type;
-use graphql_ast::type_system::{FieldDefinition, InputValueDefinition, ObjectTypeDefinition};
-use graphql_ast::value::Value;
+use graphql_ast::type_system::{FieldDefinition, ObjectTypeDefinition};
 use std::alloc::{AllocError, Global};
 use std::test::Fail;
 
@@ -30,86 +30,93 @@ const PLACE: SourceSpan = SourceSpan {
     end: 90,
 };
 
-/// The argument `first: Int = TEN`.
-fn argument(alloc: Global) -> Result<InputValueDefinition, AllocError> {
-    let ten = Value::Enum(Name::new_unchecked(alloc, "TEN")?);
-    Ok(InputValueDefinition {
-        description: Some(NodeStr::new(alloc, "How many.")?),
-        name: Name::new_unchecked(alloc, "first")?,
-        ty: Node::new(alloc, Type::Named(Name::new_unchecked(alloc, "Int")?))?,
-        default_value: Some(Node::new(alloc, ten)?),
-        directives: DirectiveList::new(alloc),
-    })
+/// A list of this value alone.
+fn list<T: Drop>(alloc: Global, value: T) -> Result<Items<T>, AllocError> {
+    let mut list = Items::new(alloc);
+    list.push(value)?;
+    Ok(list)
 }
 
-/// The field `hits(first: Int = TEN): Int`.
-fn field(alloc: Global) -> Result<FieldDefinition, AllocError> {
-    let mut arguments = Items::new(alloc);
-    arguments.push(Node::new(alloc, argument(alloc)?)?)?;
-    Ok(FieldDefinition {
-        description: Some(NodeStr::new(alloc, "The hits.")?),
-        name: Name::new_unchecked(alloc, "hits")?,
-        arguments,
-        ty: Type::Named(Name::new_unchecked(alloc, "Int")?),
-        directives: DirectiveList::new(alloc),
-    })
-}
-
-/// The directive `@from(unit: TEN)`.
-fn directive(alloc: Global) -> Result<Directive, AllocError> {
-    let ten = Value::Enum(Name::new_unchecked(alloc, "TEN")?);
-    let mut arguments = Items::new(alloc);
-    arguments.push(Node::new(
-        alloc,
-        Argument {
-            name: Name::new_unchecked(alloc, "unit")?,
-            value: Node::new(alloc, ten)?,
-        },
-    )?)?;
-    Ok(Directive {
+/// The directive `@from`.
+fn directives(alloc: Global) -> Result<DirectiveList, AllocError> {
+    let directive = Directive {
         name: Name::new_unchecked(alloc, "from")?,
-        arguments,
+        arguments: Items::new(alloc),
+    };
+    Ok(DirectiveList(list(alloc, Node::new(alloc, directive)?)?))
+}
+
+/// The field `hits: Int`.
+fn field(alloc: Global) -> Result<FieldDefinition, AllocError> {
+    let name = Name::new_unchecked(alloc, "hits")?;
+    let ty = Type::Named(Name::new_unchecked(alloc, "Int")?);
+    Ok(FieldDefinition {
+        description: None,
+        name,
+        arguments: Items::new(alloc),
+        ty,
+        directives: DirectiveList::new(alloc),
     })
+}
+
+/// The fields of `Query`.
+fn fields(alloc: Global) -> Result<Items<Node<FieldDefinition>>, AllocError> {
+    list(alloc, Node::new(alloc, field(alloc)?)?)
+}
+
+/// The interfaces of `Query`.
+fn interfaces(alloc: Global) -> Result<Items<Name>, AllocError> {
+    list(alloc, Name::new_unchecked(alloc, "Node")?)
 }
 
 /// The definition of `Query`, with a description, an interface, a directive and a field.
 fn query(alloc: Global) -> Result<ObjectTypeDefinition, AllocError> {
-    let mut implements_interfaces = Items::new(alloc);
-    implements_interfaces.push(Name::new_unchecked(alloc, "Node")?)?;
-    let mut directives = DirectiveList::new(alloc);
-    directives.push(Node::new(alloc, directive(alloc)?)?)?;
-    let mut fields = Items::new(alloc);
-    fields.push(Node::new(alloc, field(alloc)?)?)?;
+    let description = Some(NodeStr::new(alloc, "Where queries begin.")?);
+    let name = Name::new_unchecked(alloc, "Query")?;
+    let implements_interfaces = interfaces(alloc)?;
+    let directives = directives(alloc)?;
     Ok(ObjectTypeDefinition {
-        description: Some(NodeStr::new(alloc, "Where queries begin.")?),
-        name: Name::new_unchecked(alloc, "Query")?,
+        description,
+        name,
         implements_interfaces,
         directives,
-        fields,
+        fields: fields(alloc)?,
     })
 }
 
-/// A document of this one file and definition.
-fn document(alloc: Global, path: &str, definition: ObjectTypeDefinition) -> Result<Document, Fail> {
-    let file = SourceFile {
+/// A source file of this path.
+fn file(alloc: Global, path: &str) -> Result<SourceFile, Fail> {
+    Ok(SourceFile {
         path: Text::from_str(alloc, path)?,
         text: Text::from_str(alloc, "type Query")?,
-    };
-    let mut document = Document::new(alloc);
-    document
-        .sources
-        .insert(PLACE.file, Shared::new(alloc, file)?)?;
-    let node = Node::new_opt_location(alloc, definition, Some(PLACE))?;
-    document
-        .definitions
-        .push(Definition::ObjectTypeDefinition(node))?;
-    Ok(document)
+    })
+}
+
+/// The one file of a document.
+fn sources(alloc: Global, path: &str) -> Result<SourceMap, Fail> {
+    let mut sources = Table::new(alloc);
+    sources.insert(PLACE.file, Shared::new(alloc, file(alloc, path)?)?)?;
+    Ok(sources)
+}
+
+/// The one definition of a document.
+fn definitions(alloc: Global) -> Result<Items<Definition>, AllocError> {
+    let node = Node::new_opt_location(alloc, query(alloc)?, Some(PLACE))?;
+    list(alloc, Definition::ObjectTypeDefinition(node))
+}
+
+/// A document with a file of this path, and the definition of `Query`.
+fn document(alloc: Global, path: &str) -> Result<Document, Fail> {
+    let sources = sources(alloc, path)?;
+    Ok(Document {
+        sources,
+        definitions: definitions(alloc)?,
+    })
 }
 
 /// A builder that holds this document alone.
 fn holding(alloc: Global, document: &Document) -> Result<SchemaBuilder, Fail> {
-    let builder = SchemaBuilder::new(alloc)?;
-    with(builder, document)
+    with(SchemaBuilder::new(alloc)?, document)
 }
 
 /// This builder, after the document is added.
@@ -132,37 +139,68 @@ fn faulty(builder: SchemaBuilder) -> Result<WithErrors<Schema>, Fail> {
     }
 }
 
+/// The schema's write-out.
+fn written(alloc: Global, schema: &Schema) -> Result<Vec<Definition>, AllocError> {
+    schema.to_ast(alloc)
+}
+
+/// The schema's type of the name `Query`.
+fn type_of(alloc: Global, schema: &Schema) -> Result<&ExtendedType, Fail> {
+    let name = Name::new_unchecked(alloc, "Query")?;
+    Ok(schema.types.get(&name).ok_or("no type")?)
+}
+
+/// The path of the schema's file.
+fn path(schema: &Schema) -> Result<&str, Fail> {
+    let file = schema.sources.get(&PLACE.file).ok_or("no source")?;
+    Ok(file.path.as_str())
+}
+
+/// The one fault.
+fn fault(found: &WithErrors<Schema>) -> Result<&Fault, Fail> {
+    match found.errors.as_slice() {
+        [fault] => Ok(fault),
+        _ => Err(Fail::from("not one fault")),
+    }
+}
+
+/// The text of the one fault.
+fn text(alloc: Global, found: &WithErrors<Schema>) -> Result<String, Fail> {
+    let (_, error) = fault(found)?;
+    Ok(error.to_string(alloc)?)
+}
+
 #[test]
 fn a_definition_is_written_as_it_was(rt: HostRuntime) -> Result<(), Fail> {
     let alloc = rt.alloc();
-    let document = document(alloc, "first.graphql", query(alloc)?)?;
+    let document = document(alloc, "first.graphql")?;
     let schema = faultless(holding(alloc, &document)?)?;
-    let written = schema.to_ast(alloc)?;
+    let written = written(alloc, &schema)?;
     assert!(rt; written.as_slice() == document.definitions.as_slice());
-    let ty = schema
-        .types
-        .get(&Name::new_unchecked(alloc, "Query")?)
-        .ok_or("no type")?;
-    assert_eq!(rt; ty.name().as_str(), "Query");
-    assert_eq!(rt; ty.location(), Some(PLACE));
-    assert!(rt; ty.clone()? == *ty);
+    Ok(())
+}
+
+#[test]
+fn a_copy_is_equal(rt: HostRuntime) -> Result<(), Fail> {
+    let alloc = rt.alloc();
+    let document = document(alloc, "first.graphql")?;
+    let schema = faultless(holding(alloc, &document)?)?;
+    let ty = type_of(alloc, &schema)?;
+    let copy = ty.clone()?;
+    assert!(rt; copy == *ty);
     Ok(())
 }
 
 #[test]
 fn the_last_file_of_a_number_stays(rt: HostRuntime) -> Result<(), Fail> {
     let alloc = rt.alloc();
-    let first = document(alloc, "first.graphql", query(alloc)?)?;
-    let second = document(alloc, "second.graphql", query(alloc)?)?;
+    let first = document(alloc, "first.graphql")?;
+    let second = document(alloc, "second.graphql")?;
     let found = faulty(with(holding(alloc, &first)?, &second)?)?;
-    let sources = &found.partial.sources;
-    let file = sources.get(&PLACE.file).ok_or("no source")?;
-    assert_eq!(rt; sources.len(), 1);
-    assert_eq!(rt; file.path.as_str(), "second.graphql");
-    let (_, error) = found.errors.as_slice().first().ok_or("no fault")?;
-    assert_eq!(rt; found.errors.len(), 1);
+    assert_eq!(rt; path(&found.partial)?, "second.graphql");
+    let said = text(alloc, &found)?;
     assert_eq!(rt;
-        error.to_string(alloc)?.as_str(),
+        said.as_str(),
         "the type `Query` is defined multiple times in the schema"
     );
     Ok(())
@@ -173,17 +211,12 @@ fn refusals_say_what_ran_out(rt: HostRuntime) -> Result<(), Fail> {
     let alloc = rt.alloc();
     let spent = BuilderError::from(IdsSpent);
     assert_eq!(rt; spent, BuilderError::ExtensionIds);
-    assert_eq!(rt;
-        spent.to_string(alloc)?.as_str(),
-        "extension identities spent"
-    );
-    assert_eq!(rt;
-        BuilderError::Memory.to_string(alloc)?.as_str(),
-        "out of memory"
-    );
-    assert_eq!(rt;
-        BuilderError::Failed.to_string(alloc)?.as_str(),
-        "builder has failed"
-    );
+    for (error, text) in [
+        (spent, "extension identities spent"),
+        (BuilderError::Memory, "out of memory"),
+        (BuilderError::Failed, "builder has failed"),
+    ] {
+        assert_eq!(rt; error.to_string(alloc)?.as_str(), text);
+    }
     Ok(())
 }
