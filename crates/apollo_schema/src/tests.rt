@@ -107,22 +107,35 @@ fn definitions(alloc: Global) -> Result<Items<Definition>, AllocError> {
 
 /// A document with a file of this path, and the definition of `Query`.
 fn document(alloc: Global, path: &str) -> Result<Document, Fail> {
-    let sources = sources(alloc, path)?;
+    let definitions = definitions(alloc)?;
     Ok(Document {
-        sources,
-        definitions: definitions(alloc)?,
+        sources: sources(alloc, path)?,
+        definitions,
     })
 }
 
-/// A builder that holds this document alone.
-fn holding(alloc: Global, document: &Document) -> Result<SchemaBuilder, Fail> {
-    with(SchemaBuilder::new(alloc)?, document)
+/// A builder of the built-in definitions.
+fn empty(alloc: Global) -> Result<SchemaBuilder, AllocError> {
+    SchemaBuilder::new(alloc)
+}
+
+/// Adds a document.
+fn add(builder: &mut SchemaBuilder, document: &Document) -> Result<(), BuilderError> {
+    builder.add_ast(document)
 }
 
 /// This builder, after the document is added.
-fn with(mut builder: SchemaBuilder, document: &Document) -> Result<SchemaBuilder, Fail> {
-    builder.add_ast(document)?;
-    Ok(builder)
+fn with(mut builder: SchemaBuilder, document: Document) -> Result<SchemaBuilder, BuilderError> {
+    match add(&mut builder, &document) {
+        Ok(()) => Ok(builder),
+        Err(error) => Err(error),
+    }
+}
+
+/// A builder that holds the document of this path alone.
+fn holding(alloc: Global, path: &str) -> Result<SchemaBuilder, Fail> {
+    let document = document(alloc, path)?;
+    Ok(with(empty(alloc)?, document)?)
 }
 
 /// What a builder makes of what it holds, where that has no faults.
@@ -144,6 +157,13 @@ fn written(alloc: Global, schema: &Schema) -> Result<Vec<Definition>, AllocError
     schema.to_ast(alloc)
 }
 
+/// Whether the schema is written as the one definition of a document.
+fn is_written(alloc: Global, schema: &Schema) -> Result<bool, AllocError> {
+    let written = written(alloc, schema)?;
+    let definitions = definitions(alloc)?;
+    Ok(written.as_slice() == definitions.as_slice())
+}
+
 /// The schema's type of the name `Query`.
 fn type_of(alloc: Global, schema: &Schema) -> Result<&ExtendedType, Fail> {
     let name = Name::new_unchecked(alloc, "Query")?;
@@ -156,35 +176,36 @@ fn path(schema: &Schema) -> Result<&str, Fail> {
     Ok(file.path.as_str())
 }
 
-/// The one fault.
+/// The last fault.
 fn fault(found: &WithErrors<Schema>) -> Result<&Fault, Fail> {
-    match found.errors.as_slice() {
-        [fault] => Ok(fault),
-        _ => Err(Fail::from("not one fault")),
-    }
+    Ok(found.errors.last().ok_or("no fault")?)
 }
 
-/// The text of the one fault.
+/// The number of faults, and the text of the last.
 fn text(alloc: Global, found: &WithErrors<Schema>) -> Result<String, Fail> {
     let (_, error) = fault(found)?;
-    Ok(error.to_string(alloc)?)
+    let count = found.errors.len();
+    Ok(format!(in alloc; "{count}: {error}")?)
+}
+
+/// What is built of two documents that define `Query`.
+fn twice(alloc: Global) -> Result<WithErrors<Schema>, Fail> {
+    let second = document(alloc, "second.graphql")?;
+    faulty(with(holding(alloc, "first.graphql")?, second)?)
 }
 
 #[test]
 fn a_definition_is_written_as_it_was(rt: HostRuntime) -> Result<(), Fail> {
     let alloc = rt.alloc();
-    let document = document(alloc, "first.graphql")?;
-    let schema = faultless(holding(alloc, &document)?)?;
-    let written = written(alloc, &schema)?;
-    assert!(rt; written.as_slice() == document.definitions.as_slice());
+    let schema = faultless(holding(alloc, "first.graphql")?)?;
+    assert!(rt; is_written(alloc, &schema)?);
     Ok(())
 }
 
 #[test]
 fn a_copy_is_equal(rt: HostRuntime) -> Result<(), Fail> {
     let alloc = rt.alloc();
-    let document = document(alloc, "first.graphql")?;
-    let schema = faultless(holding(alloc, &document)?)?;
+    let schema = faultless(holding(alloc, "first.graphql")?)?;
     let ty = type_of(alloc, &schema)?;
     let copy = ty.clone()?;
     assert!(rt; copy == *ty);
@@ -194,14 +215,12 @@ fn a_copy_is_equal(rt: HostRuntime) -> Result<(), Fail> {
 #[test]
 fn the_last_file_of_a_number_stays(rt: HostRuntime) -> Result<(), Fail> {
     let alloc = rt.alloc();
-    let first = document(alloc, "first.graphql")?;
-    let second = document(alloc, "second.graphql")?;
-    let found = faulty(with(holding(alloc, &first)?, &second)?)?;
+    let found = twice(alloc)?;
     assert_eq!(rt; path(&found.partial)?, "second.graphql");
     let said = text(alloc, &found)?;
     assert_eq!(rt;
         said.as_str(),
-        "the type `Query` is defined multiple times in the schema"
+        "1: the type `Query` is defined multiple times in the schema"
     );
     Ok(())
 }

@@ -1,5 +1,5 @@
 use crate::built_in::built_in_definitions;
-use graphql_ast::source::FileId;
+use graphql_ast::definition::Definition;
 use std::test::Fail;
 
 const NAMES: [&str; 17] = [
@@ -22,16 +22,19 @@ const NAMES: [&str; 17] = [
     "__DirectiveLocation",
 ];
 
+/// The name of a definition.
+fn name(definition: &Definition) -> Result<&str, Fail> {
+    let name = definition.name().ok_or("no name")?;
+    Ok(name.as_str())
+}
+
 #[test]
 fn the_table_has_these_names(rt: HostRuntime) -> Result<(), Fail> {
     let alloc = rt.alloc();
     let definitions = built_in_definitions(alloc)?;
     assert_eq!(rt; definitions.len(), NAMES.len());
     for (definition, text) in definitions.as_slice().iter().zip(NAMES.iter()) {
-        let name = definition.name().ok_or("no name")?;
-        let place = definition.location().ok_or("no location")?;
-        assert_eq!(rt; name.as_str(), *text);
-        assert_eq!(rt; place.file, FileId::BUILT_IN);
+        assert_eq!(rt; name(definition)?, *text);
     }
     Ok(())
 }

@@ -1,5 +1,6 @@
-use crate::build_error::BuildError;
-use crate::tests::{PLACE, fault, faulty, holding, list, text};
+use crate::build_error::{BuildError, WithErrors};
+use crate::schema::Schema;
+use crate::tests::{PLACE, empty, fault, faulty, list, text, with};
 use graphql_ast::collections::items::Items;
 use graphql_ast::collections::static_text::StaticText;
 use graphql_ast::collections::table::Table;
@@ -10,33 +11,40 @@ use graphql_ast::node::Node;
 use graphql_ast::operation::OperationDefinition;
 use graphql_ast::operation_type::OperationType;
 use std::alloc::{AllocError, Global};
+use std::process::Abort;
 use std::test::Fail;
 
-#[test]
-fn errors_of_later_parts_have_their_texts(rt: HostRuntime) -> Result<(), Fail> {
-    let alloc = rt.alloc();
-    let previous_location = Some(PLACE);
-    let operation_type = StaticText::new("mutation");
-    for (error, text) in [
-        (
-            BuildError::SchemaDefinitionCollision { previous_location },
-            "must not have multiple `schema` definitions",
-        ),
-        (
-            BuildError::OrphanSchemaExtension,
-            "schema extension without a schema definition",
-        ),
-        (
-            BuildError::DuplicateRootOperation {
-                previous_location,
-                operation_type,
-            },
-            "duplicate definitions for the `mutation` root operation type",
-        ),
-    ] {
-        assert_eq!(rt; error.to_string(alloc)?.as_str(), text);
-    }
+/// Expects this text of the error.
+fn expect(rt: &impl Abort, alloc: Global, error: BuildError, text: &str) -> Result<(), AllocError> {
+    let said = error.to_string(alloc)?;
+    assert_eq!(rt; said.as_str(), text);
     Ok(())
+}
+
+#[test]
+fn a_second_schema_definition(rt: HostRuntime) -> Result<(), Fail> {
+    let error = BuildError::SchemaDefinitionCollision {
+        previous_location: Some(PLACE),
+    };
+    let text = "must not have multiple `schema` definitions";
+    Ok(expect(&rt, rt.alloc(), error, text)?)
+}
+
+#[test]
+fn a_schema_extension_alone(rt: HostRuntime) -> Result<(), Fail> {
+    let text = "schema extension without a schema definition";
+    let error = BuildError::OrphanSchemaExtension;
+    Ok(expect(&rt, rt.alloc(), error, text)?)
+}
+
+#[test]
+fn a_second_root_operation(rt: HostRuntime) -> Result<(), Fail> {
+    let error = BuildError::DuplicateRootOperation {
+        previous_location: Some(PLACE),
+        operation_type: StaticText::new("mutation"),
+    };
+    let text = "duplicate definitions for the `mutation` root operation type";
+    Ok(expect(&rt, rt.alloc(), error, text)?)
 }
 
 /// The definition `{}`, which is an operation.
@@ -52,20 +60,31 @@ fn operation(alloc: Global) -> Result<Items<Definition>, AllocError> {
     list(alloc, Definition::OperationDefinition(node))
 }
 
+/// The document `{}`.
+fn document(alloc: Global) -> Result<Document, AllocError> {
+    let definitions = operation(alloc)?;
+    Ok(Document {
+        sources: Table::new(alloc),
+        definitions,
+    })
+}
+
+/// What is built of the document `{}`.
+fn built(alloc: Global) -> Result<WithErrors<Schema>, Fail> {
+    let document = document(alloc)?;
+    faulty(with(empty(alloc)?, document)?)
+}
+
 #[test]
 fn an_operation_is_at_fault(rt: HostRuntime) -> Result<(), Fail> {
     let alloc = rt.alloc();
-    let document = Document {
-        sources: Table::new(alloc),
-        definitions: operation(alloc)?,
-    };
-    let found = faulty(holding(alloc, &document)?)?;
+    let found = built(alloc)?;
     let (place, _) = fault(&found)?;
     assert_eq!(rt; *place, Some(PLACE));
     let said = text(alloc, &found)?;
     assert_eq!(rt;
         said.as_str(),
-        "a schema document must not contain an operation definition"
+        "1: a schema document must not contain an operation definition"
     );
     Ok(())
 }
