@@ -87,3 +87,22 @@ fn documents_one_by_one_build_as_one_document(rt: HostRuntime) -> Result<(), Fai
     assert!(rt; copy == one);
     Ok(())
 }
+
+/// An extension of each kind, and then their definitions.
+const EXTENSIONS_FIRST: &str =
+    "ext scalar S\n@ b\next object O\n@ b\nimplements B\nfield b Int\next interface I\n@ b\nimplements B\nfield b Int\next union U\n@ b\nmember B\next enum E\n@ b\nvalue B\next input N\n@ b\nfield b Int\ndef scalar S\n@ a\ndef object O\n@ a\nimplements A\nfield a Int\ndef interface I\n@ a\nimplements A\nfield a Int\ndef union U\n@ a\nmember A\ndef enum E\n@ a\nvalue A\ndef input N\n@ a\nfield a Int\n";
+
+/// The definition of each kind, with its extension behind it.
+const IN_ORDER: &str =
+    "def scalar S\n@ a\next scalar S\n@ b\ndef object O\n@ a\nimplements A\nfield a Int\next object O\n@ b\nimplements B\nfield b Int\ndef interface I\n@ a\nimplements A\nfield a Int\next interface I\n@ b\nimplements B\nfield b Int\ndef union U\n@ a\nmember A\next union U\n@ b\nmember B\ndef enum E\n@ a\nvalue A\next enum E\n@ b\nvalue B\ndef input N\n@ a\nfield a Int\next input N\n@ b\nfield b Int\n";
+
+#[test]
+fn each_kind_takes_its_extension(rt: HostRuntime) -> Result<(), Fail> {
+    let alloc = rt.alloc();
+    let schema = built(alloc, EXTENSIONS_FIRST)?;
+    let copy = schema.clone()?;
+    assert!(rt; copy == schema);
+    let written = print(alloc, copy.to_ast(alloc)?.as_slice())?;
+    assert_eq!(rt; written.as_str(), IN_ORDER);
+    Ok(())
+}
