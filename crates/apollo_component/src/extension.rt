@@ -41,6 +41,13 @@ impl ExtensionSource {
         ExtensionSource { next: number }
     }
 
+    /// The number that the next identity will have.
+    pub fn next_number(&self) -> u64
+        ensures { result ≡ next_number self.now }
+    {
+        self.next
+    }
+
     /// The identity of an extension that stands at this place: the source's next number, which then moves by one.
     ///
     /// At `u64::MAX` it is refused, and the source stays.
