@@ -3,6 +3,7 @@ pub mod InputObjectWriteOut
 pub mod InterfaceWriteOut
 pub mod ObjectWriteOut
 pub mod ScalarWriteOut
+pub mod SchemaDefinitionWriteOut
 pub mod TypeWriteOut
 pub mod UnionWriteOut
 pub mod WriteOut

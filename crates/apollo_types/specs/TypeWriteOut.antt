@@ -1,5 +1,5 @@
 -- What a type of any kind is written out as, what it is called, and its kind: GraphQL specification of October 2021, section 3.4.
-use Rattle.std.specs.Prelude.{List, Option}
+use Rattle.std.specs.Prelude.{List, Option, Bool, true, false}
 use Rattle.graphql_ast.specs.NameView.{NameView}
 use Rattle.graphql_ast.specs.declared.source.SourceSpan.{SourceSpan}
 use Rattle.graphql_ast.specs.declared.definition.Definition.{Definition}
@@ -21,6 +21,15 @@ type_kind (Interface n) = kinds.Interface
 type_kind (Union n) = kinds.Union
 type_kind (Enum n) = kinds.Enum
 type_kind (InputObject n) = kinds.InputObject
+
+-- it is an object type
+abbrev pub is_object : ExtendedType → Bool
+is_object (Scalar n) = false
+is_object (Object n) = true
+is_object (Interface n) = false
+is_object (Union n) = false
+is_object (Enum n) = false
+is_object (InputObject n) = false
 
 abbrev pub type_name : ExtendedType → NameView
 type_name (Scalar n) = n.value.name

@@ -42,7 +42,7 @@ impl Clone for ExtendedType {
 
 impl ExtendedType {
     ghost use Rattle.graphql_ast.specs.BuiltIn.{is_built_in};
-    ghost use Rattle.apollo_types.specs.TypeWriteOut.{write_type, type_kind, type_name, type_location};
+    ghost use Rattle.apollo_types.specs.TypeWriteOut.{write_type, type_kind, is_object, type_name, type_location};
 
     /// The kind of the type.
     pub fn kind(&self) -> TypeKind
@@ -55,6 +55,16 @@ impl ExtendedType {
             ExtendedType::Union(_) => TypeKind::Union,
             ExtendedType::Enum(_) => TypeKind::Enum,
             ExtendedType::InputObject(_) => TypeKind::InputObject,
+        }
+    }
+
+    /// Whether it is an object type.
+    pub fn is_object(&self) -> bool
+        ensures { result ≡ is_object self.now }
+    {
+        match self {
+            ExtendedType::Object(_) => true,
+            _ => false,
         }
     }
 

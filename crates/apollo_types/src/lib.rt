@@ -7,5 +7,6 @@ pub mod input_object_type;
 pub mod interface_type;
 pub mod object_type;
 pub mod scalar_type;
+pub mod schema_definition;
 pub mod union_type;
 mod write_out;

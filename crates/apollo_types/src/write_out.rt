@@ -66,7 +66,7 @@ pub fn write_out<T: WriteOut>(
 }
 
 /// Adds the identity of an origin, if it is an extension and new.
-fn add_origin(ids: &mut KeySet<ExtensionId>, origin: ComponentOrigin) -> Result<(), AllocError>
+pub fn add_origin(ids: &mut KeySet<ExtensionId>, origin: ComponentOrigin) -> Result<(), AllocError>
     ensures { OnOk result ((os : List Origin) → ids.old ≡ identities os → ids.new ≡ identities (os ++ origin ∷ [])) }
 {
     if let ComponentOrigin::Extension(id) = origin {
@@ -115,7 +115,7 @@ pub fn add_value_origins<T>(
 }
 
 /// Whether two origins are one.
-fn is_same(a: ComponentOrigin, b: ComponentOrigin) -> bool
+pub fn is_same(a: ComponentOrigin, b: ComponentOrigin) -> bool
     ensures { result ≡ same_origin a b }
 {
     a == b

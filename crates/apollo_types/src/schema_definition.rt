@@ -1,0 +1,298 @@
+//! The definition of a schema: GraphQL specification of October 2021, section 3.3.
+ghost use Rattle.std.specs.Prelude.{◌≡◌, List, [], ◌∷◌, ◌++◌, map, IfOk, OnOk};
+ghost use Rattle.std.specs.List.{list_all};
+ghost use Rattle.std.specs.Option.{option_copied};
+ghost use Rattle.graphql_ast.specs.ArgumentsByName.{same_text};
+ghost use Rattle.graphql_ast.specs.Tables.{lookup};
+ghost use Rattle.apollo_component.specs.declared.extension.ComponentOrigin.{ComponentOrigin as Origin};
+ghost use Rattle.apollo_types.specs.WriteOut.{identities};
+ghost use Rattle.apollo_types.specs.SchemaDefinitionWriteOut.{no_schema_definition, operation_types, root_of, root_origin_of, root_node, named_roots, schema_origins, roots_of_origin, is_some_object, has_own_root, has_implied_root, is_implied, is_written, write_schema_definition};
+
+use crate::extended_type::ExtendedType;
+use crate::write_out::{WriteOut, add_origin, add_origins, is_same, nodes_from, write_out};
+use apollo_component::component::ComponentName;
+use apollo_component::directive_list::DirectiveList;
+use apollo_component::extension::{ComponentOrigin, ExtensionId};
+use graphql_ast::collections::items::Items;
+use graphql_ast::collections::key_set::KeySet;
+use graphql_ast::collections::table::Table;
+use graphql_ast::definition::Definition;
+use graphql_ast::name::NamedType;
+use graphql_ast::node::Node;
+use graphql_ast::node_str::NodeStr;
+use graphql_ast::operation_type::OperationType;
+use graphql_ast::source::SourceSpan;
+use graphql_ast::{directive as ast_directive, type_system as ast};
+use std::alloc::{AllocError, Global};
+
+/// The operation types, in the order of the roots.
+const OPERATION_TYPES: [OperationType; 3] = [
+    OperationType::Query,
+    OperationType::Mutation,
+    OperationType::Subscription,
+];
+
+/// The definition of a schema, and its extensions (section 3.3): the root of each operation type, which is the name of an
+/// object type. Equality ignores places and origins.
+#[derive(Drop, PartialEq, Eq)]
+pub struct SchemaDefinition {
+    pub description: Option<NodeStr>,
+    pub directives: DirectiveList,
+    pub query: Option<ComponentName>,
+    pub mutation: Option<ComponentName>,
+    pub subscription: Option<ComponentName>,
+}
+
+impl Clone for SchemaDefinition {
+    ghost is_clone = { λ a b. b ≡ a };
+
+    fn clone(&self) -> Result<SchemaDefinition, AllocError> {
+        Ok(SchemaDefinition {
+            description: self.description.clone()?,
+            directives: self.directives.clone()?,
+            query: self.query.clone()?,
+            mutation: self.mutation.clone()?,
+            subscription: self.subscription.clone()?,
+        })
+    }
+}
+
+impl SchemaDefinition {
+    /// No description, directive or root.
+    pub fn new(alloc: Global) -> SchemaDefinition
+        ensures { result ≡ no_schema_definition }
+    {
+        SchemaDefinition {
+            description: None,
+            directives: DirectiveList::new(alloc),
+            query: None,
+            mutation: None,
+            subscription: None,
+        }
+    }
+
+    /// The root of this operation type, if one is named.
+    pub fn root_operation(&self, operation_type: OperationType) -> Option<&ComponentName>
+        ensures { option_copied result ≡ root_of self.now operation_type }
+    {
+        match operation_type {
+            OperationType::Query => self.query.as_ref(),
+            OperationType::Mutation => self.mutation.as_ref(),
+            OperationType::Subscription => self.subscription.as_ref(),
+        }
+    }
+
+    /// The identities of the extensions that the components come from, by first appearance among directives, then the
+    /// roots of query, mutation and subscription. The error is want of memory.
+    pub fn extensions(&self, alloc: Global) -> Result<KeySet<ExtensionId>, AllocError>
+        ensures { IfOk result (λ ids. ids ≡ identities (schema_origins self.now)) }
+    {
+        let mut ids = KeySet::new(alloc);
+        add_origins(&mut ids, self.directives.as_slice())?;
+        self.add_root_origins(&mut ids)?;
+        Ok(ids)
+    }
+
+    /// The definition as syntax: a schema definition, at this place, with the components of the definition, then an
+    /// extension for each identity of [`extensions`](SchemaDefinition::extensions), with that identity's components and
+    /// place. The directives are in order, and the roots in the order query, mutation, subscription. A root stands
+    /// where its name does.
+    ///
+    /// The schema definition is left out where none of its roots is the definition's, and where it says nothing: it has
+    /// no description, no directive and no extension, and each operation type has just the root that it would have
+    /// without a schema definition. That is the type of the default name (`Query`, `Mutation` or `Subscription`) where
+    /// `types` has an object type of this name, and else none. The extensions are always there.
+    ///
+    /// The error is want of memory.
+    pub fn to_ast(
+        &self,
+        alloc: Global,
+        location: Option<SourceSpan>,
+        types: &Table<NamedType, ExtendedType>,
+    ) -> Result<Vec<Definition>, AllocError>
+        ensures { IfOk result (λ written. written.items ≡ write_schema_definition self.now location types.now) }
+    {
+        let mut written = write_out(self, alloc, location)?;
+        if !self.is_written(alloc, types)? {
+            let _definition = written.remove(0);
+        }
+        Ok(written)
+    }
+
+    /// Adds the identities of the roots, in order.
+    fn add_root_origins(&self, ids: &mut KeySet<ExtensionId>) -> Result<(), AllocError>
+        ensures { OnOk result ((os : List Origin) → ids.old ≡ identities os → ids.new ≡ identities (os ++ map root_origin_of (named_roots self.now))) }
+    {
+        for operation_type in OPERATION_TYPES {
+            if let Some(root) = self.root_operation(operation_type) {
+                add_origin(ids, root.origin)?;
+            }
+        }
+        Ok(())
+    }
+
+    /// The roots of one origin, in order.
+    fn roots_from(
+        &self,
+        alloc: Global,
+        origin: ComponentOrigin,
+    ) -> Result<Items<Node<(OperationType, NamedType)>>, AllocError>
+        ensures { IfOk result (λ roots. roots ≡ roots_of_origin origin (named_roots self.now)) }
+    {
+        let mut roots = Items::new(alloc);
+        for operation_type in OPERATION_TYPES {
+            if let Some(root) = self.root_operation(operation_type) {
+                if is_same(origin, root.origin) {
+                    push_root(alloc, &mut roots, operation_type, root)?;
+                }
+            }
+        }
+        Ok(roots)
+    }
+
+    /// Whether a root is of the definition.
+    fn has_own_root(&self) -> bool
+        ensures { result ≡ has_own_root self.now }
+    {
+        for operation_type in OPERATION_TYPES {
+            if let Some(root) = self.root_operation(operation_type) {
+                if is_same(ComponentOrigin::Definition, root.origin) {
+                    return true;
+                }
+            }
+        }
+        false
+    }
+
+    /// Whether the root is the one that no schema definition would have to name. The error is want of memory.
+    fn has_implied_root(
+        &self,
+        alloc: Global,
+        types: &Table<NamedType, ExtendedType>,
+        operation_type: OperationType,
+    ) -> Result<bool, AllocError>
+        ensures { IfOk result (λ b. b ≡ has_implied_root types.now self.now operation_type) }
+    {
+        let name = operation_type.default_type_name(alloc)?;
+        let is_there = has_object(types, &name);
+        match self.root_operation(operation_type) {
+            Some(root) => Ok(is_there && root.name == name),
+            None => Ok(!is_there),
+        }
+    }
+
+    /// Whether all roots are those that no schema definition would have to name. The error is want of memory.
+    fn has_implied_roots(
+        &self,
+        alloc: Global,
+        types: &Table<NamedType, ExtendedType>,
+    ) -> Result<bool, AllocError>
+        ensures { IfOk result (λ b. b ≡ list_all (has_implied_root types.now self.now) operation_types) }
+    {
+        for operation_type in OPERATION_TYPES {
+            if !self.has_implied_root(alloc, types, operation_type)? {
+                return Ok(false);
+            }
+        }
+        Ok(true)
+    }
+
+    /// Whether nothing is said that isn't implied. The error is want of memory.
+    fn is_implied(
+        &self,
+        alloc: Global,
+        types: &Table<NamedType, ExtendedType>,
+    ) -> Result<bool, AllocError>
+        ensures { IfOk result (λ b. b ≡ is_implied types.now self.now) }
+    {
+        if self.description.is_some()
+            || !self.directives.is_empty()
+            || !self.extensions(alloc)?.is_empty()
+        {
+            return Ok(false);
+        }
+        self.has_implied_roots(alloc, types)
+    }
+
+    /// Whether the definition is written. The error is want of memory.
+    fn is_written(
+        &self,
+        alloc: Global,
+        types: &Table<NamedType, ExtendedType>,
+    ) -> Result<bool, AllocError>
+        ensures { IfOk result (λ b. b ≡ is_written types.now self.now) }
+    {
+        Ok(self.has_own_root() && !self.is_implied(alloc, types)?)
+    }
+}
+
+/// Adds a root as syntax at the end, where its name stands. The error is want of memory.
+fn push_root(
+    alloc: Global,
+    roots: &mut Items<Node<(OperationType, NamedType)>>,
+    operation_type: OperationType,
+    root: &ComponentName,
+) -> Result<(), AllocError>
+    ensures { OnOk result (roots.new ≡ roots.old ++ root_node (operation_type, root.now) ∷ []) }
+{
+    let value = (operation_type, root.name.clone()?);
+    roots.push(Node::new_opt_location(alloc, value, root.name.location())?)?;
+    Ok(())
+}
+
+/// Whether an object type has this name.
+fn has_object(types: &Table<NamedType, ExtendedType>, name: &NamedType) -> bool
+    ensures { result ≡ is_some_object (lookup (same_text name.now) types.now) }
+{
+    match types.get(name) {
+        Some(ty) => ty.is_object(),
+        None => false,
+    }
+}
+
+impl WriteOut for SchemaDefinition {
+    ghost use Rattle.apollo_types.specs.SchemaDefinitionWriteOut.{schema_origins, schema_definition_part, schema_extension_part};
+
+    ghost origins = { schema_origins };
+
+    ghost definition = { schema_definition_part };
+
+    ghost extension = { schema_extension_part };
+
+    fn identities(&self, alloc: Global) -> Result<KeySet<ExtensionId>, AllocError> {
+        self.extensions(alloc)
+    }
+
+    fn definition(
+        &self,
+        alloc: Global,
+        location: Option<SourceSpan>,
+    ) -> Result<Definition, AllocError> {
+        let origin = ComponentOrigin::Definition;
+        let definition = ast::SchemaDefinition {
+            description: self.description.clone()?,
+            directives: ast_directive::DirectiveList(nodes_from(
+                alloc,
+                self.directives.as_slice(),
+                origin,
+            )?),
+            root_operations: self.roots_from(alloc, origin)?,
+        };
+        let node = Node::new_opt_location(alloc, definition, location)?;
+        Ok(Definition::SchemaDefinition(node))
+    }
+
+    fn extension(&self, alloc: Global, id: ExtensionId) -> Result<Definition, AllocError> {
+        let origin = ComponentOrigin::Extension(id);
+        let extension = ast::SchemaExtension {
+            directives: ast_directive::DirectiveList(nodes_from(
+                alloc,
+                self.directives.as_slice(),
+                origin,
+            )?),
+            root_operations: self.roots_from(alloc, origin)?,
+        };
+        let node = id.same_location(alloc, extension)?;
+        Ok(Definition::SchemaExtension(node))
+    }
+}
