@@ -1,5 +1,5 @@
 -- What holds of each element of a list, and of each moment of one.
-use Rattle.std.proofs.Common.{◌≡◌, ℕ, ◌+◌, ◌<◌, Bool, true, false, cond, List, [], ◌∷◌, ◌++◌, length, zero, suc, filter, refl, ap, ◌∙◌, length-append, arith}
+use Rattle.std.proofs.Common.{◌≡◌, ℕ, ◌+◌, ◌<◌, Bool, true, false, cond, List, [], ◌∷◌, ◌++◌, length, zero, suc, filter, refl, sym, ap, ◌∙◌, append_assoc, length-append, arith}
 use Rattle.std.specs.List.{AllByRecursion, flat_map, range_with_len}
 use Rattle.std.proofs.lemmas.Grind.{flat_map-append}
 use Rattle.std.proofs.lemmas.List.{append-nil}
@@ -45,16 +45,23 @@ flat_map-range : {Y : Type 0} (f g : ℕ → List Y) (a n : ℕ) → ((i : ℕ) 
 flat_map-range f g a zero agree = refl
 flat_map-range f g a (suc n) agree = rw (agree a (omega arith), flat_map-range f g (a + 1) n (λ i lt. agree i (omega (arith, lt))))
 
--- one more element leaves what was at each moment, and adds its own
+-- one more element leaves what was at each moment, and adds its own: seen from a place on, and from the first one
+pub moments-on : {X Y : Type 0} (at : List X → ℕ → List Y) (before xs : List X) (x : X) → ((i : ℕ) → i < length (before ++ xs) → at ((before ++ xs) ++ x ∷ []) i ≡ at (before ++ xs) i)
+    → flat_map (at (before ++ (xs ++ x ∷ []))) (range_with_len (length before) (length (xs ++ x ∷ [])))
+    ≡ flat_map (at (before ++ xs)) (range_with_len (length before) (length xs)) ++ at ((before ++ xs) ++ x ∷ []) (length (before ++ xs))
+moments-on at before xs x earlier =
+    let ys = (before ++ xs) ++ x ∷ [] in
+    let a = length before in
+    let n = length xs in
+    let count : length (xs ++ x ∷ []) ≡ suc n = length-append xs (x ∷ []) ∙ omega arith in
+    let all : length (before ++ xs) ≡ a + n = length-append before xs in
+    ap (λ l. flat_map (at l) (range_with_len a (length (xs ++ x ∷ [])))) (sym (append_assoc before xs (x ∷ [])))
+    ∙ ap (λ (m : ℕ). flat_map (at ys) (range_with_len a m)) count
+    ∙ ap (flat_map (at ys)) (range-push a n)
+    ∙ flat_map-append (at ys) (range_with_len a n) ((a + n) ∷ [])
+    ∙ ap (λ l. l ++ flat_map (at ys) ((a + n) ∷ [])) (flat_map-range (at ys) (at (before ++ xs)) a n (λ i lt. earlier i (omega (arith, lt, all))))
+    ∙ ap (λ l. flat_map (at (before ++ xs)) (range_with_len a n) ++ l) (append-nil (at ys (a + n)) ∙ ap (at ys) (sym all))
+
 pub moments-push : {X Y : Type 0} (at : List X → ℕ → List Y) (xs : List X) (x : X) → ((i : ℕ) → i < length xs → at (xs ++ x ∷ []) i ≡ at xs i)
     → flat_map (at (xs ++ x ∷ [])) (range_with_len 0 (length (xs ++ x ∷ []))) ≡ flat_map (at xs) (range_with_len 0 (length xs)) ++ at (xs ++ x ∷ []) (length xs)
-moments-push at xs x earlier =
-    let ys = xs ++ x ∷ [] in
-    let n = length xs in
-    let count : length ys ≡ suc n = length-append xs (x ∷ []) ∙ omega arith in
-    let from_zero : 0 + n ≡ n = omega arith in
-    ap (λ (m : ℕ). flat_map (at ys) (range_with_len 0 m)) count
-    ∙ ap (flat_map (at ys)) (range-push 0 n)
-    ∙ flat_map-append (at ys) (range_with_len 0 n) ((0 + n) ∷ [])
-    ∙ ap (λ l. l ++ flat_map (at ys) ((0 + n) ∷ [])) (flat_map-range (at ys) (at xs) 0 n (λ i lt. earlier i (omega (arith, lt))))
-    ∙ ap (λ l. flat_map (at xs) (range_with_len 0 n) ++ l) (append-nil (at ys (0 + n)) ∙ ap (at ys) from_zero)
+moments-push at xs x earlier = moments-on at [] xs x earlier

@@ -1,15 +1,16 @@
 -- What is found at one more item.
 use Rattle.std.proofs.Common.{◌≡◌, ℕ, ◌+◌, Bool, true, false, cond, List, [], ◌∷◌, ◌++◌, map, Some, None, filter, refl, sym, ap, ◌∙◌}
-use Rattle.std.specs.List.{enumerate_from}
+use Rattle.std.specs.List.{enumerate_from, filter_map}
 use Rattle.std.specs.Option.{option_map_or}
 use Rattle.std.proofs.lemmas.List.{append-nil}
 use Rattle.std.proofs.lemmas.List.Elements.{filter-append}
-use Rattle.apollo_schema.specs.TypeParts.{TypePart, TypeItem, Defined, Extended, kind_of, key_of, same}
+use Rattle.apollo_schema.specs.TypeParts.{TypePart, TypeItem, Defined, Extended, Folding, OfType, OfSchema, kind_of, key_of, same}
 use Rattle.apollo_schema.specs.DefinitionList.{same_kind, first, extensions_of, of_kind}
-use Rattle.apollo_schema.specs.TypeMeaning.{Sourced, extension_part, sourced, parts}
+use Rattle.apollo_schema.specs.TypeMeaning.{Sourced, extension_part, of_type, sourced, parts}
 use Rattle.apollo_schema.specs.TypeFaults.{part_faults, extension_faults, further_definition}
 use Rattle.apollo_schema.specs.Joining.{joining_faults}
 use Rattle.apollo_schema.specs.Prefixes.{faults_after, found_at, folded}
+use Rattle.apollo_schema.proofs.TypeLemmas.{type_foldings}
 use Rattle.apollo_schema.proofs.PartLemmas.{of_name}
 
 -- extensions that join a definition and those before them
@@ -20,13 +21,16 @@ joining-after d before (e ∷ es) =
     ∙ ap (λ l. extension_faults d before e ++ l) (joining-after d (before ++ e ∷ []) es)
 
 -- the folded extensions of a name, their origins forgotten
-sourced-parts : (n : List ℕ) (start : ℕ) (ps : List TypePart) → map (λ (s : Sourced). s.1) (sourced n start ps) ≡ filter (λ p. same n (key_of p)) ps
+sourced-parts : (n : List ℕ) (start : ℕ) (fs : List Folding) → map (λ (s : Sourced). s.1) (sourced n start fs) ≡ filter (λ p. same n (key_of p)) (type_foldings fs)
 sourced-parts n start [] = refl
-sourced-parts n start (p ∷ ps) = by (same n (key_of p)) (sourced-parts n (start + 1) ps)
+sourced-parts n start (OfSchema s ∷ fs) = sourced-parts n (start + 1) fs
+sourced-parts n start (OfType p ∷ fs) = by (same n (key_of p)) (sourced-parts n (start + 1) fs)
   where
-    by : (b : Bool) → map (λ (s : Sourced). s.1) (sourced n (start + 1) ps) ≡ filter (λ p. same n (key_of p)) ps
-        → map (λ (s : Sourced). s.1) (map extension_part (cond b ((start, p) ∷ filter (λ e. same n (key_of e.1)) (enumerate_from (start + 1) ps)) (filter (λ e. same n (key_of e.1)) (enumerate_from (start + 1) ps))))
-        ≡ cond b (p ∷ filter (λ p. same n (key_of p)) ps) (filter (λ p. same n (key_of p)) ps)
+    rest_of : List (ℕ × TypePart)
+    rest_of = filter (λ e. same n (key_of e.1)) (filter_map of_type (enumerate_from (start + 1) fs))
+
+    by : (b : Bool) → map (λ (s : Sourced). s.1) (sourced n (start + 1) fs) ≡ filter (λ p. same n (key_of p)) (type_foldings fs)
+        → map (λ (s : Sourced). s.1) (map extension_part (cond b ((start, p) ∷ rest_of) rest_of)) ≡ cond b (p ∷ filter (λ p. same n (key_of p)) (type_foldings fs)) (filter (λ p. same n (key_of p)) (type_foldings fs))
     by true rest = ap (λ l. p ∷ l) rest
     by false rest = rest
 
@@ -38,11 +42,11 @@ parts-forget start xs n d some = ap (λ l. d ∷ l) (sourced-parts n start (fold
 module _ (xs : List TypeItem) (p : TypePart) where
   pub found_at-new : first xs (key_of p) ≡ None → found_at xs (Defined p) ≡ part_faults [] p ++ joining_faults p (p ∷ []) (extensions_of xs (key_of p))
   found_at-new none =
-      ap (λ o. option_map_or (λ f. further_definition f p ∷ []) o (part_faults [] p ++ faults_after p [] (extensions_of xs (key_of p)))) none
+      ap (λ o. option_map_or (λ f. further_definition f p) o (part_faults [] p ++ faults_after p [] (extensions_of xs (key_of p)))) none
       ∙ ap (λ l. part_faults [] p ++ l) (sym (joining-after p [] (extensions_of xs (key_of p))))
 
-  pub found_at-again : (d : TypePart) → first xs (key_of p) ≡ Some d → found_at xs (Defined p) ≡ further_definition d p ∷ []
-  found_at-again d some = ap (λ o. option_map_or (λ f. further_definition f p ∷ []) o (part_faults [] p ++ faults_after p [] (extensions_of xs (key_of p)))) some
+  pub found_at-again : (d : TypePart) → first xs (key_of p) ≡ Some d → found_at xs (Defined p) ≡ further_definition d p
+  found_at-again d some = ap (λ o. option_map_or (λ f. further_definition f p) o (part_faults [] p ++ faults_after p [] (extensions_of xs (key_of p)))) some
 
   pub found_at-early : first xs (key_of p) ≡ None → found_at xs (Extended p) ≡ []
   found_at-early none = ap (λ o. option_map_or (λ d. extension_faults d (extensions_of xs (key_of p)) p) o []) none

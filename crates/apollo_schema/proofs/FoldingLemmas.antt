@@ -1,14 +1,15 @@
 -- Extensions that are folded one after another.
-use Rattle.std.proofs.Common.{◌≡◌, ℕ, ◌+◌, ◌<◌, ◌≤◌, get_or, take, drop, List, [], ◌∷◌, ◌++◌, length, map, refl, sym, ap, ◌∙◌, append_assoc, length-append, arith}
+use Rattle.std.proofs.Common.{◌≡◌, ℕ, ◌+◌, ◌<◌, ◌≤◌, get_or, take, drop, Bool, List, [], ◌∷◌, ◌++◌, length, map, refl, sym, ap, ◌∙◌, append_assoc, length-append, arith}
 use Rattle.std.specs.List.{filter_map, enumerate_from}
 use Rattle.std.proofs.lemmas.List.{map-append, take_more, take-append-drop}
 use Rattle.std.proofs.lemmas.List.Elements.{filter-append, filter_map-append}
 use Rattle.graphql_ast.specs.declared.type_kind.TypeKind.{TypeKind}
+use Rattle.apollo_component.specs.declared.extension.ComponentOrigin.TheVariants as origins
 use Rattle.graphql_ast.specs.declared.definition.Definition.{Definition}
 use Rattle.apollo_schema.specs.TypeParts.{TypePart, TypeBody, ScalarBody, ObjectBody, InterfaceBody, UnionBody, EnumBody, InputObjectBody, item_of, items_of, extended_part, extended_parts, body_kind, kind_of}
 use Rattle.apollo_schema.specs.DefinitionList.{same_kind, of_kind}
 use Rattle.apollo_schema.specs.TypeMeaning.{Sourced, type_at, type_from, extension_part, numbered}
-use Rattle.apollo_types.specs.TypeWriteOut.{type_kind, type_name}
+use Rattle.apollo_types.specs.TypeWriteOut.{type_kind, type_name, type_location}
 
 -- numbers go on
 pub enumerate_from-append : {X : Type 0} (n : ℕ) (xs ys : List X) → enumerate_from n (xs ++ ys) ≡ enumerate_from n xs ++ enumerate_from (n + length xs) ys
@@ -65,6 +66,34 @@ pub type_name-from : (head : TypePart) (done : List Sourced) → type_name (type
 type_name-from head done = by head.body
   where
     by : (b : TypeBody) → type_name (type_at b head done) ≡ head.name
+    by ScalarBody = refl
+    by (ObjectBody interfaces fields) = refl
+    by (InterfaceBody interfaces fields) = refl
+    by (UnionBody members) = refl
+    by (EnumBody values) = refl
+    by (InputObjectBody fields) = refl
+
+-- and its place
+pub type_location-from : (head : TypePart) (done : List Sourced) → type_location (type_from head done) ≡ head.location
+type_location-from head done = by head.body
+  where
+    by : (b : TypeBody) → type_location (type_at b head done) ≡ head.location
+    by ScalarBody = refl
+    by (ObjectBody interfaces fields) = refl
+    by (InterfaceBody interfaces fields) = refl
+    by (UnionBody members) = refl
+    by (EnumBody values) = refl
+    by (InputObjectBody fields) = refl
+
+-- whether a definition is ignorable changes no type
+pub type_from-ignorable : (p : TypePart) (b : Bool) (es : List Sourced)
+    → type_from (record p { ignorable = b }) ((origins.Definition, record p { ignorable = b }) ∷ es) ≡ type_from p ((origins.Definition, p) ∷ es)
+type_from-ignorable p b es = by p.body
+  where
+    q : TypePart
+    q = record p { ignorable = b }
+
+    by : (body : TypeBody) → type_at body q ((origins.Definition, q) ∷ es) ≡ type_at body p ((origins.Definition, p) ∷ es)
     by ScalarBody = refl
     by (ObjectBody interfaces fields) = refl
     by (InterfaceBody interfaces fields) = refl

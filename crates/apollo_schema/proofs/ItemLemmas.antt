@@ -1,15 +1,23 @@
 -- What a list says of a name with one more item.
-use Rattle.std.proofs.Common.{◌≡◌, ℕ, ◌+◌, Bool, true, false, cond, List, [], ◌∷◌, ◌++◌, length, Some, None, refl, sym, ap, ◌∙◌, append_assoc}
+use Rattle.std.proofs.Common.{◌≡◌, ℕ, ◌+◌, Bool, true, false, cond, List, [], ◌∷◌, ◌++◌, length, filter, slice_get, Option, Some, None, refl, sym, ap, subst, ◌∙◌, append_assoc}
+use Rattle.std.specs.List.{filter_map, cons_option}
 use Rattle.std.specs.Option.{option_or}
 use Rattle.std.specs.Map.{lookup}
 use Rattle.std.proofs.lemmas.List.{append-nil, map-append}
 use Rattle.std.proofs.lemmas.List.Elements.{filter-append, filter_map-append}
-use Rattle.graphql_ast.specs.declared.definition.Definition.{Definition}
-use Rattle.apollo_schema.specs.TypeParts.{TypePart, TypeItem, Defined, Extended, Other, key_of, same}
-use Rattle.apollo_schema.specs.DefinitionList.{definitions, first, extensions_of}
+use Rattle.apollo_schema.specs.TypeParts.{TypePart, SchemaPart, TypeItem, Defined, Extended, SchemaDefined, SchemaExtended, Folding, defined_part, extended_part, defined_schema, extended_schema, key_of, same}
+use Rattle.apollo_schema.specs.DefinitionList.{named, definitions, first, extensions_of, first_schema, schema_extensions}
 use Rattle.apollo_schema.specs.Prefixes.{added_after, folded_at, folded, found_at, found, waited_at, waited}
 use Rattle.apollo_schema.specs.TypeMeaning.{sourced}
 use Rattle.apollo_schema.proofs.FoldingLemmas.{enumerate_from-append}
+
+-- what holds of the empty list, and of a list with one more item if it holds of the list, holds of each list
+pub snoc_ind : (P : List TypeItem → Type 0) → P [] → ((xs : List TypeItem) (x : TypeItem) → P xs → P (xs ++ x ∷ [])) → (xs : List TypeItem) → P xs
+snoc_ind P base step xs = go [] xs base
+  where
+    go : (before ys : List TypeItem) → P before → P (before ++ ys)
+    go before [] h = subst P (sym (append-nil before)) h
+    go before (y ∷ ys) h = subst P (append_assoc before (y ∷ []) ys) (go (before ++ y ∷ []) ys (step before y h))
 
 -- one more entry is found where none was
 pub lookup-push : {V : Type 0} (n m : List ℕ) (v : V) (es : List (List ℕ × V)) → lookup (same n) (es ++ (m, v) ∷ []) ≡ option_or (lookup (same n) es) (cond (same n m) (Some v) None)
@@ -25,31 +33,45 @@ module _ (xs : List TypeItem) (p : TypePart) where
   pub definitions-push_definition : definitions (xs ++ Defined p ∷ []) ≡ definitions xs ++ (key_of p, p) ∷ []
   definitions-push_definition = rw (filter_map-append, map-append)
 
-  pub definitions-push_extension : definitions (xs ++ Extended p ∷ []) ≡ definitions xs
-  definitions-push_extension = rw (filter_map-append, append-nil)
-
   pub first-push_definition : (n : List ℕ) → first (xs ++ Defined p ∷ []) n ≡ option_or (first xs n) (cond (same n (key_of p)) (Some p) None)
   first-push_definition n = ap (lookup (same n)) definitions-push_definition ∙ lookup-push n (key_of p) p (definitions xs)
-
-  pub first-push_extension : (n : List ℕ) → first (xs ++ Extended p ∷ []) n ≡ first xs n
-  first-push_extension n = ap (lookup (same n)) definitions-push_extension
-
-  pub extensions_of-push_definition : (n : List ℕ) → extensions_of (xs ++ Defined p ∷ []) n ≡ extensions_of xs n
-  extensions_of-push_definition n = rw (filter_map-append, append-nil)
 
   pub extensions_of-push_extension : (n : List ℕ) → extensions_of (xs ++ Extended p ∷ []) n ≡ extensions_of xs n ++ cond (same n (key_of p)) (p ∷ []) []
   extensions_of-push_extension n = rw (filter_map-append, filter-append)
 
--- something else changes no definition and no extension
-module _ (xs : List TypeItem) (d : Definition) where
-  pub definitions-push_other : definitions (xs ++ Other d ∷ []) ≡ definitions xs
-  definitions-push_other = rw (filter_map-append, append-nil)
+-- what a filter leaves out adds nothing
+pub filter_map-push_none : {P : Type 0} (which : TypeItem → Option P) (xs : List TypeItem) (x : TypeItem) → which x ≡ None → filter_map which (xs ++ x ∷ []) ≡ filter_map which xs
+filter_map-push_none which xs x none = filter_map-append which xs (x ∷ []) ∙ ap (λ o. filter_map which xs ++ cons_option o []) none ∙ append-nil (filter_map which xs)
 
-  pub first-push_other : (n : List ℕ) → first (xs ++ Other d ∷ []) n ≡ first xs n
-  first-push_other n = ap (lookup (same n)) definitions-push_other
+-- an item that defines no type, and one that extends none, changes no definition, and no extension
+module _ (xs : List TypeItem) (x : TypeItem) where
+  pub definitions-push_undefined : defined_part x ≡ None → definitions (xs ++ x ∷ []) ≡ definitions xs
+  definitions-push_undefined none = ap named (filter_map-push_none defined_part xs x none)
 
-  pub extensions_of-push_other : (n : List ℕ) → extensions_of (xs ++ Other d ∷ []) n ≡ extensions_of xs n
-  extensions_of-push_other n = rw (filter_map-append, append-nil)
+  pub first-push_undefined : defined_part x ≡ None → (n : List ℕ) → first (xs ++ x ∷ []) n ≡ first xs n
+  first-push_undefined none n = ap (lookup (same n)) (definitions-push_undefined none)
+
+  pub extensions_of-push_unextended : extended_part x ≡ None → (n : List ℕ) → extensions_of (xs ++ x ∷ []) n ≡ extensions_of xs n
+  extensions_of-push_unextended none n = ap (filter (λ p. same n (key_of p))) (filter_map-push_none extended_part xs x none)
+
+-- the same for definitions and extensions of the schema
+slice_get-push : {X : Type 0} (l : List X) (x : X) → slice_get (l ++ x ∷ []) 0 ≡ option_or (slice_get l 0) (Some x)
+slice_get-push [] x = refl
+slice_get-push (y ∷ l) x = refl
+
+module _ (xs : List TypeItem) (s : SchemaPart) where
+  pub first_schema-push_definition : first_schema (xs ++ SchemaDefined s ∷ []) ≡ option_or (first_schema xs) (Some s)
+  first_schema-push_definition = ap (λ l. slice_get l 0) (filter_map-append defined_schema xs (SchemaDefined s ∷ [])) ∙ slice_get-push (filter_map defined_schema xs) s
+
+  pub schema_extensions-push_extension : schema_extensions (xs ++ SchemaExtended s ∷ []) ≡ schema_extensions xs ++ s ∷ []
+  schema_extensions-push_extension = filter_map-append extended_schema xs (SchemaExtended s ∷ [])
+
+module _ (xs : List TypeItem) (x : TypeItem) where
+  pub first_schema-push_undefined : defined_schema x ≡ None → first_schema (xs ++ x ∷ []) ≡ first_schema xs
+  first_schema-push_undefined none = ap (λ l. slice_get l 0) (filter_map-push_none defined_schema xs x none)
+
+  pub schema_extensions-push_unextended : extended_schema x ≡ None → schema_extensions (xs ++ x ∷ []) ≡ schema_extensions xs
+  schema_extensions-push_unextended none = filter_map-push_none extended_schema xs x none
 
 -- one more item adds its own, after the others
 pub added_after-push : {X : Type 0} (at : List TypeItem → TypeItem → List X) (before xs : List TypeItem) (x : TypeItem)
@@ -69,5 +91,5 @@ module _ (xs : List TypeItem) (x : TypeItem) where
   waited-push = added_after-push waited_at [] xs x
 
 -- the folded extensions of a name, after others
-pub sourced-append : (n : List ℕ) (start : ℕ) (ps qs : List TypePart) → sourced n start (ps ++ qs) ≡ sourced n start ps ++ sourced n (start + length ps) qs
-sourced-append n start ps qs = rw (enumerate_from-append start ps qs, filter-append, map-append)
+pub sourced-append : (n : List ℕ) (start : ℕ) (ps qs : List Folding) → sourced n start (ps ++ qs) ≡ sourced n start ps ++ sourced n (start + length ps) qs
+sourced-append n start ps qs = rw (enumerate_from-append start ps qs, filter_map-append, filter-append, map-append)

@@ -13,7 +13,7 @@ use Rattle.graphql_ast.specs.declared.type_kind.TypeKind.{TypeKind}
 use Rattle.graphql_ast.specs.declared.type_kind.TypeKind.TheVariants as kinds
 use Rattle.graphql_ast.specs.declared.definition.Definition.{Definition}
 use Rattle.apollo_types.specs.declared.extended_type.ExtendedType.{ExtendedType}
-use Rattle.apollo_schema.specs.TypeParts.{TypePart, TypeItem, Defined, Extended, Other, TypeBody, ScalarBody, ObjectBody, InterfaceBody, UnionBody, EnumBody, InputObjectBody, item_of, extended_part, extended_parts, kind_of}
+use Rattle.apollo_schema.specs.TypeParts.{TypePart, TypeItem, Defined, Extended, SchemaDefined, SchemaExtended, Other, TypeBody, ScalarBody, ObjectBody, InterfaceBody, UnionBody, EnumBody, InputObjectBody, item_of, extended_part, extended_parts, kind_of}
 use Rattle.apollo_schema.specs.DefinitionList.{same_kind, of_kind}
 use Rattle.apollo_schema.specs.TypeMeaning.{Sourced, extension_part, numbered}
 use Rattle.apollo_schema.specs.Collisions.{Fault}
@@ -28,7 +28,7 @@ no_scalar_faults parts [] = refl
 no_scalar_faults parts (e ∷ es) = by e.body (no_scalar_faults parts es)
   where
     with_body : TypeBody → TypePart
-    with_body b = record { name = e.name; location = e.location; description = e.description; directives = e.directives; body = b }
+    with_body b = record { name = e.name; location = e.location; description = e.description; directives = e.directives; body = b; ignorable = e.ignorable }
 
     by : (b : TypeBody) → flat_map (part_faults parts) (of_kind kinds.Scalar es) ≡ [] → flat_map (part_faults parts) (of_kind kinds.Scalar (with_body b ∷ es)) ≡ []
     by ScalarBody rest = rest
@@ -46,11 +46,14 @@ pub IsOf-faults : {T : Type 0} {make : NodeView T → ExtendedType} {of : TypePa
 IsOf-faults {T} {make} {of} {k} {head} {done} is before after es folded =
     folded (ap (λ (n : NodeView T). n.value) is.node) ∙ ap (λ k. before ++ flat_map (part_faults (map (λ s. s.1) done)) (of_kind k es)) (sym is.kind)
 
-same_kind-true : (a b : TypeKind) → same_kind a b ≡ true → a ≡ b
+pub same_kind-true : (a b : TypeKind) → same_kind a b ≡ true → a ≡ b
 same_kind-true a b h = grind arith
 
 extension_kind : (x : Definition) (e : TypePart) → item_of x ≡ Extended e → definition_kind x ≡ Some (kind_of e)
 extension_kind x e is = grind arith
+
+pub definition_kind-is : (x : Definition) (p : TypePart) → item_of x ≡ Defined p → definition_kind x ≡ Some (kind_of p)
+definition_kind-is x p is = grind arith
 
 -- what a message calls an extension
 pub extension_text : (x : Definition) (e : TypePart) → item_of x ≡ Extended e → definition_text x ≡ kind_text (kind_of e) ++ codes " extension"
@@ -72,6 +75,8 @@ module _ (head : TypePart) where
       by (Extended e) is named =
           let own : name ≡ e.name = cc in
           mismatch-part e (λ same. apart (extension_kind x e is ∙ ap (λ k. Some k) (sym same))) ∙ ap (λ f. f ∷ []) (sym (says e is own))
+      by (SchemaDefined s) is named = cc
+      by (SchemaExtended s) is named = cc
       by (Other d) is named = cc
 
 module _ (d : TypePart) where

@@ -1,5 +1,7 @@
+pub mod CompletionLemmas
 pub mod DirectiveLemmas
 pub mod EachLemmas
+pub mod EndLemmas
 pub mod FaultLemmas
 pub mod FoldingLemmas
 pub mod FoundLemmas
@@ -15,6 +17,9 @@ pub mod PartNames
 pub mod PlaceLemmas
 pub mod RefusalLemmas
 pub mod RoleLemmas
+pub mod RootLemmas
+pub mod SchemaLemmas
+pub mod SchemaStandsLemmas
 pub mod StandsLemmas
 pub mod Texts
 pub mod TypeLemmas

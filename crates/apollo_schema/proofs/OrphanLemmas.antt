@@ -4,7 +4,7 @@ use Rattle.std.specs.List.{filter_map, flat_map, list_any, IsDistinct}
 use Rattle.std.specs.Option.{option_map_or}
 use Rattle.std.specs.Cmp.{on_equiv}
 use Rattle.std.specs.Cmp.Lexicographic.{nat_list_eq_equiv}
-use Rattle.std.specs.Map.{lookup, keys_of}
+use Rattle.std.specs.Map.{lookup, keys_of, values_of}
 use Rattle.std.proofs.lemmas.Bool.Decides.{nat_tests}
 use Rattle.std.proofs.lemmas.List.{append-nil, map-append}
 use Rattle.std.proofs.lemmas.List.Elements.{filter-append, filter_map-append}
@@ -16,24 +16,24 @@ use Rattle.graphql_ast.specs.ArgumentsByName.{same_text}
 use Rattle.graphql_ast.specs.declared.definition.Definition.{Definition}
 use Rattle.apollo_component.specs.FirstOfEach.{first_of_each}
 use Rattle.apollo_component.proofs.FirstOfEachLemmas.{first_of_each-push_new, first_of_each-push_old, is_some-lookup, list_any-first_of_each}
-use Rattle.apollo_schema.specs.TypeParts.{TypePart, TypeItem, Defined, Extended, Other, extended_part, extended_parts, key_of, same}
+use Rattle.apollo_schema.specs.TypeParts.{TypePart, TypeItem, Defined, Extended, SchemaDefined, SchemaExtended, Other, extended_part, extended_parts, key_of, same}
 use Rattle.apollo_schema.specs.DefinitionList.{first, extensions_of}
 use Rattle.apollo_schema.specs.SchemaMeaning.{by_text}
-use Rattle.apollo_schema.specs.SchemaFaults.{extended_names, orphans_of}
+use Rattle.apollo_schema.specs.Places.{types, Placed, first_place}
+use Rattle.apollo_schema.specs.Adoption.{extended_names, orphans_of, adopted_by, adopted}
 use Rattle.apollo_schema.specs.Prefixes.{waiting_of, waited_at, waited}
 use Rattle.apollo_schema.specs.Stands.{parts_held}
 use Rattle.apollo_schema.proofs.Texts.{same-true, same-is, same-flip}
 use Rattle.apollo_schema.proofs.EachLemmas.{flat_map-each}
-use Rattle.apollo_schema.proofs.ItemLemmas.{first-push_extension, waited-push}
-use Rattle.apollo_schema.proofs.PlaceLemmas.{snoc_ind}
-use Rattle.apollo_schema.proofs.TypeLemmas.{first-front}
+use Rattle.apollo_schema.proofs.ItemLemmas.{snoc_ind, filter_map-push_none, first-push_undefined, waited-push}
+use Rattle.apollo_schema.proofs.PlaceLemmas.{first-none, first-some, first_place-stays}
 
 -- the names of extensions, each as often as it is extended
 abbrev keys : List TypeItem → List (List ℕ)
 keys xs = map key_of (filter_map extended_part xs)
 
 -- a name has an extension if it is among them
-no_extension : (n : List ℕ) (ps : List TypePart) → (length (filter (λ p. same n (key_of p)) ps) == 0) ≡ not (list_any (same n) (map key_of ps))
+pub no_extension : (n : List ℕ) (ps : List TypePart) → (length (filter (λ p. same n (key_of p)) ps) == 0) ≡ not (list_any (same n) (map key_of ps))
 no_extension n [] = refl
 no_extension n (p ∷ ps) = by (same n (key_of p)) (no_extension n ps)
   where
@@ -46,11 +46,18 @@ no_extension n (p ∷ ps) = by (same n (key_of p)) (no_extension n ps)
 abbrev names_at : List TypeItem → TypeItem → List (List ℕ)
 names_at xs (Defined d) = []
 names_at xs (Extended p) = cond (list_any (same (key_of p)) (keys xs)) [] (key_of p ∷ [])
+names_at xs (SchemaDefined s) = []
+names_at xs (SchemaExtended s) = []
 names_at xs (Other d) = []
 
+extended_names-unextended : (xs : List TypeItem) (x : TypeItem) → extended_part x ≡ None → extended_names (xs ++ x ∷ []) ≡ extended_names xs ++ []
+extended_names-unextended xs x none = ap (λ l. first_of_each same (map key_of l)) (filter_map-push_none extended_part xs x none) ∙ sym (append-nil (extended_names xs))
+
 extended_names-push : (xs : List TypeItem) (x : TypeItem) → extended_names (xs ++ x ∷ []) ≡ extended_names xs ++ names_at xs x
-extended_names-push xs (Defined d) = ap (λ l. first_of_each same (map key_of l)) (filter_map-append extended_part xs (Defined d ∷ []) ∙ append-nil (filter_map extended_part xs)) ∙ sym (append-nil (extended_names xs))
-extended_names-push xs (Other d) = ap (λ l. first_of_each same (map key_of l)) (filter_map-append extended_part xs (Other d ∷ []) ∙ append-nil (filter_map extended_part xs)) ∙ sym (append-nil (extended_names xs))
+extended_names-push xs (Defined d) = extended_names-unextended xs (Defined d) refl
+extended_names-push xs (SchemaDefined s) = extended_names-unextended xs (SchemaDefined s) refl
+extended_names-push xs (SchemaExtended s) = extended_names-unextended xs (SchemaExtended s) refl
+extended_names-push xs (Other d) = extended_names-unextended xs (Other d) refl
 extended_names-push xs (Extended p) = ap (first_of_each same) (ap (map key_of) (filter_map-append extended_part xs (Extended p ∷ [])) ∙ map-append key_of (filter_map extended_part xs) (p ∷ [])) ∙ by (list_any (same (key_of p)) (keys xs)) refl
   where
     by : (b : Bool) → list_any (same (key_of p)) (keys xs) ≡ b → first_of_each same (keys xs ++ key_of p ∷ []) ≡ extended_names xs ++ cond (list_any (same (key_of p)) (keys xs)) [] (key_of p ∷ [])
@@ -69,11 +76,11 @@ undefined xs = filter (is_undefined xs)
 
 -- a name without one in a longer list has none in a front
 undefined-before : (xs : List TypeItem) (x : TypeItem) (n : List ℕ) → is_undefined (xs ++ x ∷ []) n ≡ true → is_undefined xs n ≡ true
-undefined-before xs x n h = by (first (xs ++ x ∷ []) n) refl
+undefined-before xs x n h = by (first_place types xs n) refl
   where
-    by : (o : Option TypePart) → first (xs ++ x ∷ []) n ≡ o → is_undefined xs n ≡ true
-    by None e = ap (λ o. not (is_some o)) (first-front n xs (x ∷ []) e)
-    by (Some d) e = absurd (let g : false ≡ true = sym (ap (λ o. not (is_some o)) e) ∙ h in cc)
+    by : (o : Option (Placed TypePart)) → first_place types xs n ≡ o → is_undefined xs n ≡ true
+    by None e = ap (λ o. not (is_some o)) (first-none xs n e)
+    by (Some z) e = absurd (let g : false ≡ true = sym (ap (λ o. not (is_some o)) (first-some (xs ++ x ∷ []) n z (first_place-stays types xs x n z e))) ∙ h in cc)
 
 undefined-twice : (xs : List TypeItem) (x : TypeItem) (ns : List (List ℕ)) → undefined (xs ++ x ∷ []) ns ≡ undefined (xs ++ x ∷ []) (undefined xs ns)
 undefined-twice xs x [] = refl
@@ -108,6 +115,8 @@ waited_at-extended xs p None e =
 -- names without a definition that an item adds to either list are the same
 same_at : (xs : List TypeItem) (x : TypeItem) → undefined (xs ++ x ∷ []) (texts (waited_at xs x)) ≡ undefined (xs ++ x ∷ []) (names_at xs x)
 same_at xs (Defined d) = refl
+same_at xs (SchemaDefined s) = refl
+same_at xs (SchemaExtended s) = refl
 same_at xs (Other d) = refl
 same_at xs (Extended p) = by (first xs (key_of p)) refl (list_any (same (key_of p)) (keys xs)) refl
   where
@@ -119,7 +128,7 @@ same_at xs (Extended p) = by (first xs (key_of p)) refl (list_any (same (key_of 
     by None e false f = ap (λ l. undefined ys (texts l)) (waited_at-extended xs p None e ∙ ap (λ b. cond b [] (p.name ∷ [])) f) ∙ sym (ap (λ b. undefined ys (cond b [] (key_of p ∷ []))) f)
     by (Some d) e true f = ap (λ l. undefined ys (texts l)) (waited_at-extended xs p (Some d) e) ∙ sym (ap (λ b. undefined ys (cond b [] (key_of p ∷ []))) f)
     by (Some d) e false f =
-        let known : is_undefined ys (key_of p) ≡ false = ap (λ o. not (is_some o)) (first-push_extension xs p (key_of p) ∙ e) in
+        let known : is_undefined ys (key_of p) ≡ false = ap (λ o. not (is_some o)) (first-push_undefined xs (Extended p) refl (key_of p) ∙ e) in
         ap (λ l. undefined ys (texts l)) (waited_at-extended xs p (Some d) e) ∙ sym (ap (λ b. undefined ys (cond b [] (key_of p ∷ []))) f ∙ ap (λ b. cond b (key_of p ∷ []) []) known)
 
 -- the names without a definition are in both lists, in one order
@@ -138,21 +147,28 @@ undefined-names = snoc_ind (λ xs. undefined xs (texts (waited xs)) ≡ undefine
         ∙ ap (λ l. undefined ys (undefined xs (extended_names xs)) ++ l) (same_at xs x)
         ∙ sym (ap (undefined ys) (extended_names-push xs x) ∙ split xs x (extended_names xs) (names_at xs x))
 
--- a name with a definition has no orphans
-orphans-undefined : (xs : List TypeItem) (ns : List (List ℕ)) → flat_map (orphans_of xs) ns ≡ flat_map (orphans_of xs) (undefined xs ns)
-orphans-undefined xs [] = refl
-orphans-undefined xs (n ∷ ns) = by (first xs n) refl (orphans-undefined xs ns)
-  where
-    by : (o : Option TypePart) → first xs n ≡ o → flat_map (orphans_of xs) ns ≡ flat_map (orphans_of xs) (undefined xs ns) → orphans_of xs n ++ flat_map (orphans_of xs) ns ≡ flat_map (orphans_of xs) (cond (is_undefined xs n) (n ∷ undefined xs ns) (undefined xs ns))
-    by None e rest = ap (λ l. orphans_of xs n ++ l) rest ∙ sym (ap (λ o. flat_map (orphans_of xs) (cond (not (is_some o)) (n ∷ undefined xs ns) (undefined xs ns))) e)
-    by (Some d) e rest =
-        ap (λ o. option_map_or (λ _. []) o (extensions_of xs n) ++ flat_map (orphans_of xs) ns) e ∙ rest
-        ∙ sym (ap (λ o. flat_map (orphans_of xs) (cond (not (is_some o)) (n ∷ undefined xs ns) (undefined xs ns))) e)
+-- what the extensions without a definition give, by name
+module _ {X : Type 0} (give : List TypePart → List X) (nothing : give [] ≡ []) where
+  -- a name with a definition has no orphans
+  orphans-undefined : (xs : List TypeItem) (ns : List (List ℕ)) → flat_map (λ n. give (orphans_of xs n)) ns ≡ flat_map (λ n. give (orphans_of xs n)) (undefined xs ns)
+  orphans-undefined xs [] = refl
+  orphans-undefined xs (n ∷ ns) = by (first xs n) refl (orphans-undefined xs ns)
+    where
+      by : (o : Option TypePart) → first xs n ≡ o → flat_map (λ n. give (orphans_of xs n)) ns ≡ flat_map (λ n. give (orphans_of xs n)) (undefined xs ns)
+          → give (orphans_of xs n) ++ flat_map (λ n. give (orphans_of xs n)) ns ≡ flat_map (λ n. give (orphans_of xs n)) (cond (is_undefined xs n) (n ∷ undefined xs ns) (undefined xs ns))
+      by None e rest =
+          ap (λ l. give (orphans_of xs n) ++ l) rest
+          ∙ sym (ap (λ o. flat_map (λ n. give (orphans_of xs n)) (cond (not (is_some o)) (n ∷ undefined xs ns) (undefined xs ns))) e)
+      by (Some d) e rest =
+          ap (λ o. give (option_map_or (λ _. []) o (extensions_of xs n)) ++ flat_map (λ n. give (orphans_of xs n)) ns) e
+          ∙ ap (λ l. l ++ flat_map (λ n. give (orphans_of xs n)) ns) nothing ∙ rest
+          ∙ sym (ap (λ o. flat_map (λ n. give (orphans_of xs n)) (cond (not (is_some o)) (n ∷ undefined xs ns) (undefined xs ns))) e)
 
--- what waits, by name, are the extensions without a definition
-pub orphans-waited : (xs : List TypeItem) → flat_map (λ k. waiting_of xs k.text) (waited xs) ≡ flat_map (orphans_of xs) (extended_names xs)
-orphans-waited xs =
-    sym (flat_map-map (orphans_of xs) (λ k. k.text) (waited xs)) ∙ orphans-undefined xs (texts (waited xs)) ∙ ap (flat_map (orphans_of xs)) (undefined-names xs) ∙ sym (orphans-undefined xs (extended_names xs))
+  -- what waits, by name, are the extensions without a definition
+  pub orphans-waited : (xs : List TypeItem) → flat_map (λ k. give (waiting_of xs k.text)) (waited xs) ≡ flat_map (λ n. give (orphans_of xs n)) (extended_names xs)
+  orphans-waited xs =
+      sym (flat_map-map (λ n. give (orphans_of xs n)) (λ k. k.text) (waited xs)) ∙ orphans-undefined xs (texts (waited xs))
+      ∙ ap (flat_map (λ n. give (orphans_of xs n))) (undefined-names xs) ∙ sym (orphans-undefined xs (extended_names xs))
 
 -- a name that waited is extended
 waited-extended : (xs : List TypeItem) (n : List ℕ) → list_any (same n) (keys xs) ≡ false → list_any (by_text n) (waited xs) ≡ false
@@ -171,6 +187,8 @@ waited-extended = snoc_ind (λ xs. (n : List ℕ) → list_any (same n) (keys xs
 
         own : (y : TypeItem) → list_any (same n) (keys (y ∷ [])) ≡ false → list_any (by_text n) (waited_at xs y) ≡ false
         own (Defined d) h = refl
+        own (SchemaDefined s) h = refl
+        own (SchemaExtended s) h = refl
         own (Other d) h = refl
         own (Extended p) h = by (first xs (key_of p)) (length (extensions_of xs (key_of p)) == 0)
           where
@@ -192,6 +210,8 @@ waited-distinct = snoc_ind (λ xs. IsDistinct same_text (waited xs)) tt step
 
         own : (y : TypeItem) → IsDistinct same_text (waited xs ++ waited_at xs y)
         own (Defined d) = still
+        own (SchemaDefined s) = still
+        own (SchemaExtended s) = still
         own (Other d) = still
         own (Extended p) = by (first xs (key_of p)) refl (list_any (same (key_of p)) (keys xs)) refl
           where
@@ -202,23 +222,34 @@ waited-distinct = snoc_ind (λ xs. IsDistinct same_text (waited xs)) tt step
                 subst (λ l. IsDistinct same_text (waited xs ++ l)) (sym (waited_at-extended xs p None e ∙ ap (λ b. cond b [] (p.name ∷ [])) f))
                 (IsDistinct-push (on_equiv (λ (k : NameView). k.text) nat_list_eq_equiv) (waited xs) p.name before (waited-extended xs (key_of p) f))
 
--- what a table holds, entry by entry, is what it holds under its names
-pub held-by_name : (W : List (NameView × List Definition)) → HasUniqueKeys same_text W → flat_map (λ e. extended_parts e.1) W ≡ flat_map (λ k. parts_held (lookup (by_text k.text) W)) (keys_of W)
-held-by_name [] unique = refl
-held-by_name (e ∷ es) unique =
-    ap (λ l. extended_parts e.1 ++ l) (held-by_name es (IsDistinct-tail same_text e.0 (keys_of es) unique)
-    ∙ flat_map-each (λ k. same_text e.0 k ≡ false) (λ k. parts_held (lookup (by_text k.text) es)) (λ k. parts_held (lookup (by_text k.text) (e ∷ es)))
-    (λ k apart. ap (λ b. parts_held (cond b (Some e.1) (lookup (by_text k.text) es))) (sym (same-flip e.0.text k.text apart))) (keys_of es) (IsDistinct-head same_text e.0 (keys_of es) unique))
-    ∙ ap (λ b. parts_held (cond b (Some e.1) (lookup (by_text e.0.text) es)) ++ flat_map (λ k. parts_held (lookup (by_text k.text) (e ∷ es))) (keys_of es)) (sym (same-is e.0.text e.0.text refl))
+module _ {X : Type 0} (give : List TypePart → List X) where
+  -- what a table gives, entry by entry, is what it gives under its names
+  held-by_name : (W : List (NameView × List Definition)) → HasUniqueKeys same_text W → flat_map (λ e. give (extended_parts e.1)) W ≡ flat_map (λ k. give (parts_held (lookup (by_text k.text) W))) (keys_of W)
+  held-by_name [] unique = refl
+  held-by_name (e ∷ es) unique =
+      ap (λ l. give (extended_parts e.1) ++ l) (held-by_name es (IsDistinct-tail same_text e.0 (keys_of es) unique)
+      ∙ flat_map-each (λ k. same_text e.0 k ≡ false) (λ k. give (parts_held (lookup (by_text k.text) es))) (λ k. give (parts_held (lookup (by_text k.text) (e ∷ es))))
+      (λ k apart. ap (λ b. give (parts_held (cond b (Some e.1) (lookup (by_text k.text) es)))) (sym (same-flip e.0.text k.text apart))) (keys_of es) (IsDistinct-head same_text e.0 (keys_of es) unique))
+      ∙ ap (λ b. give (parts_held (cond b (Some e.1) (lookup (by_text e.0.text) es))) ++ flat_map (λ k. give (parts_held (lookup (by_text k.text) (e ∷ es)))) (keys_of es)) (sym (same-is e.0.text e.0.text refl))
 
--- a table of what waits, under the names that waited, holds the extensions without a definition, by name
+  -- a table of what waits, under the names that waited, gives what the extensions without a definition do, by name
+  pub held-by : give [] ≡ [] → (xs : List TypeItem) (W : List (NameView × List Definition)) → keys_of W ≡ waited xs → ((n : List ℕ) → parts_held (lookup (by_text n) W) ≡ waiting_of xs n)
+      → flat_map (λ e. give (extended_parts e.1)) W ≡ flat_map (λ n. give (orphans_of xs n)) (extended_names xs)
+  held-by nothing xs W names each =
+      held-by_name W (subst (IsDistinct same_text) (sym names) (waited-distinct xs))
+      ∙ ap (λ f. flat_map f (keys_of W)) (λ i k. give (each k.text i))
+      ∙ ap (flat_map (λ k. give (waiting_of xs k.text))) names
+      ∙ orphans-waited give nothing xs
+
+-- it holds the extensions without a definition
 pub held-orphans : (xs : List TypeItem) (W : List (NameView × List Definition)) → keys_of W ≡ waited xs → ((n : List ℕ) → parts_held (lookup (by_text n) W) ≡ waiting_of xs n)
     → flat_map (λ e. extended_parts e.1) W ≡ flat_map (orphans_of xs) (extended_names xs)
-held-orphans xs W names each =
-    held-by_name W (subst (IsDistinct same_text) (sym names) (waited-distinct xs))
-    ∙ ap (λ f. flat_map f (keys_of W)) (λ i k. each k.text i)
-    ∙ ap (flat_map (λ k. waiting_of xs k.text)) names
-    ∙ orphans-waited xs
+held-orphans xs W names each = held-by (λ ps. ps) refl xs W names each
+
+-- and what is adopted from it is what is adopted at the end of the list
+pub held-adopted : (xs : List TypeItem) (W : List (NameView × List Definition)) → keys_of W ≡ waited xs → ((n : List ℕ) → parts_held (lookup (by_text n) W) ≡ waiting_of xs n)
+    → flat_map (λ held. adopted_by (extended_parts held)) (values_of W) ≡ adopted xs
+held-adopted xs W names each = flat_map-map (λ held. adopted_by (extended_parts held)) (λ e. e.1) W ∙ held-by adopted_by refl xs W names each
 
 -- a name without a definition waited exactly if it was extended
 waited-known : (xs : List TypeItem) (n : List ℕ) → first xs n ≡ None → list_any (by_text n) (waited xs) ≡ list_any (same n) (keys xs)

@@ -1,11 +1,10 @@
 -- Tables that stand for a list stand for it with one more item, once the code has taken the item.
-use Rattle.std.proofs.Common.{◌≡◌, ℕ, ◌+◌, ◌^◌, ◌≤◌, Bool, true, false, cond, List, [], ◌∷◌, ◌++◌, length, map, Option, Some, None, is_some, refl, sym, ap, subst, ◌∙◌, append_assoc, arith, length-append}
-use Rattle.std.specs.List.{filter_map, flat_map}
-use Rattle.std.specs.Option.{option_map, unwrap_or}
-use Rattle.std.specs.Map.{lookup, keys_of, values_of, set_value}
+use Rattle.std.proofs.Common.{◌≡◌, ℕ, suc, ◌+◌, ◌^◌, ◌≤◌, Bool, true, false, cond, List, [], ◌∷◌, ◌++◌, length, map, Option, Some, None, is_some, refl, sym, ap, subst, ◌∙◌, append_assoc, arith, length-append}
+use Rattle.std.specs.List.{filter_map}
+use Rattle.std.specs.Option.{option_map, option_map_or, unwrap_or}
+use Rattle.std.specs.Map.{lookup, keys_of, set_value}
 use Rattle.std.proofs.lemmas.List.{append-nil}
 use Rattle.std.proofs.lemmas.List.Elements.{filter_map-append}
-use Rattle.std.proofs.lemmas.List.Folds.{flat_map-map}
 use Rattle.std.proofs.lemmas.Map.{keys-set_value}
 use Rattle.indexmap.specs.IndexMap.{insert_entry}
 use Rattle.graphql_ast.specs.NameView.{NameView}
@@ -14,28 +13,30 @@ use Rattle.graphql_ast.specs.declared.definition.Definition.{Definition}
 use Rattle.apollo_component.specs.Extensions.{next_number, source_at}
 use Rattle.apollo_component.specs.declared.extension.ComponentOrigin.TheVariants as origins
 use Rattle.apollo_types.specs.declared.extended_type.ExtendedType.{ExtendedType}
-use Rattle.apollo_schema.specs.declared.schema_builder.Tables.{Tables}
-use Rattle.apollo_schema.specs.TypeParts.{TypePart, TypeItem, Defined, Extended, Other, extended_part, extended_parts, kind_of, key_of, same}
-use Rattle.apollo_schema.specs.DefinitionList.{first, extensions_of, of_kind}
+use Rattle.apollo_schema.specs.declared.tables.Tables.{Tables}
+use Rattle.apollo_schema.specs.TypeParts.{TypePart, SchemaPart, TypeItem, Defined, Extended, Other, Folding, OfType, OfSchema, defined_part, extended_part, defined_schema, extended_schema, schema_extension_part, kind_of, key_of, same}
+use Rattle.apollo_schema.specs.DefinitionList.{first, extensions_of, of_kind, first_schema}
 use Rattle.apollo_schema.specs.TypeMeaning.{Sourced, type_from, extension_part, numbered, parts, type_of}
 use Rattle.apollo_types.specs.TypeWriteOut.{type_kind}
-use Rattle.apollo_schema.specs.SchemaMeaning.{by_text}
+use Rattle.apollo_schema.specs.SchemaMeaning.{by_text, AreTypesOf}
 use Rattle.apollo_schema.specs.DirectiveMeaning.{directive_part, directive_definitions, AreDirectivesOf}
 use Rattle.apollo_schema.specs.Collisions.{Fault}
-use Rattle.apollo_schema.specs.TypeFaults.{part_faults, further_definition, orphan}
-use Rattle.apollo_schema.specs.SchemaFaults.{other_faults, faults_in}
+use Rattle.apollo_schema.specs.TypeFaults.{part_faults, further_definition}
+use Rattle.apollo_schema.specs.SchemaFaults.{other_faults}
+use Rattle.apollo_schema.specs.RootMeaning.{schema_of}
+use Rattle.apollo_schema.specs.Adoption.{schema_orphans}
 use Rattle.apollo_schema.specs.Joining.{joining_faults}
-use Rattle.apollo_schema.specs.Prefixes.{folded_at, folded, found_at, found, waited_at, waited}
+use Rattle.apollo_schema.specs.Prefixes.{types_folded_at, schemas_folded_at, folded_at, folded, waiting_of, found_at, found, waited_at, waited}
 use Rattle.apollo_schema.specs.Stands.{Stands, parts_held}
 use Rattle.apollo_schema.proofs.Texts.{same-true, same-is}
 use Rattle.apollo_schema.proofs.NameTables.{lookup-put, keys-put, lookup-write}
-use Rattle.apollo_schema.proofs.ItemLemmas.{first-push_extension, first-push_other, folded-push, found-push, waited-push}
+use Rattle.apollo_schema.proofs.ItemLemmas.{first-push_undefined, first_schema-push_undefined, schema_extensions-push_unextended, folded-push, found-push, waited-push}
+use Rattle.apollo_schema.proofs.SchemaLemmas.{schema_of-same}
 use Rattle.apollo_schema.proofs.FaultLemmas.{found_at-new, found_at-again, found_at-early, found_at-late, parts-forget}
-use Rattle.apollo_schema.proofs.FoundLemmas.{found_in-order}
-use Rattle.apollo_schema.proofs.OrphanLemmas.{held-orphans, waited-early, waited-late}
+use Rattle.apollo_schema.proofs.OrphanLemmas.{waited-early, waited-late}
 use Rattle.apollo_schema.proofs.FoldingLemmas.{type_kind-from}
-use Rattle.apollo_schema.proofs.TypeLemmas.{Own, Apart, Own-named, Own-of_kind, Apart-own, folded_at-new, folded_at-again, folded_at-early, folded_at-late, type_of-same, type_of-more, type_of-new}
-use Rattle.apollo_schema.proofs.WaitingLemmas.{waiting_of-undefined, type_names-new, type_names-again, type_names-extension, type_names-other, first-again, first-other, first-own, waiting_of-new, waiting_of-again, waiting_of-late, waiting_of-early, waiting_of-other}
+use Rattle.apollo_schema.proofs.TypeLemmas.{Own, Apart, Own-named, Own-of_kind, Apart-own, types_folded_at-new, types_folded_at-again, types_folded_at-early, types_folded_at-late, type_of-same, type_of-more, type_of-new}
+use Rattle.apollo_schema.proofs.WaitingLemmas.{waiting_of-undefined, type_names-new, type_names-again, type_names-undefined, first-again, first-other, first-own, waiting_of-new, waiting_of-again, waiting_of-late, waiting_of-early, waiting_of-neither}
 
 -- a longer list folds no less
 pub length-folded-front : (xs ys : List TypeItem) → length (folded xs) ≤ length (folded (xs ++ ys))
@@ -43,19 +44,28 @@ length-folded-front xs [] = omega (arith, ap (λ l. length (folded l)) (append-n
 length-folded-front xs (y ∷ ys) =
     omega (arith, length-folded-front (xs ++ y ∷ []) ys, ap (λ l. length (folded l)) (append_assoc xs (y ∷ []) ys), ap length (folded-push xs y), length-append (folded xs) (folded_at xs y))
 
+pub length-map : {A B : Type 0} (f : A → B) (xs : List A) → length (map f xs) ≡ length xs
+length-map f [] = refl
+length-map f (x ∷ xs) = ap (λ n. suc n) (length-map f xs)
+
 -- a list with an item that folds these folds that many more
-counted : (start : ℕ) (xs : List TypeItem) (x : TypeItem) (es : List TypePart) (before : ℕ)
-    → before ≡ start + length (folded xs) → folded_at xs x ≡ es → before + length es ≡ start + length (folded (xs ++ x ∷ []))
-counted start xs x es before was is =
-    let all : length (folded (xs ++ x ∷ [])) ≡ length (folded xs) + length es = ap length (folded-push xs x) ∙ length-append (folded xs) (folded_at xs x) ∙ ap (λ l. length (folded xs) + length l) is in
-    omega arith
+pub counted : (start : ℕ) (xs : List TypeItem) (x : TypeItem) (ps : List TypePart) (ss : List SchemaPart) (before : ℕ)
+    → before ≡ start + length (folded xs) → types_folded_at xs x ≡ ps → schemas_folded_at xs x ≡ ss
+    → before + (length ps + length ss) ≡ start + length (folded (xs ++ x ∷ []))
+counted start xs x ps ss before was types schemas =
+    let here : length (folded_at xs x) ≡ length ps + length ss =
+    length-append (map OfType (types_folded_at xs x)) (map OfSchema (schemas_folded_at xs x))
+    ∙ (λ i. length-map OfType (types_folded_at xs x) i + length-map OfSchema (schemas_folded_at xs x) i)
+    ∙ (λ i. length (types i) + length (schemas i)) in
+    let all : length (folded (xs ++ x ∷ [])) ≡ length (folded xs) + length (folded_at xs x) = ap length (folded-push xs x) ∙ length-append (folded xs) (folded_at xs x) in
+    omega (arith, here, all, was)
 
 is_some-map : {A B : Type 0} (f : A → B) (o : Option A) → is_some (option_map f o) ≡ is_some o
 is_some-map f None = refl
 is_some-map f (Some x) = refl
 
 module _ {start : ℕ} {xs : List TypeItem} {t : Tables} (was : Stands start xs t) where
-  at : next_number t.ids ≡ start + length (folded xs)
+  pub at : next_number t.ids ≡ start + length (folded xs)
   at = ap next_number was.next
 
   -- a name has a type exactly if it has a definition
@@ -82,8 +92,8 @@ module _ {start : ℕ} {xs : List TypeItem} {t : Tables} (was : Stands start xs 
   new-were p es absent were = were ∙ was.waiting (key_of p) ∙ waiting_of-undefined xs (key_of p) (undefined (key_of p) absent)
 
   new-folded : (p : TypePart) (es : List TypePart) → is_some (lookup (by_text (key_of p)) t.types) ≡ false
-      → es ≡ parts_held (lookup (by_text (key_of p)) t.waiting) → folded_at xs (Defined p) ≡ of_kind (kind_of p) es
-  new-folded p es absent were = folded_at-new xs p (undefined (key_of p) absent) ∙ ap (of_kind (kind_of p)) (sym (new-were p es absent were))
+      → es ≡ parts_held (lookup (by_text (key_of p)) t.waiting) → types_folded_at xs (Defined p) ≡ of_kind (kind_of p) es
+  new-folded p es absent were = types_folded_at-new xs p (undefined (key_of p) absent) ∙ ap (of_kind (kind_of p)) (sym (new-were p es absent were))
 
   late-type : (p : TypePart) (ty : ExtendedType) (d : TypePart) → lookup (by_text (key_of p)) t.types ≡ Some ty → first xs (key_of p) ≡ Some d
       → ty ≡ type_from d (parts start (folded xs) (key_of p) d)
@@ -95,49 +105,71 @@ module _ {start : ℕ} {xs : List TypeItem} {t : Tables} (was : Stands start xs 
   late-kind : (p : TypePart) (ty : ExtendedType) (d : TypePart) → lookup (by_text (key_of p)) t.types ≡ Some ty → first xs (key_of p) ≡ Some d → type_kind ty ≡ kind_of d
   late-kind p ty d there some = ap type_kind (late-type p ty d there some) ∙ type_kind-from d (parts start (folded xs) (key_of p) d)
 
-  late-folded : (p : TypePart) (ty : ExtendedType) → lookup (by_text (key_of p)) t.types ≡ Some ty → folded_at xs (Extended p) ≡ of_kind (type_kind ty) (p ∷ [])
+  late-folded : (p : TypePart) (ty : ExtendedType) → lookup (by_text (key_of p)) t.types ≡ Some ty → types_folded_at xs (Extended p) ≡ of_kind (type_kind ty) (p ∷ [])
   late-folded p ty there =
       let d = (defined (key_of p) (ap is_some there)).0 in
       let some : first xs (key_of p) ≡ Some d = (defined (key_of p) (ap is_some there)).1 in
-      folded_at-late xs p d some ∙ ap (λ k. of_kind k (p ∷ [])) (sym (late-kind p ty d there some))
+      types_folded_at-late xs p d some ∙ ap (λ k. of_kind k (p ∷ [])) (sym (late-kind p ty d there some))
 
   -- numbers that are spent there are spent by the list
   pub new-spent : (p : TypePart) (es : List TypePart) → is_some (lookup (by_text (key_of p)) t.types) ≡ false
       → es ≡ parts_held (lookup (by_text (key_of p)) t.waiting)
       → 2 ^ 64 ≤ next_number t.ids + length (of_kind (kind_of p) es) → 2 ^ 64 ≤ start + length (folded (xs ++ Defined p ∷ []))
   new-spent p es absent were full =
-      omega (arith, counted start xs (Defined p) (of_kind (kind_of p) es) (next_number t.ids) at (new-folded p es absent were))
+      omega (arith, counted start xs (Defined p) (of_kind (kind_of p) es) [] (next_number t.ids) at (new-folded p es absent were) refl)
 
   pub late-spent : (p : TypePart) (ty : ExtendedType) → lookup (by_text (key_of p)) t.types ≡ Some ty
       → 2 ^ 64 ≤ next_number t.ids + length (of_kind (type_kind ty) (p ∷ [])) → 2 ^ 64 ≤ start + length (folded (xs ++ Extended p ∷ []))
   late-spent p ty there full =
-      omega (arith, counted start xs (Extended p) (of_kind (type_kind ty) (p ∷ [])) (next_number t.ids) at (late-folded p ty there))
+      omega (arith, counted start xs (Extended p) (of_kind (type_kind ty) (p ∷ [])) [] (next_number t.ids) at (late-folded p ty there) refl)
 
   -- the directive definitions after an item that is none
-  same_directives : (x : TypeItem) (u : Tables) → u.directive_definitions ≡ t.directive_definitions → directive_definitions (xs ++ x ∷ []) ≡ directive_definitions xs
+  pub same_directives : (x : TypeItem) (u : Tables) → u.directive_definitions ≡ t.directive_definitions → directive_definitions (xs ++ x ∷ []) ≡ directive_definitions xs
       → AreDirectivesOf (directive_definitions (xs ++ x ∷ [])) u.directive_definitions
   same_directives x u same none = subst (λ ds. AreDirectivesOf ds u.directive_definitions) (sym none) (subst (AreDirectivesOf (directive_definitions xs)) (sym same) was.directives)
 
+  -- the schema definition, and what waits for it, after an item that concerns neither
+  same_definition : (x : TypeItem) (u : Tables) → u.schema_definition ≡ t.schema_definition → defined_schema x ≡ None → schemas_folded_at xs x ≡ []
+      → u.schema_definition ≡ schema_of start (folded (xs ++ x ∷ [])) (xs ++ x ∷ [])
+  same_definition x u same undefined none = same ∙ was.definition ∙ sym (schema_of-same start xs x (first_schema-push_undefined xs x undefined) none)
+
+  same_orphans : (x : TypeItem) (u : Tables) → u.schema_extensions ≡ t.schema_extensions → defined_schema x ≡ None → extended_schema x ≡ None
+      → map schema_extension_part u.schema_extensions ≡ schema_orphans (xs ++ x ∷ [])
+  same_orphans x u same undefined unextended =
+      ap (map schema_extension_part) same ∙ was.orphans
+      ∙ sym (λ i. option_map_or (λ _. []) (first_schema-push_undefined xs x undefined i) (schema_extensions-push_unextended xs x unextended i))
+
+  -- the types after an item that concerns none
+  pub same_types : (x : TypeItem) (u : Tables) → u.types ≡ t.types → defined_part x ≡ None → types_folded_at xs x ≡ [] → AreTypesOf start (folded (xs ++ x ∷ [])) (xs ++ x ∷ []) u.types
+  same_types x u same undefined none = record {
+    names = ap keys_of same ∙ was.types.names ∙ sym (type_names-undefined xs x undefined);
+    each = λ n. ap (lookup (by_text n)) same ∙ was.types.each n ∙ sym (type_of-same start xs x n (first-push_undefined xs x undefined n) (subst (Apart n) (sym none) tt));
+  }
+
+  -- what waits under names after an item that neither defines nor extends a type
+  pub same_waiting : (x : TypeItem) (u : Tables) → u.waiting ≡ t.waiting → defined_part x ≡ None → extended_part x ≡ None → (n : List ℕ) → parts_held (lookup (by_text n) u.waiting) ≡ waiting_of (xs ++ x ∷ []) n
+  same_waiting x u same undefined unextended n = ap (λ l. parts_held (lookup (by_text n) l)) same ∙ was.waiting n ∙ sym (waiting_of-neither xs x undefined unextended n)
+
   -- the names under which something waits after an item that adds none
-  same_names : (x : TypeItem) (u : Tables) → keys_of u.waiting ≡ keys_of t.waiting → waited_at xs x ≡ [] → keys_of u.waiting ≡ waited (xs ++ x ∷ [])
+  pub same_names : (x : TypeItem) (u : Tables) → keys_of u.waiting ≡ keys_of t.waiting → waited_at xs x ≡ [] → keys_of u.waiting ≡ waited (xs ++ x ∷ [])
   same_names x u same none = same ∙ was.names ∙ sym (waited-push xs x ∙ ap (λ l. waited xs ++ l) none ∙ append-nil (waited xs))
 
   -- the faults after an item at which these are found
-  more_faults : (x : TypeItem) (u : Tables) (es : List Fault) → u.errors ≡ t.errors ++ es → found_at xs x ≡ es → u.errors ≡ found (xs ++ x ∷ [])
+  pub more_faults : (x : TypeItem) (u : Tables) (es : List Fault) → u.errors ≡ t.errors ++ es → found_at xs x ≡ es → u.errors ≡ found (xs ++ x ∷ [])
   more_faults x u es more is = more ∙ ap (λ l. l ++ es) was.faults ∙ ap (λ l. found xs ++ l) (sym is) ∙ sym (found-push xs x)
 
   -- a further definition of a name changes nothing, and is at fault
-  pub Stands-again : (p : TypePart) (u : Tables) (ty : ExtendedType) (fault : Fault) → lookup (by_text (key_of p)) t.types ≡ Some ty
-      → u.types ≡ t.types → u.directive_definitions ≡ t.directive_definitions → u.waiting ≡ t.waiting → u.ids ≡ t.ids
-      → u.errors ≡ t.errors ++ fault ∷ []
-      → ((d : TypePart) (done : List Sourced) → ty ≡ type_from d done → fault ≡ further_definition d p)
+  pub Stands-again : (p : TypePart) (u : Tables) (ty : ExtendedType) → lookup (by_text (key_of p)) t.types ≡ Some ty
+      → u.schema_definition ≡ t.schema_definition → u.schema_extensions ≡ t.schema_extensions → u.types ≡ t.types → u.directive_definitions ≡ t.directive_definitions → u.waiting ≡ t.waiting → u.ids ≡ t.ids
+      → ((d : TypePart) (done : List Sourced) → ty ≡ type_from d done → u.errors ≡ t.errors ++ further_definition d p)
       → Stands start (xs ++ Defined p ∷ []) u
-  Stands-again p u ty fault there types directives waiting next errors is_further =
+  Stands-again p u ty there definition extensions types directives waiting next errors =
       let d = (defined (key_of p) (ap is_some there)).0 in
       let some : first xs (key_of p) ≡ Some d = (defined (key_of p) (ap is_some there)).1 in
-      let is = is_further d (parts start (folded xs) (key_of p) d) (late-type p ty d there some) in
-      let none_folded = folded_at-again xs p d some in
+      let none_folded = types_folded_at-again xs p d some in
       record {
+        definition = same_definition (Defined p) u definition refl refl;
+        orphans = same_orphans (Defined p) u extensions refl refl;
         types = record {
           names = ap keys_of types ∙ was.types.names ∙ sym (type_names-again xs p (ap is_some some));
           each = λ n. ap (lookup (by_text n)) types ∙ was.types.each n ∙ sym (type_of-same start xs (Defined p) n (first-again xs p n d some) (subst (Apart n) (sym none_folded) tt));
@@ -145,8 +177,8 @@ module _ {start : ℕ} {xs : List TypeItem} {t : Tables} (was : Stands start xs 
         directives = same_directives (Defined p) u directives (filter_map-append directive_part xs (Defined p ∷ []) ∙ append-nil (directive_definitions xs));
         waiting = λ n. ap (λ l. parts_held (lookup (by_text n) l)) waiting ∙ was.waiting n ∙ sym (waiting_of-again xs p n d some);
         names = same_names (Defined p) u (ap keys_of waiting) refl;
-        faults = more_faults (Defined p) u (further_definition d p ∷ []) (errors ∙ ap (λ f. t.errors ++ f ∷ []) is) (found_at-again xs p d some);
-        next = next ∙ was.next ∙ ap source_at (sym at ∙ omega arith ∙ counted start xs (Defined p) [] (next_number t.ids) at none_folded);
+        faults = more_faults (Defined p) u (further_definition d p) (errors d (parts start (folded xs) (key_of p) d) (late-type p ty d there some)) (found_at-again xs p d some);
+        next = next ∙ was.next ∙ ap source_at (sym at ∙ omega arith ∙ counted start xs (Defined p) [] [] (next_number t.ids) at none_folded refl);
       }
 
   -- the first definition of a name makes its type
@@ -154,6 +186,7 @@ module _ {start : ℕ} {xs : List TypeItem} {t : Tables} (was : Stands start xs 
       → is_some (lookup (by_text (key_of p)) t.types) ≡ false
       → es ≡ parts_held (lookup (by_text (key_of p)) t.waiting)
       → ty ≡ type_from p ((origins.Definition, p) ∷ map extension_part (numbered (next_number t.ids) (of_kind (kind_of p) es)))
+      → u.schema_definition ≡ t.schema_definition → u.schema_extensions ≡ t.schema_extensions
       → u.types ≡ insert_entry same_text t.types p.name ty
       → u.directive_definitions ≡ t.directive_definitions
       → keys_of u.waiting ≡ keys_of t.waiting
@@ -161,10 +194,10 @@ module _ {start : ℕ} {xs : List TypeItem} {t : Tables} (was : Stands start xs 
       → ((n : List ℕ) → parts_held (lookup (by_text n) u.waiting) ≡ cond (same n (key_of p)) [] (parts_held (lookup (by_text n) t.waiting)))
       → u.ids ≡ source_at (next_number t.ids + length (of_kind (kind_of p) es))
       → Stands start (xs ++ Defined p ∷ []) u
-  Stands-new p u ty es absent were made types directives names errors waiting next =
+  Stands-new p u ty es absent were made definition extensions types directives names errors waiting next =
       let none = undefined (key_of p) absent in
-      let folding : folded_at xs (Defined p) ≡ of_kind (kind_of p) es = new-folded p es absent were in
-      let own : Own (key_of p) (folded_at xs (Defined p)) = subst (Own (key_of p)) (sym (folded_at-new xs p none)) (Own-of_kind (key_of p) (kind_of p) (extensions_of xs (key_of p)) (Own-named (key_of p) (filter_map extended_part xs))) in
+      let folding : types_folded_at xs (Defined p) ≡ of_kind (kind_of p) es = new-folded p es absent were in
+      let own : Own (key_of p) (types_folded_at xs (Defined p)) = subst (Own (key_of p)) (sym (types_folded_at-new xs p none)) (Own-of_kind (key_of p) (kind_of p) (extensions_of xs (key_of p)) (Own-named (key_of p) (filter_map extended_part xs))) in
       let here : type_of start (folded (xs ++ Defined p ∷ [])) (xs ++ Defined p ∷ []) (key_of p) ≡ Some ty =
       type_of-new start xs (Defined p) (key_of p) p none (first-own xs p none) own
       ∙ ap (λ (l : List TypePart). Some (type_from p ((origins.Definition, p) ∷ map extension_part (numbered (start + length (folded xs)) l)))) folding
@@ -173,9 +206,11 @@ module _ {start : ℕ} {xs : List TypeItem} {t : Tables} (was : Stands start xs 
       let each : (n : List ℕ) (b : Bool) → same n (key_of p) ≡ b → cond b (Some ty) (lookup (by_text n) t.types) ≡ type_of start (folded (xs ++ Defined p ∷ [])) (xs ++ Defined p ∷ []) n =
       λ n b. elim b as (λ b. same n (key_of p) ≡ b → cond b (Some ty) (lookup (by_text n) t.types) ≡ type_of start (folded (xs ++ Defined p ∷ [])) (xs ++ Defined p ∷ []) n) [
         | true ↦ λ e. sym here ∙ ap (type_of start (folded (xs ++ Defined p ∷ [])) (xs ++ Defined p ∷ [])) (sym (same-true n (key_of p) e))
-        | false ↦ λ e. was.types.each n ∙ sym (type_of-same start xs (Defined p) n (first-other xs p n e) (Apart-own n (key_of p) (folded_at xs (Defined p)) e own))
+        | false ↦ λ e. was.types.each n ∙ sym (type_of-same start xs (Defined p) n (first-other xs p n e) (Apart-own n (key_of p) (types_folded_at xs (Defined p)) e own))
       ] in
       record {
+        definition = same_definition (Defined p) u definition refl refl;
+        orphans = same_orphans (Defined p) u extensions refl refl;
         types = record {
           names = ap keys_of types ∙ keys-put t.types p.name ty absent ∙ ap (λ l. l ++ p.name ∷ []) was.types.names ∙ sym (type_names-new xs p (ap is_some none));
           each = λ n. ap (lookup (by_text n)) types ∙ lookup-put n t.types p.name ty ∙ each n (same n (key_of p)) refl;
@@ -184,33 +219,33 @@ module _ {start : ℕ} {xs : List TypeItem} {t : Tables} (was : Stands start xs 
         names = same_names (Defined p) u names refl;
         faults = more_faults (Defined p) u _ errors (found_at-new xs p none ∙ ap (λ l. part_faults [] p ++ joining_faults p (p ∷ []) l) (sym (new-were p es absent were)));
         waiting = λ n. waiting n ∙ ap (cond (same n (key_of p)) []) (was.waiting n) ∙ sym (waiting_of-new xs p n none);
-        next = next ∙ ap source_at (counted start xs (Defined p) (of_kind (kind_of p) es) (next_number t.ids) at folding);
+        next = next ∙ ap source_at (omega arith ∙ counted start xs (Defined p) (of_kind (kind_of p) es) [] (next_number t.ids) at folding refl);
       }
 
   -- an extension before its definition waits
-  pub Stands-early : (p : TypePart) (u : Tables) → u.types ≡ t.types → u.directive_definitions ≡ t.directive_definitions → u.errors ≡ t.errors → u.ids ≡ t.ids
+  pub Stands-early : (p : TypePart) (u : Tables) → u.schema_definition ≡ t.schema_definition → u.schema_extensions ≡ t.schema_extensions → u.types ≡ t.types → u.directive_definitions ≡ t.directive_definitions → u.errors ≡ t.errors → u.ids ≡ t.ids
       → keys_of u.waiting ≡ cond (is_some (lookup (by_text (key_of p)) t.waiting)) (keys_of t.waiting) (keys_of t.waiting ++ p.name ∷ [])
       → is_some (lookup (by_text (key_of p)) t.types) ≡ false
       → ((n : List ℕ) → parts_held (lookup (by_text n) u.waiting) ≡ cond (same n (key_of p)) (parts_held (lookup (by_text n) t.waiting) ++ p ∷ []) (parts_held (lookup (by_text n) t.waiting)))
       → Stands start (xs ++ Extended p ∷ []) u
-  Stands-early p u types directives errors next names absent waiting =
+  Stands-early p u definition extensions types directives errors next names absent waiting =
       let none = undefined (key_of p) absent in
-      let none_folded = folded_at-early xs p none in
+      let none_folded = types_folded_at-early xs p none in
       record {
-        types = record {
-          names = ap keys_of types ∙ was.types.names ∙ sym (type_names-extension xs p);
-          each = λ n. ap (lookup (by_text n)) types ∙ was.types.each n ∙ sym (type_of-same start xs (Extended p) n (first-push_extension xs p n) (subst (Apart n) (sym none_folded) tt));
-        };
+        definition = same_definition (Extended p) u definition refl refl;
+        orphans = same_orphans (Extended p) u extensions refl refl;
+        types = same_types (Extended p) u types refl none_folded;
         directives = same_directives (Extended p) u directives (filter_map-append directive_part xs (Extended p ∷ []) ∙ append-nil (directive_definitions xs));
         names = waited-early xs p t.waiting (keys_of u.waiting) none was.names names;
         faults = more_faults (Extended p) u [] (errors ∙ sym (append-nil t.errors)) (found_at-early xs p none);
         waiting = λ n. waiting n ∙ ap (λ l. cond (same n (key_of p)) (l ++ p ∷ []) l) (was.waiting n) ∙ sym (waiting_of-early xs p n none);
-        next = next ∙ was.next ∙ ap source_at (sym at ∙ omega arith ∙ counted start xs (Extended p) [] (next_number t.ids) at none_folded);
+        next = next ∙ was.next ∙ ap source_at (sym at ∙ omega arith ∙ counted start xs (Extended p) [] [] (next_number t.ids) at none_folded refl);
       }
 
   -- an extension of a name that has a type is folded in, if it has the kind
   pub Stands-late : (p : TypePart) (u : Tables) (ty grown : ExtendedType)
       → lookup (by_text (key_of p)) t.types ≡ Some ty
+      → u.schema_definition ≡ t.schema_definition → u.schema_extensions ≡ t.schema_extensions
       → u.types ≡ set_value (by_text (key_of p)) t.types grown
       → u.directive_definitions ≡ t.directive_definitions
       → u.waiting ≡ t.waiting
@@ -218,25 +253,27 @@ module _ {start : ℕ} {xs : List TypeItem} {t : Tables} (was : Stands start xs 
       → ((head : TypePart) (done : List Sourced) → ty ≡ type_from head done → grown ≡ type_from head (done ++ map extension_part (numbered (next_number t.ids) (of_kind (kind_of head) (p ∷ [])))))
       → u.ids ≡ source_at (next_number t.ids + length (of_kind (type_kind ty) (p ∷ [])))
       → Stands start (xs ++ Extended p ∷ []) u
-  Stands-late p u ty grown there types directives waiting errors made next =
+  Stands-late p u ty grown there definition extensions types directives waiting errors made next =
       let d = (defined (key_of p) (ap is_some there)).0 in
       let some : first xs (key_of p) ≡ Some d = (defined (key_of p) (ap is_some there)).1 in
       let is = late-type p ty d there some in
-      let folding = folded_at-late xs p d some in
-      let own : Own (key_of p) (folded_at xs (Extended p)) = subst (Own (key_of p)) (sym folding) (Own-of_kind (key_of p) (kind_of d) (p ∷ []) (same-is (key_of p) (key_of p) refl, tt)) in
+      let folding = types_folded_at-late xs p d some in
+      let own : Own (key_of p) (types_folded_at xs (Extended p)) = subst (Own (key_of p)) (sym folding) (Own-of_kind (key_of p) (kind_of d) (p ∷ []) (same-is (key_of p) (key_of p) refl, tt)) in
       let here : type_of start (folded (xs ++ Extended p ∷ [])) (xs ++ Extended p ∷ []) (key_of p) ≡ Some grown =
-      type_of-more start xs (Extended p) (key_of p) d (first-push_extension xs p (key_of p) ∙ some) own
+      type_of-more start xs (Extended p) (key_of p) d (first-push_undefined xs (Extended p) refl (key_of p) ∙ some) own
       ∙ ap (λ (l : List TypePart). Some (type_from d (parts start (folded xs) (key_of p) d ++ map extension_part (numbered (start + length (folded xs)) l)))) folding
       ∙ ap (λ (i : ℕ). Some (type_from d (parts start (folded xs) (key_of p) d ++ map extension_part (numbered i (of_kind (kind_of d) (p ∷ [])))))) (sym at)
       ∙ ap (λ s. Some s) (sym (made d (parts start (folded xs) (key_of p) d) is)) in
       let each : (n : List ℕ) (b : Bool) → same n (key_of p) ≡ b → cond b (Some grown) (lookup (by_text n) t.types) ≡ type_of start (folded (xs ++ Extended p ∷ [])) (xs ++ Extended p ∷ []) n =
       λ n b. elim b as (λ b. same n (key_of p) ≡ b → cond b (Some grown) (lookup (by_text n) t.types) ≡ type_of start (folded (xs ++ Extended p ∷ [])) (xs ++ Extended p ∷ []) n) [
         | true ↦ λ e. sym here ∙ ap (type_of start (folded (xs ++ Extended p ∷ [])) (xs ++ Extended p ∷ [])) (sym (same-true n (key_of p) e))
-        | false ↦ λ e. was.types.each n ∙ sym (type_of-same start xs (Extended p) n (first-push_extension xs p n) (Apart-own n (key_of p) (folded_at xs (Extended p)) e own))
+        | false ↦ λ e. was.types.each n ∙ sym (type_of-same start xs (Extended p) n (first-push_undefined xs (Extended p) refl n) (Apart-own n (key_of p) (types_folded_at xs (Extended p)) e own))
       ] in
       record {
+        definition = same_definition (Extended p) u definition refl refl;
+        orphans = same_orphans (Extended p) u extensions refl refl;
         types = record {
-          names = ap keys_of types ∙ keys-set_value (by_text (key_of p)) t.types grown ∙ was.types.names ∙ sym (type_names-extension xs p);
+          names = ap keys_of types ∙ keys-set_value (by_text (key_of p)) t.types grown ∙ was.types.names ∙ sym (type_names-undefined xs (Extended p) refl);
           each = λ n. ap (lookup (by_text n)) types ∙ lookup-write n (key_of p) t.types ty grown there ∙ each n (same n (key_of p)) refl;
         };
         directives = same_directives (Extended p) u directives (filter_map-append directive_part xs (Extended p ∷ []) ∙ append-nil (directive_definitions xs));
@@ -244,28 +281,21 @@ module _ {start : ℕ} {xs : List TypeItem} {t : Tables} (was : Stands start xs 
         names = same_names (Extended p) u (ap keys_of waiting) (waited-late xs p d some);
         faults = more_faults (Extended p) u _ (errors d (parts start (folded xs) (key_of p) d) is)
             (found_at-late xs p d some ∙ ap (λ l. joining_faults d l (p ∷ [])) (sym (parts-forget start xs (key_of p) d some)));
-        next = next ∙ ap source_at (counted start xs (Extended p) (of_kind (type_kind ty) (p ∷ [])) (next_number t.ids) at (late-folded p ty there));
+        next = next ∙ ap source_at (omega arith ∙ counted start xs (Extended p) (of_kind (type_kind ty) (p ∷ [])) [] (next_number t.ids) at (late-folded p ty there) refl);
       }
 
-  -- something else changes no type, nothing that waits, and no number
-  pub Stands-other : (d : Definition) (u : Tables) → u.types ≡ t.types → u.waiting ≡ t.waiting → u.ids ≡ t.ids
+  -- something else changes no type, no schema definition, nothing that waits, and no number
+  pub Stands-other : (d : Definition) (u : Tables) → u.schema_definition ≡ t.schema_definition → u.schema_extensions ≡ t.schema_extensions → u.types ≡ t.types → u.waiting ≡ t.waiting → u.ids ≡ t.ids
       → AreDirectivesOf (directive_definitions xs ++ directive_definitions (Other d ∷ [])) u.directive_definitions
       → u.errors ≡ t.errors ++ other_faults (directive_definitions xs) d
       → Stands start (xs ++ Other d ∷ []) u
-  Stands-other d u types waiting next directives errors = record {
-    types = record {
-      names = ap keys_of types ∙ was.types.names ∙ sym (type_names-other xs d);
-      each = λ n. ap (lookup (by_text n)) types ∙ was.types.each n ∙ sym (type_of-same start xs (Other d) n (first-push_other xs d n) tt);
-    };
+  Stands-other d u definition extensions types waiting next directives errors = record {
+    definition = same_definition (Other d) u definition refl refl;
+    orphans = same_orphans (Other d) u extensions refl refl;
+    types = same_types (Other d) u types refl refl;
     directives = subst (λ ds. AreDirectivesOf ds u.directive_definitions) (sym (filter_map-append directive_part xs (Other d ∷ []))) directives;
-    waiting = λ n. ap (λ l. parts_held (lookup (by_text n) l)) waiting ∙ was.waiting n ∙ sym (waiting_of-other xs d n);
+    waiting = same_waiting (Other d) u waiting refl refl;
     names = same_names (Other d) u (ap keys_of waiting) refl;
     faults = more_faults (Other d) u (other_faults (directive_definitions xs) d) errors refl;
-    next = next ∙ was.next ∙ ap source_at (sym at ∙ omega arith ∙ counted start xs (Other d) [] (next_number t.ids) at refl);
+    next = next ∙ was.next ∙ ap source_at (sym at ∙ omega arith ∙ counted start xs (Other d) [] [] (next_number t.ids) at refl refl);
   }
-
-  -- what was found and what still waits are the faults of the list
-  pub all-faults : t.errors ++ map orphan (flat_map extended_parts (values_of t.waiting)) ≡ faults_in xs
-  all-faults =
-      (λ i. was.faults i ++ map orphan (flat_map-map extended_parts (λ (e : NameView × List Definition). e.1) t.waiting i))
-      ∙ (λ i. sym (found_in-order xs) i ++ map orphan (held-orphans xs t.waiting was.names was.waiting i))

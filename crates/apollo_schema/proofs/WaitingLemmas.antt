@@ -6,13 +6,12 @@ use Rattle.std.specs.Cmp.Lexicographic.{nat_list_eq_equiv}
 use Rattle.std.proofs.lemmas.List.{append-nil, map-append}
 use Rattle.apollo_component.specs.FirstOfEach.{first_of_each, same_key}
 use Rattle.apollo_component.proofs.FirstOfEachLemmas.{is_some-lookup, first_of_each-push_new, first_of_each-push_old}
-use Rattle.graphql_ast.specs.declared.definition.Definition.{Definition}
-use Rattle.apollo_schema.specs.TypeParts.{TypePart, TypeItem, Defined, Extended, Other, key_of, same}
+use Rattle.apollo_schema.specs.TypeParts.{TypePart, TypeItem, Defined, Extended, defined_part, extended_part, key_of, same}
 use Rattle.apollo_schema.specs.DefinitionList.{definitions, first, extensions_of}
 use Rattle.apollo_schema.specs.SchemaMeaning.{type_names}
 use Rattle.apollo_schema.specs.Prefixes.{waiting_of}
 use Rattle.apollo_schema.proofs.Texts.{same-true, same-is}
-use Rattle.apollo_schema.proofs.ItemLemmas.{definitions-push_definition, definitions-push_extension, first-push_definition, first-push_extension, definitions-push_other, first-push_other, extensions_of-push_definition, extensions_of-push_extension, extensions_of-push_other}
+use Rattle.apollo_schema.proofs.ItemLemmas.{definitions-push_definition, definitions-push_undefined, first-push_definition, first-push_undefined, extensions_of-push_extension, extensions_of-push_unextended}
 
 by_key : IsEquivalence (same_key {V = TypePart} same)
 by_key = on_equiv (λ e. e.0) nat_list_eq_equiv
@@ -32,9 +31,6 @@ module _ (xs : List TypeItem) (p : TypePart) where
   type_names-again there =
       ap (λ l. map (λ e. e.1.name) (first_of_each (same_key same) l)) (definitions-push_definition xs p)
       ∙ ap (map (λ (e : List ℕ × TypePart). e.1.name)) (first_of_each-push_old (same_key same) by_key (definitions xs) (key_of p, p) (sym (is_some-lookup (same (key_of p)) (definitions xs)) ∙ there))
-
-  pub type_names-extension : type_names (xs ++ Extended p ∷ []) ≡ type_names xs
-  type_names-extension = ap (λ l. map (λ e. e.1.name) (first_of_each (same_key same) l)) (definitions-push_extension xs p)
 
   -- a second definition leaves each name's first
   pub first-again : (n : List ℕ) (d : TypePart) → first xs (key_of p) ≡ Some d → first (xs ++ Defined p ∷ []) n ≡ first xs n
@@ -67,10 +63,10 @@ module _ (xs : List TypeItem) (p : TypePart) where
     where
       by : (b : Bool) → same n (key_of p) ≡ b → waiting_of (xs ++ Defined p ∷ []) n ≡ cond b [] (waiting_of xs n)
       by true e = waiting_of-defined (xs ++ Defined p ∷ []) n p (ap (first (xs ++ Defined p ∷ [])) (same-true n (key_of p) e) ∙ first-own xs p none)
-      by false e = waiting_of-same xs (xs ++ Defined p ∷ []) n (first-other xs p n e) (extensions_of-push_definition xs p n)
+      by false e = waiting_of-same xs (xs ++ Defined p ∷ []) n (first-other xs p n e) (extensions_of-push_unextended xs (Defined p) refl n)
 
   pub waiting_of-again : (n : List ℕ) (d : TypePart) → first xs (key_of p) ≡ Some d → waiting_of (xs ++ Defined p ∷ []) n ≡ waiting_of xs n
-  waiting_of-again n d some = waiting_of-same xs (xs ++ Defined p ∷ []) n (first-again xs p n d some) (extensions_of-push_definition xs p n)
+  waiting_of-again n d some = waiting_of-same xs (xs ++ Defined p ∷ []) n (first-again xs p n d some) (extensions_of-push_unextended xs (Defined p) refl n)
 
   -- an extension of another name
   extensions_of-other : (n : List ℕ) → same n (key_of p) ≡ false → extensions_of (xs ++ Extended p ∷ []) n ≡ extensions_of xs n
@@ -82,8 +78,8 @@ module _ (xs : List TypeItem) (p : TypePart) where
       by : (b : Bool) → same n (key_of p) ≡ b → waiting_of (xs ++ Extended p ∷ []) n ≡ waiting_of xs n
       by true e =
           let here : first xs n ≡ Some d = ap (first xs) (same-true n (key_of p) e) ∙ some in
-          waiting_of-defined (xs ++ Extended p ∷ []) n d (first-push_extension xs p n ∙ here) ∙ sym (waiting_of-defined xs n d here)
-      by false e = waiting_of-same xs (xs ++ Extended p ∷ []) n (first-push_extension xs p n) (extensions_of-other n e)
+          waiting_of-defined (xs ++ Extended p ∷ []) n d (first-push_undefined xs (Extended p) refl n ∙ here) ∙ sym (waiting_of-defined xs n d here)
+      by false e = waiting_of-same xs (xs ++ Extended p ∷ []) n (first-push_undefined xs (Extended p) refl n) (extensions_of-other n e)
 
   pub waiting_of-early : (n : List ℕ) → first xs (key_of p) ≡ None
       → waiting_of (xs ++ Extended p ∷ []) n ≡ cond (same n (key_of p)) (waiting_of xs n ++ p ∷ []) (waiting_of xs n)
@@ -92,14 +88,14 @@ module _ (xs : List TypeItem) (p : TypePart) where
       by : (b : Bool) → same n (key_of p) ≡ b → waiting_of (xs ++ Extended p ∷ []) n ≡ cond b (waiting_of xs n ++ p ∷ []) (waiting_of xs n)
       by true e =
           let here : first xs n ≡ None = ap (first xs) (same-true n (key_of p) e) ∙ none in
-          waiting_of-undefined (xs ++ Extended p ∷ []) n (first-push_extension xs p n ∙ here)
+          waiting_of-undefined (xs ++ Extended p ∷ []) n (first-push_undefined xs (Extended p) refl n ∙ here)
           ∙ extensions_of-push_extension xs p n ∙ ap (λ b. extensions_of xs n ++ cond b (p ∷ []) []) e ∙ ap (λ l. l ++ p ∷ []) (sym (waiting_of-undefined xs n here))
-      by false e = waiting_of-same xs (xs ++ Extended p ∷ []) n (first-push_extension xs p n) (extensions_of-other n e)
+      by false e = waiting_of-same xs (xs ++ Extended p ∷ []) n (first-push_undefined xs (Extended p) refl n) (extensions_of-other n e)
 
--- something else leaves names and what waits
-module _ (xs : List TypeItem) (d : Definition) where
-  pub type_names-other : type_names (xs ++ Other d ∷ []) ≡ type_names xs
-  type_names-other = ap (λ l. map (λ e. e.1.name) (first_of_each (same_key same) l)) (definitions-push_other xs d)
+-- an item that defines no type leaves names, and one that extends none either leaves what waits
+module _ (xs : List TypeItem) (x : TypeItem) (none : defined_part x ≡ None) where
+  pub type_names-undefined : type_names (xs ++ x ∷ []) ≡ type_names xs
+  type_names-undefined = ap (λ l. map (λ e. e.1.name) (first_of_each (same_key same) l)) (definitions-push_undefined xs x none)
 
-  pub waiting_of-other : (n : List ℕ) → waiting_of (xs ++ Other d ∷ []) n ≡ waiting_of xs n
-  waiting_of-other n = waiting_of-same xs (xs ++ Other d ∷ []) n (first-push_other xs d n) (extensions_of-push_other xs d n)
+  pub waiting_of-neither : extended_part x ≡ None → (n : List ℕ) → waiting_of (xs ++ x ∷ []) n ≡ waiting_of xs n
+  waiting_of-neither unextended n = waiting_of-same xs (xs ++ x ∷ []) n (first-push_undefined xs x none n) (extensions_of-push_unextended xs x unextended n)

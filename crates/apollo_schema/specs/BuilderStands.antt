@@ -1,29 +1,50 @@
 -- The list of definitions that a builder stands for.
-use Rattle.std.specs.Prelude.{ℕ, ◌+◌, ◌^◌, ◌≤◌, List, [], length}
-use Rattle.graphql_ast.specs.declared.definition.Definition.{Definition}
+use Rattle.std.specs.Prelude.{ℕ, ◌+◌, ◌^◌, ◌≤◌, Bool, List, [], length, Result, Ok, Err}
+use Rattle.apollo_schema.specs.declared.schema.Schema.{Schema}
+use Rattle.apollo_schema.specs.declared.build_error.BuildFailure.{BuildFailure}
+use Rattle.apollo_schema.specs.declared.build_error.BuildFailure.TheVariants as failures
 use Rattle.apollo_schema.specs.declared.schema_builder.SchemaBuilder.{SchemaBuilder}
 use Rattle.apollo_schema.specs.declared.schema_builder.State.{State}
 use Rattle.apollo_schema.specs.declared.schema_builder.State.TheVariants.{Open, Failed}
 use Rattle.apollo_schema.specs.Sources.{Files}
-use Rattle.apollo_schema.specs.TypeParts.{items_of}
-use Rattle.apollo_schema.specs.Places.{folded_in_order}
+use Rattle.apollo_schema.specs.TypeParts.{Added, added_items}
+use Rattle.apollo_schema.specs.Places.{folding_order}
+use Rattle.apollo_schema.specs.WholeSchema.{folds}
 use Rattle.apollo_schema.specs.Stands.{StateStands, StateFailed}
 
 -- the builder stands for this list, with its extensions numbered from `start`
-abbrev pub StandsFor : ℕ → List Definition → SchemaBuilder → Type 0
-StandsFor start xs b = StateStands start (items_of xs) b.state
+abbrev pub StandsFor : ℕ → List Added → SchemaBuilder → Type 0
+StandsFor start xs b = StateStands start (added_items xs) b.state
+
+-- whether it adopts extensions without a definition, and ignores redefinitions of built-in types
+abbrev pub adopts : SchemaBuilder → Bool
+adopts b = b.adopt_orphan_extensions
+
+abbrev pub ignores : SchemaBuilder → Bool
+ignores b = b.ignore_builtin_redefinitions
 
 -- a call was refused
 abbrev pub HasFailed : SchemaBuilder → Type 0
 HasFailed b = StateFailed b.state
 
--- the numbers from `start` don't suffice for the extensions that the list folds
-abbrev pub SpendsIds : ℕ → List Definition → Type 0
-SpendsIds start xs = 2 ^ 64 ≤ start + length (folded_in_order (items_of xs))
+-- a build ended with a schema or with faults
+abbrev pub HasBuilt : Result Schema BuildFailure → Type 0
+HasBuilt (Ok schema) = Unit {0}
+HasBuilt (Err (failures.Faults found)) = Unit {0}
+HasBuilt (Err failures.Memory) = ⊥
+HasBuilt (Err failures.ExtensionIds) = ⊥
+HasBuilt (Err failures.Failed) = ⊥
+
+-- the numbers from `start` don't suffice for the extensions that the list folds, before it is completed and after
+abbrev pub SpendsIdsSoFar : ℕ → List Added → Type 0
+SpendsIdsSoFar start xs = 2 ^ 64 ≤ start + length (folding_order (added_items xs))
+
+abbrev pub SpendsIds : ℕ → Bool → List Added → Type 0
+SpendsIds start adopts xs = 2 ^ 64 ≤ start + folds adopts xs
 
 abbrev pub state_sources : State → Files
 state_sources (Open tables) = tables.sources
-state_sources Failed = []
+state_sources (Failed source) = []
 
 -- the source files of the documents that were added
 abbrev pub sources_of : SchemaBuilder → Files

@@ -1,10 +1,11 @@
--- Definitions and extensions of a name in a list: GraphQL specification of October 2021, sections 3 and 3.4.3.
-use Rattle.std.specs.Prelude.{ℕ, Bool, true, false, List, Option, filter, map}
+-- Definitions and extensions of a name, and of the schema, in a list: GraphQL specification of October 2021, sections 3,
+-- 3.3.2 and 3.4.3.
+use Rattle.std.specs.Prelude.{ℕ, Bool, true, false, List, Option, filter, map, slice_get}
 use Rattle.std.specs.List.{filter_map}
 use Rattle.std.specs.Map.{lookup}
 use Rattle.graphql_ast.specs.declared.type_kind.TypeKind.{TypeKind}
 use Rattle.graphql_ast.specs.declared.type_kind.TypeKind.TheVariants.{Scalar, Object, Interface, Union, Enum, InputObject}
-use Rattle.apollo_schema.specs.TypeParts.{TypePart, TypeItem, defined_part, extended_part, kind_of, key_of, same}
+use Rattle.apollo_schema.specs.TypeParts.{TypePart, SchemaPart, TypeItem, defined_part, extended_part, defined_schema, extended_schema, kind_of, key_of, same}
 
 -- whether two kinds are one
 abbrev pub same_kind : TypeKind → TypeKind → Bool
@@ -35,3 +36,11 @@ extensions_of xs n = filter (λ p. same n (key_of p)) (filter_map extended_part 
 -- those of a kind
 abbrev pub of_kind : TypeKind → List TypePart → List TypePart
 of_kind k = filter (λ p. same_kind k (kind_of p))
+
+-- the first definition of the schema
+abbrev pub first_schema : List TypeItem → Option SchemaPart
+first_schema xs = slice_get (filter_map defined_schema xs) 0
+
+-- the extensions of the schema, in order
+abbrev pub schema_extensions : List TypeItem → List SchemaPart
+schema_extensions xs = filter_map extended_schema xs

@@ -1,3 +1,4 @@
+pub mod Adoption
 pub mod BuilderStands
 pub mod Collisions
 pub mod BuiltInNames
@@ -7,10 +8,15 @@ pub mod BuiltInTable
 pub mod DefinitionList
 pub mod DirectiveMeaning
 pub mod FaultRow
+pub mod HeldRoots
 pub mod Joining
 pub mod Places
 pub mod Prefixes
 pub mod Refusals
+pub mod RootFaults
+pub mod RootMeaning
+pub mod RootRow
+pub mod RootTables
 pub mod SchemaFaults
 pub mod SchemaMeaning
 pub mod SchemaWriteOut

@@ -4,7 +4,7 @@ use Rattle.graphql_ast.specs.NameView.{NameView}
 use Rattle.graphql_ast.specs.Tables.{keys_of, lookup}
 use Rattle.apollo_component.specs.FirstOfEach.{first_of_each, same_key}
 use Rattle.apollo_types.specs.declared.extended_type.ExtendedType.{ExtendedType}
-use Rattle.apollo_schema.specs.TypeParts.{TypePart, TypeItem, same}
+use Rattle.apollo_schema.specs.TypeParts.{TypeItem, Folding, same}
 use Rattle.apollo_schema.specs.DefinitionList.{definitions}
 use Rattle.apollo_schema.specs.TypeMeaning.{type_of}
 
@@ -18,6 +18,6 @@ by_text n k = same n k.text
 
 -- these types are those of the list, where these extensions are folded, in this order: each under its name, in the
 -- order of first definition
-pub record AreTypesOf (start : ℕ) (folded : List TypePart) (xs : List TypeItem) (types : List (NameView × ExtendedType)) : Type 0 where
+pub record AreTypesOf (start : ℕ) (folded : List Folding) (xs : List TypeItem) (types : List (NameView × ExtendedType)) : Type 0 where
   pub names : keys_of types ≡ type_names xs
   pub each : (n : List ℕ) → lookup (by_text n) types ≡ type_of start folded xs n

@@ -8,6 +8,7 @@ use Rattle.graphql_ast.specs.ArgumentsByName.{same_text}
 use Rattle.graphql_ast.specs.declared.definition.Definition.{Definition}
 use Rattle.graphql_ast.specs.declared.definition.Definition.TheVariants as ast
 use Rattle.graphql_ast.specs.declared.type_system.DirectiveDefinition.{DirectiveDefinition}
+use Rattle.apollo_types.specs.SchemaDefinitionWriteOut.{write_schema_definition}
 use Rattle.apollo_types.specs.TypeWriteOut.{type_location, write_type}
 use Rattle.apollo_types.specs.declared.object_type.ObjectType.{ObjectType}
 use Rattle.apollo_types.specs.declared.extended_type.ExtendedType.{ExtendedType}
@@ -23,9 +24,13 @@ write_directives ds = map ast.DirectiveDefinition (filter is_handed_in ds)
 abbrev pub write_held_type : ExtendedType → List Definition
 write_held_type t = if is_built_in (type_location t) then drop 1 (write_type t) else write_type t
 
--- the directive definitions, and then the types, each in order
+-- the schema definition's part: the definition where it isn't implied, and always its extensions
+abbrev pub write_held_schema_definition : Schema → List Definition
+write_held_schema_definition s = write_schema_definition s.schema_definition.value s.schema_definition.location s.types
+
+-- the schema definition's part, then the directive definitions, and then the types, each in order
 abbrev pub write_schema : Schema → List Definition
-write_schema s = write_directives (values_of s.directive_definitions) ++ flat_map write_held_type (values_of s.types)
+write_schema s = write_held_schema_definition s ++ write_directives (values_of s.directive_definitions) ++ flat_map write_held_type (values_of s.types)
 
 abbrev pub as_object : Option ExtendedType → Option (NodeView ObjectType)
 as_object None = None

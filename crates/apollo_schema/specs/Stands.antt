@@ -1,15 +1,21 @@
 -- What a builder holds for a list.
-use Rattle.std.specs.Prelude.{◌≡◌, ℕ, ◌+◌, List, [], length, Option, None, Some}
+use Rattle.std.specs.Prelude.{◌≡◌, ℕ, ◌+◌, Bool, List, [], ◌++◌, length, map, Option, None, Some}
+use Rattle.std.specs.List.{flat_map}
 use Rattle.graphql_ast.specs.Tables.{keys_of, lookup}
 use Rattle.graphql_ast.specs.declared.definition.Definition.{Definition}
 use Rattle.apollo_component.specs.Extensions.{source_at}
-use Rattle.apollo_schema.specs.declared.schema_builder.Tables.{Tables}
+use Rattle.apollo_schema.specs.declared.tables.Tables.{Tables}
 use Rattle.apollo_schema.specs.declared.schema_builder.State.{State}
 use Rattle.apollo_schema.specs.declared.schema_builder.State.TheVariants.{Open, Failed}
-use Rattle.apollo_schema.specs.TypeParts.{TypePart, TypeItem, extended_parts}
+use Rattle.apollo_schema.specs.TypeParts.{TypePart, TypeItem, extended_parts, schema_extension_part}
 use Rattle.apollo_schema.specs.SchemaMeaning.{by_text, AreTypesOf}
 use Rattle.apollo_schema.specs.DirectiveMeaning.{directive_definitions, AreDirectivesOf}
-use Rattle.apollo_schema.specs.Prefixes.{folded, found, waited, waiting_of}
+use Rattle.apollo_schema.specs.RootMeaning.{schema_of}
+use Rattle.apollo_schema.specs.Adoption.{extended_names, orphans_of, schema_orphans, completed}
+use Rattle.apollo_schema.specs.TypeFaults.{orphan}
+use Rattle.apollo_schema.specs.RootFaults.{schema_orphan}
+use Rattle.apollo_schema.specs.SchemaFaults.{faults_in}
+use Rattle.apollo_schema.specs.Prefixes.{added_after, folded, found_at, found, waited, waiting_of}
 
 -- what waits under a name: nothing where there is no list
 abbrev pub parts_held : Option (List Definition) → List TypePart
@@ -18,6 +24,8 @@ parts_held (Some xs) = extended_parts xs
 
 -- these tables are those of the list, with its extensions numbered from `start`
 pub record Stands (start : ℕ) (xs : List TypeItem) (t : Tables) : Type 0 where
+  pub definition : t.schema_definition ≡ schema_of start (folded xs) xs
+  pub orphans : map schema_extension_part t.schema_extensions ≡ schema_orphans xs
   pub types : AreTypesOf start (folded xs) xs t.types
   pub directives : AreDirectivesOf (directive_definitions xs) t.directive_definitions
   pub waiting : (n : List ℕ) → parts_held (lookup (by_text n) t.waiting) ≡ waiting_of xs n
@@ -25,11 +33,29 @@ pub record Stands (start : ℕ) (xs : List TypeItem) (t : Tables) : Type 0 where
   pub faults : t.errors ≡ found xs
   pub next : t.ids ≡ source_at (start + length (folded xs))
 
+-- these tables are those of a list that ends with these items, which are implied, and hold what was found and what is
+-- left without a definition
+pub record Ends (start : ℕ) (implied xs : List TypeItem) (t : Tables) : Type 0 where
+  pub definition : t.schema_definition ≡ schema_of start (folded (xs ++ implied)) (xs ++ implied)
+  pub types : AreTypesOf start (folded (xs ++ implied)) (xs ++ implied) t.types
+  pub directives : AreDirectivesOf (directive_definitions (xs ++ implied)) t.directive_definitions
+  pub faults : t.errors
+      ≡ found xs ++ (map orphan (flat_map (orphans_of xs) (extended_names xs)) ++ (added_after found_at xs implied ++ map schema_orphan (schema_orphans (xs ++ implied))))
+  pub next : t.ids ≡ source_at (start + length (folded (xs ++ implied)))
+
+-- these tables are those of all that the list means, and hold all its faults
+pub record Completes (start : ℕ) (adopts : Bool) (xs : List TypeItem) (t : Tables) : Type 0 where
+  pub definition : t.schema_definition ≡ schema_of start (folded (completed adopts xs)) (completed adopts xs)
+  pub types : AreTypesOf start (folded (completed adopts xs)) (completed adopts xs) t.types
+  pub directives : AreDirectivesOf (directive_definitions (completed adopts xs)) t.directive_definitions
+  pub faults : t.errors ≡ faults_in adopts xs
+  pub next : t.ids ≡ source_at (start + length (folded (completed adopts xs)))
+
 abbrev pub StateStands : ℕ → List TypeItem → State → Type 0
 StateStands start xs (Open tables) = Stands start xs tables
-StateStands start xs Failed = ⊥
+StateStands start xs (Failed source) = ⊥
 
 -- a call was refused
 abbrev pub StateFailed : State → Type 0
 StateFailed (Open tables) = ⊥
-StateFailed Failed = Unit {0}
+StateFailed (Failed source) = Unit {0}

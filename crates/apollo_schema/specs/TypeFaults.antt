@@ -69,11 +69,16 @@ abbrev pub extension_faults : TypePart → List TypePart → TypePart → List F
 extension_faults d before e =
     if same_kind (kind_of d) (kind_of e) then part_faults (d ∷ of_kind (kind_of d) before) e else kind_mismatch d e ∷ []
 
--- a further definition of a name with this first one
-abbrev pub further_definition : TypePart → TypePart → Fault
+-- a further definition of a name with this first one: of a built-in type it may be ignored
+abbrev pub redefinition : TypePart → TypePart → Fault
+redefinition d e = (e.name.location, errors.TypeDefinitionCollision d.name.location e.name)
+
+abbrev pub built_in_redefinition : TypePart → TypePart → Fault
+built_in_redefinition d e = if same_kind kinds.Scalar (kind_of e) then (e.location, errors.BuiltInScalarTypeRedefinition) else redefinition d e
+
+abbrev pub further_definition : TypePart → TypePart → List Fault
 further_definition d e =
-    if is_built_in d.location then (if same_kind kinds.Scalar (kind_of e) then (e.location, errors.BuiltInScalarTypeRedefinition) else (e.name.location, errors.TypeDefinitionCollision d.name.location e.name))
-    else (e.name.location, errors.TypeDefinitionCollision d.name.location e.name)
+    if is_built_in d.location then (if e.ignorable then [] else built_in_redefinition d e ∷ []) else redefinition d e ∷ []
 
 -- an extension of a name without a definition
 abbrev pub orphan : TypePart → Fault

@@ -1,7 +1,7 @@
 -- The type that a name means: its first definition with its kind's extensions folded in. GraphQL specification of
 -- October 2021, sections 3.4.3, and 3.5 to 3.10.
-use Rattle.std.specs.Prelude.{ℕ, Bool, List, [], ◌∷◌, Option, map, filter}
-use Rattle.std.specs.List.{enumerate_from, flat_map}
+use Rattle.std.specs.Prelude.{ℕ, Bool, List, [], ◌∷◌, Option, None, Some, map, filter}
+use Rattle.std.specs.List.{enumerate_from, filter_map, flat_map}
 use Rattle.std.specs.Option.{option_map}
 use Rattle.graphql_ast.specs.NameView.{NameView}
 use Rattle.graphql_ast.specs.NodeView.{NodeView}
@@ -24,7 +24,7 @@ use Rattle.apollo_types.specs.declared.enum_type.EnumType.{EnumType}
 use Rattle.apollo_types.specs.declared.input_object_type.InputObjectType.{InputObjectType}
 use Rattle.apollo_types.specs.declared.extended_type.ExtendedType.{ExtendedType}
 use Rattle.apollo_types.specs.declared.extended_type.ExtendedType.TheVariants.{Scalar, Object, Interface, Union, Enum, InputObject}
-use Rattle.apollo_schema.specs.TypeParts.{TypePart, TypeItem, TypeBody, ScalarBody, ObjectBody, InterfaceBody, UnionBody, EnumBody, InputObjectBody, key_of, same}
+use Rattle.apollo_schema.specs.TypeParts.{TypePart, TypeItem, Folding, OfType, OfSchema, TypeBody, ScalarBody, ObjectBody, InterfaceBody, UnionBody, EnumBody, InputObjectBody, key_of, same}
 use Rattle.apollo_schema.specs.DefinitionList.{first}
 
 -- a part, with the origin of its components
@@ -167,14 +167,19 @@ extension_part e = (Extension (extension_id e.0 e.1.location), e.1)
 abbrev pub numbered : ℕ → List TypePart → List (ℕ × TypePart)
 numbered start folded = enumerate_from start folded
 
+-- the extensions of types among those that are folded, with their numbers
+abbrev pub of_type : ℕ × Folding → Option (ℕ × TypePart)
+of_type (i, OfType p) = Some (i, p)
+of_type (i, OfSchema s) = None
+
 -- the folded extensions of a name, with their origins
-abbrev pub sourced : List ℕ → ℕ → List TypePart → List Sourced
-sourced n start folded = map extension_part (filter (λ e. same n (key_of e.1)) (numbered start folded))
+abbrev pub sourced : List ℕ → ℕ → List Folding → List Sourced
+sourced n start folded = map extension_part (filter (λ e. same n (key_of e.1)) (filter_map of_type (enumerate_from start folded)))
 
 -- the parts of a name with this first definition, where these extensions are folded, in this order
-abbrev pub parts : ℕ → List TypePart → List ℕ → TypePart → List Sourced
+abbrev pub parts : ℕ → List Folding → List ℕ → TypePart → List Sourced
 parts start folded n d = (Definition, d) ∷ sourced n start folded
 
 -- the type of a name, where these extensions are folded, in this order
-abbrev pub type_of : ℕ → List TypePart → List TypeItem → List ℕ → Option ExtendedType
+abbrev pub type_of : ℕ → List Folding → List TypeItem → List ℕ → Option ExtendedType
 type_of start folded xs n = option_map (λ d. type_from d (parts start folded n d)) (first xs n)

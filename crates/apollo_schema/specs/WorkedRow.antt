@@ -7,10 +7,16 @@ use Rattle.graphql_ast.specs.declared.type_reference.Type.{Named}
 use Rattle.graphql_ast.specs.declared.type_system.FieldDefinition.{FieldDefinition}
 use Rattle.graphql_ast.specs.declared.definition.Definition.{Definition}
 use Rattle.graphql_ast.specs.declared.definition.Definition.TheVariants.{ObjectTypeDefinition, ObjectTypeExtension, ScalarTypeExtension}
+use Rattle.apollo_schema.specs.TypeParts.{Folding, OfType, OfSchema}
 
 -- the place of a line
 abbrev pub line : ℕ → Option SourceSpan
 line n = Some (record { file = record { 0 = 1 }; start = n; end = n })
+
+-- where an extension that is folded stands
+abbrev pub folding_place : Folding → Option SourceSpan
+folding_place (OfType p) = p.location
+folding_place (OfSchema s) = s.location
 
 abbrev pub name_at : List ℕ → ℕ → NameView
 name_at text n = record { text = text; location = line n }

@@ -17,6 +17,7 @@ mod input_object_type;
 mod interface_type;
 mod object_type;
 mod scalar_type;
+pub mod schema_definition;
 mod union_type;
 
 use crate::build_error::{BuildError, BuilderError, Fault};

@@ -1,32 +1,36 @@
 //! Schemas: GraphQL specification of October 2021, section 3.3.
-ghost use Rattle.std.specs.Prelude.{◌≡◌, IfOk};
+ghost use Rattle.std.specs.Prelude.{◌≡◌, IfOk, option_map};
 ghost use Rattle.std.specs.Option.{option_copied};
 
 use crate::write_out::{write_directives, write_type};
 use apollo_types::extended_type::ExtendedType;
 use apollo_types::object_type::ObjectType;
+use apollo_types::schema_definition::SchemaDefinition;
 use graphql_ast::collections::table::Table;
 use graphql_ast::definition::Definition;
 use graphql_ast::name::{Name, NamedType};
 use graphql_ast::node::Node;
+use graphql_ast::operation_type::OperationType;
 use graphql_ast::source::SourceMap;
 use graphql_ast::type_system::DirectiveDefinition;
 use std::alloc::{AllocError, Global};
 
-/// A schema: its types and its directive definitions under their names, by first definition.
+/// A schema: its definition, and its types and directive definitions under their names, by first definition.
 ///
-/// Schemas are equal where their types and directive definitions are, in any order: places, origins and sources are left
-/// out.
+/// Schemas are equal where their definitions are, and their types and directive definitions in any order: places, origins
+/// and sources are left out.
 #[derive(Drop, Clone)]
 #[derive_where(PartialEq, Eq)]
 pub struct Schema {
     #[derive_where(skip)]
     pub sources: SourceMap,
+    pub schema_definition: Node<SchemaDefinition>,
     pub directive_definitions: Table<Name, Node<DirectiveDefinition>>,
     pub types: Table<NamedType, ExtendedType>,
 }
 
 impl Schema {
+    ghost use Rattle.apollo_types.specs.SchemaDefinitionWriteOut.{root_of};
     ghost use Rattle.apollo_schema.specs.SchemaWriteOut.{write_schema, object_at};
 
     /// The object type of this name, if the name's type is one.
@@ -39,12 +43,27 @@ impl Schema {
         }
     }
 
-    /// The schema as syntax: the directive definitions, in order, and then each type, in order, as its definition and its
-    /// extensions. Built-in definitions are left out, but not their extensions. The error is want of memory.
+    /// The name of the root of this operation type, if the schema has one (section 3.3.1).
+    pub fn root_operation(&self, operation_type: OperationType) -> Option<&NamedType>
+        ensures { option_copied result ≡ option_map (λ c. c.name) (root_of self.now.schema_definition.value operation_type) }
+    {
+        match self.schema_definition.root_operation(operation_type) {
+            Some(root) => Some(&root.name),
+            None => None,
+        }
+    }
+
+    /// The schema as syntax: the schema definition with its extensions, then the directive definitions, in order, and then
+    /// each type, in order, as its definition and its extensions (section 3).
+    ///
+    /// The schema definition is left out where it would be implied, or has no root of its own, as
+    /// [`SchemaDefinition::to_ast`] says; its extensions are always there. Built-in definitions are left out, but not their
+    /// extensions. The error is want of memory.
     pub fn to_ast(&self, alloc: Global) -> Result<Vec<Definition>, AllocError>
         ensures { IfOk result (λ written. written.items ≡ write_schema self.now) }
     {
-        let mut written = Vec::new(alloc);
+        let location = self.schema_definition.location();
+        let mut written = self.schema_definition.to_ast(alloc, location, &self.types)?;
         write_directives(&self.directive_definitions, &mut written)?;
         for ty in self.types.values() {
             write_type(alloc, ty, &mut written)?;

@@ -2,6 +2,7 @@
 
 mod built_in;
 mod faults;
+mod spent;
 
 use crate::build_error::{BuildFailure, BuilderError, Fault, WithErrors};
 use crate::schema::Schema;

@@ -1,0 +1,153 @@
+-- What the tables of a list end it with is what the list ends with.
+use Rattle.std.proofs.Common.{◌≡◌, ℕ, ◌+◌, ◌^◌, ◌≤◌, Bool, false, cond, List, [], ◌∷◌, ◌++◌, length, map, Option, Some, None, is_some, true, refl, sym, ap, subst, ◌∙◌, append_assoc, true≢false}
+use Rattle.std.specs.List.{flat_map}
+use Rattle.std.specs.Map.{lookup, values_of}
+use Rattle.std.specs.Option.{option_map, option_map_or, option_or}
+use Rattle.std.proofs.lemmas.List.{append-nil}
+use Rattle.std.proofs.lemmas.List.Folds.{flat_map-map}
+use Rattle.graphql_ast.specs.NameView.{NameView}
+use Rattle.graphql_ast.specs.NodeView.{NodeView}
+use Rattle.graphql_ast.specs.OperationTexts.{default_type_text}
+use Rattle.graphql_ast.specs.declared.operation_type.OperationType.{OperationType}
+use Rattle.graphql_ast.specs.declared.operation_type.OperationType.TheVariants.{Query, Mutation, Subscription}
+use Rattle.graphql_ast.specs.declared.type_kind.TypeKind.TheVariants as kinds
+use Rattle.graphql_ast.specs.declared.definition.Definition.{Definition}
+use Rattle.apollo_component.specs.Extensions.{next_number, source_at}
+use Rattle.apollo_types.specs.declared.schema_definition.SchemaDefinition.{SchemaDefinition}
+use Rattle.apollo_schema.specs.declared.tables.Tables.{Tables}
+use Rattle.apollo_schema.specs.TypeParts.{TypePart, SchemaPart, TypeItem, SchemaDefined, TypeBody, ScalarBody, ObjectBody, InterfaceBody, UnionBody, EnumBody, InputObjectBody, extended_parts, schema_extension_part, kind_of, body_kind}
+use Rattle.apollo_schema.specs.DefinitionList.{same_kind, first, first_schema, schema_extensions}
+use Rattle.apollo_schema.specs.TypeMeaning.{Sourced, type_at, type_from, parts}
+use Rattle.apollo_schema.specs.TypeFaults.{orphan}
+use Rattle.apollo_schema.specs.RootFaults.{roots_in, schema_orphan, further_schema}
+use Rattle.apollo_schema.specs.Adoption.{extended_names, orphans_of, schema_orphans, is_object_name, implicit_root, implicit_roots, schema_for, implied_schema}
+use Rattle.apollo_schema.specs.HeldRoots.{is_object, held_root, held_roots}
+use Rattle.apollo_schema.specs.Joining.{schema_begun, schema_begun_faults}
+use Rattle.apollo_schema.specs.SchemaMeaning.{by_text, AreTypesOf}
+use Rattle.apollo_schema.specs.RootMeaning.{schema_of}
+use Rattle.apollo_schema.specs.DirectiveMeaning.{directive_definitions, AreDirectivesOf}
+use Rattle.apollo_schema.specs.Prefixes.{folded, found_at, found}
+use Rattle.apollo_schema.specs.Stands.{Stands, Ends}
+use Rattle.apollo_schema.proofs.ItemLemmas.{first_schema-push_definition}
+use Rattle.apollo_schema.proofs.OrphanLemmas.{held-orphans}
+use Rattle.apollo_schema.proofs.SchemaStandsLemmas.{schema_known, schema_unknown, Stands-schema_new, schema_new-spent}
+
+pub none-of : {X : Type 0} (o : Option X) → is_some o ≡ false → o ≡ None
+none-of None h = refl
+none-of (Some x) h = absurd (true≢false h)
+
+is_object-from : (d : TypePart) (ps : List Sourced) → is_object (Some (type_from d ps)) ≡ same_kind kinds.Object (kind_of d)
+is_object-from d ps = by d.body
+  where
+    by : (b : TypeBody) → is_object (Some (type_at b d ps)) ≡ same_kind kinds.Object (body_kind b)
+    by ScalarBody = refl
+    by (ObjectBody interfaces fields) = refl
+    by (InterfaceBody interfaces fields) = refl
+    by (UnionBody members) = refl
+    by (EnumBody values) = refl
+    by (InputObjectBody fields) = refl
+
+module _ {start : ℕ} {xs : List TypeItem} {t : Tables} (was : Stands start xs t) where
+  held-object : (n : List ℕ) → is_object (lookup (by_text n) t.types) ≡ is_object_name xs n
+  held-object n = ap is_object (was.types.each n) ∙ by (first xs n)
+    where
+      by : (o : Option TypePart) → is_object (option_map (λ d. type_from d (parts start (folded xs) n d)) o) ≡ option_map_or (λ p. same_kind kinds.Object (kind_of p)) o false
+      by None = refl
+      by (Some d) = is_object-from d (parts start (folded xs) n d)
+
+  -- the implicit roots of the tables are those of the list
+  held-root : (op : OperationType) → held_root t.types op ≡ implicit_root xs op
+  held-root op = ap (λ b. cond b (record { value = (op, record { text = default_type_text op; location = None }); location = None } ∷ []) []) (held-object (default_type_text op))
+
+  held-roots : held_roots t.types ≡ implicit_roots xs
+  held-roots =
+      (λ i. (held-root Query i ++ held-root Mutation i) ++ held-root Subscription i)
+      ∙ append_assoc (implicit_root xs Query) (implicit_root xs Mutation) (implicit_root xs Subscription)
+      ∙ ap (λ l. implicit_root xs Query ++ (implicit_root xs Mutation ++ l)) (sym (append-nil (implicit_root xs Subscription)))
+
+  waiting-extensions : t.schema_definition ≡ None → map schema_extension_part t.schema_extensions ≡ schema_extensions xs
+  waiting-extensions absent = was.orphans ∙ ap (λ o. option_map_or (λ _. []) o (schema_extensions xs)) (schema_unknown was absent)
+
+  -- the schema definition that the tables imply is the one that the list implies
+  pub implied-held : (adopts : Bool) → t.schema_definition ≡ None
+      → schema_for adopts (roots_in (map schema_extension_part t.schema_extensions)) (held_roots t.types) ≡ implied_schema adopts xs
+  implied-held adopts absent =
+      (λ i. schema_for adopts (roots_in (waiting-extensions absent i)) (held-roots i))
+      ∙ sym (ap (λ o. option_map_or (λ _. []) o (schema_for adopts (roots_in (schema_extensions xs)) (implicit_roots xs))) (schema_unknown was absent))
+
+  pub implied-none : (adopts : Bool) (held : NodeView SchemaDefinition) → t.schema_definition ≡ Some held → implied_schema adopts xs ≡ []
+  implied-none adopts held there =
+      ap (λ o. option_map_or (λ _. []) o (schema_for adopts (roots_in (schema_extensions xs)) (implicit_roots xs))) (schema_known was held there).1.0
+
+  pub implied-standing : (adopts : Bool) → is_some t.schema_definition ≡ true → implied_schema adopts xs ≡ []
+  implied-standing adopts some = by t.schema_definition refl some
+    where
+      by : (o : Option (NodeView SchemaDefinition)) → t.schema_definition ≡ o → is_some o ≡ true → implied_schema adopts xs ≡ []
+      by (Some held) e h = implied-none adopts held e
+      by None e h = absurd (true≢false (sym h))
+
+  -- where one is implied none stands
+  pub implied-absent : (adopts : Bool) (x : TypeItem) → implied_schema adopts xs ≡ x ∷ [] → t.schema_definition ≡ None
+  implied-absent adopts x some = by t.schema_definition refl
+    where
+      by : (o : Option (NodeView SchemaDefinition)) → t.schema_definition ≡ o → t.schema_definition ≡ None
+      by None e = e
+      by (Some held) e = let g : [] ≡ x ∷ [] = sym (implied-none adopts held e) ∙ some in absurd (cc)
+
+  left-orphans : flat_map extended_parts (values_of t.waiting) ≡ flat_map (orphans_of xs) (extended_names xs)
+  left-orphans = flat_map-map extended_parts (λ (e : NameView × List Definition). e.1) t.waiting ∙ held-orphans xs t.waiting was.names was.waiting
+
+  -- nothing is implied: extensions of the schema are at fault after those of types
+  pub Ends-none : (u : Tables) → u.schema_definition ≡ t.schema_definition → u.types ≡ t.types → u.directive_definitions ≡ t.directive_definitions → u.ids ≡ t.ids
+      → u.errors ≡ (t.errors ++ map orphan (flat_map extended_parts (values_of t.waiting))) ++ map schema_orphan (map schema_extension_part t.schema_extensions)
+      → Ends start [] xs u
+  Ends-none u definition types directives next errors =
+      let whole : xs ≡ xs ++ [] = sym (append-nil xs) in
+      record {
+        definition = definition ∙ was.definition ∙ ap (λ l. schema_of start (folded l) l) whole;
+        types = subst (λ l. AreTypesOf start (folded l) l u.types) whole (subst (AreTypesOf start (folded xs) xs) (sym types) was.types);
+        directives = subst (λ l. AreDirectivesOf (directive_definitions l) u.directive_definitions) whole (subst (AreDirectivesOf (directive_definitions xs)) (sym directives) was.directives);
+        faults = errors
+            ∙ (λ i. (was.faults i ++ map orphan (left-orphans i)) ++ map schema_orphan (was.orphans i))
+            ∙ append_assoc (found xs) (map orphan (flat_map (orphans_of xs) (extended_names xs))) (map schema_orphan (schema_orphans xs))
+            ∙ ap (λ l. found xs ++ (map orphan (flat_map (orphans_of xs) (extended_names xs)) ++ map schema_orphan (schema_orphans l))) whole;
+        next = next ∙ was.next ∙ ap (λ l. source_at (start + length (folded l))) whole;
+      }
+
+  -- a definition is implied: the extensions of the schema are folded into it
+  pub Ends-some : (s : SchemaPart) (u : Tables) → t.schema_definition ≡ None
+      → u.schema_definition ≡ Some (schema_begun (next_number t.ids) s (map schema_extension_part t.schema_extensions))
+      → u.types ≡ t.types → u.directive_definitions ≡ t.directive_definitions
+      → u.ids ≡ source_at (next_number t.ids + length t.schema_extensions)
+      → u.errors ≡ (t.errors ++ map orphan (flat_map extended_parts (values_of t.waiting))) ++ schema_begun_faults s (map schema_extension_part t.schema_extensions)
+      → Ends start (SchemaDefined s ∷ []) xs u
+  Ends-some s u absent definition types directives next errors =
+      let begun : Tables = record t {
+        schema_definition = Some (schema_begun (next_number t.ids) s (map schema_extension_part t.schema_extensions));
+        schema_extensions = [];
+        ids = source_at (next_number t.ids + length t.schema_extensions);
+        errors = t.errors ++ schema_begun_faults s (map schema_extension_part t.schema_extensions);
+      } in
+      let stands = Stands-schema_new was s begun absent refl refl (refl, (refl, refl)) refl refl in
+      let none = schema_unknown was absent in
+      let first : first_schema (xs ++ SchemaDefined s ∷ []) ≡ Some s = first_schema-push_definition xs s ∙ ap (λ o. option_or o (Some s)) none in
+      let these : schema_begun_faults s (map schema_extension_part t.schema_extensions) ≡ found_at xs (SchemaDefined s) =
+      ap (schema_begun_faults s) (waiting-extensions absent) ∙ sym (ap (λ o. option_map_or (λ f. further_schema f s ∷ []) o (schema_begun_faults s (schema_extensions xs))) none) in
+      let orphans = map orphan (flat_map (orphans_of xs) (extended_names xs)) in
+      record {
+        definition = definition ∙ stands.definition;
+        types = subst (AreTypesOf start (folded (xs ++ SchemaDefined s ∷ [])) (xs ++ SchemaDefined s ∷ [])) (sym types) stands.types;
+        directives = subst (AreDirectivesOf (directive_definitions (xs ++ SchemaDefined s ∷ []))) (sym directives) stands.directives;
+        faults = errors
+            ∙ (λ i. (was.faults i ++ map orphan (left-orphans i)) ++ these i)
+            ∙ append_assoc (found xs) orphans (found_at xs (SchemaDefined s))
+            ∙ ap (λ l. found xs ++ (orphans ++ l)) (sym (append-nil (found_at xs (SchemaDefined s))) ∙ sym (append-nil (found_at xs (SchemaDefined s) ++ [])))
+            ∙ sym (ap (λ o. found xs ++ (orphans ++ ((found_at xs (SchemaDefined s) ++ []) ++ map schema_orphan (option_map_or (λ _. []) o (schema_extensions (xs ++ SchemaDefined s ∷ [])))))) first);
+        next = next ∙ stands.next;
+      }
+
+  -- numbers that the implied definition spends are spent by the list
+  pub implied-spent : (adopts : Bool) (s : SchemaPart) → implied_schema adopts xs ≡ SchemaDefined s ∷ []
+      → 2 ^ 64 ≤ next_number t.ids + length t.schema_extensions → 2 ^ 64 ≤ start + length (folded (xs ++ implied_schema adopts xs))
+  implied-spent adopts s some full =
+      subst (λ l. 2 ^ 64 ≤ start + length (folded (xs ++ l))) (sym some) (schema_new-spent was s (implied-absent adopts (SchemaDefined s) some) full)

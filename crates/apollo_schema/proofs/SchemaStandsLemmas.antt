@@ -1,0 +1,174 @@
+-- Tables that stand for a list stand for it with one more definition or extension of the schema, once the code has taken
+-- it.
+use Rattle.std.proofs.Common.{◌≡◌, ℕ, ◌+◌, ◌^◌, ◌≤◌, List, [], ◌∷◌, ◌++◌, length, map, Option, Some, None, refl, sym, ap, ◌∙◌, arith}
+use Rattle.std.specs.List.{filter_map}
+use Rattle.std.specs.Option.{option_map, option_map_or, option_or, unwrap_or}
+use Rattle.std.specs.Map.{keys_of}
+use Rattle.std.proofs.lemmas.List.{append-nil, map-append}
+use Rattle.graphql_ast.specs.NodeView.{NodeView}
+use Rattle.graphql_ast.specs.declared.source.SourceSpan.{SourceSpan}
+use Rattle.graphql_ast.specs.declared.type_system.SchemaExtension.{SchemaExtension}
+use Rattle.apollo_component.specs.Extensions.{next_number, source_at}
+use Rattle.apollo_component.specs.declared.extension.ComponentOrigin.TheVariants as origins
+use Rattle.apollo_types.specs.declared.schema_definition.SchemaDefinition.{SchemaDefinition}
+use Rattle.apollo_schema.specs.declared.build_error.BuildError.TheVariants as errors
+use Rattle.apollo_schema.specs.declared.tables.Tables.{Tables}
+use Rattle.apollo_schema.specs.TypeParts.{SchemaPart, TypeItem, SchemaDefined, SchemaExtended, schema_extension_part}
+use Rattle.apollo_schema.specs.DefinitionList.{first_schema, schema_extensions}
+use Rattle.apollo_schema.specs.RootMeaning.{SourcedSchema, schema_from, schema_parts}
+use Rattle.apollo_schema.specs.RootFaults.{schema_faults, further_schema}
+use Rattle.apollo_schema.specs.DirectiveMeaning.{directive_part, directive_definitions, AreDirectivesOf}
+use Rattle.apollo_schema.specs.Joining.{schema_numbered, schema_begun, schema_begun_faults}
+use Rattle.apollo_schema.specs.Prefixes.{schemas_folded_at, folded}
+use Rattle.apollo_schema.specs.Stands.{Stands}
+use Rattle.apollo_schema.proofs.ItemLemmas.{filter_map-push_none, first_schema-push_definition, first_schema-push_undefined, schema_extensions-push_extension, schema_extensions-push_unextended}
+use Rattle.apollo_schema.proofs.SchemaLemmas.{schema_of-same, schema_of-more, schema-unfolded, schema_sourced-parts}
+use Rattle.apollo_schema.proofs.StandsLemmas.{counted, length-map, at, same_types, same_waiting, same_names, same_directives, more_faults}
+
+module _ {start : ℕ} {xs : List TypeItem} {t : Tables} (was : Stands start xs t) where
+  -- the schema has a definition exactly if the list has one
+  pub schema_known : (held : NodeView SchemaDefinition) → t.schema_definition ≡ Some held
+      → (s : SchemaPart) × ((first_schema xs ≡ Some s) × (held ≡ schema_from s (schema_parts start (folded xs) s)))
+  schema_known held there = by (first_schema xs) refl
+    where
+      by : (o : Option SchemaPart) → first_schema xs ≡ o → (s : SchemaPart) × ((first_schema xs ≡ Some s) × (held ≡ schema_from s (schema_parts start (folded xs) s)))
+      by None e = let g : Some held ≡ None = sym there ∙ was.definition ∙ ap (option_map (λ s. schema_from s (schema_parts start (folded xs) s))) e in absurd (cc)
+      by (Some s) e =
+          let g : Some held ≡ Some (schema_from s (schema_parts start (folded xs) s)) = sym there ∙ was.definition ∙ ap (option_map (λ s. schema_from s (schema_parts start (folded xs) s))) e in
+          (s, (e, ap (λ o. unwrap_or o held) g))
+
+  pub schema_unknown : t.schema_definition ≡ None → first_schema xs ≡ None
+  schema_unknown absent = by (first_schema xs) refl
+    where
+      by : (o : Option SchemaPart) → first_schema xs ≡ o → first_schema xs ≡ None
+      by None e = e
+      by (Some s) e = let g : None ≡ Some (schema_from s (schema_parts start (folded xs) s)) = sym absent ∙ was.definition ∙ ap (option_map (λ s. schema_from s (schema_parts start (folded xs) s))) e in absurd (cc)
+
+  -- the schema's items concern no type and no directive
+  abbrev OnlySchema : TypeItem → Tables → Type 0
+  OnlySchema x u =
+      (u.types ≡ t.types) × ((u.directive_definitions ≡ t.directive_definitions) × (u.waiting ≡ t.waiting))
+
+  no-directives : (x : TypeItem) (u : Tables) → u.directive_definitions ≡ t.directive_definitions → directive_part x ≡ None → AreDirectivesOf (directive_definitions (xs ++ x ∷ [])) u.directive_definitions
+  no-directives x u same none = same_directives was x u same (filter_map-push_none directive_part xs x none)
+
+  -- a further definition of the schema changes nothing, and is at fault
+  pub Stands-schema_again : (s : SchemaPart) (u : Tables) (held : NodeView SchemaDefinition) → t.schema_definition ≡ Some held
+      → u.schema_definition ≡ t.schema_definition → u.schema_extensions ≡ t.schema_extensions → OnlySchema (SchemaDefined s) u → u.ids ≡ t.ids
+      → u.errors ≡ t.errors ++ (s.location, errors.SchemaDefinitionCollision held.location) ∷ []
+      → Stands start (xs ++ SchemaDefined s ∷ []) u
+  Stands-schema_again s u held there definition extensions same next faults =
+      let is = schema_known held there in
+      let x = SchemaDefined s in
+      let none : schemas_folded_at xs x ≡ [] = ap (λ o. option_map_or (λ _. []) o (schema_extensions xs)) is.1.0 in
+      let first : first_schema (xs ++ x ∷ []) ≡ first_schema xs = first_schema-push_definition xs s ∙ ap (λ o. option_or o (Some s)) is.1.0 ∙ sym is.1.0 in
+      record {
+        definition = definition ∙ was.definition ∙ sym (schema_of-same start xs x first none);
+        orphans = ap (map schema_extension_part) extensions ∙ was.orphans
+            ∙ sym (λ i. option_map_or (λ _. []) (first i) (schema_extensions-push_unextended xs x refl i));
+        types = same_types was x u same.0 refl refl;
+        directives = no-directives x u same.1.0 refl;
+        waiting = same_waiting was x u same.1.1 refl refl;
+        names = same_names was x u (ap keys_of same.1.1) refl;
+        faults = more_faults was x u ((s.location, errors.SchemaDefinitionCollision held.location) ∷ []) faults
+            (ap (λ o. option_map_or (λ f. further_schema f s ∷ []) o (schema_begun_faults s (schema_extensions xs))) is.1.0
+            ∙ ap (λ (l : Option SourceSpan). (s.location, errors.SchemaDefinitionCollision l) ∷ []) (ap (λ (v : NodeView SchemaDefinition). v.location) (sym is.1.1)));
+        next = next ∙ was.next ∙ ap source_at (sym (at was) ∙ omega arith ∙ counted start xs x [] [] (next_number t.ids) (at was) refl none);
+      }
+
+  -- the first definition of the schema makes its definition, with all that waits for it
+  pub Stands-schema_new : (s : SchemaPart) (u : Tables) → t.schema_definition ≡ None
+      → u.schema_definition ≡ Some (schema_begun (next_number t.ids) s (map schema_extension_part t.schema_extensions))
+      → u.schema_extensions ≡ [] → OnlySchema (SchemaDefined s) u
+      → u.ids ≡ source_at (next_number t.ids + length t.schema_extensions)
+      → u.errors ≡ t.errors ++ schema_begun_faults s (map schema_extension_part t.schema_extensions)
+      → Stands start (xs ++ SchemaDefined s ∷ []) u
+  Stands-schema_new s u absent definition extensions same next faults =
+      let none = schema_unknown absent in
+      let x = SchemaDefined s in
+      let waiting : map schema_extension_part t.schema_extensions ≡ schema_extensions xs = was.orphans ∙ ap (λ o. option_map_or (λ _. []) o (schema_extensions xs)) none in
+      let folding : schemas_folded_at xs x ≡ schema_extensions xs = ap (λ o. option_map_or (λ _. []) o (schema_extensions xs)) none in
+      let first : first_schema (xs ++ x ∷ []) ≡ Some s = first_schema-push_definition xs s ∙ ap (λ o. option_or o (Some s)) none in
+      let count : length t.schema_extensions ≡ length (schemas_folded_at xs x) = sym (length-map schema_extension_part t.schema_extensions) ∙ ap length (waiting ∙ sym folding) in
+      record {
+        definition = definition
+            ∙ (λ i. Some (schema_from s ((origins.Definition, s) ∷ schema_numbered (at was i) ((waiting ∙ sym folding) i))))
+            ∙ sym (schema_of-more start xs x s first refl
+            ∙ ap (λ l. Some (schema_from s (((origins.Definition, s) ∷ l) ++ schema_numbered (start + length (folded xs)) (schemas_folded_at xs x)))) (schema-unfolded xs start none));
+        orphans = ap (map schema_extension_part) extensions ∙ sym (ap (λ o. option_map_or (λ _. []) o (schema_extensions (xs ++ x ∷ []))) first);
+        types = same_types was x u same.0 refl refl;
+        directives = no-directives x u same.1.0 refl;
+        waiting = same_waiting was x u same.1.1 refl refl;
+        names = same_names was x u (ap keys_of same.1.1) refl;
+        faults = more_faults was x u _ faults (ap (λ o. option_map_or (λ f. further_schema f s ∷ []) o (schema_begun_faults s (schema_extensions xs))) none ∙ ap (schema_begun_faults s) (sym waiting));
+        next = next ∙ ap source_at (omega (arith, count) ∙ counted start xs x [] (schemas_folded_at xs x) (next_number t.ids) (at was) refl refl);
+      }
+
+  -- an extension of the schema before its definition waits
+  pub Stands-schema_early : (e : NodeView SchemaExtension) (u : Tables) → t.schema_definition ≡ None
+      → u.schema_definition ≡ t.schema_definition → u.schema_extensions ≡ t.schema_extensions ++ e ∷ [] → OnlySchema (SchemaExtended (schema_extension_part e)) u
+      → u.ids ≡ t.ids → u.errors ≡ t.errors
+      → Stands start (xs ++ SchemaExtended (schema_extension_part e) ∷ []) u
+  Stands-schema_early e u absent definition extensions same next faults =
+      let none = schema_unknown absent in
+      let x = SchemaExtended (schema_extension_part e) in
+      let folding : schemas_folded_at xs x ≡ [] = ap (λ o. option_map_or (λ _. schema_extension_part e ∷ []) o []) none in
+      let first : first_schema (xs ++ x ∷ []) ≡ None = first_schema-push_undefined xs x refl ∙ none in
+      record {
+        definition = definition ∙ was.definition ∙ sym (schema_of-same start xs x (first_schema-push_undefined xs x refl) folding);
+        orphans = ap (map schema_extension_part) extensions ∙ map-append schema_extension_part t.schema_extensions (e ∷ [])
+            ∙ ap (λ l. l ++ schema_extension_part e ∷ []) (was.orphans ∙ ap (λ o. option_map_or (λ _. []) o (schema_extensions xs)) none)
+            ∙ sym (ap (λ o. option_map_or (λ _. []) o (schema_extensions (xs ++ x ∷ []))) first ∙ schema_extensions-push_extension xs (schema_extension_part e));
+        types = same_types was x u same.0 refl refl;
+        directives = no-directives x u same.1.0 refl;
+        waiting = same_waiting was x u same.1.1 refl refl;
+        names = same_names was x u (ap keys_of same.1.1) refl;
+        faults = more_faults was x u [] (faults ∙ sym (append-nil t.errors)) (ap (λ o. option_map_or (λ s. schema_faults (s ∷ schema_extensions xs) (schema_extension_part e)) o []) none);
+        next = next ∙ was.next ∙ ap source_at (sym (at was) ∙ omega arith ∙ counted start xs x [] [] (next_number t.ids) (at was) refl folding);
+      }
+
+  -- and one after it is folded in
+  pub Stands-schema_late : (e : SchemaPart) (u : Tables) (held grown : NodeView SchemaDefinition) → t.schema_definition ≡ Some held
+      → u.schema_definition ≡ Some grown → u.schema_extensions ≡ t.schema_extensions → OnlySchema (SchemaExtended e) u
+      → ((head : SchemaPart) (done : List SourcedSchema) → held ≡ schema_from head done → grown ≡ schema_from head (done ++ schema_numbered (next_number t.ids) (e ∷ [])))
+      → ((head : SchemaPart) (done : List SourcedSchema) → held ≡ schema_from head done → u.errors ≡ t.errors ++ schema_faults (map (λ (s : SourcedSchema). s.1) done) e)
+      → u.ids ≡ source_at (next_number t.ids + 1)
+      → Stands start (xs ++ SchemaExtended e ∷ []) u
+  Stands-schema_late e u held grown there definition extensions same made faults next =
+      let is = schema_known held there in
+      let x = SchemaExtended e in
+      let done = schema_parts start (folded xs) is.0 in
+      let folding : schemas_folded_at xs x ≡ e ∷ [] = ap (λ o. option_map_or (λ _. e ∷ []) o []) is.1.0 in
+      let first : first_schema (xs ++ x ∷ []) ≡ Some is.0 = first_schema-push_undefined xs x refl ∙ is.1.0 in
+      record {
+        definition = definition
+            ∙ ap (λ s. Some s) (made is.0 done is.1.1)
+            ∙ (λ i. Some (schema_from is.0 (done ++ schema_numbered (at was i) (sym folding i))))
+            ∙ sym (schema_of-more start xs x is.0 first refl);
+        orphans = ap (map schema_extension_part) extensions ∙ was.orphans
+            ∙ ap (λ o. option_map_or (λ _. []) o (schema_extensions xs)) is.1.0 ∙ sym (ap (λ o. option_map_or (λ _. []) o (schema_extensions (xs ++ x ∷ []))) first);
+        types = same_types was x u same.0 refl refl;
+        directives = no-directives x u same.1.0 refl;
+        waiting = same_waiting was x u same.1.1 refl refl;
+        names = same_names was x u (ap keys_of same.1.1) refl;
+        faults = more_faults was x u _ (faults is.0 done is.1.1)
+            (ap (λ o. option_map_or (λ s. schema_faults (s ∷ schema_extensions xs) e) o []) is.1.0
+            ∙ ap (λ l. schema_faults (is.0 ∷ l) e) (sym (schema_sourced-parts start xs is.0 is.1.0)));
+        next = next ∙ ap source_at (omega arith ∙ counted start xs x [] (e ∷ []) (next_number t.ids) (at was) refl folding);
+      }
+
+  -- numbers that are spent there are spent by the list
+  pub schema_new-spent : (s : SchemaPart) → t.schema_definition ≡ None
+      → 2 ^ 64 ≤ next_number t.ids + length t.schema_extensions → 2 ^ 64 ≤ start + length (folded (xs ++ SchemaDefined s ∷ []))
+  schema_new-spent s absent full =
+      let none = schema_unknown absent in
+      let x = SchemaDefined s in
+      let folding : schemas_folded_at xs x ≡ map schema_extension_part t.schema_extensions =
+      ap (λ o. option_map_or (λ _. []) o (schema_extensions xs)) none ∙ sym (was.orphans ∙ ap (λ o. option_map_or (λ _. []) o (schema_extensions xs)) none) in
+      omega (arith, full, length-map schema_extension_part t.schema_extensions, counted start xs x [] (map schema_extension_part t.schema_extensions) (next_number t.ids) (at was) refl folding)
+
+  pub schema_late-spent : (e : SchemaPart) (held : NodeView SchemaDefinition) → t.schema_definition ≡ Some held
+      → 2 ^ 64 ≤ next_number t.ids + 1 → 2 ^ 64 ≤ start + length (folded (xs ++ SchemaExtended e ∷ []))
+  schema_late-spent e held there full =
+      let is = schema_known held there in
+      omega (arith, full, counted start xs (SchemaExtended e) [] (e ∷ []) (next_number t.ids) (at was) refl (ap (λ o. option_map_or (λ _. e ∷ []) o []) is.1.0))

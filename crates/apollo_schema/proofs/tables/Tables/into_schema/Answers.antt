@@ -1,0 +1,42 @@
+use Rattle.std.proofs.Common.{◌≡◌, ℕ, ◌==◌, Bool, true, List, [], ◌∷◌, length, refl, sym, ap, subst, ◌∙◌, arith, true≢false}
+use Rattle.std.specs.Option.{unwrap_or}
+use Rattle.std.proofs.lemmas.Bool.Decides.{nat_tests}
+use Rattle.apollo_schema.specs.declared.schema.Schema.{Schema}
+use Rattle.apollo_schema.specs.declared.tables.Tables.{Tables}
+use Rattle.apollo_schema.specs.TypeParts.{Folding, Added, added_items}
+use Rattle.apollo_schema.specs.SchemaMeaning.{AreTypesOf}
+use Rattle.apollo_schema.specs.DirectiveMeaning.{directive_definitions, AreDirectivesOf}
+use Rattle.apollo_schema.specs.Prefixes.{folded}
+use Rattle.apollo_schema.specs.WholeSchema.{AreOf, MeansSchema, whole, no_schema}
+use Rattle.apollo_schema.specs.Stands.{Completes}
+use Rattle.apollo_schema.proofs.PlaceLemmas.{folding_order-forget}
+use Rattle.apollo_schema.proofs.tables.Tables.into_schema.Goals as goal
+
+-- the schema of tables that hold all that a list means is the one that the list means
+means : (start : ℕ) (adopts : Bool) (xs : List Added) (t : Tables) → Completes start adopts (added_items xs) t → (schema : Schema)
+    → schema.schema_definition ≡ unwrap_or t.schema_definition no_schema → schema.types ≡ t.types → schema.directive_definitions ≡ t.directive_definitions
+    → MeansSchema start adopts xs schema
+means start adopts xs t all schema definition types directives =
+    subst (λ (l : List Folding). AreOf start l (whole adopts xs) schema) (sym (folding_order-forget (whole adopts xs)))
+    (record {
+      definition = definition ∙ ap (λ o. unwrap_or o no_schema) all.definition;
+      types = subst (AreTypesOf start (folded (whole adopts xs)) (whole adopts xs)) (sym types) all.types;
+      directives = subst (AreDirectivesOf (directive_definitions (whole adopts xs))) (sym directives) all.directives;
+    })
+
+none-empty : {X : Type 0} (l : List X) → (length l == 0) ≡ true → l ≡ []
+none-empty [] h = refl
+none-empty (x ∷ l) h = absurd (grind (arith, nat_tests, h))
+
+pub returns-then-is_empty-clause-built : goal.returns-then-is_empty-clause-built
+returns-then-is_empty-clause-built c = λ start adopts xs all. means start adopts xs c.args.self all _ c.in-Ok.ensures refl refl
+
+pub returns-then-is_empty-clause-faultless : goal.returns-then-is_empty-clause-faultless
+returns-then-is_empty-clause-faultless c = λ start adopts xs all.
+    sym all.faults ∙ none-empty c.args.self.errors (sym c.is_empty.ensures ∙ c.if-is_empty.true)
+
+pub returns-clause-faults : goal.returns-clause-faults
+returns-clause-faults c = λ start adopts xs all. (
+  means start adopts xs c.args.self all _ c.in-Ok.ensures refl refl,
+  ((c.into_vec.ensures ∙ all.faults, λ none. true≢false (sym (ap (λ l. length l == 0) (sym c.into_vec.ensures ∙ none)) ∙ sym c.is_empty.ensures ∙ c.if-is_empty.false)), refl),
+)

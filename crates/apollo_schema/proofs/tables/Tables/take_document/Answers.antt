@@ -1,0 +1,21 @@
+use Rattle.std.proofs.Common.{◌≡◌, ◌+◌, ◌^◌, ◌≤◌, List, ◌++◌, length, sym, subst}
+use Rattle.std.proofs.lemmas.Result.{err_from_is_err_and}
+use Rattle.graphql_ast.specs.declared.definition.Definition.{Definition}
+use Rattle.apollo_schema.specs.TypeParts.{added, added_items}
+use Rattle.apollo_schema.specs.Prefixes.{folded}
+use Rattle.apollo_schema.specs.Stands.{Stands}
+use Rattle.apollo_schema.proofs.RefusalLemmas.{RefusedAs-weaker}
+use Rattle.apollo_schema.proofs.tables.Tables.take_document.Goals as goal
+
+pub returns-clause-stands : goal.returns-clause-stands
+returns-clause-stands c = λ start xs was.
+    let t = c.take.new.self in
+    let all : c.as_slice.result.now ≡ c.args.document.now.definitions = c.as_slice.ensures in
+    let stands = subst (λ (l : List Definition). Stands start (xs ++ added_items (added c.args.ignores l)) t) all (c.in_ok-take.ensures.stands start xs was) in
+    subst (Stands start (xs ++ added_items (added c.args.ignores c.args.document.now.definitions))) (sym c.in_ok-take_sources.ensures.merged) (record { definition = stands.definition; orphans = stands.orphans; types = stands.types; directives = stands.directives; waiting = stands.waiting; names = stands.names; faults = stands.faults; next = stands.next })
+
+pub returns-in_err-take-clause-refused : goal.returns-in_err-take-clause-refused
+returns-in_err-take-clause-refused c =
+    let exit = err_from_is_err_and c.from_residual.result c.from_residual.ensures.1 in
+    rw (exit.1, exit.2) (RefusedAs-weaker c.in_err-take.field-0.0 _ _ (λ full start xs was.
+    subst (λ (l : List Definition). 2 ^ 64 ≤ start + length (folded (xs ++ added_items (added c.args.ignores l)))) c.as_slice.ensures (full start xs was)) c.in_err-take.ensures.refused)

@@ -1,0 +1,501 @@
+//! What a builder holds.
+ghost use Rattle.std.specs.Prelude.{◌≡◌, Bool, false, None, ◌≢◌, ℕ, ◌+◌, ◌^◌, ◌≤◌, List, [], ◌∷◌, ◌++◌, length, map, is_some, Err, OnOk, IfOk, IfErr, Some, if◌then◌else◌};
+ghost use Rattle.std.specs.Option.{option_map_or};
+ghost use Rattle.graphql_ast.specs.Tables.{insert_entry};
+ghost use Rattle.graphql_ast.specs.ArgumentsByName.{same_text};
+ghost use Rattle.graphql_ast.specs.BuiltIn.{is_built_in};
+ghost use Rattle.apollo_component.specs.Extensions.{next_number, source_at};
+ghost use Rattle.apollo_component.specs.declared.extension.ComponentOrigin.TheVariants as origins;
+ghost use Rattle.apollo_schema.specs.TypeParts.{TypePart, TypeItem, Defined, Extended, SchemaDefined, SchemaExtended, Added, added, added_item, added_items, item_of, items_of, defined_part, extended_part, definition_part, extended_parts, schema_definition_part, schema_extension_part, kind_of};
+ghost use Rattle.apollo_schema.specs.DefinitionList.{of_kind};
+ghost use Rattle.apollo_schema.specs.TypeMeaning.{Sourced, type_from, extension_part, numbered};
+ghost use Rattle.apollo_schema.specs.TypeFaults.{part_faults, redefinition, built_in_redefinition, further_definition};
+ghost use Rattle.apollo_schema.specs.Joining.{joining_faults, schema_begun, schema_begun_faults};
+ghost use Rattle.apollo_schema.specs.Adoption.{with_adopted, implied_schema, completed};
+ghost use Rattle.apollo_schema.specs.WholeSchema.{MeansSchema, folds};
+ghost use Rattle.apollo_schema.specs.SchemaFaults.{faults_of, IfFaults};
+ghost use Rattle.apollo_schema.specs.BuiltInTable.{built_in_definitions};
+ghost use Rattle.apollo_schema.specs.Prefixes.{folded};
+ghost use Rattle.apollo_schema.specs.Refusals.{RefusedAs, failure_of};
+ghost use Rattle.apollo_schema.specs.Stands.{Stands, Ends, Completes};
+ghost use Rattle.apollo_schema.specs.Sources.{merged};
+ghost use Rattle.apollo_schema.specs.BuilderStands.{HasBuilt, SpendsIds, adopts, ignores};
+
+use crate::adoption::{adopted_definitions, definition_or_none, implied_definition};
+use crate::build_error::{BuildError, BuildFailure, BuilderError, Fault, WithErrors};
+use crate::built_in::built_in_definitions;
+use crate::directive_definition::define_directive;
+use crate::from_ast::schema_definition::{begin_schema, extend_schema};
+use crate::from_ast::{
+    defined_name, extend_type, extend_type_by_all, extended_name, type_from_ast,
+};
+use crate::orphans::{note_orphans, note_schema_orphans};
+use crate::schema::Schema;
+use crate::waiting::{take_waiting, wait};
+use apollo_component::extension::ExtensionSource;
+use apollo_types::extended_type::ExtendedType;
+use apollo_types::schema_definition::SchemaDefinition;
+use graphql_ast::collections::items::Items;
+use graphql_ast::collections::static_text::StaticText;
+use graphql_ast::collections::table::Table;
+use graphql_ast::definition::Definition;
+use graphql_ast::document::Document;
+use graphql_ast::name::Name;
+use graphql_ast::node::Node;
+use graphql_ast::source::SourceMap;
+use graphql_ast::type_kind::TypeKind;
+use graphql_ast::type_system as ast;
+use graphql_ast::type_system::{DirectiveDefinition, SchemaExtension};
+use std::alloc::{AllocError, Global};
+use std::mem;
+
+/// What a builder holds until it fails. An extension before its definition waits under its name; a name that is
+/// defined keeps an empty list, so that taking its extensions out moves no other.
+#[derive(Drop)]
+pub struct Tables {
+    alloc: Global,
+    sources: SourceMap,
+    schema_definition: Option<Node<SchemaDefinition>>,
+    schema_extensions: Items<Node<SchemaExtension>>,
+    types: Table<Name, ExtendedType>,
+    directive_definitions: Table<Name, Node<DirectiveDefinition>>,
+    waiting: Table<Name, Items<Definition>>,
+    ids: ExtensionSource,
+    errors: Items<Fault>,
+}
+
+/// The type of a definition with these extensions folded in, if it defines one.
+fn begin(
+    alloc: Global,
+    definition: &Definition,
+    extensions: &[Definition],
+    ids: &mut ExtensionSource,
+    errors: &mut Items<Fault>,
+) -> Result<Option<ExtendedType>, BuilderError>
+    ensures made { IfOk result (λ ty. (p : TypePart) (b : Bool) → definition_part definition.now ≡ Some p → let q = record p { ignorable = b } in
+        ty ≡ Some (type_from q ((origins.Definition, q) ∷ map extension_part (numbered (next_number ids.old) (of_kind (kind_of p) (extended_parts extensions.now)))))) }
+    ensures faults { OnOk result ((p : TypePart) (b : Bool) → definition_part definition.now ≡ Some p → let q = record p { ignorable = b } in
+        errors.new ≡ errors.old ++ (part_faults [] p ++ joining_faults q (q ∷ []) (extended_parts extensions.now))) }
+    ensures next { OnOk result ((p : TypePart) → definition_part definition.now ≡ Some p
+        → ids.new ≡ source_at (next_number ids.old + length (of_kind (kind_of p) (extended_parts extensions.now)))) }
+    ensures refused { IfErr result (λ error. RefusedAs error ((p : TypePart) → definition_part definition.now ≡ Some p
+        → 2 ^ 64 ≤ next_number ids.old + length (of_kind (kind_of p) (extended_parts extensions.now)))) }
+{
+    let Some(mut ty) = type_from_ast(alloc, definition, errors)? else {
+        return Ok(None);
+    };
+    extend_type_by_all(&mut ty, extensions, ids, errors)?;
+    Ok(Some(ty))
+}
+
+/// Puts a type under a name.
+fn put(
+    types: &mut Table<Name, ExtendedType>,
+    name: &Name,
+    ty: ExtendedType,
+) -> Result<(), BuilderError>
+    ensures put { OnOk result (types.new ≡ insert_entry same_text types.old name.now ty) }
+    ensures refused { IfErr result (λ error. error ≡ BuilderError.Memory) }
+{
+    types.insert(name.clone()?, ty)?;
+    Ok(())
+}
+
+/// The fault of a further definition of a type's name.
+fn redefinition(previous: &ExtendedType, name: &Name) -> Result<Fault, AllocError>
+    ensures { IfOk result (λ fault. (d p : TypePart) (done : List Sourced) → previous.now ≡ type_from d done → p.name ≡ name.now → fault ≡ redefinition d p) }
+{
+    let error = BuildError::TypeDefinitionCollision {
+        previous_location: previous.name().location(),
+        name: name.clone()?,
+    };
+    Ok((name.location(), error))
+}
+
+/// The fault of a further definition of a built-in type's name.
+fn built_in_redefinition(
+    previous: &ExtendedType,
+    name: &Name,
+    definition: &Definition,
+) -> Result<Fault, AllocError>
+    ensures { IfOk result (λ fault. (d p : TypePart) (done : List Sourced) → previous.now ≡ type_from d done → item_of definition.now ≡ Defined p → p.name ≡ name.now
+        → fault ≡ built_in_redefinition d p) }
+{
+    if definition.type_kind() == Some(TypeKind::Scalar) {
+        let error = BuildError::BuiltInScalarTypeRedefinition;
+        return Ok((definition.location(), error));
+    }
+    let fault = redefinition(previous, name)?;
+    Ok(fault)
+}
+
+/// Notes a further definition of a type's name, unless the type is built in and such definitions are ignored.
+fn note_redefinition(
+    previous: &ExtendedType,
+    name: &Name,
+    definition: &Definition,
+    ignores: bool,
+    errors: &mut Items<Fault>,
+) -> Result<(), AllocError>
+    ensures { OnOk result ((d p : TypePart) (done : List Sourced) → previous.now ≡ type_from d done → item_of definition.now ≡ Defined p → p.name ≡ name.now
+        → errors.new ≡ errors.old ++ further_definition d (record p { ignorable = ignores })) }
+{
+    if !previous.is_built_in() {
+        errors.push(redefinition(previous, name)?)?;
+        return Ok(());
+    }
+    if !ignores {
+        errors.push(built_in_redefinition(previous, name, definition)?)?;
+    }
+    Ok(())
+}
+
+impl Tables {
+    /// Tables of no definition, which draw from this source.
+    fn new(alloc: Global, ids: ExtensionSource) -> Tables
+        ensures stands { Stands (next_number ids) [] result }
+        ensures sources { result.sources ≡ [] }
+    {
+        Tables {
+            alloc,
+            sources: Table::new(alloc),
+            schema_definition: None,
+            schema_extensions: Items::new(alloc),
+            types: Table::new(alloc),
+            directive_definitions: Table::new(alloc),
+            waiting: Table::new(alloc),
+            ids,
+            errors: Items::new(alloc),
+        }
+    }
+
+    /// Tables of the built-in definitions.
+    pub fn with_built_ins(alloc: Global, ids: ExtensionSource) -> Result<Tables, AllocError>
+        ensures stands { IfOk result (Stands (next_number ids) (added_items (added false built_in_definitions))) }
+        ensures sources { IfOk result (λ tables. tables.sources ≡ []) }
+    {
+        let mut tables = Tables::new(alloc, ids);
+        let definitions = built_in_definitions(alloc)?;
+        match tables.take(definitions.as_slice(), false) {
+            Ok(()) => Ok(tables),
+            Err(_) => Err(AllocError),
+        }
+    }
+
+    /// Takes the definition of a type, under this setting of whether redefinitions of built-in types are ignored.
+    fn define(
+        &mut self,
+        name: &Name,
+        definition: &Definition,
+        ignores: bool,
+    ) -> Result<(), BuilderError>
+        ensures stands { OnOk result ((start : ℕ) (xs : List TypeItem) (p : TypePart) → item_of definition.now ≡ Defined p → p.name ≡ name.now
+            → Stands start xs self.old → Stands start (xs ++ Defined (record p { ignorable = ignores }) ∷ []) self.new) }
+        ensures refused { IfErr result (λ error. RefusedAs error ((start : ℕ) (xs : List TypeItem) (p : TypePart) → item_of definition.now ≡ Defined p → p.name ≡ name.now
+            → Stands start xs self.old → 2 ^ 64 ≤ start + length (folded (xs ++ Defined (record p { ignorable = ignores }) ∷ [])))) }
+        ensures sources { self.new.sources ≡ self.old.sources }
+    {
+        if let Some(previous) = self.types.get(name) {
+            note_redefinition(previous, name, definition, ignores, &mut self.errors)?;
+            return Ok(());
+        }
+        let extensions = take_waiting(self.alloc, &mut self.waiting, name);
+        let made = begin(
+            self.alloc,
+            definition,
+            extensions.as_slice(),
+            &mut self.ids,
+            &mut self.errors,
+        )?;
+        let Some(ty) = made else {
+            return Ok(());
+        };
+        put(&mut self.types, name, ty)?;
+        Ok(())
+    }
+
+    /// Takes an extension of a type.
+    fn extend(&mut self, name: &Name, extension: &Definition) -> Result<(), BuilderError>
+        ensures stands { OnOk result ((start : ℕ) (xs : List TypeItem) (p : TypePart) → item_of extension.now ≡ Extended p → p.name ≡ name.now
+            → Stands start xs self.old → Stands start (xs ++ Extended p ∷ []) self.new) }
+        ensures refused { IfErr result (λ error. RefusedAs error ((start : ℕ) (xs : List TypeItem) (p : TypePart) → item_of extension.now ≡ Extended p → p.name ≡ name.now
+            → Stands start xs self.old → 2 ^ 64 ≤ start + length (folded (xs ++ Extended p ∷ [])))) }
+        ensures sources { self.new.sources ≡ self.old.sources }
+    {
+        let Some(ty) = self.types.get_mut(name) else {
+            wait(self.alloc, &mut self.waiting, name, extension)?;
+            return Ok(());
+        };
+        extend_type(ty, extension, &mut self.ids, &mut self.errors)?;
+        Ok(())
+    }
+
+    /// Puts a definition of the schema, with the extensions that wait for it folded in.
+    fn put_schema(&mut self, node: &Node<ast::SchemaDefinition>) -> Result<(), BuilderError>
+        ensures put { OnOk result (self.new ≡ record self.old {
+          schema_definition = Some (schema_begun (next_number self.old.ids) (schema_definition_part node.now) (map schema_extension_part self.old.schema_extensions));
+          schema_extensions = [];
+          ids = source_at (next_number self.old.ids + length self.old.schema_extensions);
+          errors = self.old.errors ++ schema_begun_faults (schema_definition_part node.now) (map schema_extension_part self.old.schema_extensions);
+        }) }
+        ensures refused { IfErr result (λ error. RefusedAs error (2 ^ 64 ≤ next_number self.old.ids + length self.old.schema_extensions)) }
+        ensures sources { self.new.sources ≡ self.old.sources }
+    {
+        let extensions = mem::replace(&mut self.schema_extensions, Items::new(self.alloc));
+        let definition = begin_schema(
+            self.alloc,
+            node,
+            extensions.as_slice(),
+            &mut self.ids,
+            &mut self.errors,
+        )?;
+        self.schema_definition = Some(definition);
+        Ok(())
+    }
+
+    /// Takes a definition of the schema.
+    fn define_schema(&mut self, node: &Node<ast::SchemaDefinition>) -> Result<(), BuilderError>
+        ensures stands { OnOk result ((start : ℕ) (xs : List TypeItem) → Stands start xs self.old → Stands start (xs ++ SchemaDefined (schema_definition_part node.now) ∷ []) self.new) }
+        ensures refused { IfErr result (λ error. RefusedAs error ((start : ℕ) (xs : List TypeItem) → Stands start xs self.old → 2 ^ 64 ≤ start + length (folded (xs ++ SchemaDefined (schema_definition_part node.now) ∷ [])))) }
+        ensures sources { self.new.sources ≡ self.old.sources }
+    {
+        if let Some(previous) = &self.schema_definition {
+            let error = BuildError::SchemaDefinitionCollision {
+                previous_location: previous.location(),
+            };
+            self.errors.push((node.location(), error))?;
+            return Ok(());
+        }
+        self.put_schema(node)?;
+        Ok(())
+    }
+
+    /// Takes an extension of the schema.
+    fn extend_schema(&mut self, node: &Node<SchemaExtension>) -> Result<(), BuilderError>
+        ensures stands { OnOk result ((start : ℕ) (xs : List TypeItem) → Stands start xs self.old → Stands start (xs ++ SchemaExtended (schema_extension_part node.now) ∷ []) self.new) }
+        ensures refused { IfErr result (λ error. RefusedAs error ((start : ℕ) (xs : List TypeItem) → Stands start xs self.old → 2 ^ 64 ≤ start + length (folded (xs ++ SchemaExtended (schema_extension_part node.now) ∷ [])))) }
+        ensures sources { self.new.sources ≡ self.old.sources }
+    {
+        let Some(definition) = &mut self.schema_definition else {
+            self.schema_extensions.push(node.clone()?)?;
+            return Ok(());
+        };
+        extend_schema(definition, node, &mut self.ids, &mut self.errors)?;
+        Ok(())
+    }
+
+    /// Takes what neither defines nor extends a type.
+    fn take_other(&mut self, definition: &Definition) -> Result<(), BuilderError>
+        ensures stands { OnOk result ((start : ℕ) (xs : List TypeItem) → is_some (defined_part (item_of definition.now)) ≡ false → is_some (extended_part (item_of definition.now)) ≡ false
+            → Stands start xs self.old → Stands start (xs ++ item_of definition.now ∷ []) self.new) }
+        ensures refused { IfErr result (λ error. RefusedAs error ((start : ℕ) (xs : List TypeItem) → Stands start xs self.old → 2 ^ 64 ≤ start + length (folded (xs ++ item_of definition.now ∷ [])))) }
+        ensures sources { self.new.sources ≡ self.old.sources }
+    {
+        match definition {
+            Definition::SchemaDefinition(node) => self.define_schema(node)?,
+            Definition::SchemaExtension(node) => self.extend_schema(node)?,
+            Definition::DirectiveDefinition(node) => {
+                define_directive(&mut self.directive_definitions, node, &mut self.errors)?;
+            }
+            Definition::OperationDefinition(_) | Definition::FragmentDefinition(_) => {
+                let error = BuildError::ExecutableDefinition {
+                    describe: StaticText::new(definition.describe()),
+                };
+                self.errors.push((definition.location(), error))?;
+            }
+            _ => {}
+        }
+        Ok(())
+    }
+
+    /// Takes a definition, under this setting of whether redefinitions of built-in types are ignored.
+    fn take_one(&mut self, definition: &Definition, ignores: bool) -> Result<(), BuilderError>
+        ensures stands { OnOk result ((start : ℕ) (xs : List TypeItem) → Stands start xs self.old → Stands start (xs ++ added_item (ignores, definition.now) ∷ []) self.new) }
+        ensures refused { IfErr result (λ error. RefusedAs error ((start : ℕ) (xs : List TypeItem) → Stands start xs self.old → 2 ^ 64 ≤ start + length (folded (xs ++ added_item (ignores, definition.now) ∷ [])))) }
+        ensures sources { self.new.sources ≡ self.old.sources }
+    {
+        if let Some(name) = defined_name(definition) {
+            self.define(name, definition, ignores)?;
+        } else if let Some(name) = extended_name(definition) {
+            self.extend(name, definition)?;
+        } else {
+            self.take_other(definition)?;
+        }
+        Ok(())
+    }
+
+    /// Takes definitions in order, under this setting of whether redefinitions of built-in types are ignored.
+    fn take(&mut self, definitions: &[Definition], ignores: bool) -> Result<(), BuilderError>
+        ensures stands { OnOk result ((start : ℕ) (xs : List TypeItem) → Stands start xs self.old → Stands start (xs ++ added_items (added ignores definitions.now)) self.new) }
+        ensures refused { IfErr result (λ error. RefusedAs error ((start : ℕ) (xs : List TypeItem) → Stands start xs self.old → 2 ^ 64 ≤ start + length (folded (xs ++ added_items (added ignores definitions.now))))) }
+        ensures sources { self.new.sources ≡ self.old.sources }
+    {
+        for definition in definitions {
+            self.take_one(definition, ignores)?;
+        }
+        Ok(())
+    }
+
+    /// Takes sources in order. A later file of a number takes the place of the earlier.
+    fn take_sources(&mut self, sources: &SourceMap) -> Result<(), BuilderError>
+        ensures merged { OnOk result (self.new ≡ record self.old { sources = merged self.old.sources sources.now }) }
+        ensures refused { IfErr result (λ error. error ≡ BuilderError.Memory) }
+    {
+        for (file, source) in sources.iter() {
+            self.sources.insert(*file, source.clone()?)?;
+        }
+        Ok(())
+    }
+
+    /// Takes a document: its definitions, and then its sources.
+    pub fn take_document(&mut self, document: &Document, ignores: bool) -> Result<(), BuilderError>
+        ensures stands { OnOk result ((start : ℕ) (xs : List TypeItem) → Stands start xs self.old → Stands start (xs ++ added_items (added ignores document.now.definitions)) self.new) }
+        ensures refused { IfErr result (λ error. RefusedAs error ((start : ℕ) (xs : List TypeItem) → Stands start xs self.old → 2 ^ 64 ≤ start + length (folded (xs ++ added_items (added ignores document.now.definitions))))) }
+        ensures sources { OnOk result (self.new.sources ≡ merged self.old.sources document.now.sources) }
+    {
+        self.take(document.definitions.as_slice(), ignores)?;
+        self.take_sources(&document.sources)?;
+        Ok(())
+    }
+}
+
+impl Tables {
+    /// The source, in whose place a new one is left.
+    pub fn take_source(&mut self) -> ExtensionSource
+        ensures { result ≡ self.old.ids }
+    {
+        mem::replace(&mut self.ids, ExtensionSource::new())
+    }
+
+    /// Takes an empty definition for each name that is extended only, where such names are adopted.
+    fn adopt(&mut self, adopts: bool) -> Result<(), BuilderError>
+        ensures stands { OnOk result ((start : ℕ) (xs : List TypeItem) → Stands start xs self.old → Stands start (with_adopted adopts xs) self.new) }
+        ensures refused { IfErr result (λ error. RefusedAs error ((start : ℕ) (xs : List TypeItem) → Stands start xs self.old → 2 ^ 64 ≤ start + length (folded (with_adopted adopts xs)))) }
+        ensures sources { self.new.sources ≡ self.old.sources }
+    {
+        if !adopts {
+            return Ok(());
+        }
+        let definitions = adopted_definitions(self.alloc, &self.waiting)?;
+        self.take(definitions.as_slice(), false)?;
+        Ok(())
+    }
+
+    /// The schema definition that is implied where none stands.
+    fn implied_schema(
+        &self,
+        adopts: bool,
+    ) -> Result<Option<Node<ast::SchemaDefinition>>, AllocError>
+        ensures { IfOk result (λ implied. (start : ℕ) (xs : List TypeItem) → Stands start xs self.now
+            → option_map_or (λ node. SchemaDefined (schema_definition_part node) ∷ []) implied [] ≡ implied_schema adopts xs) }
+    {
+        if self.schema_definition.is_some() {
+            return Ok(None);
+        }
+        let implied = implied_definition(
+            self.alloc,
+            self.schema_extensions.as_slice(),
+            &self.types,
+            adopts,
+        )?;
+        Ok(implied)
+    }
+
+    /// Ends a list: what still waits is at fault, and a schema definition may be implied.
+    fn end(&mut self, adopts: bool) -> Result<(), BuilderError>
+        ensures ends { OnOk result ((start : ℕ) (xs : List TypeItem) → Stands start xs self.old → Ends start (implied_schema adopts xs) xs self.new) }
+        ensures refused { IfErr result (λ error. RefusedAs error ((start : ℕ) (xs : List TypeItem) → Stands start xs self.old → 2 ^ 64 ≤ start + length (folded (xs ++ implied_schema adopts xs)))) }
+        ensures sources { self.new.sources ≡ self.old.sources }
+    {
+        let implied = self.implied_schema(adopts)?;
+        note_orphans(&self.waiting, &mut self.errors)?;
+        let Some(node) = implied else {
+            note_schema_orphans(self.schema_extensions.as_slice(), &mut self.errors)?;
+            return Ok(());
+        };
+        self.put_schema(&node)?;
+        Ok(())
+    }
+
+    /// Completes a list: types are adopted, and it ends.
+    fn complete(&mut self, adopts: bool) -> Result<(), BuilderError>
+        ensures completes { OnOk result ((start : ℕ) (xs : List TypeItem) → Stands start xs self.old → Completes start adopts xs self.new) }
+        ensures refused { IfErr result (λ error. RefusedAs error ((start : ℕ) (xs : List TypeItem) → Stands start xs self.old → 2 ^ 64 ≤ start + length (folded (completed adopts xs)))) }
+        ensures sources { self.new.sources ≡ self.old.sources }
+    {
+        self.adopt(adopts)?;
+        self.end(adopts)?;
+        Ok(())
+    }
+}
+
+/// A refusal, as that of a build.
+fn refusal(error: BuilderError) -> BuildFailure
+    ensures { result ≡ failure_of error }
+{
+    match error {
+        BuilderError::Memory => BuildFailure::Memory,
+        BuilderError::ExtensionIds => BuildFailure::ExtensionIds,
+        BuilderError::Failed => BuildFailure::Failed,
+    }
+}
+
+impl Tables {
+    /// What was built, and the source: the schema where nothing was found, or else what could be built beside the faults.
+    fn into_schema(self) -> (Result<Schema, BuildFailure>, ExtensionSource)
+        ensures built { IfOk result.0 (λ schema. (start : ℕ) (adopts : Bool) (xs : List Added) → Completes start adopts (added_items xs) self → MeansSchema start adopts xs schema) }
+        ensures faultless { OnOk result.0 ((start : ℕ) (adopts : Bool) (xs : List Added) → Completes start adopts (added_items xs) self → faults_of adopts xs ≡ []) }
+        ensures faults { IfErr result.0 (λ failure. IfFaults failure (λ partial faults. (start : ℕ) (adopts : Bool) (xs : List Added) → Completes start adopts (added_items xs) self
+            → MeansSchema start adopts xs partial × ((faults ≡ faults_of adopts xs × faults ≢ []) × partial.sources ≡ self.sources))) }
+        ensures sources { IfOk result.0 (λ schema. schema.sources ≡ self.sources) }
+        ensures failed { result.0 ≢ Err BuildFailure.Failed }
+        ensures unspent { result.0 ≢ Err BuildFailure.ExtensionIds }
+        ensures source { result.1 ≡ self.ids }
+    {
+        let Tables {
+            alloc,
+            sources,
+            schema_definition,
+            types,
+            directive_definitions,
+            ids,
+            errors,
+            ..
+        } = self;
+        let Ok(schema_definition) = definition_or_none(alloc, schema_definition) else {
+            return (Err(BuildFailure::Memory), ids);
+        };
+        let schema = Schema {
+            sources,
+            schema_definition,
+            directive_definitions,
+            types,
+        };
+        if errors.is_empty() {
+            return (Ok(schema), ids);
+        }
+        let found = WithErrors {
+            partial: schema,
+            errors: errors.into_vec(),
+        };
+        (Err(BuildFailure::Faults(found)), ids)
+    }
+
+    /// Completes the list, and answers what was built, and the source.
+    pub fn finish(self, adopts: bool) -> (Result<Schema, BuildFailure>, ExtensionSource)
+        ensures built { IfOk result.0 (λ schema. (start : ℕ) (xs : List Added) → Stands start (added_items xs) self → MeansSchema start adopts xs schema) }
+        ensures faultless { OnOk result.0 ((start : ℕ) (xs : List Added) → Stands start (added_items xs) self → faults_of adopts xs ≡ []) }
+        ensures faults { IfErr result.0 (λ failure. IfFaults failure (λ partial faults. (start : ℕ) (xs : List Added) → Stands start (added_items xs) self
+            → MeansSchema start adopts xs partial × ((faults ≡ faults_of adopts xs × faults ≢ []) × partial.sources ≡ self.sources))) }
+        ensures sources { IfOk result.0 (λ schema. schema.sources ≡ self.sources) }
+        ensures failed { result.0 ≢ Err BuildFailure.Failed }
+        ensures spent { result.0 ≡ Err BuildFailure.ExtensionIds → (start : ℕ) (xs : List Added) → Stands start (added_items xs) self → SpendsIds start adopts xs }
+        ensures source { HasBuilt result.0 → (start : ℕ) (xs : List Added) → Stands start (added_items xs) self → result.1 ≡ source_at (start + folds adopts xs) }
+    {
+        let mut tables = self;
+        match tables.complete(adopts) {
+            Ok(()) => tables.into_schema(),
+            Err(error) => (Err(refusal(error)), tables.take_source()),
+        }
+    }
+}
