@@ -47,6 +47,7 @@ no_field above place rest none (c.Member name) says may = other_word refl says.0
 no_field above place rest none (c.Value name) says may = other_word refl says.0
 no_field above place rest none (c.On location) says may = other_word refl says
 no_field above place rest none c.Repeatable says may = other_word refl says
+no_field above place rest none (c.Root operation name) says may = other_word refl says.0
 
 pub no_argument : (above : Above) (place : SourceSpan) (rest : List (List ℕ)) → ((name : NameView) (ty : TypeReference) → AreNameAndType place rest name ty → ¬ (takes_arguments above ≡ true)) → SayNoComponent above place (codes "arg" ∷ rest)
 no_argument above place rest none (c.Directive name) says may = other_word refl says.0
@@ -58,6 +59,7 @@ no_argument above place rest none (c.Member name) says may = other_word refl say
 no_argument above place rest none (c.Value name) says may = other_word refl says.0
 no_argument above place rest none (c.On location) says may = other_word refl says
 no_argument above place rest none c.Repeatable says may = other_word refl says
+no_argument above place rest none (c.Root operation name) says may = other_word refl says.0
 
 -- a line that begins as the header of a directive, and has no name after that
 pub no_directive_header : (above : Above) (place : SourceSpan) (text : List ℕ) (rest : List (List ℕ)) → ¬ (text ≡ []) → words_of text ≡ codes "directive" ∷ rest → ((name : NameView) → ¬ AreName place rest name) → SaysNothing above place text
@@ -66,6 +68,8 @@ no_directive_header above place text rest full words none l.Break says may = oth
 no_directive_header above place text rest full words none (l.Header (h.Type r.Definition kind name)) says may = other_word refl (sym words ∙ says.0)
 no_directive_header above place text rest full words none (l.Header (h.Type r.Extension kind name)) says may = other_word refl (sym words ∙ says.0)
 no_directive_header above place text rest full words none (l.Header (h.Directive name)) says may = none name (rest_is (sym words ∙ says.0), says.1)
+no_directive_header above place text rest full words none (l.Header (h.Schema r.Definition)) says may = other_word refl (sym words ∙ says)
+no_directive_header above place text rest full words none (l.Header (h.Schema r.Extension)) says may = other_word refl (sym words ∙ says)
 no_directive_header above place text rest full words none (l.Component (c.Directive name)) says may = other_word refl (sym words ∙ says.0)
 no_directive_header above place text rest full words none (l.Component (c.Implements name)) says may = other_word refl (sym words ∙ says.0)
 no_directive_header above place text rest full words none (l.Component (c.Field name ty)) says may = other_word refl (sym words ∙ says.0)
@@ -75,3 +79,4 @@ no_directive_header above place text rest full words none (l.Component (c.Member
 no_directive_header above place text rest full words none (l.Component (c.Value name)) says may = other_word refl (sym words ∙ says.0)
 no_directive_header above place text rest full words none (l.Component (c.On location)) says may = other_word refl (sym words ∙ says)
 no_directive_header above place text rest full words none (l.Component c.Repeatable) says may = other_word refl (sym words ∙ says)
+no_directive_header above place text rest full words none (l.Component (c.Root operation name)) says may = other_word refl (sym words ∙ says.0)

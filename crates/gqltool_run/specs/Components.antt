@@ -2,6 +2,7 @@
 use Rattle.std.specs.Prelude.{[], ◌∷◌, ◌++◌, Bool, true, false, Option, None, Some, option_map}
 use Rattle.graphql_ast.specs.NameView.{NameView}
 use Rattle.graphql_ast.specs.NodeView.{NodeView}
+use Rattle.graphql_ast.specs.declared.operation_type.OperationType.{OperationType}
 use Rattle.graphql_ast.specs.declared.source.SourceSpan.{SourceSpan}
 use Rattle.graphql_ast.specs.declared.type_kind.TypeKind.TheVariants as k
 use Rattle.graphql_ast.specs.declared.type_reference.Type.{«Type» as TypeReference}
@@ -21,7 +22,7 @@ use Rattle.gqltool_run.specs.declared.line.Component.TheVariants as c
 use Rattle.gqltool_run.specs.declared.item.OpenField.{OpenField}
 use Rattle.gqltool_run.specs.declared.item.OpenItem.{OpenItem}
 use Rattle.gqltool_run.specs.declared.whole_item.Parts.{Parts}
-use Rattle.gqltool_run.specs.WholeItems.{node_at, no_parts, type_definition, type_extension, directive_definition}
+use Rattle.gqltool_run.specs.WholeItems.{node_at, no_parts, type_definition, type_extension, directive_definition, schema_definition, schema_extension}
 
 -- a directive without arguments
 abbrev pub applied_directive : NameView → SourceSpan → NodeView Directive
@@ -40,6 +41,10 @@ input_value name ty directives place = node_at place record {
 -- a value of an enum
 abbrev pub enum_value : NameView → SourceSpan → NodeView EnumValueDefinition
 enum_value name place = node_at place record { description = None; value = name; directives = record { 0 = [] } }
+
+-- a root of the schema
+abbrev pub root_operation : OperationType → NameView → SourceSpan → NodeView (OperationType × NameView)
+root_operation operation name place = node_at place (operation, name)
 
 -- a field alone
 abbrev pub field_alone : NameView → TypeReference → SourceSpan → OpenField
@@ -68,6 +73,7 @@ abbrev pub above_below : Header → Option OpenField → Above
 above_below (h.Type role kind name) None = a.Type kind
 above_below (h.Type role kind name) (Some field) = a.Field kind
 above_below (h.Directive name) field = a.Directive
+above_below (h.Schema role) field = a.Schema
 
 abbrev pub is_input_object : Header → Bool
 is_input_object (h.Type role k.InputObject name) = true
@@ -114,12 +120,15 @@ with_component (c.Member name) place item = record item { parts = record item.pa
 with_component (c.Value name) place item = record item { parts = record item.parts { values = item.parts.values ++ enum_value name place ∷ [] } }
 with_component (c.On location) place item = record item { parts = record item.parts { locations = item.parts.locations ++ location ∷ [] } }
 with_component c.Repeatable place item = record item { parts = record item.parts { is_repeatable = true } }
+with_component (c.Root operation name) place item = record item { parts = record item.parts { roots = item.parts.roots ++ root_operation operation name place ∷ [] } }
 
 -- the definition or extension of a header with these components
 abbrev pub definition_with : Header → Parts → SourceSpan → Definition
 definition_with (h.Type r.Definition kind name) parts place = type_definition kind name parts place
 definition_with (h.Type r.Extension kind name) parts place = type_extension kind name parts place
 definition_with (h.Directive name) parts place = directive_definition name parts place
+definition_with (h.Schema r.Definition) parts place = schema_definition parts place
+definition_with (h.Schema r.Extension) parts place = schema_extension parts place
 
 -- the definition or extension that an item says
 abbrev pub whole_item : OpenItem → Definition

@@ -1,4 +1,4 @@
--- The words with which the header of a type begins: docs/NOTATION.md.
+-- The words with which headers begin: docs/NOTATION.md.
 use Rattle.std.specs.Prelude.{ℕ, List, codes}
 use Rattle.graphql_ast.specs.declared.type_kind.TypeKind.{TypeKind}
 use Rattle.graphql_ast.specs.declared.type_kind.TypeKind.TheVariants as k
@@ -8,6 +8,11 @@ use Rattle.gqltool_run.specs.declared.kind_words.Role.TheVariants as r
 abbrev pub role_word : Role → List ℕ
 role_word r.Definition = codes "def"
 role_word r.Extension = codes "ext"
+
+-- the header of the schema's definition, and that of its extension
+abbrev pub schema_word : Role → List ℕ
+schema_word r.Definition = codes "schema"
+schema_word r.Extension = codes "ext-schema"
 
 abbrev pub kind_word : TypeKind → List ℕ
 kind_word k.Scalar = codes "scalar"

@@ -6,6 +6,7 @@ pub mod Places
 pub mod Refusals
 pub mod SchemaCommand
 pub mod SchemaFailures
+pub mod SchemaOptions
 pub mod Status
 pub mod Text
 pub mod WholeItems

@@ -4,7 +4,9 @@ use Rattle.std.specs.List.{slice_split}
 use Rattle.graphql_ast.specs.NameView.{NameView}
 use Rattle.graphql_ast.specs.NameSyntax.{IsName}
 use Rattle.graphql_ast.specs.LocationTexts.{location_text}
+use Rattle.graphql_ast.specs.OperationTexts.{operation_text}
 use Rattle.graphql_ast.specs.TypeReferences.{inner_name}
+use Rattle.graphql_ast.specs.declared.operation_type.OperationType.{OperationType}
 use Rattle.graphql_ast.specs.declared.source.SourceSpan.{SourceSpan}
 use Rattle.graphql_ast.specs.declared.type_reference.Type.{«Type» as TypeReference}
 use Rattle.gqltool_run.specs.declared.line.Line.{Line}
@@ -13,7 +15,7 @@ use Rattle.gqltool_run.specs.declared.line.Header.{Header}
 use Rattle.gqltool_run.specs.declared.line.Header.TheVariants as h
 use Rattle.gqltool_run.specs.declared.line.Component.{Component}
 use Rattle.gqltool_run.specs.declared.line.Component.TheVariants as c
-use Rattle.gqltool_run.specs.HeaderWords.{role_word, kind_word}
+use Rattle.gqltool_run.specs.HeaderWords.{role_word, schema_word, kind_word}
 use Rattle.gqltool_run.specs.Text.{type_text, opened_brackets}
 
 -- the lines of a text, each ended by a line feed, which the last may lack
@@ -44,6 +46,10 @@ AreName place words name = (words ≡ name.text ∷ []) × IsNameAt place name
 abbrev pub AreNameAndType : SourceSpan → List (List ℕ) → NameView → TypeReference → Type 0
 AreNameAndType place words name ty = (words ≡ name.text ∷ type_text ty ∷ []) × (IsNameAt place name × IsTypeAt place ty)
 
+-- these words are a kind of operation, and a name that stands at this place
+abbrev pub AreRoot : SourceSpan → List (List ℕ) → OperationType → NameView → Type 0
+AreRoot place words operation name = (words ≡ operation_text operation ∷ name.text ∷ []) × IsNameAt place name
+
 -- a word, then a name that stands at this place
 abbrev pub SaysName : SourceSpan → List (List ℕ) → List ℕ → NameView → Type 0
 SaysName place words word name = (words ≡ word ∷ name.text ∷ []) × IsNameAt place name
@@ -52,10 +58,15 @@ SaysName place words word name = (words ≡ word ∷ name.text ∷ []) × IsName
 abbrev pub SaysNameAndType : SourceSpan → List (List ℕ) → List ℕ → NameView → TypeReference → Type 0
 SaysNameAndType place words word name ty = (words ≡ word ∷ name.text ∷ type_text ty ∷ []) × (IsNameAt place name × IsTypeAt place ty)
 
+-- a word, then a kind of operation, and a name that stands at this place
+abbrev pub SaysRoot : SourceSpan → List (List ℕ) → List ℕ → OperationType → NameView → Type 0
+SaysRoot place words word operation name = (words ≡ word ∷ operation_text operation ∷ name.text ∷ []) × IsNameAt place name
+
 -- what a header line says
 abbrev pub SaysHeader : SourceSpan → List (List ℕ) → Header → Type 0
 SaysHeader place words (h.Type role kind name) = (words ≡ role_word role ∷ kind_word kind ∷ name.text ∷ []) × IsNameAt place name
 SaysHeader place words (h.Directive name) = SaysName place words (codes "directive") name
+SaysHeader place words (h.Schema role) = words ≡ schema_word role ∷ []
 
 -- what a line below a header says
 abbrev pub SaysComponent : SourceSpan → List (List ℕ) → Component → Type 0
@@ -68,6 +79,7 @@ SaysComponent place words (c.Member name) = SaysName place words (codes "member"
 SaysComponent place words (c.Value name) = SaysName place words (codes "value") name
 SaysComponent place words (c.On location) = words ≡ codes "on" ∷ location_text location ∷ []
 SaysComponent place words c.Repeatable = words ≡ codes "repeatable" ∷ []
+SaysComponent place words (c.Root operation name) = SaysRoot place words (codes "root") operation name
 
 -- what a line says, of which each name stands at this place
 abbrev pub Says : SourceSpan → List ℕ → Line → Type 0

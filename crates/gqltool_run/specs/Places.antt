@@ -15,10 +15,7 @@ kind_above a.Nothing = None
 kind_above (a.Type kind) = Some kind
 kind_above (a.Field kind) = Some kind
 kind_above a.Directive = None
-
-abbrev pub is_type : Option TypeKind → Bool
-is_type None = false
-is_type (Some kind) = true
+kind_above a.Schema = None
 
 abbrev pub is_object_or_interface : Option TypeKind → Bool
 is_object_or_interface (Some k.Object) = true
@@ -56,10 +53,24 @@ takes_arguments a.Nothing = false
 takes_arguments (a.Type kind) = false
 takes_arguments (a.Field kind) = is_object_or_interface (Some kind)
 takes_arguments a.Directive = true
+takes_arguments a.Schema = false
+
+-- below the header of the schema
+abbrev pub is_schema : Above → Bool
+is_schema a.Schema = true
+is_schema _ = false
+
+-- below the header of a type or of the schema
+abbrev pub takes_directives : Above → Bool
+takes_directives a.Nothing = false
+takes_directives (a.Type kind) = true
+takes_directives (a.Field kind) = true
+takes_directives a.Directive = false
+takes_directives a.Schema = true
 
 -- whether a component may stand where this is above it
 abbrev pub stands : Above → Component → Bool
-stands above (c.Directive name) = is_type (kind_above above)
+stands above (c.Directive name) = takes_directives above
 stands above (c.Implements name) = is_object_or_interface (kind_above above)
 stands above (c.Field name ty) = has_fields (kind_above above)
 stands above (c.FieldDirective name) = is_field above
@@ -68,6 +79,7 @@ stands above (c.Member name) = is_union (kind_above above)
 stands above (c.Value name) = is_enum (kind_above above)
 stands above (c.On location) = is_directive above
 stands above c.Repeatable = is_directive above
+stands above (c.Root operation name) = is_schema above
 
 -- what may stand below this: a component where it has its place, any other line anywhere
 abbrev pub StandsBelow : Above → Line → Type 0

@@ -4,7 +4,9 @@ use Rattle.std.specs.List.{flat_map}
 use Rattle.graphql_ast.specs.NameView.{NameView}
 use Rattle.graphql_ast.specs.NodeView.{NodeView}
 use Rattle.graphql_ast.specs.LocationTexts.{location_text}
+use Rattle.graphql_ast.specs.OperationTexts.{operation_text}
 use Rattle.graphql_ast.specs.declared.directive_location.DirectiveLocation.{DirectiveLocation}
+use Rattle.graphql_ast.specs.declared.operation_type.OperationType.{OperationType}
 use Rattle.graphql_ast.specs.declared.type_kind.TypeKind.{TypeKind}
 use Rattle.graphql_ast.specs.declared.type_kind.TypeKind.TheVariants as k
 use Rattle.graphql_ast.specs.declared.type_reference.Type.{«Type» as TypeReference, fold-Type}
@@ -17,7 +19,7 @@ use Rattle.graphql_ast.specs.declared.definition.Definition.{Definition}
 use Rattle.graphql_ast.specs.declared.definition.Definition.TheVariants as d
 use Rattle.gqltool_run.specs.declared.kind_words.Role.{Role}
 use Rattle.gqltool_run.specs.declared.kind_words.Role.TheVariants as r
-use Rattle.gqltool_run.specs.HeaderWords.{role_word, kind_word}
+use Rattle.gqltool_run.specs.HeaderWords.{role_word, schema_word, kind_word}
 
 -- the text at one level, where what is inside a list has given its own
 abbrev pub type_step : Type-F (List ℕ) → List ℕ
@@ -97,19 +99,31 @@ repeatable_text false = []
 abbrev pub locations_text : List DirectiveLocation → List ℕ
 locations_text locations = flat_map (λ (location : DirectiveLocation). word_line (codes "on ") (location_text location)) locations
 
+-- a root: the kind of its operations, and its name
+abbrev pub root_text : NodeView (OperationType × NameView) → List ℕ
+root_text root = codes "root " ++ operation_text root.value.0 ++ named_line (codes " ") root.value.1
+
+-- each root on a line of its own
+abbrev pub roots_text : List (NodeView (OperationType × NameView)) → List ℕ
+roots_text roots = flat_map root_text roots
+
+-- the header of the schema, then its directives, then its roots
+abbrev pub schema_text : Role → List (NodeView Directive) → List (NodeView (OperationType × NameView)) → List ℕ
+schema_text role directives roots = schema_word role ++ codes "\n" ++ directives_text (codes "@ ") directives ++ roots_text roots
+
 -- a definition or extension: its header, then the lines below it; nothing for those that the notation does not have
 abbrev pub definition_text : Definition → List ℕ
 definition_text (d.OperationDefinition n) = []
 definition_text (d.FragmentDefinition n) = []
 definition_text (d.DirectiveDefinition n) = named_line (codes "directive ") n.value.name ++ arguments_text n.value.arguments ++ repeatable_text n.value.repeatable ++ locations_text n.value.locations
-definition_text (d.SchemaDefinition n) = []
+definition_text (d.SchemaDefinition n) = schema_text r.Definition n.value.directives.0 n.value.root_operations
 definition_text (d.ScalarTypeDefinition n) = head_text r.Definition k.Scalar n.value.name n.value.directives.0
 definition_text (d.ObjectTypeDefinition n) = head_text r.Definition k.Object n.value.name n.value.directives.0 ++ fields_text n.value.implements_interfaces n.value.fields
 definition_text (d.InterfaceTypeDefinition n) = head_text r.Definition k.Interface n.value.name n.value.directives.0 ++ fields_text n.value.implements_interfaces n.value.fields
 definition_text (d.UnionTypeDefinition n) = head_text r.Definition k.Union n.value.name n.value.directives.0 ++ names_text (codes "member ") n.value.members
 definition_text (d.EnumTypeDefinition n) = head_text r.Definition k.Enum n.value.name n.value.directives.0 ++ values_text n.value.values
 definition_text (d.InputObjectTypeDefinition n) = head_text r.Definition k.InputObject n.value.name n.value.directives.0 ++ flat_map input_field_text n.value.fields
-definition_text (d.SchemaExtension n) = []
+definition_text (d.SchemaExtension n) = schema_text r.Extension n.value.directives.0 n.value.root_operations
 definition_text (d.ScalarTypeExtension n) = head_text r.Extension k.Scalar n.value.name n.value.directives.0
 definition_text (d.ObjectTypeExtension n) = head_text r.Extension k.Object n.value.name n.value.directives.0 ++ fields_text n.value.implements_interfaces n.value.fields
 definition_text (d.InterfaceTypeExtension n) = head_text r.Extension k.Interface n.value.name n.value.directives.0 ++ fields_text n.value.implements_interfaces n.value.fields

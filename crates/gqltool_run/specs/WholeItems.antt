@@ -15,7 +15,7 @@ node_at place value = record { value = value; location = Some place }
 
 -- no component
 abbrev pub no_parts : Parts
-no_parts = record { directives = record { 0 = [] }; names = []; fields = []; inputs = []; values = []; locations = []; is_repeatable = false }
+no_parts = record { directives = record { 0 = [] }; names = []; fields = []; inputs = []; values = []; locations = []; is_repeatable = false; roots = [] }
 
 -- the definition of a type of this kind
 abbrev pub type_definition : TypeKind → NameView → Parts → SourceSpan → Definition
@@ -38,3 +38,11 @@ type_extension k.InputObject name parts place = d.InputObjectTypeExtension (node
 -- the definition of a directive
 abbrev pub directive_definition : NameView → Parts → SourceSpan → Definition
 directive_definition name parts place = d.DirectiveDefinition (node_at place record { description = None; name = name; arguments = parts.inputs; repeatable = parts.is_repeatable; locations = parts.locations })
+
+-- the definition of the schema
+abbrev pub schema_definition : Parts → SourceSpan → Definition
+schema_definition parts place = d.SchemaDefinition (node_at place record { description = None; directives = parts.directives; root_operations = parts.roots })
+
+-- an extension of the schema
+abbrev pub schema_extension : Parts → SourceSpan → Definition
+schema_extension parts place = d.SchemaExtension (node_at place record { directives = parts.directives; root_operations = parts.roots })

@@ -1,6 +1,6 @@
 //! What stands above a line, by which it may stand there or not.
 ghost use Rattle.std.specs.Prelude.{◌≡◌};
-ghost use Rattle.gqltool_run.specs.Places.{kind_above, is_type, is_object_or_interface, has_fields, is_field, takes_arguments, is_union, is_enum, is_directive};
+ghost use Rattle.gqltool_run.specs.Places.{kind_above, takes_directives, is_object_or_interface, has_fields, is_field, takes_arguments, is_union, is_enum, is_directive, is_schema};
 
 use graphql_ast::type_kind::TypeKind;
 
@@ -15,6 +15,8 @@ pub enum Above {
     Field(TypeKind),
     /// The header of a directive.
     Directive,
+    /// The header of the schema.
+    Schema,
 }
 
 impl Above {
@@ -24,15 +26,18 @@ impl Above {
     {
         match self {
             Above::Type(kind) | Above::Field(kind) => Some(kind),
-            Above::Nothing | Above::Directive => None,
+            Above::Nothing | Above::Directive | Above::Schema => None,
         }
     }
 
-    /// Whether the last header is that of a type.
-    pub fn is_type(self) -> bool
-        ensures { result ≡ is_type (kind_above self) }
+    /// Whether the last header is that of a type or of the schema.
+    pub fn takes_directives(self) -> bool
+        ensures { result ≡ takes_directives self }
     {
-        self.kind().is_some()
+        match self {
+            Above::Type(_) | Above::Field(_) | Above::Schema => true,
+            Above::Nothing | Above::Directive => false,
+        }
     }
 
     /// Whether the last header is that of an object or interface type.
@@ -63,7 +68,7 @@ impl Above {
         match self {
             Above::Directive => true,
             Above::Field(_) => self.is_object_or_interface(),
-            Above::Nothing | Above::Type(_) => false,
+            Above::Nothing | Above::Type(_) | Above::Schema => false,
         }
     }
 
@@ -86,5 +91,12 @@ impl Above {
         ensures { result ≡ is_directive self }
     {
         matches!(self, Above::Directive)
+    }
+
+    /// Whether the last header is that of the schema.
+    pub fn is_schema(self) -> bool
+        ensures { result ≡ is_schema self }
+    {
+        matches!(self, Above::Schema)
     }
 }

@@ -8,10 +8,22 @@ use std::test::Fail;
 
 /// Expects this output and status for the input.
 fn expect(rt: &impl Abort, alloc: Global, input: &str, status: Status, output: &str) {
+    expect_of(rt, alloc, &["schema"], input, status, output);
+}
+
+/// Expects this output and status for the words and the input.
+pub fn expect_of(
+    rt: &impl Abort,
+    alloc: Global,
+    words: &[&str],
+    input: &str,
+    status: Status,
+    output: &str,
+) {
     let mut reader = input.as_bytes();
     let mut written = Vec::new(alloc);
     let mut said = Vec::new(alloc);
-    let ended = run(alloc, &["schema"], &mut reader, &mut written, &mut said);
+    let ended = run(alloc, words, &mut reader, &mut written, &mut said);
     assert_eq!(rt; ended, status, "at {input:?}");
     assert_eq!(rt; written.as_slice(), output.as_bytes(), "at {input:?}");
     assert_eq!(rt; said.as_slice(), "".as_bytes(), "at {input:?}");

@@ -1,16 +1,20 @@
 //! What has been read of the definition or extension that is being read.
 ghost use Rattle.std.specs.Prelude.{◌≡◌, IfOk, OnOk, None};
-ghost use Rattle.gqltool_run.specs.Components.{applied_directive, enum_value, input_value};
+ghost use Rattle.gqltool_run.specs.Components.{applied_directive, enum_value, input_value, root_operation};
 
 use crate::above::Above;
 use crate::kind_words::Role;
 use crate::line::{Component, Header};
-use crate::whole_item::{Parts, directive_definition, type_definition, type_extension};
+use crate::whole_item::{
+    Parts, directive_definition, schema_definition, schema_extension, type_definition,
+    type_extension,
+};
 use graphql_ast::collections::items::Items;
 use graphql_ast::definition::Definition;
 use graphql_ast::directive::{Directive, DirectiveList};
-use graphql_ast::name::Name;
+use graphql_ast::name::{Name, NamedType};
 use graphql_ast::node::Node;
+use graphql_ast::operation_type::OperationType;
 use graphql_ast::source::SourceSpan;
 use graphql_ast::type_kind::TypeKind;
 use graphql_ast::type_reference::Type;
@@ -111,6 +115,7 @@ impl OpenItem {
             (Header::Type(_, kind, _), None) => Above::Type(*kind),
             (Header::Type(_, kind, _), Some(_)) => Above::Field(*kind),
             (Header::Directive(_), _) => Above::Directive,
+            (Header::Schema(_), _) => Above::Schema,
         }
     }
 
@@ -150,6 +155,10 @@ impl OpenItem {
             Component::Repeatable => {
                 self.parts.is_repeatable = true;
                 Ok(())
+            }
+            Component::Root(operation, name) => {
+                let root = root_operation(alloc, operation, name, place)?;
+                self.parts.roots.push(root)
             }
         }
     }
@@ -215,6 +224,8 @@ impl OpenItem {
                 type_extension(alloc, kind, name, parts, place)
             }
             Header::Directive(name) => directive_definition(alloc, name, parts, place),
+            Header::Schema(Role::Definition) => schema_definition(alloc, parts, place),
+            Header::Schema(Role::Extension) => schema_extension(alloc, parts, place),
         }
     }
 }
@@ -266,4 +277,15 @@ fn enum_value(
         directives: DirectiveList::new(alloc),
     };
     Node::new_opt_location(alloc, value, Some(place))
+}
+
+fn root_operation(
+    alloc: Global,
+    operation: OperationType,
+    name: NamedType,
+    place: SourceSpan,
+) -> Result<Node<(OperationType, NamedType)>, AllocError>
+    ensures { IfOk result (λ node. node ≡ root_operation operation name place) }
+{
+    Node::new_opt_location(alloc, (operation, name), Some(place))
 }

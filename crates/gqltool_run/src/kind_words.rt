@@ -1,6 +1,6 @@
-//! The words of a header that begins a type.
+//! The words with which headers begin.
 ghost use Rattle.std.specs.Prelude.{◌≡◌, ◌≢◌, MatchOption};
-ghost use Rattle.gqltool_run.specs.HeaderWords.{role_word, kind_word};
+ghost use Rattle.gqltool_run.specs.HeaderWords.{role_word, schema_word, kind_word};
 
 use graphql_ast::type_kind::TypeKind;
 
@@ -12,13 +12,23 @@ pub enum Role {
 }
 
 impl Role {
-    /// The first word of the header.
+    /// The first word of a type's header.
     pub fn word(self) -> &'static str
         ensures { result.now ≡ role_word self }
     {
         match self {
             Role::Definition => "def",
             Role::Extension => "ext",
+        }
+    }
+
+    /// The only word of the schema's header.
+    pub fn schema_word(self) -> &'static str
+        ensures { result.now ≡ schema_word self }
+    {
+        match self {
+            Role::Definition => "schema",
+            Role::Extension => "ext-schema",
         }
     }
 }

@@ -4,6 +4,8 @@
 #![tactic(auto)]
 
 pub mod above;
+#[cfg(test)]
+mod adoption_rows;
 pub mod failure;
 mod fault_printing;
 #[cfg(test)]
@@ -16,10 +18,13 @@ pub mod line;
 pub mod printing;
 pub mod reading;
 pub mod refusal;
+#[cfg(test)]
+mod root_rows;
 pub mod running;
 #[cfg(test)]
 mod schema_calls;
 mod schema_command;
+pub mod schema_options;
 #[cfg(test)]
 mod schema_rows;
 pub mod status;

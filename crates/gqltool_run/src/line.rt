@@ -1,10 +1,11 @@
 //! One line of the notation.
-ghost use Rattle.std.specs.Prelude.{◌≡◌, [], ◌∷◌, codes, map, true, false, IfErr, IfOk};
+ghost use Rattle.std.specs.Prelude.{◌≡◌, ◌≢◌, [], ◌∷◌, codes, map, true, false, IfErr, IfOk, MatchOption};
 ghost use Rattle.graphql_ast.specs.NameView.{NameView};
 ghost use Rattle.graphql_ast.specs.declared.type_reference.Type.{«Type» as TypeReference};
 ghost use Rattle.graphql_ast.specs.LocationTexts.{location_text};
+ghost use Rattle.graphql_ast.specs.OperationTexts.{operation_text};
 ghost use Rattle.gqltool_run.specs.HeaderWords.{role_word};
-ghost use Rattle.gqltool_run.specs.Line.{Says, SaysHeader, SaysComponent, AreName, AreNameAndType};
+ghost use Rattle.gqltool_run.specs.Line.{Says, SaysHeader, SaysComponent, AreName, AreNameAndType, AreRoot};
 ghost use Rattle.gqltool_run.specs.Places.{stands, StandsBelow};
 ghost use Rattle.gqltool_run.specs.Refusals.{SayNoComponent, SaysNothing, WhenRefused};
 
@@ -14,7 +15,8 @@ use crate::refusal::{LineError, Reason};
 use crate::type_notation::{MOST_BRACKETS, read_type};
 use crate::words::{read_name, words_of};
 use graphql_ast::directive_location::DirectiveLocation;
-use graphql_ast::name::Name;
+use graphql_ast::name::{Name, NamedType};
+use graphql_ast::operation_type::OperationType;
 use graphql_ast::source::SourceSpan;
 use graphql_ast::type_kind::TypeKind;
 use graphql_ast::type_reference::Type;
@@ -27,6 +29,8 @@ pub enum Header {
     Type(Role, TypeKind, Name),
     /// `directive NAME`
     Directive(Name),
+    /// `schema` or `ext-schema`
+    Schema(Role),
 }
 
 /// A line that belongs to the header line above it, or to a field of that header.
@@ -50,6 +54,8 @@ pub enum Component {
     On(DirectiveLocation),
     /// `repeatable`
     Repeatable,
+    /// `root OPERATION NAME`
+    Root(OperationType, NamedType),
 }
 
 /// What a line says.
@@ -88,6 +94,14 @@ pub fn read_line(
         "def" => Ok(Line::Header(read_type_header(alloc, Role::Definition, rest, place)?)),
         "ext" => Ok(Line::Header(read_type_header(alloc, Role::Extension, rest, place)?)),
         "directive" => Ok(Line::Header(Header::Directive(only_name(alloc, rest, place)?))),
+        "schema" => {
+            end_of_words(rest)?;
+            Ok(Line::Header(Header::Schema(Role::Definition)))
+        }
+        "ext-schema" => {
+            end_of_words(rest)?;
+            Ok(Line::Header(Header::Schema(Role::Extension)))
+        }
         word => Ok(Line::Component(read_component(alloc, word, rest, above, place)?)),
     }
 }
@@ -106,7 +120,7 @@ fn read_component(
 {
     match first {
         "@" => {
-            let name = allowed_name(alloc, above.is_type(), rest, place)?;
+            let name = allowed_name(alloc, above.takes_directives(), rest, place)?;
             Ok(Component::Directive(name))
         }
         "implements" => {
@@ -141,6 +155,10 @@ fn read_component(
             allow(above.is_directive())?;
             end_of_words(rest)?;
             Ok(Component::Repeatable)
+        }
+        "root" => {
+            let (operation, name) = operation_and_name(alloc, above.is_schema(), rest, place)?;
+            Ok(Component::Root(operation, name))
         }
         _ => Err(LineError::Refused(Reason::UnknownLine)),
     }
@@ -242,5 +260,38 @@ fn only_location(words: &[&str]) -> Result<DirectiveLocation, Reason>
     match DirectiveLocation::from_name(*word) {
         Some(location) => Ok(location),
         None => Err(Reason::BadWord),
+    }
+}
+
+/// The two words that follow, a kind of operation and a name, on a line that is allowed here or not.
+fn operation_and_name(
+    alloc: Global,
+    is_allowed: bool,
+    words: &[&str],
+    place: SourceSpan,
+) -> Result<(OperationType, NamedType), LineError>
+    ensures allowed { IfOk result (λ _. is_allowed ≡ true) }
+    ensures says { IfOk result (λ both. AreRoot place (map (λ word. word.now) words.now) both.0 both.1) }
+    ensures refused { IfErr result (WhenRefused ((operation : OperationType) (name : NameView) → AreRoot place (map (λ word. word.now) words.now) operation name → ¬ (is_allowed ≡ true))) }
+{
+    allow(is_allowed)?;
+    let [operation, name] = words else {
+        return Err(LineError::Refused(Reason::WrongNumberOfWords));
+    };
+    let Some(operation) = operation_of_word(*operation) else {
+        return Err(LineError::Refused(Reason::BadWord));
+    };
+    Ok((operation, read_name(alloc, *name, place)?))
+}
+
+/// The kind of operation of this word, and none for any other word.
+fn operation_of_word(word: &str) -> Option<OperationType>
+    ensures { MatchOption result ((operation : OperationType) → operation_text operation ≢ word.now) (λ operation. operation_text operation ≡ word.now) }
+{
+    match word {
+        "query" => Some(OperationType::Query),
+        "mutation" => Some(OperationType::Mutation),
+        "subscription" => Some(OperationType::Subscription),
+        _ => None,
     }
 }

@@ -1,15 +1,16 @@
 //! Definitions as text.
 ghost use Rattle.std.specs.Prelude.{◌≡◌, ◌++◌, OnOk, IfOk, string_bytes};
 ghost use Rattle.std.specs.List.{flat_map};
-ghost use Rattle.gqltool_run.specs.Text.{word_line, named_line, typed_line, directives_text, names_text, arguments_text, field_line_text, field_text, input_field_text, values_text, head_text, fields_text, repeatable_text, locations_text, definition_text, definitions_text};
+ghost use Rattle.gqltool_run.specs.Text.{word_line, named_line, typed_line, directives_text, names_text, arguments_text, field_line_text, field_text, input_field_text, values_text, head_text, fields_text, repeatable_text, locations_text, root_text, roots_text, schema_text, definition_text, definitions_text};
 
 use crate::kind_words::{Role, kind_word};
 use crate::type_notation::push_type;
 use graphql_ast::definition::Definition;
 use graphql_ast::directive::Directive;
 use graphql_ast::directive_location::DirectiveLocation;
-use graphql_ast::name::Name;
+use graphql_ast::name::{Name, NamedType};
 use graphql_ast::node::Node;
+use graphql_ast::operation_type::OperationType;
 use graphql_ast::type_kind::TypeKind;
 use graphql_ast::type_reference::Type;
 use graphql_ast::type_system::{EnumValueDefinition, FieldDefinition, InputValueDefinition};
@@ -170,10 +171,23 @@ fn push_definition(text: &mut String, definition: &Definition) -> Result<(), All
             )?;
             push_input_fields(text, item.fields.as_slice())
         }
-        Definition::OperationDefinition(_)
-        | Definition::FragmentDefinition(_)
-        | Definition::SchemaDefinition(_)
-        | Definition::SchemaExtension(_) => Ok(()),
+        Definition::SchemaDefinition(item) => {
+            push_schema(
+                text,
+                Role::Definition,
+                item.directives.as_slice(),
+                item.root_operations.as_slice(),
+            )
+        }
+        Definition::SchemaExtension(item) => {
+            push_schema(
+                text,
+                Role::Extension,
+                item.directives.as_slice(),
+                item.root_operations.as_slice(),
+            )
+        }
+        Definition::OperationDefinition(_) | Definition::FragmentDefinition(_) => Ok(()),
     }
 }
 
@@ -192,6 +206,42 @@ fn push_head(
     text.push_str(kind_word(kind))?;
     push_named_line(text, " ", name)?;
     push_directives(text, "@ ", directives)
+}
+
+/// The header of the schema, its directives and its roots.
+fn push_schema(
+    text: &mut String,
+    role: Role,
+    directives: &[Node<Directive>],
+    roots: &[Node<(OperationType, NamedType)>],
+) -> Result<(), AllocError>
+    ensures { OnOk result (string_bytes text.new ≡ string_bytes text.old ++ schema_text role directives.now roots.now) }
+{
+    text.push_str(role.schema_word())?;
+    text.push_str("\n")?;
+    push_directives(text, "@ ", directives)?;
+    push_roots(text, roots)
+}
+
+fn push_roots(
+    text: &mut String,
+    roots: &[Node<(OperationType, NamedType)>],
+) -> Result<(), AllocError>
+    ensures { OnOk result (string_bytes text.new ≡ string_bytes text.old ++ roots_text roots.now) }
+{
+    for root in roots {
+        push_root(text, root)?;
+    }
+    Ok(())
+}
+
+fn push_root(text: &mut String, root: &Node<(OperationType, NamedType)>) -> Result<(), AllocError>
+    ensures { OnOk result (string_bytes text.new ≡ string_bytes text.old ++ root_text root.now) }
+{
+    let (operation, name) = &**root;
+    text.push_str("root ")?;
+    text.push_str(operation.name())?;
+    push_named_line(text, " ", name)
 }
 
 fn push_directives(

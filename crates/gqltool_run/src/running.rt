@@ -1,9 +1,10 @@
 //! The run of the program.
-ghost use Rattle.std.specs.Prelude.{All, ◌≡◌, ◌≢◌, ℕ, Bool, true, false, List, [], ◌∷◌, codes, map, IfOk, OnOk, IfSome, string_bytes};
+ghost use Rattle.std.specs.Prelude.{All, ◌≡◌, ℕ, Bool, true, false, List, map, IfOk, OnOk, IfSome, string_bytes};
 ghost use Rattle.std.specs.Io.KnownBytes.{Appends};
 ghost use Rattle.graphql_ast.specs.declared.definition.Definition.{Definition};
 ghost use Rattle.gqltool_run.specs.Line.{IsLine, lines_of};
-ghost use Rattle.gqltool_run.specs.SchemaCommand.{IsAnswer};
+ghost use Rattle.gqltool_run.specs.SchemaCommand.{IsAnswer, IsAnswerTo};
+ghost use Rattle.gqltool_run.specs.SchemaOptions.{AreSchemaWords};
 ghost use Rattle.gqltool_run.specs.Status.{Writes};
 ghost use Rattle.gqltool_run.specs.Text.{definitions_text};
 
@@ -12,6 +13,7 @@ use crate::fault_printing::push_faults;
 use crate::printing::print;
 use crate::reading::read;
 use crate::schema_command::built;
+use crate::schema_options::{SchemaOptions, read_command};
 use crate::status::Status;
 use std::alloc::Global;
 use std::io::{self, ErrorKind, Read, Write};
@@ -31,13 +33,13 @@ pub fn run<R: Read, O: Write, E: Write>(
     ensures exhausted { result ≡ Status.Exhausted → output.new ≡ output.old }
     ensures read { Writes result → IfSome (R.remaining reader.old) (λ input. All IsLine (lines_of input)) }
     ensures means { result ≡ Status.Done → IfSome (R.remaining reader.old) (λ input. (text : List ℕ)
-        × (IsAnswer input text false × Appends (O.contents output.old) (O.contents output.new) text)) }
+        × (IsAnswerTo (map (λ word. word.now) words.now) input text false × Appends (O.contents output.old) (O.contents output.new) text)) }
     ensures faults { result ≡ Status.Faults → IfSome (R.remaining reader.old) (λ input. (text : List ℕ)
-        × (IsAnswer input text true × Appends (O.contents output.old) (O.contents output.new) text)) }
-    ensures not_written { result ≡ Status.NotWritten → IfSome (R.remaining reader.old) (λ input. (text : List ℕ) × ((has_faults : Bool) × IsAnswer input text has_faults)) }
+        × (IsAnswerTo (map (λ word. word.now) words.now) input text true × Appends (O.contents output.old) (O.contents output.new) text)) }
+    ensures not_written { result ≡ Status.NotWritten → IfSome (R.remaining reader.old) (λ input. (text : List ℕ) × ((has_faults : Bool) × IsAnswerTo (map (λ word. word.now) words.now) input text has_faults)) }
     ensures done { result ≡ Status.Done → (definitions : List Definition) × Appends (O.contents output.old) (O.contents output.new) (definitions_text definitions) }
     ensures quiet { Writes result → errors.new ≡ errors.old }
-    ensures usage { map (λ word. word.now) words.now ≢ codes "schema" ∷ [] → (result ≡ Status.Refused) × (reader.new ≡ reader.old) }
+    ensures usage { ((options : SchemaOptions) → ¬ AreSchemaWords (map (λ word. word.now) words.now) options) → (result ≡ Status.Refused) × (reader.new ≡ reader.old) }
 {
     let answer = match answer(alloc, words, reader) {
         Ok(answer) => answer,
@@ -66,25 +68,26 @@ struct WholeAnswer {
 /// The answer to the words and the input. Nothing is read where the words are refused.
 fn answer<R: Read>(alloc: Global, words: &[&str], reader: &mut R) -> Result<WholeAnswer, Failure>
     ensures read { OnOk result (IfSome (R.remaining reader.old) (λ input. All IsLine (lines_of input))) }
-    ensures means { IfOk result (λ answer. IfSome (R.remaining reader.old) (λ input. IsAnswer input (string_bytes answer.text) answer.has_faults)) }
+    ensures means { IfOk result (λ answer. IfSome (R.remaining reader.old) (λ input. IsAnswerTo (map (λ word. word.now) words.now) input (string_bytes answer.text) answer.has_faults)) }
     ensures printed { IfOk result (λ answer. answer.has_faults ≡ false → (definitions : List Definition) × (string_bytes answer.text ≡ definitions_text definitions)) }
-    ensures usage { map (λ word. word.now) words.now ≢ codes "schema" ∷ [] → (result ≡ Err Failure.Usage) × (reader.new ≡ reader.old) }
+    ensures usage { ((options : SchemaOptions) → ¬ AreSchemaWords (map (λ word. word.now) words.now) options) → (result ≡ Err Failure.Usage) × (reader.new ≡ reader.old) }
 {
-    let ["schema"] = words else {
+    let Some(options) = read_command(words) else {
         return Err(Failure::Usage);
     };
     let input = read_all(alloc, reader)?;
-    schema_answer(alloc, input.as_str())
+    let answer = schema_answer(alloc, options, input.as_str())?;
+    Ok(answer)
 }
 
-/// The answer of `schema` to an input.
-fn schema_answer(alloc: Global, input: &str) -> Result<WholeAnswer, Failure>
+/// The answer of `schema` with these options to an input.
+fn schema_answer(alloc: Global, options: SchemaOptions, input: &str) -> Result<WholeAnswer, Failure>
     ensures read { OnOk result (All IsLine (lines_of input.now)) }
-    ensures means { IfOk result (λ answer. IsAnswer input.now (string_bytes answer.text) answer.has_faults) }
+    ensures means { IfOk result (λ answer. IsAnswer options input.now (string_bytes answer.text) answer.has_faults) }
     ensures printed { IfOk result (λ answer. answer.has_faults ≡ false → (definitions : List Definition) × (string_bytes answer.text ≡ definitions_text definitions)) }
 {
     let documents = read(alloc, input)?;
-    let (schema, faults) = built(alloc, documents.as_slice())?;
+    let (schema, faults) = built(alloc, options, documents.as_slice())?;
     let mut text = print(alloc, schema.to_ast(alloc)?.as_slice())?;
     push_faults(alloc, &mut text, faults.as_slice())?;
     Ok(WholeAnswer {

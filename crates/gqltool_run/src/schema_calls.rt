@@ -55,36 +55,76 @@ const AROUND: &str =
 #[test]
 fn extensions_are_numbered_as_they_are_folded(rt: HostRuntime) -> Result<(), Fail> {
     let alloc = rt.alloc();
-    let schema = built(alloc, AROUND)?;
-    let q = origins(alloc, &schema, "Q")?;
+    let q = origins_in(alloc, AROUND, "Q")?;
     assert_eq!(rt;
         q.as_str(),
         "d in extension 1 of line 8\nN in extension 1 of line 8\na in the definition\nb in extension 0 of line 1\ne in extension 0 of line 1\nc in extension 3 of line 13\n"
     );
-    let r = origins(alloc, &schema, "R")?;
-    assert_eq!(rt; r.as_str(), "z in extension 2 of line 4\n");
-    assert!(rt; schema.get_object(&Name::new(alloc, "S")?).is_none());
     Ok(())
+}
+
+#[test]
+fn names_without_an_object_type_give_none(rt: HostRuntime) -> Result<(), Fail> {
+    let alloc = rt.alloc();
+    let schema = built(alloc, AROUND)?;
+    let name = Name::new(alloc, "S")?;
+    assert!(rt; schema.get_object(&name).is_none());
+    Ok(())
+}
+
+#[test]
+fn numbers_go_on_from_type_to_type(rt: HostRuntime) -> Result<(), Fail> {
+    let alloc = rt.alloc();
+    let r = origins_in(alloc, AROUND, "R")?;
+    assert_eq!(rt; r.as_str(), "z in extension 2 of line 4\n");
+    Ok(())
+}
+
+/// The same lines, with the end of a document in the place of the empty one.
+fn parted(alloc: Global) -> Result<String, AllocError> {
+    AROUND.replace(alloc, "\n\n", "\n---\n")
+}
+
+/// What the schema that a text makes is written as.
+fn written(alloc: Global, input: &str) -> Result<String, Fail> {
+    let schema = built(alloc, input)?;
+    let definitions = schema.to_ast(alloc)?;
+    Ok(print(alloc, definitions.as_slice())?)
+}
+
+/// The components of an object type of the schema that a text makes, each with where it comes from.
+fn origins_in(alloc: Global, input: &str, name: &str) -> Result<String, Fail> {
+    let schema = built(alloc, input)?;
+    origins(alloc, &schema, name)
 }
 
 #[test]
 fn documents_one_by_one_build_as_one_document(rt: HostRuntime) -> Result<(), Fail> {
     let alloc = rt.alloc();
+    let parted = parted(alloc)?;
     let one = built(alloc, AROUND)?;
-    // The same lines, with the end of a document in the place of the empty one.
-    let parted = AROUND.replace(alloc, "\n\n", "\n---\n")?;
     let two = built(alloc, parted.as_str())?;
     assert!(rt; one == two);
-    for name in ["Q", "R"] {
-        let together = origins(alloc, &one, name)?;
-        let apart = origins(alloc, &two, name)?;
-        assert_eq!(rt; together.as_str(), apart.as_str());
-    }
-    let first = print(alloc, one.to_ast(alloc)?.as_slice())?;
-    let second = print(alloc, two.to_ast(alloc)?.as_slice())?;
-    assert_eq!(rt; first.as_str(), second.as_str());
-    let copy = one.clone()?;
-    assert!(rt; copy == one);
+    Ok(())
+}
+
+#[test]
+fn documents_one_by_one_are_written_as_one_document(rt: HostRuntime) -> Result<(), Fail> {
+    let alloc = rt.alloc();
+    let parted = parted(alloc)?;
+    let one = written(alloc, AROUND)?;
+    let two = written(alloc, parted.as_str())?;
+    assert_eq!(rt; one.as_str(), two.as_str());
+    Ok(())
+}
+
+#[test]
+fn documents_one_by_one_have_the_same_origins(rt: HostRuntime) -> Result<(), Fail> {
+    let alloc = rt.alloc();
+    let parted = parted(alloc)?;
+    let one = origins_in(alloc, AROUND, "Q")?;
+    let two = origins_in(alloc, parted.as_str(), "Q")?;
+    assert_eq!(rt; one.as_str(), two.as_str());
     Ok(())
 }
 
@@ -99,10 +139,16 @@ const IN_ORDER: &str =
 #[test]
 fn each_kind_takes_its_extension(rt: HostRuntime) -> Result<(), Fail> {
     let alloc = rt.alloc();
+    let text = written(alloc, EXTENSIONS_FIRST)?;
+    assert_eq!(rt; text.as_str(), IN_ORDER);
+    Ok(())
+}
+
+#[test]
+fn a_copy_of_a_schema_is_equal(rt: HostRuntime) -> Result<(), Fail> {
+    let alloc = rt.alloc();
     let schema = built(alloc, EXTENSIONS_FIRST)?;
     let copy = schema.clone()?;
     assert!(rt; copy == schema);
-    let written = print(alloc, copy.to_ast(alloc)?.as_slice())?;
-    assert_eq!(rt; written.as_str(), IN_ORDER);
     Ok(())
 }

@@ -1,5 +1,7 @@
 //! What the command `schema` makes of its documents.
-ghost use Rattle.std.specs.Prelude.{◌≡◌, IfOk, IfErr};
+ghost use Rattle.std.specs.Prelude.{◌≡◌, ℕ, List, [], true, IfOk, IfErr, if◌then◌else◌};
+ghost use Rattle.apollo_schema.specs.TypeParts.{Added};
+ghost use Rattle.apollo_schema.specs.BuilderStands.{StandsFor, adopts, ignores};
 ghost use Rattle.apollo_schema.specs.SchemaFaults.{faults_of};
 ghost use Rattle.apollo_schema.specs.WholeSchema.{MeansSchema};
 ghost use Rattle.gqltool_run.specs.SchemaCommand.{list_of};
@@ -8,19 +10,58 @@ ghost use Rattle.gqltool_run.specs.declared.status.Status.{Status};
 ghost use Rattle.gqltool_run.specs.declared.status.Status.TheVariants as Status;
 
 use crate::failure::Failure;
+use crate::schema_options::SchemaOptions;
 use apollo_schema::build_error::{BuildFailure, BuilderError, Faults};
 use apollo_schema::schema::Schema;
 use apollo_schema::schema_builder::SchemaBuilder;
 use graphql_ast::document::Document;
-use std::alloc::Global;
+use std::alloc::{AllocError, Global};
+
+/// The builder, which adopts what is extended only if it did or shall.
+fn with_adoption(builder: SchemaBuilder, adopt: bool) -> SchemaBuilder
+    ensures stands { (start : ℕ) (xs : List Added) → StandsFor start xs builder → StandsFor start xs result }
+    ensures adopts { adopts result ≡ (if adopt then true else adopts builder) }
+    ensures ignores { ignores result ≡ ignores builder }
+{
+    if adopt {
+        return builder.adopt_orphan_extensions();
+    }
+    builder
+}
+
+/// The builder, which ignores redefinitions of built-in types from now on if it did or shall.
+fn with_ignoring(builder: SchemaBuilder, ignore: bool) -> SchemaBuilder
+    ensures stands { (start : ℕ) (xs : List Added) → StandsFor start xs builder → StandsFor start xs result }
+    ensures adopts { adopts result ≡ adopts builder }
+    ensures ignores { ignores result ≡ (if ignore then true else ignores builder) }
+{
+    if ignore {
+        return builder.ignore_builtin_redefinitions();
+    }
+    builder
+}
+
+/// A builder with these options.
+fn begun(alloc: Global, options: SchemaOptions) -> Result<SchemaBuilder, AllocError>
+    ensures stands { IfOk result (StandsFor 0 (list_of options.ignore_built_in [])) }
+    ensures adopts { IfOk result (λ builder. adopts builder ≡ options.adopt) }
+    ensures ignores { IfOk result (λ builder. ignores builder ≡ options.ignore_built_in) }
+{
+    let builder = with_adoption(SchemaBuilder::new(alloc)?, options.adopt);
+    Ok(with_ignoring(builder, options.ignore_built_in))
+}
 
 /// The schema of the documents, and its faults.
-pub fn built(alloc: Global, documents: &[Document]) -> Result<(Schema, Faults), Failure>
+pub fn built(
+    alloc: Global,
+    options: SchemaOptions,
+    documents: &[Document],
+) -> Result<(Schema, Faults), Failure>
     ensures exhausted { IfErr result (λ failure. status_of failure ≡ Status.Exhausted) }
-    ensures means { IfOk result (λ built. MeansSchema 0 (list_of documents.now) built.0) }
-    ensures faults { IfOk result (λ built. built.1.items ≡ faults_of (list_of documents.now)) }
+    ensures means { IfOk result (λ built. MeansSchema 0 options.adopt (list_of options.ignore_built_in documents.now) built.0) }
+    ensures faults { IfOk result (λ built. built.1.items ≡ faults_of options.adopt (list_of options.ignore_built_in documents.now)) }
 {
-    let mut builder = SchemaBuilder::new(alloc)?;
+    let mut builder = begun(alloc, options)?;
     for document in documents {
         if let Err(error) = builder.add_ast(document) {
             return Err(Failure::from(error));

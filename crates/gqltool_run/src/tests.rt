@@ -284,13 +284,15 @@ fn the_first_refused_line_ends_the_reading(rt: HostRuntime) -> Result<(), Fail> 
 #[test]
 fn other_words_are_refused_and_nothing_is_read(rt: HostRuntime) -> Result<(), Fail> {
     let alloc = rt.alloc();
-    let rows: [&[&str]; 12] = [
+    let rows: [&[&str]; 14] = [
         &[],
         &[""],
         &["schema", "x"],
         &["schema", ""],
-        &["schema", "--adopt"],
-        &["schema", "--ignore-builtin"],
+        &["--adopt"],
+        &["schema", "--Adopt"],
+        &["schema", "--adopt", "--adopt"],
+        &["schema", "--adopt", "--ignore-builtin", "--adopt"],
         &["doc"],
         &["walk"],
         &["coord"],
@@ -307,6 +309,22 @@ fn other_words_are_refused_and_nothing_is_read(rt: HostRuntime) -> Result<(), Fa
         assert_eq!(rt; reader, "foo".as_bytes());
         assert_eq!(rt; written.as_slice(), "".as_bytes());
         assert_eq!(rt; said.as_slice(), USAGE.as_bytes());
+    }
+    Ok(())
+}
+
+#[test]
+fn schema_takes_options_in_any_order(rt: HostRuntime) -> Result<(), Fail> {
+    let alloc = rt.alloc();
+    let rows: [&[&str]; 4] = [
+        &["schema", "--adopt"],
+        &["schema", "--ignore-builtin"],
+        &["schema", "--adopt", "--ignore-builtin"],
+        &["schema", "--ignore-builtin", "--adopt"],
+    ];
+    for words in rows {
+        let text = "def object T\n";
+        expect_run(&rt, alloc, words, text.as_bytes(), Status::Done, text, "");
     }
     Ok(())
 }

@@ -1,20 +1,22 @@
 //! Definitions and extensions made of their components.
 ghost use Rattle.std.specs.Prelude.{◌≡◌, IfOk};
-ghost use Rattle.gqltool_run.specs.WholeItems.{type_definition, type_extension, directive_definition};
+ghost use Rattle.gqltool_run.specs.WholeItems.{type_definition, type_extension, directive_definition, schema_definition, schema_extension};
 
 use graphql_ast::collections::items::Items;
 use graphql_ast::definition::Definition;
 use graphql_ast::directive::DirectiveList;
 use graphql_ast::directive_location::DirectiveLocation;
-use graphql_ast::name::Name;
+use graphql_ast::name::{Name, NamedType};
 use graphql_ast::node::Node;
+use graphql_ast::operation_type::OperationType;
 use graphql_ast::source::SourceSpan;
 use graphql_ast::type_kind::TypeKind;
 use graphql_ast::type_system::{
     DirectiveDefinition, EnumTypeDefinition, EnumTypeExtension, EnumValueDefinition,
     FieldDefinition, InputObjectTypeDefinition, InputObjectTypeExtension, InputValueDefinition,
     InterfaceTypeDefinition, InterfaceTypeExtension, ObjectTypeDefinition, ObjectTypeExtension,
-    ScalarTypeDefinition, ScalarTypeExtension, UnionTypeDefinition, UnionTypeExtension,
+    ScalarTypeDefinition, ScalarTypeExtension, SchemaDefinition, SchemaExtension,
+    UnionTypeDefinition, UnionTypeExtension,
 };
 use std::alloc::{AllocError, Global};
 
@@ -34,6 +36,8 @@ pub struct Parts {
     pub locations: Items<DirectiveLocation>,
     /// Whether a directive may be applied again at the same place.
     pub is_repeatable: bool,
+    /// The roots of the schema.
+    pub roots: Items<Node<(OperationType, NamedType)>>,
 }
 
 impl Parts {
@@ -51,6 +55,7 @@ impl Parts {
             values: Items::new(alloc),
             locations: Items::new(alloc),
             is_repeatable: false,
+            roots: Items::new(alloc),
         }
     }
 }
@@ -236,4 +241,47 @@ pub fn directive_definition(
     };
     let node = Node::new_opt_location(alloc, value, Some(place))?;
     Ok(Definition::DirectiveDefinition(node))
+}
+
+/// The definition of the schema.
+pub fn schema_definition(
+    alloc: Global,
+    parts: Parts,
+    place: SourceSpan,
+) -> Result<Definition, AllocError>
+    ensures { IfOk result (λ definition. definition ≡ schema_definition parts place) }
+{
+    let Parts {
+        directives,
+        roots,
+        ..
+    } = parts;
+    let value = SchemaDefinition {
+        description: None,
+        directives,
+        root_operations: roots,
+    };
+    let node = Node::new_opt_location(alloc, value, Some(place))?;
+    Ok(Definition::SchemaDefinition(node))
+}
+
+/// An extension of the schema.
+pub fn schema_extension(
+    alloc: Global,
+    parts: Parts,
+    place: SourceSpan,
+) -> Result<Definition, AllocError>
+    ensures { IfOk result (λ definition. definition ≡ schema_extension parts place) }
+{
+    let Parts {
+        directives,
+        roots,
+        ..
+    } = parts;
+    let value = SchemaExtension {
+        directives,
+        root_operations: roots,
+    };
+    let node = Node::new_opt_location(alloc, value, Some(place))?;
+    Ok(Definition::SchemaExtension(node))
 }

@@ -25,12 +25,12 @@ returns-clause-means c =
     let lines = c.in_ok-push_faults.ensures.0 in
     let docs = c.as_slice.ensures.value in
     let len : vec_len c.in_ok-schema.faults ≡ length c.as_slice-3.result.now = sym c.as_slice-3.ensures.len in
-    let faults = c.in_ok-schema.ensures.faults ∙ ap (λ (l : List Document). faults_of (list_of l)) docs in
+    let faults = c.in_ok-schema.ensures.faults ∙ ap (λ (l : List Document). faults_of c.args.options.adopt (list_of c.args.options.ignore_built_in l)) docs in
     record {
       documents = c.in_ok-documents.documents.items;
       says = c.in_ok-documents.ensures.said;
       schema = schema;
-      means = subst (λ (l : List Document). MeansSchema 0 (list_of l) schema) docs c.in_ok-schema.ensures.means;
+      means = subst (λ (l : List Document). MeansSchema 0 c.args.options.adopt (list_of c.args.options.ignore_built_in l) schema) docs c.in_ok-schema.ensures.means;
       lines = lines;
       prints = c.in_ok-push_faults.ensures.1.0 ∙ ap (λ l. l ++ lines) (c.in_ok-text.ensures ∙ ap definitions_text (c.as_slice-2.ensures.value ∙ c.in_ok-to_ast.ensures));
       tells = subst (λ (l : List Fault). AreFaultLines l lines) (c.as_slice-3.ensures.value ∙ faults) c.in_ok-push_faults.ensures.1.1;

@@ -1,7 +1,12 @@
-use Rattle.std.proofs.Common.{take}
-use Rattle.apollo_schema.specs.BuilderStands.{StandsFor}
+use Rattle.std.proofs.Common.{◌≡◌, take}
+use Rattle.apollo_schema.specs.BuilderStands.{StandsFor, adopts, ignores}
 use Rattle.gqltool_run.specs.SchemaCommand.{list_of}
 use Rattle.gqltool_run.proofs.schema_command.built.Given as goal
 
 abbrev pub invariant-loop-document : goal.invariant-loop-document
-invariant-loop-document l = StandsFor 0 (list_of (take l.document-index l.documents)) l.builder
+invariant-loop-document l =
+    record {
+      stands : StandsFor 0 (list_of l.fn.options.ignore_built_in (take l.document-index l.documents)) l.builder;
+      adopts : adopts l.builder ≡ l.fn.options.adopt;
+      ignores : ignores l.builder ≡ l.fn.options.ignore_built_in;
+    }

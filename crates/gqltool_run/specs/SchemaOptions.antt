@@ -1,0 +1,20 @@
+-- The words of the command `schema`: docs/NOTATION.md.
+use Rattle.std.specs.Prelude.{ℕ, List, [], ◌∷◌, ◌≡◌, ◌⊎◌, Bool, true, false, codes}
+use Rattle.gqltool_run.specs.declared.schema_options.SchemaOptions.{SchemaOptions}
+
+-- these words are the options that are on, each once, in any order: `--adopt` where the first is, `--ignore-builtin`
+-- where the second is
+abbrev pub AreWordsOf : Bool → Bool → List (List ℕ) → Type 0
+AreWordsOf false false words = words ≡ []
+AreWordsOf true false words = words ≡ codes "--adopt" ∷ []
+AreWordsOf false true words = words ≡ codes "--ignore-builtin" ∷ []
+AreWordsOf true true words = (words ≡ codes "--adopt" ∷ codes "--ignore-builtin" ∷ []) ⊎ (words ≡ codes "--ignore-builtin" ∷ codes "--adopt" ∷ [])
+
+-- these words are these options
+abbrev pub AreOptions : List (List ℕ) → SchemaOptions → Type 0
+AreOptions words options = AreWordsOf options.adopt options.ignore_built_in words
+
+-- these words are the command `schema` with these options
+abbrev pub AreSchemaWords : List (List ℕ) → SchemaOptions → Type 0
+AreSchemaWords [] options = ⊥
+AreSchemaWords (first ∷ words) options = (first ≡ codes "schema") × AreOptions words options
