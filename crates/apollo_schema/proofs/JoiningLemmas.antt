@@ -10,10 +10,9 @@ use Rattle.graphql_ast.specs.NodeView.{NodeView}
 use Rattle.graphql_ast.specs.DefinitionTexts.{kind_text, definition_text}
 use Rattle.graphql_ast.specs.Definitions.{kind_of as definition_kind}
 use Rattle.graphql_ast.specs.declared.type_kind.TypeKind.{TypeKind}
-use Rattle.graphql_ast.specs.declared.type_kind.TypeKind.TheVariants as kinds
 use Rattle.graphql_ast.specs.declared.definition.Definition.{Definition}
 use Rattle.apollo_types.specs.declared.extended_type.ExtendedType.{ExtendedType}
-use Rattle.apollo_schema.specs.TypeParts.{TypePart, TypeItem, Defined, Extended, SchemaDefined, SchemaExtended, Other, TypeBody, ScalarBody, ObjectBody, InterfaceBody, UnionBody, EnumBody, InputObjectBody, item_of, extended_part, extended_parts, kind_of}
+use Rattle.apollo_schema.specs.TypeParts.{TypePart, TypeItem, Defined, Extended, SchemaDefined, SchemaExtended, Other, item_of, extended_part, extended_parts, kind_of}
 use Rattle.apollo_schema.specs.DefinitionList.{same_kind, of_kind}
 use Rattle.apollo_schema.specs.TypeMeaning.{Sourced, extension_part, numbered}
 use Rattle.apollo_schema.specs.Collisions.{Fault}
@@ -21,22 +20,6 @@ use Rattle.apollo_schema.specs.TypeFaults.{part_faults, kind_mismatch}
 use Rattle.apollo_schema.specs.Joining.{mismatches, folding_faults, joining_faults}
 use Rattle.apollo_schema.proofs.FoldingLemmas.{extended_parts-turn}
 use Rattle.apollo_schema.proofs.KindParts.{IsOf}
-
--- no component of a scalar type collides
-pub no_scalar_faults : (parts es : List TypePart) → flat_map (part_faults parts) (of_kind kinds.Scalar es) ≡ []
-no_scalar_faults parts [] = refl
-no_scalar_faults parts (e ∷ es) = by e.body (no_scalar_faults parts es)
-  where
-    with_body : TypeBody → TypePart
-    with_body b = record { name = e.name; location = e.location; description = e.description; directives = e.directives; body = b; ignorable = e.ignorable }
-
-    by : (b : TypeBody) → flat_map (part_faults parts) (of_kind kinds.Scalar es) ≡ [] → flat_map (part_faults parts) (of_kind kinds.Scalar (with_body b ∷ es)) ≡ []
-    by ScalarBody rest = rest
-    by (ObjectBody interfaces fields) rest = rest
-    by (InterfaceBody interfaces fields) rest = rest
-    by (UnionBody members) rest = rest
-    by (EnumBody values) rest = rest
-    by (InputObjectBody fields) rest = rest
 
 -- the faults of a type that grew by the extensions of its kind are those of folding them
 pub IsOf-faults : {T : Type 0} {make : NodeView T → ExtendedType} {of : TypePart → List Sourced → T} {k : TypeKind} {head : TypePart} {done : List Sourced} {n : NodeView T}

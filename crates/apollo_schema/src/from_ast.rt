@@ -15,18 +15,14 @@ mod enum_type;
 mod folding;
 mod input_object_type;
 mod interface_type;
+mod kind;
 mod object_type;
 mod scalar_type;
 pub mod schema_definition;
 mod union_type;
 
 use crate::build_error::{BuildError, BuilderError, Fault};
-use crate::from_ast::enum_type::{enum_from_ast, extend_enum};
-use crate::from_ast::input_object_type::{extend_input_object, input_object_from_ast};
-use crate::from_ast::interface_type::{extend_interface, interface_from_ast};
-use crate::from_ast::object_type::{extend_object, object_from_ast};
-use crate::from_ast::scalar_type::{extend_scalar, scalar_from_ast};
-use crate::from_ast::union_type::{extend_union, union_from_ast};
+use crate::from_ast::kind::{extend_by, type_of_definition};
 use apollo_component::extension::ExtensionSource;
 use apollo_types::extended_type::ExtendedType;
 use graphql_ast::collections::items::Items;
@@ -76,22 +72,22 @@ pub fn type_from_ast(
 {
     match definition {
         Definition::ScalarTypeDefinition(node) => {
-            Ok(Some(ExtendedType::Scalar(scalar_from_ast(alloc, node)?)))
+            Ok(Some(ExtendedType::Scalar(type_of_definition(alloc, node, errors)?)))
         }
         Definition::ObjectTypeDefinition(node) => {
-            Ok(Some(ExtendedType::Object(object_from_ast(alloc, node, errors)?)))
+            Ok(Some(ExtendedType::Object(type_of_definition(alloc, node, errors)?)))
         }
         Definition::InterfaceTypeDefinition(node) => {
-            Ok(Some(ExtendedType::Interface(interface_from_ast(alloc, node, errors)?)))
+            Ok(Some(ExtendedType::Interface(type_of_definition(alloc, node, errors)?)))
         }
         Definition::UnionTypeDefinition(node) => {
-            Ok(Some(ExtendedType::Union(union_from_ast(alloc, node, errors)?)))
+            Ok(Some(ExtendedType::Union(type_of_definition(alloc, node, errors)?)))
         }
         Definition::EnumTypeDefinition(node) => {
-            Ok(Some(ExtendedType::Enum(enum_from_ast(alloc, node, errors)?)))
+            Ok(Some(ExtendedType::Enum(type_of_definition(alloc, node, errors)?)))
         }
         Definition::InputObjectTypeDefinition(node) => {
-            Ok(Some(ExtendedType::InputObject(input_object_from_ast(alloc, node, errors)?)))
+            Ok(Some(ExtendedType::InputObject(type_of_definition(alloc, node, errors)?)))
         }
         _ => Ok(None),
     }
@@ -151,12 +147,12 @@ fn fold_extension(
     ensures refused { IfErr result (λ error. RefusedAs error (2 ^ 64 ≤ next_number ids.old + length (of_kind (type_kind ty.old) (extended_parts (extension.now ∷ []))))) }
 {
     match ty {
-        ExtendedType::Scalar(node) => extend_scalar(node, extension, ids)?,
-        ExtendedType::Object(node) => extend_object(node, extension, ids, errors)?,
-        ExtendedType::Interface(node) => extend_interface(node, extension, ids, errors)?,
-        ExtendedType::Union(node) => extend_union(node, extension, ids, errors)?,
-        ExtendedType::Enum(node) => extend_enum(node, extension, ids, errors)?,
-        ExtendedType::InputObject(node) => extend_input_object(node, extension, ids, errors)?,
+        ExtendedType::Scalar(node) => extend_by(node, extension, ids, errors)?,
+        ExtendedType::Object(node) => extend_by(node, extension, ids, errors)?,
+        ExtendedType::Interface(node) => extend_by(node, extension, ids, errors)?,
+        ExtendedType::Union(node) => extend_by(node, extension, ids, errors)?,
+        ExtendedType::Enum(node) => extend_by(node, extension, ids, errors)?,
+        ExtendedType::InputObject(node) => extend_by(node, extension, ids, errors)?,
     }
     Ok(())
 }

@@ -1,20 +1,16 @@
 //! Interface types from definitions and extensions.
-ghost use Rattle.std.specs.Prelude.{◌≡◌, ◌+◌, ◌^◌, ◌≤◌, List, [], ◌∷◌, ◌++◌, length, map, IfOk, IfErr, OnOk};
-ghost use Rattle.std.specs.List.{flat_map};
+ghost use Rattle.std.specs.Prelude.{◌≡◌, List, [], ◌∷◌, ◌++◌, map, refl, OnOk};
 ghost use Rattle.graphql_ast.specs.declared.type_kind.TypeKind.TheVariants as kinds;
-ghost use Rattle.apollo_component.specs.Extensions.{next_number, source_at};
-ghost use Rattle.apollo_component.specs.declared.extension.ComponentOrigin.TheVariants as origins;
-ghost use Rattle.apollo_schema.specs.TypeParts.{TypePart, InterfaceBody, interface_definition_part, interface_extension_part, extended_parts};
-ghost use Rattle.apollo_schema.specs.DefinitionList.{of_kind};
-ghost use Rattle.apollo_schema.specs.TypeMeaning.{Sourced, interface_of, extension_part, numbered};
-ghost use Rattle.apollo_schema.specs.TypeFaults.{body_faults, part_faults};
-ghost use Rattle.apollo_schema.specs.Refusals.{RefusedAs};
+ghost use Rattle.apollo_schema.specs.TypeParts.{TypePart, InterfaceBody, interface_definition_part, interface_extension_part};
+ghost use Rattle.apollo_schema.specs.TypeMeaning.{Sourced, interface_of};
+ghost use Rattle.apollo_schema.specs.TypeFaults.{body_faults};
 
-use crate::build_error::{BuilderError, Fault};
+use crate::build_error::Fault;
 use crate::collision::Collection;
 use crate::from_ast::folding::{fold_directives, fold_named, fold_names};
+use crate::from_ast::kind::Kind;
 use apollo_component::directive_list::DirectiveList;
-use apollo_component::extension::{ComponentOrigin, ExtensionId, ExtensionSource};
+use apollo_component::extension::ComponentOrigin;
 use apollo_types::interface_type::InterfaceType;
 use graphql_ast::collections::items::Items;
 use graphql_ast::collections::key_set::KeySet;
@@ -62,91 +58,72 @@ fn fold(
     Ok(())
 }
 
-/// The type of a definition without its components.
-fn bare(alloc: Global, definition: &InterfaceTypeDefinition) -> Result<InterfaceType, AllocError>
-    ensures { IfOk result (λ ty. ty ≡ record { description = definition.now.description; name = definition.now.name; implements_interfaces = []; directives = record { 0 = [] }; fields = [] }) }
-{
-    Ok(InterfaceType {
-        description: definition.description.clone()?,
-        name: definition.name.clone()?,
-        implements_interfaces: KeySet::new(alloc),
-        directives: DirectiveList::new(alloc),
-        fields: Table::new(alloc),
-    })
-}
+impl Kind for InterfaceType {
+    type Definition = InterfaceTypeDefinition;
 
-/// The type of a definition alone.
-pub fn interface_from_ast(
-    alloc: Global,
-    node: &Node<InterfaceTypeDefinition>,
-    errors: &mut Items<Fault>,
-) -> Result<Node<InterfaceType>, AllocError>
-    ensures made { IfOk result (λ ty. let head = interface_definition_part node.now in
-        ty ≡ record { value = interface_of head ((origins.Definition, head) ∷ []); location = head.location }) }
-    ensures faults { OnOk result (errors.new ≡ errors.old ++ part_faults [] (interface_definition_part node.now)) }
-{
-    let mut ty = bare(alloc, node)?;
-    fold(
-        &mut ty,
-        node.directives.as_slice(),
-        node.implements_interfaces.as_slice(),
-        node.fields.as_slice(),
-        ComponentOrigin::Definition,
-        &node.name,
-        errors,
-    )?;
-    let made = node.same_location(alloc, ty)?;
-    Ok(made)
-}
+    type Extension = InterfaceTypeExtension;
 
-/// Folds an extension of this kind in.
-fn extend(
-    ty: &mut InterfaceType,
-    node: &Node<InterfaceTypeExtension>,
-    origin: ComponentOrigin,
-    errors: &mut Items<Fault>,
-) -> Result<(), AllocError>
-    ensures folded { OnOk result ((head : TypePart) (done : List Sourced) → ty.old ≡ interface_of head done
-        → ty.new ≡ interface_of head (done ++ (origin, interface_extension_part node.now) ∷ [])) }
-    ensures faults { OnOk result ((head : TypePart) (done : List Sourced) → ty.old ≡ interface_of head done
-        → errors.new ≡ errors.old ++ part_faults (map (λ s. s.1) done) (interface_extension_part node.now)) }
-{
-    fold(
-        ty,
-        node.directives.as_slice(),
-        node.implements_interfaces.as_slice(),
-        node.fields.as_slice(),
-        origin,
-        &node.name,
-        errors,
-    )?;
-    Ok(())
-}
+    ghost kind = { kinds.Interface };
 
-/// Folds an extension into an interface type under the source's next identity, if it is one of that kind.
-pub fn extend_interface(
-    node: &mut Node<InterfaceType>,
-    extension: &Definition,
-    ids: &mut ExtensionSource,
-    errors: &mut Items<Fault>,
-) -> Result<(), BuilderError>
-    ensures folded { OnOk result ((head : TypePart) (done : List Sourced) → node.old.value ≡ interface_of head done
-        → node.new.value ≡ interface_of head (done ++ map extension_part (numbered (next_number ids.old) (of_kind kinds.Interface (extended_parts (extension.now ∷ [])))))) }
-    ensures faults { OnOk result ((head : TypePart) (done : List Sourced) → node.old.value ≡ interface_of head done
-        → errors.new ≡ errors.old ++ flat_map (part_faults (map (λ s. s.1) done)) (of_kind kinds.Interface (extended_parts (extension.now ∷ [])))) }
-    ensures place { OnOk result (node.new.location ≡ node.old.location) }
-    ensures next { OnOk result (ids.new ≡ source_at (next_number ids.old + length (of_kind kinds.Interface (extended_parts (extension.now ∷ []))))) }
-    ensures refused { IfErr result (λ error. RefusedAs error (2 ^ 64 ≤ next_number ids.old + length (of_kind kinds.Interface (extended_parts (extension.now ∷ []))))) }
-{
-    let Definition::InterfaceTypeExtension(extension) = extension else {
-        return Ok(());
-    };
-    let id = ExtensionId::new(ids, extension)?;
-    extend(
-        node.make_mut()?,
-        extension,
-        ComponentOrigin::Extension(id),
-        errors,
-    )?;
-    Ok(())
+    ghost made = { interface_of };
+
+    ghost of_definition = { interface_definition_part };
+
+    ghost of_extension = { interface_extension_part };
+
+    fn extension(definition: &Definition) -> Option<&Node<InterfaceTypeExtension>> {
+        match definition {
+            Definition::InterfaceTypeExtension(node) => Some(node),
+            _ => None,
+        }
+    }
+
+    fn bare(alloc: Global, node: &Node<InterfaceTypeDefinition>) -> Result<Self, AllocError> {
+        Ok(InterfaceType {
+            description: node.description.clone()?,
+            name: node.name.clone()?,
+            implements_interfaces: KeySet::new(alloc),
+            directives: DirectiveList::new(alloc),
+            fields: Table::new(alloc),
+        })
+    }
+
+    fn fold_definition(
+        &mut self,
+        node: &Node<InterfaceTypeDefinition>,
+        errors: &mut Items<Fault>,
+    ) -> Result<(), AllocError> {
+        fold(
+            self,
+            node.directives.as_slice(),
+            node.implements_interfaces.as_slice(),
+            node.fields.as_slice(),
+            ComponentOrigin::Definition,
+            &node.name,
+            errors,
+        )?;
+        Ok(())
+    }
+
+    fn fold_extension(
+        &mut self,
+        node: &Node<InterfaceTypeExtension>,
+        origin: ComponentOrigin,
+        errors: &mut Items<Fault>,
+    ) -> Result<(), AllocError> {
+        fold(
+            self,
+            node.directives.as_slice(),
+            node.implements_interfaces.as_slice(),
+            node.fields.as_slice(),
+            origin,
+            &node.name,
+            errors,
+        )?;
+        Ok(())
+    }
+
+    ghost copies = { λ x y same. same };
+
+    ghost place = { λ extension. refl };
 }
