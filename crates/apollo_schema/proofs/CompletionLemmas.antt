@@ -15,6 +15,7 @@ use Rattle.apollo_schema.specs.TypeFaults.{orphan}
 use Rattle.apollo_schema.specs.RootFaults.{schema_orphan}
 use Rattle.apollo_schema.specs.Adoption.{extended_names, orphans_of, schema_orphans, adopted_part, adopted_by, adopted, with_adopted, implied_schema, completed}
 use Rattle.apollo_schema.specs.SchemaFaults.{found_from, faults_in}
+use Rattle.apollo_schema.specs.OrphanNames.{first_name, orphan_names}
 use Rattle.apollo_schema.specs.Prefixes.{added_after, found_at, found}
 use Rattle.apollo_schema.proofs.Texts.{same-true}
 use Rattle.apollo_schema.proofs.FoundLemmas.{found_after-order, found_in-order}
@@ -121,12 +122,12 @@ module _ (xs : List TypeItem) where
           either (Some d) g = ap (λ o. option_map_or (λ _. []) o (extensions_of (xs ++ adopted xs) n)) g
           either None g = absurd (let h : false ≡ true = sym (ap is_some g) ∙ defined in cc)
 
-  pub adopted-orphans : flat_map (orphans_of (xs ++ adopted xs)) (extended_names (xs ++ adopted xs)) ≡ []
-  adopted-orphans = none (extended_names (xs ++ adopted xs))
+  pub orphan_names-adopted : orphan_names (xs ++ adopted xs) ≡ []
+  orphan_names-adopted = none (extended_names (xs ++ adopted xs))
     where
-      none : (ns : List (List ℕ)) → flat_map (orphans_of (xs ++ adopted xs)) ns ≡ []
+      none : (ns : List (List ℕ)) → flat_map (λ n. first_name (orphans_of (xs ++ adopted xs) n)) ns ≡ []
       none [] = refl
-      none (n ∷ ns) = ap (λ l. l ++ flat_map (orphans_of (xs ++ adopted xs)) ns) (adopted-orphans_of n) ∙ none ns
+      none (n ∷ ns) = ap (λ l. first_name l ++ flat_map (λ m. first_name (orphans_of (xs ++ adopted xs) m)) ns) (adopted-orphans_of n) ∙ none ns
 
 -- what is found in a list and at what completes it, with other faults after each
 found-completed : (ys zs : List TypeItem) (after_list after_all : List Fault)

@@ -1,5 +1,5 @@
 -- What a list says of a name with one more item.
-use Rattle.std.proofs.Common.{◌≡◌, ℕ, ◌+◌, Bool, true, false, cond, List, [], ◌∷◌, ◌++◌, length, filter, slice_get, Option, Some, None, refl, sym, ap, subst, ◌∙◌, append_assoc}
+use Rattle.std.proofs.Common.{◌≡◌, ℕ, ◌+◌, Bool, true, false, cond, List, [], ◌∷◌, ◌++◌, length, map, filter, slice_get, Option, Some, None, refl, sym, ap, subst, ◌∙◌, append_assoc}
 use Rattle.std.specs.List.{filter_map, cons_option}
 use Rattle.std.specs.Option.{option_or}
 use Rattle.std.specs.Map.{lookup}
@@ -18,6 +18,11 @@ snoc_ind P base step xs = go [] xs base
     go : (before ys : List TypeItem) → P before → P (before ++ ys)
     go before [] h = subst P (sym (append-nil before)) h
     go before (y ∷ ys) h = subst P (append_assoc before (y ∷ []) ys) (go (before ++ y ∷ []) ys (step before y h))
+
+-- the parts of extensions alone
+pub parts-extended : (ps : List TypePart) → filter_map extended_part (map Extended ps) ≡ ps
+parts-extended [] = refl
+parts-extended (p ∷ ps) = ap (λ l. p ∷ l) (parts-extended ps)
 
 -- one more entry is found where none was
 pub lookup-push : {V : Type 0} (n m : List ℕ) (v : V) (es : List (List ℕ × V)) → lookup (same n) (es ++ (m, v) ∷ []) ≡ option_or (lookup (same n) es) (cond (same n m) (Some v) None)

@@ -1,3 +1,5 @@
+pub mod BuiltInLemmas
+pub mod CloneLemmas
 pub mod CompletionLemmas
 pub mod DirectiveLemmas
 pub mod EachLemmas
@@ -10,8 +12,11 @@ pub mod ItemLemmas
 pub mod JoiningLemmas
 pub mod KeptLemmas
 pub mod KindParts
+pub mod LongerLemmas
 pub mod NameTables
 pub mod OrphanLemmas
+pub mod OrphanNameLemmas
+pub mod OutcomeLemmas
 pub mod PartLemmas
 pub mod PartNames
 pub mod PlaceLemmas

@@ -16,16 +16,16 @@ use Rattle.graphql_ast.specs.ArgumentsByName.{same_text}
 use Rattle.graphql_ast.specs.declared.definition.Definition.{Definition}
 use Rattle.apollo_component.specs.FirstOfEach.{first_of_each}
 use Rattle.apollo_component.proofs.FirstOfEachLemmas.{first_of_each-push_new, first_of_each-push_old, is_some-lookup, list_any-first_of_each}
-use Rattle.apollo_schema.specs.TypeParts.{TypePart, TypeItem, Defined, Extended, SchemaDefined, SchemaExtended, Other, extended_part, extended_parts, key_of, same}
+use Rattle.apollo_schema.specs.TypeParts.{TypePart, TypeItem, Defined, Extended, SchemaDefined, SchemaExtended, Other, extended_part, items_of, extended_parts, key_of, same}
 use Rattle.apollo_schema.specs.DefinitionList.{first, extensions_of}
 use Rattle.apollo_schema.specs.SchemaMeaning.{by_text}
 use Rattle.apollo_schema.specs.Places.{types, Placed, first_place}
 use Rattle.apollo_schema.specs.Adoption.{extended_names, orphans_of, adopted_by, adopted}
 use Rattle.apollo_schema.specs.Prefixes.{waiting_of, waited_at, waited}
-use Rattle.apollo_schema.specs.Stands.{parts_held}
+use Rattle.apollo_schema.specs.Stands.{items_held}
 use Rattle.apollo_schema.proofs.Texts.{same-true, same-is, same-flip}
 use Rattle.apollo_schema.proofs.EachLemmas.{flat_map-each}
-use Rattle.apollo_schema.proofs.ItemLemmas.{snoc_ind, filter_map-push_none, first-push_undefined, waited-push}
+use Rattle.apollo_schema.proofs.ItemLemmas.{parts-extended, snoc_ind, filter_map-push_none, first-push_undefined, waited-push}
 use Rattle.apollo_schema.proofs.PlaceLemmas.{first-none, first-some, first_place-stays}
 
 -- the names of extensions, each as often as it is extended
@@ -222,32 +222,39 @@ waited-distinct = snoc_ind (λ xs. IsDistinct same_text (waited xs)) tt step
                 subst (λ l. IsDistinct same_text (waited xs ++ l)) (sym (waited_at-extended xs p None e ∙ ap (λ b. cond b [] (p.name ∷ [])) f))
                 (IsDistinct-push (on_equiv (λ (k : NameView). k.text) nat_list_eq_equiv) (waited xs) p.name before (waited-extended xs (key_of p) f))
 
-module _ {X : Type 0} (give : List TypePart → List X) where
-  -- what a table gives, entry by entry, is what it gives under its names
-  held-by_name : (W : List (NameView × List Definition)) → HasUniqueKeys same_text W → flat_map (λ e. give (extended_parts e.1)) W ≡ flat_map (λ k. give (parts_held (lookup (by_text k.text) W))) (keys_of W)
+-- what a table gives, entry by entry, is what it gives under its names
+module _ {X : Type 0} (give : NameView → List TypeItem → List X) where
+  held-by_name : (W : List (NameView × List Definition)) → HasUniqueKeys same_text W → flat_map (λ e. give e.0 (items_of e.1)) W ≡ flat_map (λ k. give k (items_held (lookup (by_text k.text) W))) (keys_of W)
   held-by_name [] unique = refl
   held-by_name (e ∷ es) unique =
-      ap (λ l. give (extended_parts e.1) ++ l) (held-by_name es (IsDistinct-tail same_text e.0 (keys_of es) unique)
-      ∙ flat_map-each (λ k. same_text e.0 k ≡ false) (λ k. give (parts_held (lookup (by_text k.text) es))) (λ k. give (parts_held (lookup (by_text k.text) (e ∷ es))))
-      (λ k apart. ap (λ b. give (parts_held (cond b (Some e.1) (lookup (by_text k.text) es)))) (sym (same-flip e.0.text k.text apart))) (keys_of es) (IsDistinct-head same_text e.0 (keys_of es) unique))
-      ∙ ap (λ b. give (parts_held (cond b (Some e.1) (lookup (by_text e.0.text) es))) ++ flat_map (λ k. give (parts_held (lookup (by_text k.text) (e ∷ es)))) (keys_of es)) (sym (same-is e.0.text e.0.text refl))
+      ap (λ l. give e.0 (items_of e.1) ++ l) (held-by_name es (IsDistinct-tail same_text e.0 (keys_of es) unique)
+      ∙ flat_map-each (λ k. same_text e.0 k ≡ false) (λ k. give k (items_held (lookup (by_text k.text) es))) (λ k. give k (items_held (lookup (by_text k.text) (e ∷ es))))
+      (λ k apart. ap (λ b. give k (items_held (cond b (Some e.1) (lookup (by_text k.text) es)))) (sym (same-flip e.0.text k.text apart))) (keys_of es) (IsDistinct-head same_text e.0 (keys_of es) unique))
+      ∙ ap (λ b. give e.0 (items_held (cond b (Some e.1) (lookup (by_text e.0.text) es))) ++ flat_map (λ k. give k (items_held (lookup (by_text k.text) (e ∷ es)))) (keys_of es)) (sym (same-is e.0.text e.0.text refl))
 
-  -- a table of what waits, under the names that waited, gives what the extensions without a definition do, by name
-  pub held-by : give [] ≡ [] → (xs : List TypeItem) (W : List (NameView × List Definition)) → keys_of W ≡ waited xs → ((n : List ℕ) → parts_held (lookup (by_text n) W) ≡ waiting_of xs n)
-      → flat_map (λ e. give (extended_parts e.1)) W ≡ flat_map (λ n. give (orphans_of xs n)) (extended_names xs)
-  held-by nothing xs W names each =
+  -- a table of what waits gives what it does under the names that waited
+  pub held-waited : (xs : List TypeItem) (W : List (NameView × List Definition)) → keys_of W ≡ waited xs → ((n : List ℕ) → items_held (lookup (by_text n) W) ≡ map Extended (waiting_of xs n))
+      → flat_map (λ e. give e.0 (items_of e.1)) W ≡ flat_map (λ k. give k (map Extended (waiting_of xs k.text))) (waited xs)
+  held-waited xs W names each =
       held-by_name W (subst (IsDistinct same_text) (sym names) (waited-distinct xs))
-      ∙ ap (λ f. flat_map f (keys_of W)) (λ i k. give (each k.text i))
-      ∙ ap (flat_map (λ k. give (waiting_of xs k.text))) names
-      ∙ orphans-waited give nothing xs
+      ∙ (λ i. flat_map (λ (k : NameView). give k (each k.text i)) (names i))
+
+-- a table of what waits gives what the extensions without a definition do, by name
+held-by : {X : Type 0} (give : List TypePart → List X) → give [] ≡ []
+    → (xs : List TypeItem) (W : List (NameView × List Definition)) → keys_of W ≡ waited xs → ((n : List ℕ) → items_held (lookup (by_text n) W) ≡ map Extended (waiting_of xs n))
+    → flat_map (λ e. give (extended_parts e.1)) W ≡ flat_map (λ n. give (orphans_of xs n)) (extended_names xs)
+held-by give nothing xs W names each =
+    held-waited (λ k items. give (filter_map extended_part items)) xs W names each
+    ∙ (λ i. flat_map (λ (k : NameView). give (parts-extended (waiting_of xs k.text) i)) (waited xs))
+    ∙ orphans-waited give nothing xs
 
 -- it holds the extensions without a definition
-pub held-orphans : (xs : List TypeItem) (W : List (NameView × List Definition)) → keys_of W ≡ waited xs → ((n : List ℕ) → parts_held (lookup (by_text n) W) ≡ waiting_of xs n)
+pub held-orphans : (xs : List TypeItem) (W : List (NameView × List Definition)) → keys_of W ≡ waited xs → ((n : List ℕ) → items_held (lookup (by_text n) W) ≡ map Extended (waiting_of xs n))
     → flat_map (λ e. extended_parts e.1) W ≡ flat_map (orphans_of xs) (extended_names xs)
 held-orphans xs W names each = held-by (λ ps. ps) refl xs W names each
 
 -- and what is adopted from it is what is adopted at the end of the list
-pub held-adopted : (xs : List TypeItem) (W : List (NameView × List Definition)) → keys_of W ≡ waited xs → ((n : List ℕ) → parts_held (lookup (by_text n) W) ≡ waiting_of xs n)
+pub held-adopted : (xs : List TypeItem) (W : List (NameView × List Definition)) → keys_of W ≡ waited xs → ((n : List ℕ) → items_held (lookup (by_text n) W) ≡ map Extended (waiting_of xs n))
     → flat_map (λ held. adopted_by (extended_parts held)) (values_of W) ≡ adopted xs
 held-adopted xs W names each = flat_map-map (λ held. adopted_by (extended_parts held)) (λ e. e.1) W ∙ held-by adopted_by refl xs W names each
 

@@ -1,5 +1,5 @@
 -- The order of folding by places is the order in which the code folds.
-use Rattle.std.proofs.Common.{◌≡◌, ℕ, ◌+◌, ◌<◌, Bool, true, false, cond, ◌==◌, max, List, [], ◌∷◌, ◌++◌, length, map, Option, Some, None, filter, slice_get, refl, sym, ap, subst, ◌∙◌, append_assoc, length-append, arith}
+use Rattle.std.proofs.Common.{◌≡◌, ℕ, ◌+◌, ◌<◌, Bool, true, false, cond, ◌==◌, max, List, [], ◌∷◌, ◌++◌, length, map, Option, Some, None, filter, slice_get, refl, sym, ap, subst, ◌∙◌, length-append, arith}
 use Rattle.std.specs.List.{AllByRecursion, filter_map, enumerate_from}
 use Rattle.std.specs.Option.{option_map, option_map_or, option_or}
 use Rattle.std.specs.Map.{lookup}

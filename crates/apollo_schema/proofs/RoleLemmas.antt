@@ -1,11 +1,8 @@
 -- What a definition does for a type, from the names that it defines and extends.
-use Rattle.std.proofs.Common.{◌≡◌, ◌≢◌, ◌⊎◌, inl, inr, false, List, [], ◌∷◌, None, Some, is_some, refl, sym, ap, ◌∙◌, true≢false}
+use Rattle.std.proofs.Common.{◌≡◌, ◌⊎◌, inl, inr, false, List, [], ◌∷◌, Some, refl, sym, ap, ◌∙◌}
 use Rattle.std.specs.Option.{option_map, unwrap_or}
 use Rattle.graphql_ast.specs.NameView.{NameView}
 use Rattle.graphql_ast.specs.NodeView.{NodeView}
-use Rattle.graphql_ast.specs.declared.type_system.DirectiveDefinition.{DirectiveDefinition}
-use Rattle.graphql_ast.specs.declared.type_system.SchemaDefinition.{SchemaDefinition}
-use Rattle.graphql_ast.specs.declared.type_system.SchemaExtension.{SchemaExtension}
 use Rattle.graphql_ast.specs.Definitions.{location_of}
 use Rattle.graphql_ast.specs.DefinitionTexts.{definition_text}
 use Rattle.graphql_ast.specs.declared.operation.OperationDefinition.{OperationDefinition}
@@ -40,29 +37,6 @@ executable-other ds d (inr h) = (ap (λ d. directive_definitions (Other d ∷ []
 pub executable-item : (d : Definition) → ((n : NodeView OperationDefinition) × (d ≡ ast.OperationDefinition n)) ⊎ ((n : NodeView FragmentDefinition) × (d ≡ ast.FragmentDefinition n)) → item_of d ≡ Other d
 executable-item d (inl h) = ap item_of h.1 ∙ sym (ap Other h.1)
 executable-item d (inr h) = ap item_of h.1 ∙ sym (ap Other h.1)
-
--- what is left beside them and the schema's items defines or extends a type
-pub only-types : (d : Definition) → is_some (defined_part (item_of d)) ≡ false → is_some (extended_part (item_of d)) ≡ false
-    → ((n : NodeView SchemaDefinition) → d ≢ ast.SchemaDefinition n) → ((n : NodeView SchemaExtension) → d ≢ ast.SchemaExtension n)
-    → ((n : NodeView DirectiveDefinition) → d ≢ ast.DirectiveDefinition n)
-    → ((n : NodeView OperationDefinition) → d ≢ ast.OperationDefinition n) → ((n : NodeView FragmentDefinition) → d ≢ ast.FragmentDefinition n) → ⊥
-only-types (ast.OperationDefinition n) h k s e r o f = o n refl
-only-types (ast.FragmentDefinition n) h k s e r o f = f n refl
-only-types (ast.DirectiveDefinition n) h k s e r o f = r n refl
-only-types (ast.SchemaDefinition n) h k s e r o f = s n refl
-only-types (ast.SchemaExtension n) h k s e r o f = e n refl
-only-types (ast.ScalarTypeDefinition n) h k s e r o f = true≢false h
-only-types (ast.ObjectTypeDefinition n) h k s e r o f = true≢false h
-only-types (ast.InterfaceTypeDefinition n) h k s e r o f = true≢false h
-only-types (ast.UnionTypeDefinition n) h k s e r o f = true≢false h
-only-types (ast.EnumTypeDefinition n) h k s e r o f = true≢false h
-only-types (ast.InputObjectTypeDefinition n) h k s e r o f = true≢false h
-only-types (ast.ScalarTypeExtension n) h k s e r o f = true≢false k
-only-types (ast.ObjectTypeExtension n) h k s e r o f = true≢false k
-only-types (ast.InterfaceTypeExtension n) h k s e r o f = true≢false k
-only-types (ast.UnionTypeExtension n) h k s e r o f = true≢false k
-only-types (ast.EnumTypeExtension n) h k s e r o f = true≢false k
-only-types (ast.InputObjectTypeExtension n) h k s e r o f = true≢false k
 
 -- without the setting an item is what the definition says
 unset-item : (d : Definition) → ignorable_if false (item_of d) ≡ item_of d

@@ -1,15 +1,14 @@
 -- The schema definition of a list with one more item.
-use Rattle.std.proofs.Common.{◌≡◌, ℕ, ◌+◌, List, [], ◌∷◌, ◌++◌, length, map, Option, Some, None, refl, sym, ap, subst, ◌∙◌, append_assoc}
-use Rattle.std.specs.List.{enumerate_from, filter_map}
+use Rattle.std.proofs.Common.{◌≡◌, ℕ, ◌+◌, List, [], ◌∷◌, ◌++◌, length, map, Option, Some, None, refl, sym, ap, ◌∙◌}
 use Rattle.std.specs.Option.{option_map, option_map_or, option_or}
 use Rattle.std.proofs.lemmas.List.{append-nil, map-append}
 use Rattle.std.proofs.lemmas.List.Elements.{filter_map-append}
 use Rattle.apollo_component.specs.declared.extension.ComponentOrigin.TheVariants as origins
 use Rattle.apollo_schema.specs.TypeParts.{TypePart, SchemaPart, TypeItem, Defined, Extended, SchemaDefined, SchemaExtended, Other, Folding, OfType, OfSchema, extended_schema}
 use Rattle.apollo_schema.specs.DefinitionList.{first_schema, schema_extensions}
-use Rattle.apollo_schema.specs.RootMeaning.{SourcedSchema, schema_extension_source, of_schema, schema_sourced, schema_from, schema_parts, schema_of}
+use Rattle.apollo_schema.specs.RootMeaning.{SourcedSchema, schema_extension_source, schema_sourced, schema_from, schema_parts, schema_of}
 use Rattle.apollo_schema.specs.Joining.{schema_numbered}
-use Rattle.apollo_schema.specs.Prefixes.{types_folded_at, schemas_folded_at, folded_at, folded}
+use Rattle.apollo_schema.specs.Prefixes.{types_folded_at, schemas_folded_at, folded}
 use Rattle.apollo_schema.proofs.FoldingLemmas.{enumerate_from-append}
 use Rattle.apollo_schema.proofs.ItemLemmas.{snoc_ind, first_schema-push_definition, first_schema-push_undefined, schema_extensions-push_extension, schema_extensions-push_unextended, folded-push}
 

@@ -3,19 +3,18 @@ use Rattle.std.proofs.Common.{◌≡◌, ℕ, suc, ◌+◌, ◌^◌, ◌≤◌, 
 use Rattle.std.specs.List.{filter_map}
 use Rattle.std.specs.Option.{option_map, option_map_or, unwrap_or}
 use Rattle.std.specs.Map.{lookup, keys_of, set_value}
-use Rattle.std.proofs.lemmas.List.{append-nil}
+use Rattle.std.proofs.lemmas.List.{append-nil, map-append}
 use Rattle.std.proofs.lemmas.List.Elements.{filter_map-append}
 use Rattle.std.proofs.lemmas.Map.{keys-set_value}
 use Rattle.indexmap.specs.IndexMap.{insert_entry}
-use Rattle.graphql_ast.specs.NameView.{NameView}
 use Rattle.graphql_ast.specs.ArgumentsByName.{same_text}
 use Rattle.graphql_ast.specs.declared.definition.Definition.{Definition}
 use Rattle.apollo_component.specs.Extensions.{next_number, source_at}
 use Rattle.apollo_component.specs.declared.extension.ComponentOrigin.TheVariants as origins
 use Rattle.apollo_types.specs.declared.extended_type.ExtendedType.{ExtendedType}
 use Rattle.apollo_schema.specs.declared.tables.Tables.{Tables}
-use Rattle.apollo_schema.specs.TypeParts.{TypePart, SchemaPart, TypeItem, Defined, Extended, Other, Folding, OfType, OfSchema, defined_part, extended_part, defined_schema, extended_schema, schema_extension_part, kind_of, key_of, same}
-use Rattle.apollo_schema.specs.DefinitionList.{first, extensions_of, of_kind, first_schema}
+use Rattle.apollo_schema.specs.TypeParts.{TypePart, SchemaPart, TypeItem, Defined, Extended, Other, OfType, OfSchema, defined_part, extended_part, defined_schema, extended_schema, schema_extension_part, kind_of, key_of, same}
+use Rattle.apollo_schema.specs.DefinitionList.{first, extensions_of, of_kind}
 use Rattle.apollo_schema.specs.TypeMeaning.{Sourced, type_from, extension_part, numbered, parts, type_of}
 use Rattle.apollo_types.specs.TypeWriteOut.{type_kind}
 use Rattle.apollo_schema.specs.SchemaMeaning.{by_text, AreTypesOf}
@@ -27,10 +26,10 @@ use Rattle.apollo_schema.specs.RootMeaning.{schema_of}
 use Rattle.apollo_schema.specs.Adoption.{schema_orphans}
 use Rattle.apollo_schema.specs.Joining.{joining_faults}
 use Rattle.apollo_schema.specs.Prefixes.{types_folded_at, schemas_folded_at, folded_at, folded, waiting_of, found_at, found, waited_at, waited}
-use Rattle.apollo_schema.specs.Stands.{Stands, parts_held}
+use Rattle.apollo_schema.specs.Stands.{Stands, items_held}
 use Rattle.apollo_schema.proofs.Texts.{same-true, same-is}
 use Rattle.apollo_schema.proofs.NameTables.{lookup-put, keys-put, lookup-write}
-use Rattle.apollo_schema.proofs.ItemLemmas.{first-push_undefined, first_schema-push_undefined, schema_extensions-push_unextended, folded-push, found-push, waited-push}
+use Rattle.apollo_schema.proofs.ItemLemmas.{parts-extended, first-push_undefined, first_schema-push_undefined, schema_extensions-push_unextended, folded-push, found-push, waited-push}
 use Rattle.apollo_schema.proofs.SchemaLemmas.{schema_of-same}
 use Rattle.apollo_schema.proofs.FaultLemmas.{found_at-new, found_at-again, found_at-early, found_at-late, parts-forget}
 use Rattle.apollo_schema.proofs.OrphanLemmas.{waited-early, waited-late}
@@ -64,6 +63,15 @@ is_some-map : {A B : Type 0} (f : A → B) (o : Option A) → is_some (option_ma
 is_some-map f None = refl
 is_some-map f (Some x) = refl
 
+-- extensions that are taken out under a name, or get one more, as items
+none_if : (b : Bool) (ps : List TypePart) → cond b [] (map Extended ps) ≡ map Extended (cond b [] ps)
+none_if true ps = refl
+none_if false ps = refl
+
+one_more_if : (b : Bool) (p : TypePart) (ps : List TypePart) → cond b (map Extended ps ++ Extended p ∷ []) (map Extended ps) ≡ map Extended (cond b (ps ++ p ∷ []) ps)
+one_more_if true p ps = sym (map-append Extended ps (p ∷ []))
+one_more_if false p ps = refl
+
 module _ {start : ℕ} {xs : List TypeItem} {t : Tables} (was : Stands start xs t) where
   pub at : next_number t.ids ≡ start + length (folded xs)
   at = ap next_number was.next
@@ -88,11 +96,11 @@ module _ {start : ℕ} {xs : List TypeItem} {t : Tables} (was : Stands start xs 
 
   -- what is folded at the first definition of a name, and at an extension of a name that has a type
   new-were : (p : TypePart) (es : List TypePart) → is_some (lookup (by_text (key_of p)) t.types) ≡ false
-      → es ≡ parts_held (lookup (by_text (key_of p)) t.waiting) → es ≡ extensions_of xs (key_of p)
-  new-were p es absent were = were ∙ was.waiting (key_of p) ∙ waiting_of-undefined xs (key_of p) (undefined (key_of p) absent)
+      → es ≡ filter_map extended_part (items_held (lookup (by_text (key_of p)) t.waiting)) → es ≡ extensions_of xs (key_of p)
+  new-were p es absent were = were ∙ ap (filter_map extended_part) (was.waiting (key_of p)) ∙ parts-extended (waiting_of xs (key_of p)) ∙ waiting_of-undefined xs (key_of p) (undefined (key_of p) absent)
 
   new-folded : (p : TypePart) (es : List TypePart) → is_some (lookup (by_text (key_of p)) t.types) ≡ false
-      → es ≡ parts_held (lookup (by_text (key_of p)) t.waiting) → types_folded_at xs (Defined p) ≡ of_kind (kind_of p) es
+      → es ≡ filter_map extended_part (items_held (lookup (by_text (key_of p)) t.waiting)) → types_folded_at xs (Defined p) ≡ of_kind (kind_of p) es
   new-folded p es absent were = types_folded_at-new xs p (undefined (key_of p) absent) ∙ ap (of_kind (kind_of p)) (sym (new-were p es absent were))
 
   late-type : (p : TypePart) (ty : ExtendedType) (d : TypePart) → lookup (by_text (key_of p)) t.types ≡ Some ty → first xs (key_of p) ≡ Some d
@@ -113,7 +121,7 @@ module _ {start : ℕ} {xs : List TypeItem} {t : Tables} (was : Stands start xs 
 
   -- numbers that are spent there are spent by the list
   pub new-spent : (p : TypePart) (es : List TypePart) → is_some (lookup (by_text (key_of p)) t.types) ≡ false
-      → es ≡ parts_held (lookup (by_text (key_of p)) t.waiting)
+      → es ≡ filter_map extended_part (items_held (lookup (by_text (key_of p)) t.waiting))
       → 2 ^ 64 ≤ next_number t.ids + length (of_kind (kind_of p) es) → 2 ^ 64 ≤ start + length (folded (xs ++ Defined p ∷ []))
   new-spent p es absent were full =
       omega (arith, counted start xs (Defined p) (of_kind (kind_of p) es) [] (next_number t.ids) at (new-folded p es absent were) refl)
@@ -147,8 +155,8 @@ module _ {start : ℕ} {xs : List TypeItem} {t : Tables} (was : Stands start xs 
   }
 
   -- what waits under names after an item that neither defines nor extends a type
-  pub same_waiting : (x : TypeItem) (u : Tables) → u.waiting ≡ t.waiting → defined_part x ≡ None → extended_part x ≡ None → (n : List ℕ) → parts_held (lookup (by_text n) u.waiting) ≡ waiting_of (xs ++ x ∷ []) n
-  same_waiting x u same undefined unextended n = ap (λ l. parts_held (lookup (by_text n) l)) same ∙ was.waiting n ∙ sym (waiting_of-neither xs x undefined unextended n)
+  pub same_waiting : (x : TypeItem) (u : Tables) → u.waiting ≡ t.waiting → defined_part x ≡ None → extended_part x ≡ None → (n : List ℕ) → items_held (lookup (by_text n) u.waiting) ≡ map Extended (waiting_of (xs ++ x ∷ []) n)
+  same_waiting x u same undefined unextended n = ap (λ l. items_held (lookup (by_text n) l)) same ∙ was.waiting n ∙ sym (ap (map Extended) (waiting_of-neither xs x undefined unextended n))
 
   -- the names under which something waits after an item that adds none
   pub same_names : (x : TypeItem) (u : Tables) → keys_of u.waiting ≡ keys_of t.waiting → waited_at xs x ≡ [] → keys_of u.waiting ≡ waited (xs ++ x ∷ [])
@@ -175,7 +183,7 @@ module _ {start : ℕ} {xs : List TypeItem} {t : Tables} (was : Stands start xs 
           each = λ n. ap (lookup (by_text n)) types ∙ was.types.each n ∙ sym (type_of-same start xs (Defined p) n (first-again xs p n d some) (subst (Apart n) (sym none_folded) tt));
         };
         directives = same_directives (Defined p) u directives (filter_map-append directive_part xs (Defined p ∷ []) ∙ append-nil (directive_definitions xs));
-        waiting = λ n. ap (λ l. parts_held (lookup (by_text n) l)) waiting ∙ was.waiting n ∙ sym (waiting_of-again xs p n d some);
+        waiting = λ n. ap (λ l. items_held (lookup (by_text n) l)) waiting ∙ was.waiting n ∙ sym (ap (map Extended) (waiting_of-again xs p n d some));
         names = same_names (Defined p) u (ap keys_of waiting) refl;
         faults = more_faults (Defined p) u (further_definition d p) (errors d (parts start (folded xs) (key_of p) d) (late-type p ty d there some)) (found_at-again xs p d some);
         next = next ∙ was.next ∙ ap source_at (sym at ∙ omega arith ∙ counted start xs (Defined p) [] [] (next_number t.ids) at none_folded refl);
@@ -184,14 +192,14 @@ module _ {start : ℕ} {xs : List TypeItem} {t : Tables} (was : Stands start xs 
   -- the first definition of a name makes its type
   pub Stands-new : (p : TypePart) (u : Tables) (ty : ExtendedType) (es : List TypePart)
       → is_some (lookup (by_text (key_of p)) t.types) ≡ false
-      → es ≡ parts_held (lookup (by_text (key_of p)) t.waiting)
+      → es ≡ filter_map extended_part (items_held (lookup (by_text (key_of p)) t.waiting))
       → ty ≡ type_from p ((origins.Definition, p) ∷ map extension_part (numbered (next_number t.ids) (of_kind (kind_of p) es)))
       → u.schema_definition ≡ t.schema_definition → u.schema_extensions ≡ t.schema_extensions
       → u.types ≡ insert_entry same_text t.types p.name ty
       → u.directive_definitions ≡ t.directive_definitions
       → keys_of u.waiting ≡ keys_of t.waiting
       → u.errors ≡ t.errors ++ (part_faults [] p ++ joining_faults p (p ∷ []) es)
-      → ((n : List ℕ) → parts_held (lookup (by_text n) u.waiting) ≡ cond (same n (key_of p)) [] (parts_held (lookup (by_text n) t.waiting)))
+      → ((n : List ℕ) → items_held (lookup (by_text n) u.waiting) ≡ cond (same n (key_of p)) [] (items_held (lookup (by_text n) t.waiting)))
       → u.ids ≡ source_at (next_number t.ids + length (of_kind (kind_of p) es))
       → Stands start (xs ++ Defined p ∷ []) u
   Stands-new p u ty es absent were made definition extensions types directives names errors waiting next =
@@ -218,7 +226,7 @@ module _ {start : ℕ} {xs : List TypeItem} {t : Tables} (was : Stands start xs 
         directives = same_directives (Defined p) u directives (filter_map-append directive_part xs (Defined p ∷ []) ∙ append-nil (directive_definitions xs));
         names = same_names (Defined p) u names refl;
         faults = more_faults (Defined p) u _ errors (found_at-new xs p none ∙ ap (λ l. part_faults [] p ++ joining_faults p (p ∷ []) l) (sym (new-were p es absent were)));
-        waiting = λ n. waiting n ∙ ap (cond (same n (key_of p)) []) (was.waiting n) ∙ sym (waiting_of-new xs p n none);
+        waiting = λ n. waiting n ∙ ap (cond (same n (key_of p)) []) (was.waiting n) ∙ none_if (same n (key_of p)) (waiting_of xs n) ∙ sym (ap (map Extended) (waiting_of-new xs p n none));
         next = next ∙ ap source_at (omega arith ∙ counted start xs (Defined p) (of_kind (kind_of p) es) [] (next_number t.ids) at folding refl);
       }
 
@@ -226,7 +234,7 @@ module _ {start : ℕ} {xs : List TypeItem} {t : Tables} (was : Stands start xs 
   pub Stands-early : (p : TypePart) (u : Tables) → u.schema_definition ≡ t.schema_definition → u.schema_extensions ≡ t.schema_extensions → u.types ≡ t.types → u.directive_definitions ≡ t.directive_definitions → u.errors ≡ t.errors → u.ids ≡ t.ids
       → keys_of u.waiting ≡ cond (is_some (lookup (by_text (key_of p)) t.waiting)) (keys_of t.waiting) (keys_of t.waiting ++ p.name ∷ [])
       → is_some (lookup (by_text (key_of p)) t.types) ≡ false
-      → ((n : List ℕ) → parts_held (lookup (by_text n) u.waiting) ≡ cond (same n (key_of p)) (parts_held (lookup (by_text n) t.waiting) ++ p ∷ []) (parts_held (lookup (by_text n) t.waiting)))
+      → ((n : List ℕ) → items_held (lookup (by_text n) u.waiting) ≡ cond (same n (key_of p)) (items_held (lookup (by_text n) t.waiting) ++ Extended p ∷ []) (items_held (lookup (by_text n) t.waiting)))
       → Stands start (xs ++ Extended p ∷ []) u
   Stands-early p u definition extensions types directives errors next names absent waiting =
       let none = undefined (key_of p) absent in
@@ -238,7 +246,7 @@ module _ {start : ℕ} {xs : List TypeItem} {t : Tables} (was : Stands start xs 
         directives = same_directives (Extended p) u directives (filter_map-append directive_part xs (Extended p ∷ []) ∙ append-nil (directive_definitions xs));
         names = waited-early xs p t.waiting (keys_of u.waiting) none was.names names;
         faults = more_faults (Extended p) u [] (errors ∙ sym (append-nil t.errors)) (found_at-early xs p none);
-        waiting = λ n. waiting n ∙ ap (λ l. cond (same n (key_of p)) (l ++ p ∷ []) l) (was.waiting n) ∙ sym (waiting_of-early xs p n none);
+        waiting = λ n. waiting n ∙ ap (λ l. cond (same n (key_of p)) (l ++ Extended p ∷ []) l) (was.waiting n) ∙ one_more_if (same n (key_of p)) p (waiting_of xs n) ∙ sym (ap (map Extended) (waiting_of-early xs p n none));
         next = next ∙ was.next ∙ ap source_at (sym at ∙ omega arith ∙ counted start xs (Extended p) [] [] (next_number t.ids) at none_folded refl);
       }
 
@@ -277,7 +285,7 @@ module _ {start : ℕ} {xs : List TypeItem} {t : Tables} (was : Stands start xs 
           each = λ n. ap (lookup (by_text n)) types ∙ lookup-write n (key_of p) t.types ty grown there ∙ each n (same n (key_of p)) refl;
         };
         directives = same_directives (Extended p) u directives (filter_map-append directive_part xs (Extended p ∷ []) ∙ append-nil (directive_definitions xs));
-        waiting = λ n. ap (λ l. parts_held (lookup (by_text n) l)) waiting ∙ was.waiting n ∙ sym (waiting_of-late xs p n d some);
+        waiting = λ n. ap (λ l. items_held (lookup (by_text n) l)) waiting ∙ was.waiting n ∙ sym (ap (map Extended) (waiting_of-late xs p n d some));
         names = same_names (Extended p) u (ap keys_of waiting) (waited-late xs p d some);
         faults = more_faults (Extended p) u _ (errors d (parts start (folded xs) (key_of p) d) is)
             (found_at-late xs p d some ∙ ap (λ l. joining_faults d l (p ∷ [])) (sym (parts-forget start xs (key_of p) d some)));

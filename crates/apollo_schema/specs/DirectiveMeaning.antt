@@ -29,11 +29,11 @@ directive_definitions xs = filter_map directive_part xs
 abbrev pub has_text : List ℕ → NodeView DirectiveDefinition → Bool
 has_text n d = same n d.value.name.text
 
--- not one of the built-in definitions
+-- not marked built-in
 abbrev pub is_handed_in : NodeView DirectiveDefinition → Bool
 is_handed_in d = not (is_built_in d.location)
 
--- the definition that a name means: the first that is handed in; where none is, the last built-in one
+-- the definition that a name means: the first that is not marked built-in; where there is none, the last one
 abbrev pub directive_of : Directives → List ℕ → Option (NodeView DirectiveDefinition)
 directive_of ds n = option_or (find (λ d. has_text n d && is_handed_in d) ds) (last_or None (filter (has_text n) ds))
 

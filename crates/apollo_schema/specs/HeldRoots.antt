@@ -1,6 +1,5 @@
 -- The implicit roots that a table of types gives: the form that the builder is proved against.
 use Rattle.std.specs.Prelude.{Bool, true, false, List, [], ◌∷◌, ◌++◌, Option, None, Some, if◌then◌else◌}
-use Rattle.std.specs.List.{flat_map}
 use Rattle.graphql_ast.specs.NameView.{NameView}
 use Rattle.graphql_ast.specs.Tables.{lookup}
 use Rattle.graphql_ast.specs.OperationTexts.{default_type_text}

@@ -1,4 +1,5 @@
 pub mod Adoption
+pub mod BuilderHolds
 pub mod BuilderStands
 pub mod Collisions
 pub mod BuiltInNames
@@ -10,6 +11,7 @@ pub mod DirectiveMeaning
 pub mod FaultRow
 pub mod HeldRoots
 pub mod Joining
+pub mod OrphanNames
 pub mod Places
 pub mod Prefixes
 pub mod Refusals

@@ -3,7 +3,6 @@
 use Rattle.std.specs.Prelude.{ℕ, Bool, true, false, List, ◌∷◌, Option, None, Some, map}
 use Rattle.std.specs.List.{enumerate_from, filter_map, flat_map, find}
 use Rattle.std.specs.Option.{option_map}
-use Rattle.graphql_ast.specs.NameView.{NameView}
 use Rattle.graphql_ast.specs.NodeView.{NodeView}
 use Rattle.graphql_ast.specs.declared.directive.Directive.{Directive}
 use Rattle.graphql_ast.specs.declared.operation_type.OperationType.{OperationType}

@@ -1,13 +1,13 @@
 -- What a builder holds for a list.
-use Rattle.std.specs.Prelude.{◌≡◌, ℕ, ◌+◌, Bool, List, [], ◌++◌, length, map, Option, None, Some}
+use Rattle.std.specs.Prelude.{◌≡◌, ℕ, ◌+◌, ◌≤◌, Bool, List, [], ◌++◌, length, map, Option, None, Some}
 use Rattle.std.specs.List.{flat_map}
 use Rattle.graphql_ast.specs.Tables.{keys_of, lookup}
 use Rattle.graphql_ast.specs.declared.definition.Definition.{Definition}
-use Rattle.apollo_component.specs.Extensions.{source_at}
+use Rattle.apollo_component.specs.Extensions.{next_number, source_at}
 use Rattle.apollo_schema.specs.declared.tables.Tables.{Tables}
-use Rattle.apollo_schema.specs.declared.schema_builder.State.{State}
-use Rattle.apollo_schema.specs.declared.schema_builder.State.TheVariants.{Open, Failed}
-use Rattle.apollo_schema.specs.TypeParts.{TypePart, TypeItem, extended_parts, schema_extension_part}
+use Rattle.apollo_schema.specs.declared.state.State.{State}
+use Rattle.apollo_schema.specs.declared.state.State.TheVariants.{Open, Failed}
+use Rattle.apollo_schema.specs.TypeParts.{TypeItem, Extended, Added, items_of, added_items, schema_extension_part}
 use Rattle.apollo_schema.specs.SchemaMeaning.{by_text, AreTypesOf}
 use Rattle.apollo_schema.specs.DirectiveMeaning.{directive_definitions, AreDirectivesOf}
 use Rattle.apollo_schema.specs.RootMeaning.{schema_of}
@@ -17,10 +17,10 @@ use Rattle.apollo_schema.specs.RootFaults.{schema_orphan}
 use Rattle.apollo_schema.specs.SchemaFaults.{faults_in}
 use Rattle.apollo_schema.specs.Prefixes.{added_after, folded, found_at, found, waited, waiting_of}
 
--- what waits under a name: nothing where there is no list
-abbrev pub parts_held : Option (List Definition) → List TypePart
-parts_held None = []
-parts_held (Some xs) = extended_parts xs
+-- what is held under a name: nothing where there is no list
+abbrev pub items_held : Option (List Definition) → List TypeItem
+items_held None = []
+items_held (Some xs) = items_of xs
 
 -- these tables are those of the list, with its extensions numbered from `start`
 pub record Stands (start : ℕ) (xs : List TypeItem) (t : Tables) : Type 0 where
@@ -28,7 +28,7 @@ pub record Stands (start : ℕ) (xs : List TypeItem) (t : Tables) : Type 0 where
   pub orphans : map schema_extension_part t.schema_extensions ≡ schema_orphans xs
   pub types : AreTypesOf start (folded xs) xs t.types
   pub directives : AreDirectivesOf (directive_definitions xs) t.directive_definitions
-  pub waiting : (n : List ℕ) → parts_held (lookup (by_text n) t.waiting) ≡ waiting_of xs n
+  pub waiting : (n : List ℕ) → items_held (lookup (by_text n) t.waiting) ≡ map Extended (waiting_of xs n)
   pub names : keys_of t.waiting ≡ waited xs
   pub faults : t.errors ≡ found xs
   pub next : t.ids ≡ source_at (start + length (folded xs))
@@ -59,3 +59,9 @@ StateStands start xs (Failed source) = ⊥
 abbrev pub StateFailed : State → Type 0
 StateFailed (Open tables) = ⊥
 StateFailed (Failed source) = Unit {0}
+
+-- what holds of each builder with this first number: its tables are those of some list; or a call was refused, and the
+-- source is not below the first number
+abbrev pub HasStood : ℕ → State → Type 0
+HasStood first (Open tables) = (xs : List Added) × Stands first (added_items xs) tables
+HasStood first (Failed source) = first ≤ next_number source

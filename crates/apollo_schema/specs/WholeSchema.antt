@@ -1,5 +1,5 @@
 -- The schema that a list of definitions means: GraphQL specification of October 2021, section 3.3.
-use Rattle.std.specs.Prelude.{◌≡◌, ℕ, ◌+◌, Bool, List, length, None}
+use Rattle.std.specs.Prelude.{◌≡◌, ℕ, Bool, List, length, None}
 use Rattle.std.specs.Option.{unwrap_or}
 use Rattle.graphql_ast.specs.NodeView.{NodeView}
 use Rattle.apollo_types.specs.SchemaDefinitionWriteOut.{no_schema_definition}

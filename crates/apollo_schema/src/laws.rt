@@ -1,25 +1,43 @@
 //! Laws of the definitions, for those who build on them.
-ghost use Rattle.std.specs.Prelude.{◌≡◌, ℕ, List, [], ◌∷◌, ◌++◌, None, Some, true, false, codes, map, filter_map, option_map, All};
-ghost use Rattle.apollo_schema.specs.TypeParts.{TypePart, TypeItem, kind_of, added, added_items};
+ghost use Rattle.std.specs.Prelude.{◌≡◌, ◌⊎◌, ◌≤◌, ℕ, Bool, List, [], ◌∷◌, ◌++◌, None, Some, true, false, length, codes, map, filter_map, option_map, All};
+ghost use Rattle.apollo_schema.specs.TypeParts.{TypePart, TypeItem, Added, kind_of, added, added_items};
 ghost use Rattle.apollo_schema.specs.DefinitionList.{first, extensions_of, of_kind};
 ghost use Rattle.apollo_schema.specs.Places.{folding_order};
 ghost use Rattle.apollo_schema.specs.TypeMeaning.{sourced, type_of};
-ghost use Rattle.apollo_schema.specs.WholeSchema.{whole};
+ghost use Rattle.apollo_schema.specs.WholeSchema.{whole, folds};
 ghost use Rattle.apollo_schema.specs.WorkedRow.{line, folding_place, extensions_around, written_around, extensions_that_wait, extension_of_another_kind};
 ghost use Rattle.apollo_schema.specs.SchemaFaults.{faults_of};
 ghost use Rattle.apollo_schema.specs.FaultRow.{faulty_list, its_faults};
-ghost use Rattle.apollo_schema.specs.Adoption.{adopted};
+ghost use Rattle.apollo_schema.specs.Adoption.{adopted, with_adopted};
+ghost use Rattle.apollo_schema.specs.OrphanNames.{orphan_names};
 ghost use Rattle.apollo_schema.specs.RootMeaning.{schema_of};
 ghost use Rattle.apollo_schema.specs.RootRow.{type_name_of, extensions_alone, adopted_schema, adopted_faults, orphan_faults, query_type_alone, implied_query, schema_extensions_that_wait, waited_for_schema, dropped_root_fault, built_in_int, int_again, redefinition_fault};
 ghost use Rattle.apollo_schema.specs.BuiltInTable.{built_in_definitions};
 ghost use Rattle.apollo_schema.specs.BuiltInNames.{defined_names, component_names, Distinct};
+ghost use Rattle.apollo_schema.specs.BuilderStands.{StandsFor, HasFailed, SpendsIdsSoFar, SpendsIds, first_number};
 ghost use Rattle.apollo_types.specs.TypeWriteOut.{write_type};
+ghost use Rattle.graphql_ast.specs.Clones.{IsExact};
+
+use crate::schema::Schema;
+use crate::schema_builder::SchemaBuilder;
 
 /// The extensions that are folded for a name are those of its kind, in the order of the list, whatever stands between
 /// them: GraphQL specification of October 2021, section 3.4.3.
 pub fn folded_extensions()
     ensures { (start : ℕ) (xs : List TypeItem) (n : List ℕ) (d : TypePart) → first xs n ≡ Some d
         → map (λ s. s.1) (sourced n start (folding_order xs)) ≡ of_kind (kind_of d) (extensions_of xs n) }
+{}
+
+/// A list folds no more extensions than a list that begins with it folds once that is completed. So where the numbers
+/// don't suffice for the first list, they don't for the second.
+pub fn a_longer_list_folds_no_less()
+    ensures folds { (adopts : Bool) (xs more : List Added) → length (folding_order (added_items xs)) ≤ folds adopts (xs ++ more) }
+    ensures spends { (start : ℕ) (adopts : Bool) (xs more : List Added) → SpendsIdsSoFar start xs → SpendsIds start adopts (xs ++ more) }
+{}
+
+/// Where extensions are adopted, none of a type is left without a definition.
+pub fn adoption_leaves_no_orphan_names()
+    ensures { (xs : List TypeItem) → orphan_names (with_adopted true xs) ≡ [] }
 {}
 
 /// The definitions on a list with an extension on either side of the definition: the places of the extensions in folding
@@ -104,4 +122,15 @@ pub fn schema_extensions_that_wait()
 pub fn built_in_scalar_redefined()
     ensures ignored { faults_of false (added false built_in_int ++ added true int_again) ≡ [] }
     ensures refused { faults_of false (added false built_in_int ++ added false int_again) ≡ redefinition_fault }
+{}
+
+/// Each clone of a schema is the original, with its sources and every location and origin.
+pub fn clones_of_schemas_are_exact()
+    ensures { IsExact ⟦<Schema as Clone>⟧.is_clone }
+{}
+
+/// Every builder stands for some list, with its extensions numbered from the builder's first number, or a call was
+/// refused.
+pub fn every_builder_stands_for_a_list_or_has_failed(builder: &SchemaBuilder)
+    ensures { ∥ ((xs : List Added) × StandsFor (first_number builder.now) xs builder.now) ⊎ HasFailed builder.now ∥₁ }
 {}

@@ -8,9 +8,11 @@ mod collision;
 mod directive_definition;
 mod from_ast;
 pub mod laws;
+pub mod orphan_names;
 mod orphans;
 pub mod schema;
 pub mod schema_builder;
+pub mod state;
 pub mod tables;
 #[cfg(test)]
 mod tests;

@@ -1,25 +1,21 @@
 //! The schema builder: documents go in, in any number and order of definitions, and a schema comes out.
-ghost use Rattle.std.specs.Prelude.{◌≡◌, false, true, ◌≢◌, ℕ, ◌+◌, List, [], ◌++◌, Err, OnOk, OnErr, IfOk, IfErr, ◌↔◌};
+ghost use Rattle.std.specs.Prelude.{◌≡◌, false, true, ◌≢◌, ℕ, ◌+◌, ◌≤◌, List, [], ◌++◌, All, is_some, Err, OnOk, OnErr, IfOk, IfErr, ◌↔◌};
 ghost use Rattle.apollo_component.specs.Extensions.{next_number, source_at};
 ghost use Rattle.apollo_schema.specs.TypeParts.{Added, added};
 ghost use Rattle.apollo_schema.specs.WholeSchema.{MeansSchema, folds};
 ghost use Rattle.apollo_schema.specs.SchemaFaults.{faults_of, IfFaults};
 ghost use Rattle.apollo_schema.specs.BuiltInTable.{built_in_definitions};
 ghost use Rattle.apollo_schema.specs.Sources.{merged};
+ghost use Rattle.apollo_schema.specs.Stands.{HasStood};
 
 use crate::build_error::{BuildFailure, BuilderError};
+use crate::orphan_names::OrphanNames;
 use crate::schema::Schema;
+use crate::state::State;
 use crate::tables::Tables;
 use apollo_component::extension::ExtensionSource;
 use graphql_ast::document::Document;
 use std::alloc::{AllocError, Global};
-
-/// The tables, until a call was refused; then the source alone.
-#[derive(Drop)]
-pub enum State {
-    Open(Tables),
-    Failed(ExtensionSource),
-}
 
 /// A builder of a schema: GraphQL specification of October 2021, section 3. Documents go in, in any number, and their
 /// definitions and extensions in any order.
@@ -28,16 +24,24 @@ pub enum State {
 /// one is at fault; the first that is added of a directive's name takes the place of a built-in one. The first definition
 /// of the schema stays, too. An extension before its definition waits for it.
 ///
-/// After a refusal the builder holds nothing more than its source, and each later call answers `Failed`.
+/// After a refusal the builder holds nothing more than its source, which then stands where it stood before the refused
+/// call, and each later call answers `Failed`.
 #[derive(Drop)]
 pub struct SchemaBuilder {
+    first_number: u64,
     state: State,
     adopt_orphan_extensions: bool,
     ignore_builtin_redefinitions: bool,
+    ghost standing: { ∥ HasStood first_number state ∥₁ },
 }
 
 impl SchemaBuilder {
-    ghost use Rattle.apollo_schema.specs.BuilderStands.{StandsFor, HasFailed, HasBuilt, SpendsIds, SpendsIdsSoFar, sources_of, adopts, ignores};
+    ghost use Rattle.graphql_ast.specs.Tables.{lookup};
+    ghost use Rattle.apollo_schema.specs.TypeParts.{added_items};
+    ghost use Rattle.apollo_schema.specs.SchemaMeaning.{by_text};
+    ghost use Rattle.apollo_schema.specs.OrphanNames.{orphan_names, names_left, IsExtendedUnder};
+    ghost use Rattle.apollo_schema.specs.BuilderHolds.{types_held, waiting_held};
+    ghost use Rattle.apollo_schema.specs.BuilderStands.{StandsFor, HasFailed, IsLeftWith, HasBuilt, WasRefused, SpendsIds, SpendsIdsSoFar, folds_so_far, first_number, sources_of, adopts, ignores};
 
     /// A builder of the built-in definitions alone, without either option, whose first extension has the number 0. The
     /// error is want of memory.
@@ -55,8 +59,10 @@ impl SchemaBuilder {
         ensures settings { IfOk result (λ builder. (adopts builder ≡ false) × (ignores builder ≡ false)) }
         ensures sources { IfOk result (λ builder. sources_of builder ≡ []) }
     {
+        let first_number = source.next_number();
         let tables = Tables::with_built_ins(alloc, source)?;
         Ok(SchemaBuilder {
+            first_number,
             state: State::Open(tables),
             adopt_orphan_extensions: false,
             ignore_builtin_redefinitions: false,
@@ -85,22 +91,26 @@ impl SchemaBuilder {
     /// Adds the definitions of a document, in order, and its sources.
     ///
     /// `Memory` is want of memory; `ExtensionIds` comes only where the extensions folded so far pass the largest
-    /// number; `Failed` comes exactly after a refusal.
+    /// number; `Failed` comes exactly after a refusal, and changes nothing. With another error all that was added is
+    /// dropped, and the source stands where it stood before the call.
     pub fn add_ast(&mut self, document: &Document) -> Result<(), BuilderError>
         ensures stands { OnOk result ((start : ℕ) (xs : List Added) → StandsFor start xs self.old → StandsFor start (xs ++ added (ignores self.old) document.now.definitions) self.new) }
         ensures settings { (adopts self.new ≡ adopts self.old) × (ignores self.new ≡ ignores self.old) }
+        ensures first_number { first_number self.new ≡ first_number self.old }
         ensures sources { OnOk result (sources_of self.new ≡ merged (sources_of self.old) document.now.sources) }
         ensures refused { OnErr result (HasFailed self.new) }
+        ensures rolled_back { OnErr result ((start : ℕ) (xs : List Added) → StandsFor start xs self.old → IsLeftWith (source_at (start + folds_so_far xs)) self.new) }
         ensures failed { HasFailed self.old ↔ (result ≡ Err BuilderError.Failed) }
+        ensures unchanged { HasFailed self.old → self.new ≡ self.old }
         ensures spent { result ≡ Err BuilderError.ExtensionIds → (start : ℕ) (xs : List Added) → StandsFor start xs self.old → SpendsIdsSoFar start (xs ++ added (ignores self.old) document.now.definitions) }
     {
         let ignores = self.ignore_builtin_redefinitions;
         let State::Open(tables) = &mut self.state else {
             return Err(BuilderError::Failed);
         };
+        let before = tables.next_number();
         if let Err(error) = tables.take_document(document, ignores) {
-            let source = tables.take_source();
-            self.state = State::Failed(source);
+            self.state = State::Failed(ExtensionSource::starting_at(before));
             return Err(error);
         }
         Ok(())
@@ -131,8 +141,9 @@ impl SchemaBuilder {
         built
     }
 
-    /// What [`build`](SchemaBuilder::build) answers, and the source: after a schema, or faults, at the builder's first
-    /// number plus the extensions that were folded.
+    /// What [`build`](SchemaBuilder::build) answers, and the source, which is never below the builder's first number:
+    /// after a schema, or faults, it is at that number plus the extensions that were folded; after `Memory` or
+    /// `ExtensionIds` it stands where it stood before the call; with `Failed` it is the one that was left.
     pub fn build_with_source(self) -> (Result<Schema, BuildFailure>, ExtensionSource)
         ensures built { IfOk result.0 (λ schema. (start : ℕ) (xs : List Added) → StandsFor start xs self → MeansSchema start (adopts self) xs schema) }
         ensures faultless { OnOk result.0 ((start : ℕ) (xs : List Added) → StandsFor start xs self → faults_of (adopts self) xs ≡ []) }
@@ -142,6 +153,9 @@ impl SchemaBuilder {
         ensures failed { HasFailed self ↔ (result.0 ≡ Err BuildFailure.Failed) }
         ensures spent { result.0 ≡ Err BuildFailure.ExtensionIds → (start : ℕ) (xs : List Added) → StandsFor start xs self → SpendsIds start (adopts self) xs }
         ensures source { HasBuilt result.0 → (start : ℕ) (xs : List Added) → StandsFor start xs self → result.1 ≡ source_at (start + folds (adopts self) xs) }
+        ensures rolled_back { WasRefused result.0 → (start : ℕ) (xs : List Added) → StandsFor start xs self → result.1 ≡ source_at (start + folds_so_far xs) }
+        ensures left { HasFailed self → IsLeftWith result.1 self }
+        ensures not_below { first_number self ≤ next_number result.1 }
     {
         let SchemaBuilder {
             state,
@@ -151,6 +165,63 @@ impl SchemaBuilder {
         match state {
             State::Open(tables) => tables.finish(adopt_orphan_extensions),
             State::Failed(source) => (Err(BuildFailure::Failed), source),
+        }
+    }
+
+    /// The names that are extended and not defined so far, in order of first extension, each as its first extension has
+    /// it: none is the name of a type that is defined so far, and extensions of types alone wait under each. After a
+    /// refusal there is none.
+    pub fn iter_orphan_extension_types(&self) -> OrphanNames<'_>
+        ensures names { (start : ℕ) (xs : List Added) → StandsFor start xs self.now → names_left result ≡ orphan_names (added_items xs) }
+        ensures undefined { All (λ name. is_some (lookup (by_text name.text) (types_held self.now)) ≡ false) (names_left result) }
+        ensures waits { ∥ All (IsExtendedUnder (waiting_held self.now)) (names_left result) ∥₁ }
+        ensures failed { HasFailed self.now → names_left result ≡ [] }
+    {
+        match &self.state {
+            State::Open(tables) => tables.orphan_names(),
+            State::Failed(_) => OrphanNames::none(),
+        }
+    }
+}
+
+/// A copy stands for what the original stands for, and draws the numbers that the original draws.
+impl Clone for SchemaBuilder {
+    ghost is_clone = { λ a b. b ≡ a };
+
+    fn clone(&self) -> Result<SchemaBuilder, AllocError> {
+        Ok(SchemaBuilder {
+            first_number: self.first_number,
+            state: self.state.clone()?,
+            adopt_orphan_extensions: self.adopt_orphan_extensions,
+            ignore_builtin_redefinitions: self.ignore_builtin_redefinitions,
+        })
+    }
+}
+
+impl Schema {
+    ghost use Rattle.apollo_schema.specs.BuilderStands.{StandsFor, sources_of, adopts, ignores};
+
+    /// A builder of schemas. See [`SchemaBuilder::new`].
+    pub fn builder(alloc: Global) -> Result<SchemaBuilder, AllocError>
+        ensures stands { IfOk result (StandsFor 0 (added false built_in_definitions)) }
+        ensures settings { IfOk result (λ builder. (adopts builder ≡ false) × (ignores builder ≡ false)) }
+        ensures sources { IfOk result (λ builder. sources_of builder ≡ []) }
+    {
+        SchemaBuilder::new(alloc)
+    }
+
+    /// The schema of no documents: that of the built-in definitions alone. The error is want of memory.
+    pub fn new(alloc: Global) -> Result<Schema, AllocError>
+        ensures means { IfOk result (MeansSchema 0 false (added false built_in_definitions)) }
+        ensures sources { IfOk result (λ schema. schema.sources ≡ []) }
+    {
+        match SchemaBuilder::new(alloc)?.build() {
+            Ok(schema) => Ok(schema),
+            Err(BuildFailure::Memory) => Err(AllocError),
+            // The built-in definitions have no faults, there are no extensions, and nothing was refused before.
+            Err(BuildFailure::Faults(_)) => unreachable!(),
+            Err(BuildFailure::ExtensionIds) => unreachable!(),
+            Err(BuildFailure::Failed) => unreachable!(),
         }
     }
 }

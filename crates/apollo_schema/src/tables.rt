@@ -1,36 +1,32 @@
 //! What a builder holds.
-ghost use Rattle.std.specs.Prelude.{◌≡◌, Bool, false, None, ◌≢◌, ℕ, ◌+◌, ◌^◌, ◌≤◌, List, [], ◌∷◌, ◌++◌, length, map, is_some, Err, OnOk, IfOk, IfErr, Some, if◌then◌else◌};
-ghost use Rattle.std.specs.Option.{option_map_or};
+ghost use Rattle.std.specs.Prelude.{◌≡◌, Bool, false, None, ℕ, ◌+◌, ◌^◌, ◌≤◌, List, [], ◌∷◌, ◌++◌, length, map, is_some, OnOk, IfOk, IfErr, Some, if◌then◌else◌};
 ghost use Rattle.graphql_ast.specs.Tables.{insert_entry};
 ghost use Rattle.graphql_ast.specs.ArgumentsByName.{same_text};
 ghost use Rattle.graphql_ast.specs.BuiltIn.{is_built_in};
 ghost use Rattle.apollo_component.specs.Extensions.{next_number, source_at};
 ghost use Rattle.apollo_component.specs.declared.extension.ComponentOrigin.TheVariants as origins;
-ghost use Rattle.apollo_schema.specs.TypeParts.{TypePart, TypeItem, Defined, Extended, SchemaDefined, SchemaExtended, Added, added, added_item, added_items, item_of, items_of, defined_part, extended_part, definition_part, extended_parts, schema_definition_part, schema_extension_part, kind_of};
+ghost use Rattle.apollo_schema.specs.TypeParts.{TypePart, TypeItem, Defined, Extended, SchemaDefined, SchemaExtended, added, added_item, added_items, item_of, defined_part, extended_part, definition_part, extended_parts, schema_definition_part, schema_extension_part, kind_of};
 ghost use Rattle.apollo_schema.specs.DefinitionList.{of_kind};
 ghost use Rattle.apollo_schema.specs.TypeMeaning.{Sourced, type_from, extension_part, numbered};
 ghost use Rattle.apollo_schema.specs.TypeFaults.{part_faults, redefinition, built_in_redefinition, further_definition};
 ghost use Rattle.apollo_schema.specs.Joining.{joining_faults, schema_begun, schema_begun_faults};
-ghost use Rattle.apollo_schema.specs.Adoption.{with_adopted, implied_schema, completed};
-ghost use Rattle.apollo_schema.specs.WholeSchema.{MeansSchema, folds};
-ghost use Rattle.apollo_schema.specs.SchemaFaults.{faults_of, IfFaults};
 ghost use Rattle.apollo_schema.specs.BuiltInTable.{built_in_definitions};
 ghost use Rattle.apollo_schema.specs.Prefixes.{folded};
-ghost use Rattle.apollo_schema.specs.Refusals.{RefusedAs, failure_of};
-ghost use Rattle.apollo_schema.specs.Stands.{Stands, Ends, Completes};
+ghost use Rattle.apollo_schema.specs.Refusals.{RefusedAs};
+ghost use Rattle.apollo_schema.specs.Stands.{Stands};
 ghost use Rattle.apollo_schema.specs.Sources.{merged};
-ghost use Rattle.apollo_schema.specs.BuilderStands.{HasBuilt, SpendsIds, adopts, ignores};
 
-use crate::adoption::{adopted_definitions, definition_or_none, implied_definition};
-use crate::build_error::{BuildError, BuildFailure, BuilderError, Fault, WithErrors};
+mod completion;
+mod copy;
+mod orphan_names;
+
+use crate::build_error::{BuildError, BuilderError, Fault};
 use crate::built_in::built_in_definitions;
 use crate::directive_definition::define_directive;
 use crate::from_ast::schema_definition::{begin_schema, extend_schema};
 use crate::from_ast::{
     defined_name, extend_type, extend_type_by_all, extended_name, type_from_ast,
 };
-use crate::orphans::{note_orphans, note_schema_orphans};
-use crate::schema::Schema;
 use crate::waiting::{take_waiting, wait};
 use apollo_component::extension::ExtensionSource;
 use apollo_types::extended_type::ExtendedType;
@@ -180,6 +176,13 @@ impl Tables {
             Ok(()) => Ok(tables),
             Err(_) => Err(AllocError),
         }
+    }
+
+    /// The number that the source's next identity will have.
+    pub fn next_number(&self) -> u64
+        ensures { result ≡ next_number self.now.ids }
+    {
+        self.ids.next_number()
     }
 
     /// Takes the definition of a type, under this setting of whether redefinitions of built-in types are ignored.
@@ -356,146 +359,5 @@ impl Tables {
         self.take(document.definitions.as_slice(), ignores)?;
         self.take_sources(&document.sources)?;
         Ok(())
-    }
-}
-
-impl Tables {
-    /// The source, in whose place a new one is left.
-    pub fn take_source(&mut self) -> ExtensionSource
-        ensures { result ≡ self.old.ids }
-    {
-        mem::replace(&mut self.ids, ExtensionSource::new())
-    }
-
-    /// Takes an empty definition for each name that is extended only, where such names are adopted.
-    fn adopt(&mut self, adopts: bool) -> Result<(), BuilderError>
-        ensures stands { OnOk result ((start : ℕ) (xs : List TypeItem) → Stands start xs self.old → Stands start (with_adopted adopts xs) self.new) }
-        ensures refused { IfErr result (λ error. RefusedAs error ((start : ℕ) (xs : List TypeItem) → Stands start xs self.old → 2 ^ 64 ≤ start + length (folded (with_adopted adopts xs)))) }
-        ensures sources { self.new.sources ≡ self.old.sources }
-    {
-        if !adopts {
-            return Ok(());
-        }
-        let definitions = adopted_definitions(self.alloc, &self.waiting)?;
-        self.take(definitions.as_slice(), false)?;
-        Ok(())
-    }
-
-    /// The schema definition that is implied where none stands.
-    fn implied_schema(
-        &self,
-        adopts: bool,
-    ) -> Result<Option<Node<ast::SchemaDefinition>>, AllocError>
-        ensures { IfOk result (λ implied. (start : ℕ) (xs : List TypeItem) → Stands start xs self.now
-            → option_map_or (λ node. SchemaDefined (schema_definition_part node) ∷ []) implied [] ≡ implied_schema adopts xs) }
-    {
-        if self.schema_definition.is_some() {
-            return Ok(None);
-        }
-        let implied = implied_definition(
-            self.alloc,
-            self.schema_extensions.as_slice(),
-            &self.types,
-            adopts,
-        )?;
-        Ok(implied)
-    }
-
-    /// Ends a list: what still waits is at fault, and a schema definition may be implied.
-    fn end(&mut self, adopts: bool) -> Result<(), BuilderError>
-        ensures ends { OnOk result ((start : ℕ) (xs : List TypeItem) → Stands start xs self.old → Ends start (implied_schema adopts xs) xs self.new) }
-        ensures refused { IfErr result (λ error. RefusedAs error ((start : ℕ) (xs : List TypeItem) → Stands start xs self.old → 2 ^ 64 ≤ start + length (folded (xs ++ implied_schema adopts xs)))) }
-        ensures sources { self.new.sources ≡ self.old.sources }
-    {
-        let implied = self.implied_schema(adopts)?;
-        note_orphans(&self.waiting, &mut self.errors)?;
-        let Some(node) = implied else {
-            note_schema_orphans(self.schema_extensions.as_slice(), &mut self.errors)?;
-            return Ok(());
-        };
-        self.put_schema(&node)?;
-        Ok(())
-    }
-
-    /// Completes a list: types are adopted, and it ends.
-    fn complete(&mut self, adopts: bool) -> Result<(), BuilderError>
-        ensures completes { OnOk result ((start : ℕ) (xs : List TypeItem) → Stands start xs self.old → Completes start adopts xs self.new) }
-        ensures refused { IfErr result (λ error. RefusedAs error ((start : ℕ) (xs : List TypeItem) → Stands start xs self.old → 2 ^ 64 ≤ start + length (folded (completed adopts xs)))) }
-        ensures sources { self.new.sources ≡ self.old.sources }
-    {
-        self.adopt(adopts)?;
-        self.end(adopts)?;
-        Ok(())
-    }
-}
-
-/// A refusal, as that of a build.
-fn refusal(error: BuilderError) -> BuildFailure
-    ensures { result ≡ failure_of error }
-{
-    match error {
-        BuilderError::Memory => BuildFailure::Memory,
-        BuilderError::ExtensionIds => BuildFailure::ExtensionIds,
-        BuilderError::Failed => BuildFailure::Failed,
-    }
-}
-
-impl Tables {
-    /// What was built, and the source: the schema where nothing was found, or else what could be built beside the faults.
-    fn into_schema(self) -> (Result<Schema, BuildFailure>, ExtensionSource)
-        ensures built { IfOk result.0 (λ schema. (start : ℕ) (adopts : Bool) (xs : List Added) → Completes start adopts (added_items xs) self → MeansSchema start adopts xs schema) }
-        ensures faultless { OnOk result.0 ((start : ℕ) (adopts : Bool) (xs : List Added) → Completes start adopts (added_items xs) self → faults_of adopts xs ≡ []) }
-        ensures faults { IfErr result.0 (λ failure. IfFaults failure (λ partial faults. (start : ℕ) (adopts : Bool) (xs : List Added) → Completes start adopts (added_items xs) self
-            → MeansSchema start adopts xs partial × ((faults ≡ faults_of adopts xs × faults ≢ []) × partial.sources ≡ self.sources))) }
-        ensures sources { IfOk result.0 (λ schema. schema.sources ≡ self.sources) }
-        ensures failed { result.0 ≢ Err BuildFailure.Failed }
-        ensures unspent { result.0 ≢ Err BuildFailure.ExtensionIds }
-        ensures source { result.1 ≡ self.ids }
-    {
-        let Tables {
-            alloc,
-            sources,
-            schema_definition,
-            types,
-            directive_definitions,
-            ids,
-            errors,
-            ..
-        } = self;
-        let Ok(schema_definition) = definition_or_none(alloc, schema_definition) else {
-            return (Err(BuildFailure::Memory), ids);
-        };
-        let schema = Schema {
-            sources,
-            schema_definition,
-            directive_definitions,
-            types,
-        };
-        if errors.is_empty() {
-            return (Ok(schema), ids);
-        }
-        let found = WithErrors {
-            partial: schema,
-            errors: errors.into_vec(),
-        };
-        (Err(BuildFailure::Faults(found)), ids)
-    }
-
-    /// Completes the list, and answers what was built, and the source.
-    pub fn finish(self, adopts: bool) -> (Result<Schema, BuildFailure>, ExtensionSource)
-        ensures built { IfOk result.0 (λ schema. (start : ℕ) (xs : List Added) → Stands start (added_items xs) self → MeansSchema start adopts xs schema) }
-        ensures faultless { OnOk result.0 ((start : ℕ) (xs : List Added) → Stands start (added_items xs) self → faults_of adopts xs ≡ []) }
-        ensures faults { IfErr result.0 (λ failure. IfFaults failure (λ partial faults. (start : ℕ) (xs : List Added) → Stands start (added_items xs) self
-            → MeansSchema start adopts xs partial × ((faults ≡ faults_of adopts xs × faults ≢ []) × partial.sources ≡ self.sources))) }
-        ensures sources { IfOk result.0 (λ schema. schema.sources ≡ self.sources) }
-        ensures failed { result.0 ≢ Err BuildFailure.Failed }
-        ensures spent { result.0 ≡ Err BuildFailure.ExtensionIds → (start : ℕ) (xs : List Added) → Stands start (added_items xs) self → SpendsIds start adopts xs }
-        ensures source { HasBuilt result.0 → (start : ℕ) (xs : List Added) → Stands start (added_items xs) self → result.1 ≡ source_at (start + folds adopts xs) }
-    {
-        let mut tables = self;
-        match tables.complete(adopts) {
-            Ok(()) => tables.into_schema(),
-            Err(error) => (Err(refusal(error)), tables.take_source()),
-        }
     }
 }

@@ -1,7 +1,9 @@
-//! What the proofs don't show: that calls succeed with memory, and the texts that no run of the program prints.
+//! What the proofs don't show: that calls succeed with memory, and the texts of some faults.
 
 mod built_in;
 mod faults;
+mod no_documents;
+mod orphan_names;
 mod spent;
 
 use crate::build_error::{BuildFailure, BuilderError, Fault, WithErrors};

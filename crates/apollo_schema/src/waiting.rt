@@ -1,9 +1,9 @@
 //! Extensions that wait for the definition of their name.
 ghost use Rattle.std.specs.Prelude.{◌≡◌, None, ℕ, ◌+◌, List, [], ◌∷◌, ◌++◌, is_some, OnOk, IfErr, Some, if◌then◌else◌};
 ghost use Rattle.graphql_ast.specs.Tables.{keys_of, lookup};
-ghost use Rattle.apollo_schema.specs.TypeParts.{extended_parts, same};
+ghost use Rattle.apollo_schema.specs.TypeParts.{item_of, items_of, same};
 ghost use Rattle.apollo_schema.specs.SchemaMeaning.{by_text};
-ghost use Rattle.apollo_schema.specs.Stands.{parts_held};
+ghost use Rattle.apollo_schema.specs.Stands.{items_held};
 
 use crate::build_error::BuilderError;
 use graphql_ast::collections::items::Items;
@@ -19,10 +19,10 @@ pub fn take_waiting(
     waiting: &mut Table<Name, Items<Definition>>,
     name: &Name,
 ) -> Items<Definition>
-    ensures taken { extended_parts result ≡ parts_held (lookup (by_text name.now.text) waiting.old) }
+    ensures taken { items_of result ≡ items_held (lookup (by_text name.now.text) waiting.old) }
     ensures names { keys_of waiting.new ≡ keys_of waiting.old }
-    ensures left { (n : List ℕ) → parts_held (lookup (by_text n) waiting.new)
-        ≡ (if same n name.now.text then [] else parts_held (lookup (by_text n) waiting.old)) }
+    ensures left { (n : List ℕ) → items_held (lookup (by_text n) waiting.new)
+        ≡ (if same n name.now.text then [] else items_held (lookup (by_text n) waiting.old)) }
 {
     match waiting.get_mut(name) {
         Some(extensions) => mem::replace(extensions, Items::new(alloc)),
@@ -37,10 +37,10 @@ pub fn wait(
     name: &Name,
     extension: &Definition,
 ) -> Result<(), BuilderError>
-    ensures waits { OnOk result ((n : List ℕ) → parts_held (lookup (by_text n) waiting.new)
+    ensures waits { OnOk result ((n : List ℕ) → items_held (lookup (by_text n) waiting.new)
         ≡ (if same n name.now.text
-        then parts_held (lookup (by_text n) waiting.old) ++ extended_parts (extension.now ∷ [])
-        else parts_held (lookup (by_text n) waiting.old))) }
+        then items_held (lookup (by_text n) waiting.old) ++ item_of extension.now ∷ []
+        else items_held (lookup (by_text n) waiting.old))) }
     ensures names { OnOk result (keys_of waiting.new ≡ (if is_some (lookup (by_text name.now.text) waiting.old) then keys_of waiting.old else keys_of waiting.old ++ name.now ∷ [])) }
     ensures refused { IfErr result (λ error. error ≡ BuilderError.Memory) }
 {

@@ -7,8 +7,9 @@ use graphql_ast::collections::table::Table;
 use graphql_ast::definition::Definition;
 use graphql_ast::directive::DirectiveList;
 use graphql_ast::document::Document;
+use graphql_ast::name::Name;
 use graphql_ast::node::Node;
-use graphql_ast::operation::OperationDefinition;
+use graphql_ast::operation::{FragmentDefinition, OperationDefinition};
 use graphql_ast::operation_type::OperationType;
 use std::alloc::{AllocError, Global};
 use std::process::Abort;
@@ -60,31 +61,52 @@ fn operation(alloc: Global) -> Result<Items<Definition>, AllocError> {
     list(alloc, Definition::OperationDefinition(node))
 }
 
-/// The document `{}`.
-fn document(alloc: Global) -> Result<Document, AllocError> {
-    let definitions = operation(alloc)?;
-    Ok(Document {
-        sources: Table::new(alloc),
-        definitions,
-    })
+/// The definition `fragment F on Query {}`.
+fn fragment(alloc: Global) -> Result<Items<Definition>, AllocError> {
+    let name = Name::new_unchecked(alloc, "F")?;
+    let fragment = FragmentDefinition {
+        name,
+        type_condition: Name::new_unchecked(alloc, "Query")?,
+        directives: DirectiveList::new(alloc),
+        selection_set: Items::new(alloc),
+    };
+    let node = Node::new_opt_location(alloc, fragment, Some(PLACE))?;
+    list(alloc, Definition::FragmentDefinition(node))
 }
 
-/// What is built of the document `{}`.
-fn built(alloc: Global) -> Result<WithErrors<Schema>, Fail> {
-    let document = document(alloc)?;
+/// What is built of a document of these definitions.
+fn built(alloc: Global, definitions: Items<Definition>) -> Result<WithErrors<Schema>, Fail> {
+    let document = Document {
+        sources: Table::new(alloc),
+        definitions,
+    };
     faulty(with(empty(alloc)?, document)?)
 }
 
 #[test]
 fn an_operation_is_at_fault(rt: HostRuntime) -> Result<(), Fail> {
     let alloc = rt.alloc();
-    let found = built(alloc)?;
+    let found = built(alloc, operation(alloc)?)?;
     let (place, _) = fault(&found)?;
     assert_eq!(rt; *place, Some(PLACE));
     let said = text(alloc, &found)?;
     assert_eq!(rt;
         said.as_str(),
         "1: a schema document must not contain an operation definition"
+    );
+    Ok(())
+}
+
+#[test]
+fn a_fragment_is_at_fault(rt: HostRuntime) -> Result<(), Fail> {
+    let alloc = rt.alloc();
+    let found = built(alloc, fragment(alloc)?)?;
+    let (place, _) = fault(&found)?;
+    assert_eq!(rt; *place, Some(PLACE));
+    let said = text(alloc, &found)?;
+    assert_eq!(rt;
+        said.as_str(),
+        "1: a schema document must not contain a fragment definition"
     );
     Ok(())
 }

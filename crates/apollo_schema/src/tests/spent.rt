@@ -2,7 +2,7 @@
 
 use crate::build_error::{BuildFailure, BuilderError};
 use crate::schema_builder::SchemaBuilder;
-use crate::tests::{add, directives, list};
+use crate::tests::{add, directives};
 use apollo_component::extension::ExtensionSource;
 use graphql_ast::collections::items::Items;
 use graphql_ast::collections::table::Table;
@@ -15,23 +15,29 @@ use std::alloc::{AllocError, Global};
 use std::test::Fail;
 
 /// The definition `extend scalar String @from`.
-fn extension(alloc: Global) -> Result<Items<Definition>, AllocError> {
+fn extension(alloc: Global) -> Result<Definition, AllocError> {
     let name = Name::new_unchecked(alloc, "String")?;
     let extension = ScalarTypeExtension {
         name,
         directives: directives(alloc)?,
     };
-    list(
-        alloc,
-        Definition::ScalarTypeExtension(Node::new(alloc, extension)?),
-    )
+    Ok(Definition::ScalarTypeExtension(Node::new(alloc, extension)?))
 }
 
-/// A document of that extension.
-fn document(alloc: Global) -> Result<Document, AllocError> {
+/// That definition, this many times.
+fn extensions(alloc: Global, count: usize) -> Result<Items<Definition>, AllocError> {
+    let mut extensions = Items::new(alloc);
+    for _ in 0..count {
+        extensions.push(extension(alloc)?)?;
+    }
+    Ok(extensions)
+}
+
+/// A document of so many extensions.
+fn document(alloc: Global, count: usize) -> Result<Document, AllocError> {
     Ok(Document {
         sources: Table::new(alloc),
-        definitions: extension(alloc)?,
+        definitions: extensions(alloc, count)?,
     })
 }
 
@@ -40,9 +46,13 @@ fn starting_at(alloc: Global, number: u64) -> Result<SchemaBuilder, AllocError> 
     SchemaBuilder::with_source(alloc, ExtensionSource::starting_at(number))
 }
 
-/// Whether a build answers that the builder has failed.
-fn has_failed(builder: SchemaBuilder) -> bool {
-    matches!(builder.build(), Err(BuildFailure::Failed))
+/// The next number of the source that is left, if the builder has failed.
+fn left(builder: SchemaBuilder) -> Option<u64> {
+    let (built, source) = builder.build_with_source();
+    match built {
+        Err(BuildFailure::Failed) => Some(source.next_number()),
+        _ => None,
+    }
 }
 
 /// The next number of the source after a build, if that has a schema.
@@ -54,10 +64,23 @@ fn next_number(builder: SchemaBuilder) -> Option<u64> {
     }
 }
 
+/// A copy of a builder.
+fn copied(builder: &SchemaBuilder) -> Result<SchemaBuilder, AllocError> {
+    builder.clone()
+}
+
+/// Whether a build answers that the builder has failed.
+fn has_failed(builder: SchemaBuilder) -> bool {
+    match builder.build() {
+        Err(BuildFailure::Failed) => true,
+        _ => false,
+    }
+}
+
 #[test]
-fn a_spent_source_ends_the_builder(rt: HostRuntime) -> Result<(), Fail> {
+fn the_largest_number_is_not_given(rt: HostRuntime) -> Result<(), Fail> {
     let alloc = rt.alloc();
-    let document = document(alloc)?;
+    let document = document(alloc, 1)?;
     let mut builder = starting_at(alloc, u64::MAX)?;
     assert_eq!(rt;
         add(&mut builder, &document),
@@ -69,11 +92,26 @@ fn a_spent_source_ends_the_builder(rt: HostRuntime) -> Result<(), Fail> {
 }
 
 #[test]
+fn a_refusal_leaves_the_source_where_it_stood(rt: HostRuntime) -> Result<(), Fail> {
+    let alloc = rt.alloc();
+    let document = document(alloc, 2)?;
+    let mut builder = starting_at(alloc, u64::MAX - 1)?;
+    assert_eq!(rt;
+        add(&mut builder, &document),
+        Err(BuilderError::ExtensionIds)
+    );
+    assert_eq!(rt; left(copied(&builder)?), Some(u64::MAX - 1));
+    assert_eq!(rt; left(builder), Some(u64::MAX - 1));
+    Ok(())
+}
+
+#[test]
 fn a_source_is_handed_back(rt: HostRuntime) -> Result<(), Fail> {
     let alloc = rt.alloc();
-    let document = document(alloc)?;
+    let document = document(alloc, 2)?;
     let mut builder = starting_at(alloc, 7)?;
     add(&mut builder, &document)?;
-    assert_eq!(rt; next_number(builder), Some(8));
+    assert_eq!(rt; next_number(copied(&builder)?), Some(9));
+    assert_eq!(rt; next_number(builder), Some(9));
     Ok(())
 }

@@ -1,7 +1,6 @@
 use Rattle.std.proofs.Common.{◌≡◌, [], ◌∷◌, ◌++◌, Some, sym, ap, ◌∙◌, append_assoc}
 use Rattle.std.specs.Option.{option_map, option_map_or, unwrap_or}
 use Rattle.apollo_component.specs.declared.extension.ComponentOrigin.TheVariants as origins
-use Rattle.apollo_types.specs.declared.extended_type.ExtendedType.{ExtendedType}
 use Rattle.apollo_schema.specs.TypeParts.{TypePart, extended_parts}
 use Rattle.apollo_schema.specs.TypeMeaning.{type_from}
 use Rattle.apollo_schema.specs.TypeFaults.{part_faults}

@@ -5,7 +5,7 @@ use Rattle.std.specs.Option.{option_copied_mut}
 use Rattle.indexmap.specs.IndexMap.{insert_entry}
 use Rattle.graphql_ast.specs.ArgumentsByName.{same_text}
 use Rattle.apollo_schema.specs.SchemaMeaning.{by_text}
-use Rattle.apollo_schema.specs.Stands.{parts_held}
+use Rattle.apollo_schema.specs.Stands.{items_held}
 use Rattle.apollo_schema.proofs.HeldLemmas.{held-write_more, held-put}
 use Rattle.apollo_schema.proofs.NameTables.{keys-put}
 use Rattle.apollo_schema.proofs.waiting.wait.Goals as goal
@@ -18,8 +18,8 @@ returns-in-Some-clause-waits c = λ n.
     let x = c.args.extension.now in
     let there : lookup (by_text m) es ≡ Some v = sym c.get_mut.ensures.value ∙ ap option_copied_mut c.in-Some.is in
     let copy : c.in_ok-clone.field-0 ≡ x = search rules in
-    ap (λ l. parts_held (lookup (by_text n) l)) (c.get_mut.follows.holds c.push.new.self)
-    ∙ ap (λ w. parts_held (lookup (by_text n) (set_value (by_text m) es w))) (c.in_ok-push.ensures.ok ∙ ap (λ d. v ++ d ∷ []) copy)
+    ap (λ l. items_held (lookup (by_text n) l)) (c.get_mut.follows.holds c.push.new.self)
+    ∙ ap (λ w. items_held (lookup (by_text n) (set_value (by_text m) es w))) (c.in_ok-push.ensures.ok ∙ ap (λ d. v ++ d ∷ []) copy)
     ∙ held-write_more n m es v there x
 
 pub returns-clause-waits : goal.returns-clause-waits
@@ -31,8 +31,8 @@ returns-clause-waits c = λ n.
     let name : c.in_ok-clone-3.field-0 ≡ c.args.name.now = search rules in
     let list : c.push-2.new.self ≡ x ∷ [] = c.in_ok-push-2.ensures.ok ∙ ap (λ l. l ++ c.in_ok-clone-2.field-0 ∷ []) c.new-extensions.ensures ∙ ap (λ d. d ∷ []) copy in
     let h = c.get_mut.follows.holds-at-none in
-    ap (λ l. parts_held (lookup (by_text n) l)) c.in_ok-insert.ensures.entries
-    ∙ (λ i. parts_held (lookup (by_text n) (insert_entry same_text (h i) (name i) (list i))))
+    ap (λ l. items_held (lookup (by_text n) l)) c.in_ok-insert.ensures.entries
+    ∙ (λ i. items_held (lookup (by_text n) (insert_entry same_text (h i) (name i) (list i))))
     ∙ held-put n es c.args.name.now x none
 
 pub returns-in-Some-clause-names : goal.returns-in-Some-clause-names

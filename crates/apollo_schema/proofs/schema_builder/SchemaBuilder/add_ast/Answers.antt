@@ -1,27 +1,59 @@
 use Rattle.std.proofs.Common.{◌≡◌, ℕ, ◌+◌, ◌^◌, ◌≤◌, List, ◌++◌, length, sym, ap, subst, ◌∙◌}
 use Rattle.std.proofs.lemmas.List.{map-append}
+use Rattle.std.proofs.Math.Logic.{∥∥₁_map}
+use Rattle.apollo_component.specs.Extensions.{source_at}
 use Rattle.apollo_schema.specs.declared.build_error.BuilderError.{BuilderError}
 use Rattle.apollo_schema.specs.declared.build_error.BuilderError.TheVariants.{ExtensionIds}
 use Rattle.apollo_schema.specs.TypeParts.{TypeItem, Folding, added, added_item, added_items}
 use Rattle.apollo_schema.specs.Places.{folding_order}
 use Rattle.apollo_schema.specs.Prefixes.{folded}
 use Rattle.apollo_schema.specs.Refusals.{RefusedAs}
-use Rattle.apollo_schema.specs.Stands.{Stands, StateStands}
+use Rattle.apollo_schema.specs.declared.state.State.TheVariants.{Failed}
+use Rattle.apollo_schema.specs.Stands.{Stands, HasStood, StateStands}
+use Rattle.apollo_schema.proofs.OutcomeLemmas.{past}
 use Rattle.apollo_schema.proofs.PlaceLemmas.{folding_order-forget}
 use Rattle.apollo_schema.proofs.schema_builder.SchemaBuilder.add_ast.Goals as goal
 
+pub invariant_of-self-in_default-take_document : goal.invariant_of-self-in_default-take_document
+invariant_of-self-in_default-take_document c =
+    let first = c.args.self.now.first_number in
+    let more = added c.args.self.now.ignore_builtin_redefinitions c.args.document.now.definitions in
+    record {
+      standing = ∥∥₁_map (subst (λ s. ∥ HasStood first s ∥₁) c.in-Open.is c.args.self.now.standing) (λ h. (
+        h.0 ++ more,
+        subst (λ (l : List TypeItem). Stands first l c.take_document.new.self) (sym (map-append added_item h.0 more))
+            (c.in_default-take_document.ensures.stands first (added_items h.0) h.1),
+      ));
+    }
+
+pub invariant_of-self-in-Err : goal.invariant_of-self-in-Err
+invariant_of-self-in-Err c =
+    let first = c.args.self.now.first_number in
+    record {
+      standing = ∥∥₁_map (subst (λ s. ∥ HasStood first s ∥₁) c.in-Open.is c.args.self.now.standing) (λ h.
+          past c.starting_at.result first (length (folded (added_items h.0))) (c.starting_at.ensures ∙ ap source_at c.next_number-before.ensures ∙ h.1.next));
+    }
+
 pub returns-clause-stands : goal.returns-clause-stands
 returns-clause-stands c = λ start xs was.
-    let more = added c.args.self.now.ignore_builtin_redefinitions c.args.document.now.definitions in
-    subst (λ (l : List TypeItem). Stands start l c.take_document.new.self) (sym (map-append added_item xs more))
-    (c.in_default-take_document.ensures.stands start (added_items xs) (subst (StateStands start (added_items xs)) c.in-Open.is was))
+    let more = added c.args.self.now.ignore_builtin_redefinitions c.args.document.now.definitions in (
+      was.0,
+      subst (λ (l : List TypeItem). Stands start l c.take_document.new.self) (sym (map-append added_item xs more))
+          (c.in_default-take_document.ensures.stands start (added_items xs) (subst (StateStands start (added_items xs)) c.in-Open.is was.1)),
+    )
+
+pub returns-in-Err-clause-rolled_back : goal.returns-in-Err-clause-rolled_back
+returns-in-Err-clause-rolled_back c = λ start xs was.
+    let stood = subst (StateStands start (added_items xs)) c.in-Open.is was.1 in
+    ap Failed (c.starting_at.ensures ∙ ap source_at c.next_number-before.ensures ∙ stood.next
+    ∙ ap (λ (l : List Folding). source_at (start + length l)) (sym (folding_order-forget (added_items xs))))
 
 pub returns-in-Err-clause-spent : goal.returns-in-Err-clause-spent
 returns-in-Err-clause-spent c = λ spent start xs was.
     let more = added c.args.self.now.ignore_builtin_redefinitions c.args.document.now.definitions in
     let is : c.in-Err.error ≡ ExtensionIds = cc in
     let reason = subst (λ (e : BuilderError). RefusedAs e ((start : ℕ) (xs : List TypeItem) → Stands start xs c.in-Open.tables → 2 ^ 64 ≤ start + length (folded (xs ++ added_items more)))) is c.in-Err.ensures.refused in
-    let full = reason start (added_items xs) (subst (StateStands start (added_items xs)) c.in-Open.is was) in
+    let full = reason start (added_items xs) (subst (StateStands start (added_items xs)) c.in-Open.is was.1) in
     let whole : folded (added_items xs ++ added_items more) ≡ folding_order (added_items (xs ++ more)) =
     ap folded (sym (map-append added_item xs more)) ∙ sym (folding_order-forget (added_items (xs ++ more))) in
     subst (λ (l : List Folding). 2 ^ 64 ≤ start + length l) whole full

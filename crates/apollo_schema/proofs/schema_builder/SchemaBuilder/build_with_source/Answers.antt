@@ -1,41 +1,47 @@
-use Rattle.std.proofs.Common.{◌≡◌, ◌≢◌, ℕ, ◌+◌, List, [], Err, sym, subst, IfOk, IfErr, OnOk}
+use Rattle.std.proofs.Common.{◌+◌, List, length, sym, ap, subst, ◌∙◌}
+use Rattle.std.proofs.Math.Logic.{∥∥₁_elim}
+use Rattle.std.proofs.Math.Bridge.{le_prop}
 use Rattle.apollo_component.specs.Extensions.{source_at}
-use Rattle.apollo_schema.specs.declared.build_error.BuildFailure.TheVariants as failures
-use Rattle.apollo_schema.specs.declared.schema_builder.State.{State}
-use Rattle.apollo_schema.specs.TypeParts.{Added, added_items}
-use Rattle.apollo_schema.specs.WholeSchema.{MeansSchema, folds}
-use Rattle.apollo_schema.specs.SchemaFaults.{faults_of, IfFaults}
-use Rattle.apollo_schema.specs.BuilderStands.{HasBuilt, SpendsIds, state_sources}
-use Rattle.apollo_schema.specs.Stands.{StateStands}
+use Rattle.apollo_schema.specs.declared.state.State.{State}
+use Rattle.apollo_schema.specs.TypeParts.{Folding, added_items}
+use Rattle.apollo_schema.specs.BuilderStands.{state_sources}
+use Rattle.apollo_schema.specs.Stands.{HasStood, StateStands}
+use Rattle.apollo_schema.proofs.OutcomeLemmas.{if_ok, on_ok, if_err}
+use Rattle.apollo_schema.proofs.PlaceLemmas.{folding_order-forget}
 use Rattle.apollo_schema.proofs.schema_builder.SchemaBuilder.build_with_source.Goals as goal
 
 pub returns-in-Open-clause-built : goal.returns-in-Open-clause-built
 returns-in-Open-clause-built c =
-    let adopts = c.args.self.adopt_orphan_extensions in
-    subst (λ (s : State). IfOk c.finish.result.0 (λ schema. (start : ℕ) (xs : List Added) → StateStands start (added_items xs) s → MeansSchema start adopts xs schema))
-    (sym c.in-Open.is) c.finish.ensures.built
+    if_ok c.finish.result.0 (λ schema means start xs was. means start xs (subst (StateStands start (added_items xs)) c.in-Open.is was.1)) c.finish.ensures.built
 
 pub returns-in-Open-clause-faultless : goal.returns-in-Open-clause-faultless
 returns-in-Open-clause-faultless c =
-    let adopts = c.args.self.adopt_orphan_extensions in
-    subst (λ (s : State). OnOk c.finish.result.0 ((start : ℕ) (xs : List Added) → StateStands start (added_items xs) s → faults_of adopts xs ≡ []))
-    (sym c.in-Open.is) c.finish.ensures.faultless
+    on_ok c.finish.result.0 (λ none start xs was. none start xs (subst (StateStands start (added_items xs)) c.in-Open.is was.1)) c.finish.ensures.faultless
 
 pub returns-in-Open-clause-faults : goal.returns-in-Open-clause-faults
 returns-in-Open-clause-faults c =
-    let adopts = c.args.self.adopt_orphan_extensions in
-    subst (λ (s : State). IfErr c.finish.result.0 (λ failure. IfFaults failure (λ partial faults. (start : ℕ) (xs : List Added) → StateStands start (added_items xs) s
-    → MeansSchema start adopts xs partial × ((faults ≡ faults_of adopts xs × faults ≢ []) × partial.sources ≡ state_sources s))))
-    (sym c.in-Open.is) c.finish.ensures.faults
+    if_err c.finish.result.0 (λ partial faults means start xs was.
+    let all = means start xs (subst (StateStands start (added_items xs)) c.in-Open.is was.1) in
+    (all.0, (all.1.0, all.1.1 ∙ ap state_sources (sym c.in-Open.is)))) c.finish.ensures.faults
 
 pub returns-in-Open-clause-spent : goal.returns-in-Open-clause-spent
-returns-in-Open-clause-spent c =
-    let adopts = c.args.self.adopt_orphan_extensions in
-    subst (λ (s : State). c.finish.result.0 ≡ Err failures.ExtensionIds → (start : ℕ) (xs : List Added) → StateStands start (added_items xs) s → SpendsIds start adopts xs)
-    (sym c.in-Open.is) c.finish.ensures.spent
+returns-in-Open-clause-spent c = λ spent start xs was. c.finish.ensures.spent spent start xs (subst (StateStands start (added_items xs)) c.in-Open.is was.1)
 
 pub returns-in-Open-clause-source : goal.returns-in-Open-clause-source
-returns-in-Open-clause-source c =
-    let adopts = c.args.self.adopt_orphan_extensions in
-    subst (λ (s : State). HasBuilt c.finish.result.0 → (start : ℕ) (xs : List Added) → StateStands start (added_items xs) s → c.finish.result.1 ≡ source_at (start + folds adopts xs))
-    (sym c.in-Open.is) c.finish.ensures.source
+returns-in-Open-clause-source c = λ built start xs was. c.finish.ensures.source built start xs (subst (StateStands start (added_items xs)) c.in-Open.is was.1)
+
+pub returns-in-Open-clause-rolled_back : goal.returns-in-Open-clause-rolled_back
+returns-in-Open-clause-rolled_back c = λ refused start xs was.
+    let stood = subst (StateStands start (added_items xs)) c.in-Open.is was.1 in
+    c.finish.ensures.rolled_back refused ∙ stood.next
+    ∙ ap (λ (l : List Folding). source_at (start + length l)) (sym (folding_order-forget (added_items xs)))
+
+pub returns-in-Open-clause-not_below : goal.returns-in-Open-clause-not_below
+returns-in-Open-clause-not_below c =
+    let first = c.args.self.first_number in
+    ∥∥₁_elim (subst (λ (s : State). ∥ HasStood first s ∥₁) c.in-Open.is c.args.self.standing) le_prop (λ h. c.finish.ensures.not_below first h.0 h.1)
+
+pub returns-in-Failed-clause-not_below : goal.returns-in-Failed-clause-not_below
+returns-in-Failed-clause-not_below c =
+    let first = c.args.self.first_number in
+    ∥∥₁_elim (subst (λ (s : State). ∥ HasStood first s ∥₁) c.in-Failed.is c.args.self.standing) le_prop (λ h. h)

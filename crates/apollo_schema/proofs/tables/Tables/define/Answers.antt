@@ -1,4 +1,5 @@
 use Rattle.std.proofs.Common.{◌≡◌, cond, [], ◌∷◌, map, Some, None, is_some, refl, sym, ap, ◌∙◌}
+use Rattle.std.specs.List.{filter_map}
 use Rattle.std.specs.Map.{lookup}
 use Rattle.std.specs.Option.{unwrap_or, option_copied}
 use Rattle.std.proofs.lemmas.Result.{err_from_is_err_and}
@@ -7,11 +8,11 @@ use Rattle.graphql_ast.specs.NameView.{NameView}
 use Rattle.graphql_ast.specs.ArgumentsByName.{same_text}
 use Rattle.apollo_component.specs.declared.extension.ComponentOrigin.TheVariants as origins
 use Rattle.apollo_component.specs.Extensions.{next_number}
-use Rattle.apollo_schema.specs.TypeParts.{TypePart, defined_part, extended_parts, kind_of, same}
+use Rattle.apollo_schema.specs.TypeParts.{TypePart, defined_part, extended_part, extended_parts, items_of, kind_of, same}
 use Rattle.apollo_schema.specs.DefinitionList.{of_kind}
 use Rattle.apollo_schema.specs.TypeMeaning.{type_from, extension_part, numbered}
 use Rattle.apollo_schema.specs.SchemaMeaning.{by_text}
-use Rattle.apollo_schema.specs.Stands.{parts_held}
+use Rattle.apollo_schema.specs.Stands.{items_held}
 use Rattle.apollo_schema.proofs.StandsLemmas.{Stands-again, Stands-new, new-spent}
 use Rattle.apollo_schema.proofs.RefusalLemmas.{RefusedAs-weaker}
 use Rattle.apollo_schema.proofs.tables.Tables.define.Goals as goal
@@ -29,7 +30,7 @@ returns-in_err-made-clause-refused c =
     rw (exit.1, exit.2) (RefusedAs-weaker c.in_err-made.field-0.0 _ _ (λ full start xs p is name was.
     new-spent was (record p { ignorable = c.args.ignores }) (extended_parts c.as_slice.result.now)
     (ap (λ (m : NameView). is_some (lookup (by_text m.text) t.types)) name ∙ ap is_some (sym c.get.ensures ∙ ap option_copied c.in_default.is))
-    (ap extended_parts c.as_slice.ensures ∙ c.take_waiting-extensions.ensures.taken ∙ ap (λ (m : NameView). parts_held (lookup (by_text m.text) t.waiting)) (sym name))
+    (ap (filter_map extended_part) (ap items_of c.as_slice.ensures ∙ c.take_waiting-extensions.ensures.taken ∙ ap (λ (m : NameView). items_held (lookup (by_text m.text) t.waiting)) (sym name)))
     (full p (ap defined_part is))) c.in_err-made.ensures.refused)
 
 -- the definition makes a type
@@ -47,7 +48,7 @@ returns-clause-stands c = λ start xs p is name was.
     sym c.in-Some-made.is ∙ c.in_ok-made.ensures.made p c.args.ignores defines in
     Stands-new was q _ c.in-Some-made.ty es
     (ap (λ (m : NameView). is_some (lookup (by_text m.text) t.types)) name ∙ ap is_some (sym c.get.ensures ∙ ap option_copied c.in_default.is))
-    (ap extended_parts c.as_slice.ensures ∙ c.take_waiting-extensions.ensures.taken ∙ ap (λ (m : NameView). parts_held (lookup (by_text m.text) t.waiting)) (sym name))
+    (ap (filter_map extended_part) (ap items_of c.as_slice.ensures ∙ c.take_waiting-extensions.ensures.taken ∙ ap (λ (m : NameView). items_held (lookup (by_text m.text) t.waiting)) (sym name)))
     (ap (λ o. unwrap_or o c.in-Some-made.ty) made)
     refl
     refl
@@ -55,5 +56,5 @@ returns-clause-stands c = λ start xs p is name was.
     refl
     c.take_waiting-extensions.ensures.names
     (c.in_ok-made.ensures.faults p c.args.ignores defines)
-    (λ n. c.take_waiting-extensions.ensures.left n ∙ ap (λ (m : NameView). cond (same n m.text) [] (parts_held (lookup (by_text n) t.waiting))) (sym name))
+    (λ n. c.take_waiting-extensions.ensures.left n ∙ ap (λ (m : NameView). cond (same n m.text) [] (items_held (lookup (by_text n) t.waiting))) (sym name))
     (c.in_ok-made.ensures.next p defines)

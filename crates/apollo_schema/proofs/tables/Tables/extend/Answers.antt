@@ -12,7 +12,7 @@ use Rattle.apollo_schema.specs.TypeMeaning.{Sourced, type_from, extension_part, 
 use Rattle.apollo_types.specs.TypeWriteOut.{type_kind}
 use Rattle.apollo_schema.specs.Joining.{joining_faults}
 use Rattle.apollo_schema.specs.SchemaMeaning.{by_text}
-use Rattle.apollo_schema.specs.Stands.{parts_held}
+use Rattle.apollo_schema.specs.Stands.{items_held}
 use Rattle.apollo_schema.proofs.StandsLemmas.{Stands-early, Stands-late, late-spent}
 use Rattle.apollo_schema.proofs.RefusalLemmas.{RefusedAs-weaker}
 use Rattle.apollo_schema.proofs.tables.Tables.extend.Goals as goal
@@ -30,8 +30,8 @@ returns-in_default-clause-stands c = λ start xs p is name was.
     (c.in_ok-wait.ensures.names ∙ ap (λ (m : NameView). cond (is_some (lookup (by_text m.text) t.waiting)) (keys_of t.waiting) (keys_of t.waiting ++ m ∷ [])) (sym name))
     absent
     (λ n. c.in_ok-wait.ensures.waits n
-    ∙ ap (λ (m : NameView). cond (same n m.text) (parts_held (lookup (by_text n) t.waiting) ++ extended_parts (c.args.extension.now ∷ [])) (parts_held (lookup (by_text n) t.waiting))) (sym name)
-    ∙ ap (λ l. cond (same n (key_of p)) (parts_held (lookup (by_text n) t.waiting) ++ l) (parts_held (lookup (by_text n) t.waiting))) (alone c.args.extension.now p is))
+    ∙ ap (λ (m : NameView). cond (same n m.text) (items_held (lookup (by_text n) t.waiting) ++ item_of c.args.extension.now ∷ []) (items_held (lookup (by_text n) t.waiting))) (sym name)
+    ∙ ap (λ x. cond (same n (key_of p)) (items_held (lookup (by_text n) t.waiting) ++ x ∷ []) (items_held (lookup (by_text n) t.waiting))) is)
 
 pub returns-in_err-extend_type-clause-refused : goal.returns-in_err-extend_type-clause-refused
 returns-in_err-extend_type-clause-refused c =

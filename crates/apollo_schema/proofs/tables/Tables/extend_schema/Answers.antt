@@ -1,4 +1,4 @@
-use Rattle.std.proofs.Common.{◌≡◌, ◌+◌, ◌^◌, ◌≤◌, refl, sym, rules}
+use Rattle.std.proofs.Common.{refl, rules}
 use Rattle.std.proofs.lemmas.Result.{err_from_is_err_and}
 use Rattle.apollo_schema.specs.TypeParts.{schema_extension_part}
 use Rattle.apollo_schema.proofs.RefusalLemmas.{RefusedAs-weaker}

@@ -1,4 +1,4 @@
-use Rattle.std.proofs.Common.{◌≡◌, map, sym, ap, ◌∙◌}
+use Rattle.std.proofs.Common.{map, sym, ap, ◌∙◌}
 use Rattle.apollo_schema.specs.TypeParts.{schema_extension_part}
 use Rattle.apollo_schema.specs.RootFaults.{roots_in}
 use Rattle.apollo_schema.specs.Adoption.{schema_for}

@@ -9,7 +9,7 @@ use Rattle.apollo_schema.specs.DirectiveMeaning.{directive_definitions, AreDirec
 use Rattle.apollo_schema.specs.TypeParts.{TypeItem, Other, item_of}
 use Rattle.apollo_schema.specs.Stands.{Stands}
 use Rattle.apollo_schema.proofs.StandsLemmas.{Stands-other}
-use Rattle.apollo_schema.proofs.RoleLemmas.{executable-other, executable-item, only-types}
+use Rattle.apollo_schema.proofs.RoleLemmas.{executable-other, executable-item}
 use Rattle.apollo_schema.proofs.tables.Tables.take_other.Goals as goal
 
 pub returns-in_ok-define_directive-in-DirectiveDefinition-clause-stands : goal.returns-in_ok-define_directive-in-DirectiveDefinition-clause-stands

@@ -1,0 +1,41 @@
+-- What follows from how a build ended.
+use Rattle.std.proofs.Common.{◌≡◌, ℕ, ◌+◌, ◌≤◌, Result, Ok, Err, List, ap, IfOk, IfErr, OnOk, arith}
+use Rattle.apollo_component.specs.declared.extension.ExtensionSource.{ExtensionSource}
+use Rattle.apollo_component.specs.Extensions.{next_number, source_at}
+use Rattle.apollo_schema.specs.declared.schema.Schema.{Schema}
+use Rattle.apollo_schema.specs.declared.build_error.BuildFailure.{BuildFailure}
+use Rattle.apollo_schema.specs.declared.build_error.BuildFailure.TheVariants as failures
+use Rattle.apollo_schema.specs.Collisions.{Fault}
+use Rattle.apollo_schema.specs.SchemaFaults.{IfFaults}
+use Rattle.apollo_schema.specs.BuilderStands.{HasBuilt, WasRefused}
+
+-- what holds of an answer holds in a weaker form
+pub if_ok : {A B : Type 0} {P Q : A → Type 0} (r : Result A B) → ((x : A) → P x → Q x) → IfOk r P → IfOk r Q
+if_ok (Ok x) give h = give x h
+if_ok (Err e) give h = tt
+
+pub on_ok : {A B : Type 0} {P Q : Type 0} (r : Result A B) → (P → Q) → OnOk r P → OnOk r Q
+on_ok (Ok x) give h = give h
+on_ok (Err e) give h = tt
+
+if_faults : {P Q : Schema → List Fault → Type 0} (f : BuildFailure) → ((s : Schema) (es : List Fault) → P s es → Q s es) → IfFaults f P → IfFaults f Q
+if_faults (failures.Faults w) give h = give w.partial w.errors.items h
+if_faults failures.Memory give h = tt
+if_faults failures.ExtensionIds give h = tt
+if_faults failures.Failed give h = tt
+
+pub if_err : {P Q : Schema → List Fault → Type 0} (r : Result Schema BuildFailure) → ((s : Schema) (es : List Fault) → P s es → Q s es) → IfErr r (λ f. IfFaults f P) → IfErr r (λ f. IfFaults f Q)
+if_err (Ok x) give h = tt
+if_err (Err f) give h = if_faults f give h
+
+-- a source that is so many numbers past the start is not below it
+pub past : (source : ExtensionSource) (start n : ℕ) → source ≡ source_at (start + n) → start ≤ next_number source
+past source start n at = let is : next_number source ≡ start + n = ap next_number at in omega (arith, is)
+
+-- so it is however the build ended
+pub past-either : (r : Result Schema BuildFailure) (source : ExtensionSource) (start m n : ℕ) → (HasBuilt r → source ≡ source_at (start + m)) → (WasRefused r → source ≡ source_at (start + n)) → start ≤ next_number source
+past-either (Ok schema) source start m n built refused = past source start m (built tt)
+past-either (Err (failures.Faults w)) source start m n built refused = past source start m (built tt)
+past-either (Err failures.Memory) source start m n built refused = past source start n (refused tt)
+past-either (Err failures.ExtensionIds) source start m n built refused = past source start n (refused tt)
+past-either (Err failures.Failed) source start m n built refused = past source start n (refused tt)
