@@ -1,11 +1,11 @@
 //! Runs of `schema` over definitions and extensions of the schema, with its options and without.
 
-use crate::fault_rows::expect_of;
+use crate::fault_rows::{BUILT_IN_SCALARS, expect_of};
 use crate::status::Status;
 use std::test::Fail;
 
 /// Inputs without a fault, and what is written.
-const WRITTEN: [(&str, &str); 3] = [
+pub const WRITTEN: [(&str, &str); 3] = [
     // A definition without a root is left out, and its directive with it.
     (
         "schema\n@ d\ndirective d\non SCHEMA\ndef object Query\nfield a Int",
@@ -31,23 +31,23 @@ fn schema_definitions_are_written(rt: HostRuntime) -> Result<(), Fail> {
     Ok(())
 }
 
+/// Extensions of the schema and of types, and no definition.
+pub const EXTENSIONS_ALONE: &str =
+    "ext-schema\n@ d\nroot query A\next-schema\nroot query B\next interface B\nfield x Int\next object A\nfield y Int";
+
 /// Inputs with faults, and what is written.
-const FAULTY: [(&str, &str); 4] = [
+pub const FAULTY: [(&str, &str); 3] = [
     (
         "ext-schema\n@ d",
         "fault 1 schema extension without a schema definition\n",
     ),
     (
-        "ext-schema\n@ d\nroot query A\next-schema\nroot query B\next interface B\nfield x Int\next object A\nfield y Int",
+        EXTENSIONS_ALONE,
         "fault 6 type extension for undefined type `B`\nfault 8 type extension for undefined type `A`\nfault 1 schema extension without a schema definition\nfault 4 schema extension without a schema definition\n",
     ),
     (
         "schema\nroot query A\nroot query B\nschema\nroot mutation M",
         "schema\nroot query A\nfault 3 duplicate definitions for the `query` root operation type\nfault 4 must not have multiple `schema` definitions\n",
-    ),
-    (
-        "def scalar String\ndef scalar Int\ndef scalar Float\ndef scalar Boolean\ndef scalar ID\ndef object Query\nfield foo String",
-        "def object Query\nfield foo String\nfault 1 built-in scalar definitions must be omitted\nfault 2 built-in scalar definitions must be omitted\nfault 3 built-in scalar definitions must be omitted\nfault 4 built-in scalar definitions must be omitted\nfault 5 built-in scalar definitions must be omitted\n",
     ),
 ];
 
@@ -61,7 +61,7 @@ fn faults_of_schema_definitions_are_printed(rt: HostRuntime) -> Result<(), Fail>
 }
 
 /// Inputs without a fault once extensions are adopted, and what is written.
-const ADOPTED: [(&str, &str); 3] = [
+pub const ADOPTED: [(&str, &str); 3] = [
     (
         "directive something\non SCHEMA\next-schema\n@ something\ndef object Query\nfield field Int",
         "schema\nroot query Query\next-schema\n@ something\ndirective something\non SCHEMA\ndef object Query\nfield field Int\n",
@@ -88,7 +88,7 @@ fn extensions_are_adopted(rt: HostRuntime) -> Result<(), Fail> {
 }
 
 /// Inputs with faults although extensions are adopted, and what is written.
-const ADOPTED_WITH_FAULTS: [(&str, &str); 3] = [
+pub const ADOPTED_WITH_FAULTS: [(&str, &str); 3] = [
     (
         "ext object T\n@ dir\next interface T\n@ dir\ndirective dir\nrepeatable\non SCHEMA\non OBJECT",
         "directive dir\nrepeatable\non SCHEMA\non OBJECT\ndef object T\next object T\n@ dir\nfault 3 adding an interface type extension, but `T` is an object type\n",
@@ -98,7 +98,7 @@ const ADOPTED_WITH_FAULTS: [(&str, &str); 3] = [
         "schema\nroot query AnotherQuery\nroot mutation Mutation\next-schema\nroot subscription S\ndef object Query\ndef object Mutation\ndef object S\ndef object AnotherQuery\nfault 2 duplicate definitions for the `query` root operation type\n",
     ),
     (
-        "ext-schema\n@ d\nroot query A\next-schema\nroot query B\next interface B\nfield x Int\next object A\nfield y Int",
+        EXTENSIONS_ALONE,
         "ext-schema\n@ d\nroot query A\ndef interface B\next interface B\nfield x Int\ndef object A\next object A\nfield y Int\nfault 5 duplicate definitions for the `query` root operation type\n",
     ),
 ];
@@ -113,13 +113,24 @@ fn adopted_extensions_have_faults(rt: HostRuntime) -> Result<(), Fail> {
     Ok(())
 }
 
+/// Definitions of built-in types, and an object type.
+pub const BUILT_IN_AGAIN: &str =
+    "def scalar String\ndef scalar Int\ndef object ID\ndef object Query\nfield foo String\n";
+
 #[test]
 fn built_in_redefinitions_are_ignored(rt: HostRuntime) -> Result<(), Fail> {
     let alloc = rt.alloc();
-    let words = ["schema", "--ignore-builtin", "--adopt"];
-    let input =
-        "def scalar String\ndef scalar Int\ndef object ID\ndef object Query\nfield foo String\n";
     let output = "def object Query\nfield foo String\n";
-    expect_of(&rt, alloc, &words, input, Status::Done, output);
+    let ignoring = ["schema", "--ignore-builtin"];
+    expect_of(
+        &rt,
+        alloc,
+        &ignoring,
+        BUILT_IN_SCALARS,
+        Status::Done,
+        output,
+    );
+    let both = ["schema", "--ignore-builtin", "--adopt"];
+    expect_of(&rt, alloc, &both, BUILT_IN_AGAIN, Status::Done, output);
     Ok(())
 }

@@ -6,6 +6,10 @@ use std::alloc::Global;
 use std::process::Abort;
 use std::test::Fail;
 
+/// The built-in scalar types again, and an object type.
+pub const BUILT_IN_SCALARS: &str =
+    "def scalar String\ndef scalar Int\ndef scalar Float\ndef scalar Boolean\ndef scalar ID\ndef object Query\nfield foo String";
+
 /// Expects this output and status for the input.
 fn expect(rt: &impl Abort, alloc: Global, input: &str, status: Status, output: &str) {
     expect_of(rt, alloc, &["schema"], input, status, output);
@@ -30,7 +34,7 @@ pub fn expect_of(
 }
 
 /// Inputs without a fault, and what is written.
-const FAULTLESS: [(&str, &str); 4] = [
+pub const FAULTLESS: [(&str, &str); 4] = [
     // Extensions wherever they stand, and a directive definition, which comes first.
     (
         "ext object Query\nfield withArg String\nfield@ deprecated\narg arg Boolean\ndef object Query\nfield int Int\next object Query\nimplements Inter\ndef interface Inter\nfield string String\next object Query\n@ customDirective\next object Query\nfield string String\ndirective customDirective\non OBJECT",
@@ -59,7 +63,7 @@ fn documents_without_faults(rt: HostRuntime) -> Result<(), Fail> {
 }
 
 /// Inputs with faults, and what is written.
-const FAULTY: [(&str, &str); 17] = [
+pub const FAULTY: [(&str, &str); 17] = [
     // Faults in the order in which they are found.
     (
         "ext object T\nimplements I\nfield a Int\next enum T\nvalue X\ndef object T\nimplements I\nimplements I\nfield a String\nfield a Int\ndef interface T\next object T\nfield a ID\next union U\nmember T",
@@ -79,7 +83,7 @@ const FAULTY: [(&str, &str); 17] = [
         "directive deprecated\non OBJECT\ndirective z\non OBJECT\nfault 5 the directive `@deprecated` is defined multiple times in the schema\n",
     ),
     (
-        "def scalar String\ndef scalar Int\ndef scalar Float\ndef scalar Boolean\ndef scalar ID\ndef object Query\nfield foo String",
+        BUILT_IN_SCALARS,
         "def object Query\nfield foo String\nfault 1 built-in scalar definitions must be omitted\nfault 2 built-in scalar definitions must be omitted\nfault 3 built-in scalar definitions must be omitted\nfault 4 built-in scalar definitions must be omitted\nfault 5 built-in scalar definitions must be omitted\n",
     ),
     // A built-in type is named by another kind, and one of another kind by a scalar.

@@ -37,7 +37,8 @@ pub fn expect_last_refused(rt: &impl Abort, alloc: Global, input: &str, reason: 
     );
 }
 
-const SAME: [&str; 14] = [
+/// Inputs that are printed as they are read.
+pub const SAME: [&str; 14] = [
     "def scalar S\n",
     "def scalar S\n@ d\n@ d\n",
     "ext scalar S\n@ d\n",
@@ -102,17 +103,19 @@ fn lines_below_a_header_stand_in_any_order(rt: HostRuntime) -> Result<(), Fail> 
     Ok(())
 }
 
+/// A type of each kind, one with an extension.
+pub const EACH_KIND: &str =
+    "def scalar S\n@ d\ndef object T\nfield a S\ndef interface I\nfield a S\narg x S\ndef union U\nmember T\next union U\nmember V\ndef enum E\nvalue A\ndef input P\nfield a S\nfield@ d\n";
+
 #[test]
 fn a_schema_has_types_of_each_kind(rt: HostRuntime) -> Result<(), Fail> {
     let alloc = rt.alloc();
-    let text =
-        "def scalar S\n@ d\ndef object T\nfield a S\ndef interface I\nfield a S\narg x S\ndef union U\nmember T\next union U\nmember V\ndef enum E\nvalue A\ndef input P\nfield a S\nfield@ d\n";
-    let mut reader = text.as_bytes();
+    let mut reader = EACH_KIND.as_bytes();
     let mut written = Vec::new(alloc);
     let mut said = Vec::new(alloc);
     let status = run(alloc, &["schema"], &mut reader, &mut written, &mut said);
     assert_eq!(rt; status, Status::Done);
-    assert_eq!(rt; written.as_slice(), text.as_bytes());
+    assert_eq!(rt; written.as_slice(), EACH_KIND.as_bytes());
     assert_eq!(rt; said.as_slice(), "".as_bytes());
     Ok(())
 }

@@ -17,6 +17,8 @@ pub mod kind_words;
 pub mod line;
 pub mod printing;
 pub mod reading;
+#[cfg(test)]
+mod rebuild_rows;
 pub mod refusal;
 #[cfg(test)]
 mod root_rows;

@@ -8,7 +8,8 @@ use graphql_ast::operation_type::OperationType;
 use graphql_ast::source::{FileId, SourceSpan};
 use std::test::Fail;
 
-const PRINTED: [(&str, &str); 7] = [
+/// Inputs, and what they are printed as.
+pub const PRINTED: [(&str, &str); 7] = [
     ("schema\n", "schema\n"),
     ("ext-schema", "ext-schema\n"),
     (

@@ -1,11 +1,16 @@
 //! Schemas read from the calls of the library: numbers, origins, and documents added one by one.
 
+use crate::adoption_rows::EXTENSIONS_ALONE;
 use crate::printing::print;
 use crate::reading::read;
+use apollo_component::component::ComponentName;
 use apollo_component::extension::ComponentOrigin;
+use apollo_schema::build_error::BuildFailure;
 use apollo_schema::schema::Schema;
 use apollo_schema::schema_builder::SchemaBuilder;
+use apollo_types::extended_type::ExtendedType;
 use graphql_ast::name::Name;
+use graphql_ast::operation_type::OperationType;
 use std::alloc::{AllocError, Global};
 use std::test::Fail;
 
@@ -144,11 +149,180 @@ fn each_kind_takes_its_extension(rt: HostRuntime) -> Result<(), Fail> {
     Ok(())
 }
 
+/// Whether a copy of a value is equal to it.
+fn is_copied<T: Clone + PartialEq + Drop>(value: &T) -> Result<bool, AllocError> {
+    let copy = value.clone()?;
+    Ok(copy == *value)
+}
+
+/// Whether a copy of the type itself, not of its node alone, is equal to it.
+fn is_type_copied(ty: &ExtendedType) -> Result<bool, AllocError> {
+    match ty {
+        ExtendedType::Scalar(node) => is_copied(&**node),
+        ExtendedType::Object(node) => is_copied(&**node),
+        ExtendedType::Interface(node) => is_copied(&**node),
+        ExtendedType::Union(node) => is_copied(&**node),
+        ExtendedType::Enum(node) => is_copied(&**node),
+        ExtendedType::InputObject(node) => is_copied(&**node),
+    }
+}
+
+#[test]
+fn copies_of_each_type_are_equal(rt: HostRuntime) -> Result<(), Fail> {
+    let alloc = rt.alloc();
+    let schema = built(alloc, EXTENSIONS_FIRST)?;
+    for ty in schema.types.values() {
+        assert!(rt; is_type_copied(ty)?);
+    }
+    assert!(rt; is_copied(&*schema.schema_definition)?);
+    Ok(())
+}
+
 #[test]
 fn a_copy_of_a_schema_is_equal(rt: HostRuntime) -> Result<(), Fail> {
     let alloc = rt.alloc();
     let schema = built(alloc, EXTENSIONS_FIRST)?;
     let copy = schema.clone()?;
     assert!(rt; copy == schema);
+    Ok(())
+}
+
+/// A builder that adopts extensions, and holds what a text says.
+fn adopting(alloc: Global, input: &str) -> Result<SchemaBuilder, Fail> {
+    let mut builder = SchemaBuilder::new(alloc)?.adopt_orphan_extensions();
+    for document in &read(alloc, input)? {
+        builder.add_ast(document)?;
+    }
+    Ok(builder)
+}
+
+/// The schema of what a builder holds, whatever is at fault, and the number that its source gives next.
+fn schema_and_next_number(builder: SchemaBuilder) -> Result<(Schema, u64), Fail> {
+    let (built, source) = builder.build_with_source();
+    let next = source.next_number();
+    match built {
+        Ok(schema) => Ok((schema, next)),
+        Err(BuildFailure::Faults(found)) => Ok((found.partial, next)),
+        Err(_) => Err(Fail::from("no schema")),
+    }
+}
+
+/// Where a root comes from, if it is named.
+fn push_root(text: &mut String, root: Option<&ComponentName>) -> Result<(), AllocError> {
+    match root {
+        Some(root) => push_origin(text, &root.name, root.origin),
+        None => Ok(()),
+    }
+}
+
+/// The components of the schema definition, each with where it comes from.
+fn schema_origins(alloc: Global, schema: &Schema) -> Result<String, Fail> {
+    let definition = &schema.schema_definition;
+    let mut text = String::new(alloc);
+    for directive in definition.directives.as_slice() {
+        push_origin(&mut text, &directive.node.name, directive.origin)?;
+    }
+    push_root(&mut text, definition.root_operation(OperationType::Query))?;
+    push_root(
+        &mut text,
+        definition.root_operation(OperationType::Mutation),
+    )?;
+    Ok(text)
+}
+
+/// The fields of an interface type, each with where it comes from.
+fn interface_origins(alloc: Global, schema: &Schema, name: &str) -> Result<String, Fail> {
+    let Some(ExtendedType::Interface(interface)) = schema.types.get(&Name::new(alloc, name)?) else {
+        return Err(Fail::from("no interface type"));
+    };
+    let mut text = String::new(alloc);
+    for field in interface.fields.values() {
+        push_origin(&mut text, &field.node.name, field.origin)?;
+    }
+    Ok(text)
+}
+
+/// The components of the interface type `B`, of the object type `A` and of the schema definition, each with where it comes
+/// from.
+fn all_origins(alloc: Global, schema: &Schema) -> Result<String, Fail> {
+    let b = interface_origins(alloc, schema, "B")?;
+    let a = origins(alloc, schema, "A")?;
+    let definition = schema_origins(alloc, schema)?;
+    Ok(format!(in alloc; "{b}{a}{definition}")?)
+}
+
+/// These components of what a text says where extensions are adopted, and the number that the source gives next.
+fn adopted_numbers(alloc: Global, input: &str) -> Result<String, Fail> {
+    let (schema, next) = schema_and_next_number(adopting(alloc, input)?)?;
+    let origins = all_origins(alloc, &schema)?;
+    Ok(format!(in alloc; "{origins}{next} is next\n")?)
+}
+
+#[test]
+fn adopted_extensions_of_types_are_numbered_first(rt: HostRuntime) -> Result<(), Fail> {
+    let alloc = rt.alloc();
+    let rows = [
+        // The second query root is dropped. Its extension has a number all the same.
+        (
+            EXTENSIONS_ALONE,
+            "x in extension 0 of line 6\ny in extension 1 of line 8\nd in extension 2 of line 1\nA in extension 2 of line 1\n4 is next\n",
+        ),
+        (
+            "ext-schema\n@ d\nroot query A\next-schema\nroot mutation B\next interface B\nfield x Int\next object A\nfield y Int",
+            "x in extension 0 of line 6\ny in extension 1 of line 8\nd in extension 2 of line 1\nA in extension 2 of line 1\nB in extension 3 of line 4\n4 is next\n",
+        ),
+    ];
+    for (input, numbers) in rows {
+        let text = adopted_numbers(alloc, input)?;
+        assert_eq!(rt; text.as_str(), numbers, "at {input:?}");
+    }
+    Ok(())
+}
+
+/// The names that what a text says extends and doesn't define, each on a line.
+fn orphan_names(alloc: Global, input: &str) -> Result<String, Fail> {
+    let builder = adopting(alloc, input)?;
+    let mut text = String::new(alloc);
+    for name in builder.iter_orphan_extension_types() {
+        let name = name.as_str();
+        write!(&mut text, "{name}\n")?;
+    }
+    Ok(text)
+}
+
+#[test]
+fn names_without_a_definition_are_told_before_a_build(rt: HostRuntime) -> Result<(), Fail> {
+    let alloc = rt.alloc();
+    let names = orphan_names(alloc, EXTENSIONS_ALONE)?;
+    assert_eq!(rt; names.as_str(), "B\nA\n");
+    Ok(())
+}
+
+/// The roots of the schema of what a text says where extensions are adopted, each on a line.
+fn adopted_roots(alloc: Global, input: &str) -> Result<String, Fail> {
+    let (schema, _next) = schema_and_next_number(adopting(alloc, input)?)?;
+    let mut text = schema_origins(alloc, &schema)?;
+    for operation_type in [
+        OperationType::Query,
+        OperationType::Mutation,
+        OperationType::Subscription,
+    ] {
+        if let Some(root) = schema.root_operation(operation_type) {
+            let name = root.as_str();
+            write!(&mut text, "{operation_type} is {name}\n")?;
+        }
+    }
+    Ok(text)
+}
+
+#[test]
+fn adopted_types_of_the_default_names_are_roots(rt: HostRuntime) -> Result<(), Fail> {
+    let alloc = rt.alloc();
+    let input = "ext object Query\nfield foo String\next object Mutation\nfield bar String";
+    let roots = adopted_roots(alloc, input)?;
+    assert_eq!(rt;
+        roots.as_str(),
+        "Query in the definition\nMutation in the definition\nquery is Query\nmutation is Mutation\n"
+    );
     Ok(())
 }

@@ -1,7 +1,7 @@
 //! What the command `schema` makes of its documents.
-ghost use Rattle.std.specs.Prelude.{◌≡◌, ℕ, List, [], true, IfOk, IfErr, if◌then◌else◌};
+ghost use Rattle.std.specs.Prelude.{◌≡◌, ℕ, List, [], true, Err, IfOk, IfErr, if◌then◌else◌};
 ghost use Rattle.apollo_schema.specs.TypeParts.{Added};
-ghost use Rattle.apollo_schema.specs.BuilderStands.{StandsFor, adopts, ignores};
+ghost use Rattle.apollo_schema.specs.BuilderStands.{StandsFor, SpendsIds, adopts, ignores};
 ghost use Rattle.apollo_schema.specs.SchemaFaults.{faults_of};
 ghost use Rattle.apollo_schema.specs.WholeSchema.{MeansSchema};
 ghost use Rattle.gqltool_run.specs.SchemaCommand.{list_of};
@@ -17,7 +17,7 @@ use apollo_schema::schema_builder::SchemaBuilder;
 use graphql_ast::document::Document;
 use std::alloc::{AllocError, Global};
 
-/// The builder, which adopts what is extended only if it did or shall.
+/// The builder, with adoption if it had it or `adopt` is set.
 fn with_adoption(builder: SchemaBuilder, adopt: bool) -> SchemaBuilder
     ensures stands { (start : ℕ) (xs : List Added) → StandsFor start xs builder → StandsFor start xs result }
     ensures adopts { adopts result ≡ (if adopt then true else adopts builder) }
@@ -29,7 +29,7 @@ fn with_adoption(builder: SchemaBuilder, adopt: bool) -> SchemaBuilder
     builder
 }
 
-/// The builder, which ignores redefinitions of built-in types from now on if it did or shall.
+/// The builder, which ignores redefinitions of built-in types from now on if it did or `ignore` is set.
 fn with_ignoring(builder: SchemaBuilder, ignore: bool) -> SchemaBuilder
     ensures stands { (start : ℕ) (xs : List Added) → StandsFor start xs builder → StandsFor start xs result }
     ensures adopts { adopts result ≡ adopts builder }
@@ -52,12 +52,15 @@ fn begun(alloc: Global, options: SchemaOptions) -> Result<SchemaBuilder, AllocEr
 }
 
 /// The schema of the documents, and its faults.
+///
+/// `Memory` is want of memory; `ExtensionIds` comes only where the extensions folded pass the largest number.
 pub fn built(
     alloc: Global,
     options: SchemaOptions,
     documents: &[Document],
 ) -> Result<(Schema, Faults), Failure>
     ensures exhausted { IfErr result (λ failure. status_of failure ≡ Status.Exhausted) }
+    ensures spent { result ≡ Err Failure.ExtensionIds → SpendsIds 0 options.adopt (list_of options.ignore_built_in documents.now) }
     ensures means { IfOk result (λ built. MeansSchema 0 options.adopt (list_of options.ignore_built_in documents.now) built.0) }
     ensures faults { IfOk result (λ built. built.1.items ≡ faults_of options.adopt (list_of options.ignore_built_in documents.now)) }
 {

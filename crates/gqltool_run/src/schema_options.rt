@@ -7,7 +7,7 @@ ghost use Rattle.gqltool_run.specs.SchemaOptions.{AreOptions, AreSchemaWords};
 pub struct SchemaOptions {
     /// `--adopt`: an extension without a definition gets one.
     pub adopt: bool,
-    /// `--ignore-builtin`: a further definition of a built-in name is passed over.
+    /// `--ignore-builtin`: a further definition of a built-in type is passed over.
     pub ignore_built_in: bool,
 }
 

@@ -20,23 +20,25 @@ fn expect_written(rt: &impl Abort, alloc: Global, input: &str, output: &str) {
 const QUERY: &str =
     "def object Query\nfield a Int\next object Query\nimplements N\next object Query\nfield b Int\n";
 
+/// Inputs, and what is written.
+pub const ROWS: [(&str, &str); 3] = [
+    (
+        "ext object Query\nfield b Int\ndef object Query\nfield a Int\next object Query\nimplements N",
+        QUERY,
+    ),
+    // What is written is written again as it is.
+    (QUERY, QUERY),
+    // The definition may stand in a later document than its extension.
+    (
+        "ext object Query\nfield b Int\n---\ndef object Query\nfield a Int\n---\next object Query\nimplements N",
+        QUERY,
+    ),
+];
+
 #[test]
 fn components_stand_under_their_origins(rt: HostRuntime) -> Result<(), Fail> {
     let alloc = rt.alloc();
-    let rows = [
-        (
-            "ext object Query\nfield b Int\ndef object Query\nfield a Int\next object Query\nimplements N",
-            QUERY,
-        ),
-        // What is written is written again as it is.
-        (QUERY, QUERY),
-        // The definition may stand in a later document than its extension.
-        (
-            "ext object Query\nfield b Int\n---\ndef object Query\nfield a Int\n---\next object Query\nimplements N",
-            QUERY,
-        ),
-    ];
-    for (input, output) in rows {
+    for (input, output) in ROWS {
         expect_written(&rt, alloc, input, output);
     }
     Ok(())

@@ -1,24 +1,40 @@
-use Rattle.std.proofs.Common.{◌≡◌, ℕ, ◌+◌, ◌<◌, Bool, false, get_or, take, List, [], ◌∷◌, ◌++◌, length, sym, ap, subst, ◌∙◌, append_assoc, arith}
-use Rattle.std.proofs.lemmas.List.{append-nil, map-append, take_more, take_all}
+use Rattle.std.proofs.Common.{◌≡◌, ℕ, ◌+◌, ◌<◌, Bool, false, get_or, take, drop, Err, List, [], ◌∷◌, ◌++◌, length, refl, sym, ap, subst, ◌∙◌, append_assoc, arith}
+use Rattle.std.proofs.lemmas.List.{append-nil, map-append, take_more, take-append-drop, take_all}
 use Rattle.std.proofs.lemmas.Grind.{flat_map-append}
 use Rattle.graphql_ast.specs.declared.document.Document.{Document}
 use Rattle.apollo_schema.specs.BuiltInTable.{built_in_definitions}
 use Rattle.apollo_schema.specs.TypeParts.{Added, added}
-use Rattle.apollo_schema.specs.BuilderStands.{StandsFor}
+use Rattle.apollo_schema.specs.declared.build_error.BuilderError.{BuilderError}
+use Rattle.apollo_schema.specs.declared.build_error.BuilderError.TheVariants as refusals
+use Rattle.apollo_schema.specs.declared.build_error.BuildFailure.TheVariants as builds
+use Rattle.apollo_schema.specs.BuilderStands.{StandsFor, SpendsIdsSoFar, SpendsIds}
 use Rattle.apollo_schema.specs.SchemaFaults.{faults_of}
 use Rattle.apollo_schema.specs.WholeSchema.{MeansSchema}
+use Rattle.apollo_schema.proofs.LongerLemmas.{spends-longer}
+use Rattle.gqltool_run.specs.declared.failure.Failure.TheVariants as failures
 use Rattle.gqltool_run.specs.SchemaCommand.{all_definitions, list_of}
+use Rattle.gqltool_run.specs.SchemaFailures.{failure_of_adding}
 use Rattle.gqltool_run.proofs.schema_command.built.Goals as goal
 
--- the list with the definitions of one document more
-list-turn : (b : Bool) (ds : List Document) (i : ℕ) (d : Document) → i < length ds → d ≡ get_or ds i d → list_of b (take (i + 1) ds) ≡ list_of b (take i ds) ++ added b d.definitions
+-- the list with the definitions of more documents
+list-append : (b : Bool) (ds es : List Document) → list_of b (ds ++ es) ≡ list_of b ds ++ added b (all_definitions es)
 unfolding list_of
+list-append b ds es =
+    ap (λ l. added false built_in_definitions ++ added b l) (flat_map-append (λ (document : Document). document.definitions) ds es)
+    ∙ ap (λ l. added false built_in_definitions ++ l) (map-append (λ d. (b, d)) (all_definitions ds) (all_definitions es))
+    ∙ sym (append_assoc (added false built_in_definitions) (added b (all_definitions ds)) (added b (all_definitions es)))
+
+-- and with those of one
+list-turn : (b : Bool) (ds : List Document) (i : ℕ) (d : Document) → i < length ds → d ≡ get_or ds i d → list_of b (take (i + 1) ds) ≡ list_of b (take i ds) ++ added b d.definitions
 list-turn b ds i d lt is =
     ap (list_of b) (take_more ds i d lt ∙ ap (λ e. take i ds ++ e ∷ []) (sym is))
-    ∙ ap (λ l. added false built_in_definitions ++ added b l) (flat_map-append (λ (document : Document). document.definitions) (take i ds) (d ∷ [])
-    ∙ ap (λ l. all_definitions (take i ds) ++ l) (append-nil d.definitions))
-    ∙ ap (λ l. added false built_in_definitions ++ l) (map-append (λ d. (b, d)) (all_definitions (take i ds)) d.definitions)
-    ∙ sym (append_assoc (added false built_in_definitions) (added b (all_definitions (take i ds))) (added b d.definitions))
+    ∙ list-append b (take i ds) (d ∷ [])
+    ∙ ap (λ l. list_of b (take i ds) ++ added b l) (append-nil d.definitions)
+
+spent_by : (e : BuilderError) → failure_of_adding e ≡ failures.ExtensionIds → e ≡ refusals.ExtensionIds
+spent_by refusals.ExtensionIds h = refl
+spent_by refusals.Memory h = absurd (cc)
+spent_by refusals.Failed h = absurd (cc)
 
 pub loop-document-init : goal.loop-document-init
 loop-document-init c = record { stands = c.in_ok-builder.ensures.stands; adopts = c.in_ok-builder.ensures.adopts; ignores = c.in_ok-builder.ensures.ignores }
@@ -78,3 +94,32 @@ returns-in-Err-Faults-clause-faults c =
     let whole : c.in-Err-Faults.built.errors.items ≡ faults_of c.args.options.adopt (list_of b ds) =
     all.1.0.0 ∙ ap (λ (s : Bool). faults_of s (list_of b (take i ds))) before.adopts ∙ ap (λ l. faults_of c.args.options.adopt (list_of b l)) (take_all i ds (omega arith)) in
     rw c.in-Err-Faults.field-0-is whole
+
+-- what one document's definitions spend, all that are added spend
+pub returns-in-Err-clause-spent : goal.returns-in-Err-clause-spent
+returns-in-Err-clause-spent c = λ spent.
+    let b = c.args.options.ignore_built_in in
+    let adopt = c.args.options.adopt in
+    let ds = c.args.documents.now in
+    let i = c.loop-document.document-index in
+    let d = c.document-item.result in
+    let before = c.loop-document.invariant in
+    let is : c.in-Err.error ≡ refusals.ExtensionIds = spent_by c.in-Err.error cc in
+    let refused : c.add_ast.result ≡ Err refusals.ExtensionIds = cc in
+    let so_far : SpendsIdsSoFar 0 (list_of b (take (i + 1) ds)) =
+    subst (SpendsIdsSoFar 0) (sym (list-turn b ds i d (omega arith) c.document-item.is))
+    (subst (λ (s : Bool). SpendsIdsSoFar 0 (list_of b (take i ds) ++ added s d.definitions)) before.ignores
+    (c.add_ast.ensures.spent refused 0 (list_of b (take i ds)) before.stands)) in
+    subst (SpendsIds 0 adopt) (sym (list-append b (take (i + 1) ds) (drop (i + 1) ds)) ∙ ap (list_of b) (take-append-drop (i + 1) ds))
+    (spends-longer 0 adopt (list_of b (take (i + 1) ds)) (added b (all_definitions (drop (i + 1) ds))) so_far)
+
+pub returns-in-Err-ExtensionIds-clause-spent : goal.returns-in-Err-ExtensionIds-clause-spent
+returns-in-Err-ExtensionIds-clause-spent c = λ spent.
+    let b = c.args.options.ignore_built_in in
+    let ds = c.args.documents.now in
+    let i = c.loop-document.document-index in
+    let before = c.loop-document.invariant in
+    let refused : c.build.result ≡ Err builds.ExtensionIds = cc in
+    subst (λ (l : List Document). SpendsIds 0 c.args.options.adopt (list_of b l)) (take_all i ds (omega arith))
+    (subst (λ (s : Bool). SpendsIds 0 s (list_of b (take i ds))) before.adopts
+    (c.build.ensures.spent refused 0 (list_of b (take i ds)) before.stands))
