@@ -160,6 +160,7 @@ pub fn extend_schema(
     ensures faults { OnOk result ((head : SchemaPart) (done : List SourcedSchema) → node.old ≡ schema_from head done
         → errors.new ≡ errors.old ++ schema_faults (map (λ s. s.1) done) (schema_extension_part extension.now)) }
     ensures next { OnOk result (ids.new ≡ source_at (next_number ids.old + 1)) }
+    ensures grows { next_number ids.old ≤ next_number ids.new }
     ensures refused { IfErr result (λ error. RefusedAs error (2 ^ 64 ≤ next_number ids.old + 1)) }
 {
     let id = ExtensionId::new(ids, extension)?;
@@ -185,6 +186,7 @@ fn extend_schema_by_all(
     ensures faults { OnOk result ((head : SchemaPart) (done : List SourcedSchema) → node.old ≡ schema_from head done
         → errors.new ≡ errors.old ++ schema_joining_faults (map (λ s. s.1) done) (map schema_extension_part extensions.now)) }
     ensures next { OnOk result (ids.new ≡ source_at (next_number ids.old + length extensions.now)) }
+    ensures grows { next_number ids.old ≤ next_number ids.new }
     ensures refused { IfErr result (λ error. RefusedAs error (2 ^ 64 ≤ next_number ids.old + length extensions.now)) }
 {
     for extension in extensions {
@@ -204,6 +206,7 @@ pub fn begin_schema(
     ensures made { IfOk result (λ made. made ≡ schema_begun (next_number ids.old) (schema_definition_part node.now) (map schema_extension_part extensions.now)) }
     ensures faults { OnOk result (errors.new ≡ errors.old ++ schema_begun_faults (schema_definition_part node.now) (map schema_extension_part extensions.now)) }
     ensures next { OnOk result (ids.new ≡ source_at (next_number ids.old + length extensions.now)) }
+    ensures grows { next_number ids.old ≤ next_number ids.new }
     ensures refused { IfErr result (λ error. RefusedAs error (2 ^ 64 ≤ next_number ids.old + length extensions.now)) }
 {
     let mut definition = schema_from_ast(alloc, node, errors)?;
