@@ -13,6 +13,7 @@ use Rattle.graphql_ast.specs.declared.operation_type.OperationType.TheVariants.{
 use Rattle.graphql_ast.specs.declared.type_kind.TypeKind.TheVariants as kinds
 use Rattle.graphql_ast.specs.declared.definition.Definition.{Definition}
 use Rattle.apollo_component.specs.Extensions.{next_number, source_at}
+use Rattle.apollo_types.specs.SchemaDefinitionWriteOut.{is_some_object}
 use Rattle.apollo_types.specs.declared.schema_definition.SchemaDefinition.{SchemaDefinition}
 use Rattle.apollo_schema.specs.declared.tables.Tables.{Tables}
 use Rattle.apollo_schema.specs.TypeParts.{TypePart, SchemaPart, TypeItem, SchemaDefined, TypeBody, ScalarBody, ObjectBody, InterfaceBody, UnionBody, EnumBody, InputObjectBody, extended_parts, schema_extension_part, kind_of, body_kind}
@@ -20,8 +21,8 @@ use Rattle.apollo_schema.specs.DefinitionList.{same_kind, first, first_schema, s
 use Rattle.apollo_schema.specs.TypeMeaning.{Sourced, type_at, type_from, parts}
 use Rattle.apollo_schema.specs.TypeFaults.{orphan}
 use Rattle.apollo_schema.specs.RootFaults.{roots_in, schema_orphan, further_schema}
-use Rattle.apollo_schema.specs.Adoption.{extended_names, orphans_of, schema_orphans, is_object_name, implicit_root, implicit_roots, schema_for, implied_schema}
-use Rattle.apollo_schema.specs.HeldRoots.{is_object, held_root, held_roots}
+use Rattle.apollo_schema.specs.Adoption.{extended_names, orphans_of, schema_orphans, is_object_name, default_root, implicit_root, implicit_roots, schema_for, implied_schema}
+use Rattle.apollo_schema.specs.HeldRoots.{held_root, held_roots}
 use Rattle.apollo_schema.specs.Joining.{schema_begun, schema_begun_faults}
 use Rattle.apollo_schema.specs.SchemaMeaning.{by_text, AreTypesOf}
 use Rattle.apollo_schema.specs.RootMeaning.{schema_of}
@@ -36,10 +37,10 @@ pub none-of : {X : Type 0} (o : Option X) → is_some o ≡ false → o ≡ None
 none-of None h = refl
 none-of (Some x) h = absurd (true≢false h)
 
-is_object-from : (d : TypePart) (ps : List Sourced) → is_object (Some (type_from d ps)) ≡ same_kind kinds.Object (kind_of d)
+is_object-from : (d : TypePart) (ps : List Sourced) → is_some_object (Some (type_from d ps)) ≡ same_kind kinds.Object (kind_of d)
 is_object-from d ps = by d.body
   where
-    by : (b : TypeBody) → is_object (Some (type_at b d ps)) ≡ same_kind kinds.Object (body_kind b)
+    by : (b : TypeBody) → is_some_object (Some (type_at b d ps)) ≡ same_kind kinds.Object (body_kind b)
     by ScalarBody = refl
     by (ObjectBody interfaces fields) = refl
     by (InterfaceBody interfaces fields) = refl
@@ -48,16 +49,16 @@ is_object-from d ps = by d.body
     by (InputObjectBody fields) = refl
 
 module _ {start : ℕ} {xs : List TypeItem} {t : Tables} (was : Stands start xs t) where
-  held-object : (n : List ℕ) → is_object (lookup (by_text n) t.types) ≡ is_object_name xs n
-  held-object n = ap is_object (was.types.each n) ∙ by (first xs n)
+  held-object : (n : List ℕ) → is_some_object (lookup (by_text n) t.types) ≡ is_object_name xs n
+  held-object n = ap is_some_object (was.types.each n) ∙ by (first xs n)
     where
-      by : (o : Option TypePart) → is_object (option_map (λ d. type_from d (parts start (folded xs) n d)) o) ≡ option_map_or (λ p. same_kind kinds.Object (kind_of p)) o false
+      by : (o : Option TypePart) → is_some_object (option_map (λ d. type_from d (parts start (folded xs) n d)) o) ≡ option_map_or (λ p. same_kind kinds.Object (kind_of p)) o false
       by None = refl
       by (Some d) = is_object-from d (parts start (folded xs) n d)
 
   -- the implicit roots of the tables are those of the list
   held-root : (op : OperationType) → held_root t.types op ≡ implicit_root xs op
-  held-root op = ap (λ b. cond b (record { value = (op, record { text = default_type_text op; location = None }); location = None } ∷ []) []) (held-object (default_type_text op))
+  held-root op = ap (λ b. cond b (default_root op ∷ []) []) (held-object (default_type_text op))
 
   held-roots : held_roots t.types ≡ implicit_roots xs
   held-roots =

@@ -21,7 +21,7 @@ use Rattle.apollo_schema.specs.DefinitionList.{first, extensions_of}
 use Rattle.apollo_schema.specs.SchemaMeaning.{by_text}
 use Rattle.apollo_schema.specs.Places.{types, Placed, first_place}
 use Rattle.apollo_schema.specs.Adoption.{extended_names, orphans_of, adopted_by, adopted}
-use Rattle.apollo_schema.specs.Prefixes.{waiting_of, waited_at, waited}
+use Rattle.apollo_schema.specs.Prefixes.{waited_at, waited}
 use Rattle.apollo_schema.specs.Stands.{items_held}
 use Rattle.apollo_schema.proofs.Texts.{same-true, same-is, same-flip}
 use Rattle.apollo_schema.proofs.EachLemmas.{flat_map-each}
@@ -165,7 +165,7 @@ module _ {X : Type 0} (give : List TypePart → List X) (nothing : give [] ≡ [
           ∙ sym (ap (λ o. flat_map (λ n. give (orphans_of xs n)) (cond (not (is_some o)) (n ∷ undefined xs ns) (undefined xs ns))) e)
 
   -- what waits, by name, are the extensions without a definition
-  pub orphans-waited : (xs : List TypeItem) → flat_map (λ k. give (waiting_of xs k.text)) (waited xs) ≡ flat_map (λ n. give (orphans_of xs n)) (extended_names xs)
+  pub orphans-waited : (xs : List TypeItem) → flat_map (λ k. give (orphans_of xs k.text)) (waited xs) ≡ flat_map (λ n. give (orphans_of xs n)) (extended_names xs)
   orphans-waited xs =
       sym (flat_map-map (λ n. give (orphans_of xs n)) (λ k. k.text) (waited xs)) ∙ orphans-undefined xs (texts (waited xs))
       ∙ ap (flat_map (λ n. give (orphans_of xs n))) (undefined-names xs) ∙ sym (orphans-undefined xs (extended_names xs))
@@ -233,28 +233,28 @@ module _ {X : Type 0} (give : NameView → List TypeItem → List X) where
       ∙ ap (λ b. give e.0 (items_held (cond b (Some e.1) (lookup (by_text e.0.text) es))) ++ flat_map (λ k. give k (items_held (lookup (by_text k.text) (e ∷ es)))) (keys_of es)) (sym (same-is e.0.text e.0.text refl))
 
   -- a table of what waits gives what it does under the names that waited
-  pub held-waited : (xs : List TypeItem) (W : List (NameView × List Definition)) → keys_of W ≡ waited xs → ((n : List ℕ) → items_held (lookup (by_text n) W) ≡ map Extended (waiting_of xs n))
-      → flat_map (λ e. give e.0 (items_of e.1)) W ≡ flat_map (λ k. give k (map Extended (waiting_of xs k.text))) (waited xs)
+  pub held-waited : (xs : List TypeItem) (W : List (NameView × List Definition)) → keys_of W ≡ waited xs → ((n : List ℕ) → items_held (lookup (by_text n) W) ≡ map Extended (orphans_of xs n))
+      → flat_map (λ e. give e.0 (items_of e.1)) W ≡ flat_map (λ k. give k (map Extended (orphans_of xs k.text))) (waited xs)
   held-waited xs W names each =
       held-by_name W (subst (IsDistinct same_text) (sym names) (waited-distinct xs))
       ∙ (λ i. flat_map (λ (k : NameView). give k (each k.text i)) (names i))
 
 -- a table of what waits gives what the extensions without a definition do, by name
 held-by : {X : Type 0} (give : List TypePart → List X) → give [] ≡ []
-    → (xs : List TypeItem) (W : List (NameView × List Definition)) → keys_of W ≡ waited xs → ((n : List ℕ) → items_held (lookup (by_text n) W) ≡ map Extended (waiting_of xs n))
+    → (xs : List TypeItem) (W : List (NameView × List Definition)) → keys_of W ≡ waited xs → ((n : List ℕ) → items_held (lookup (by_text n) W) ≡ map Extended (orphans_of xs n))
     → flat_map (λ e. give (extended_parts e.1)) W ≡ flat_map (λ n. give (orphans_of xs n)) (extended_names xs)
 held-by give nothing xs W names each =
     held-waited (λ k items. give (filter_map extended_part items)) xs W names each
-    ∙ (λ i. flat_map (λ (k : NameView). give (parts-extended (waiting_of xs k.text) i)) (waited xs))
+    ∙ (λ i. flat_map (λ (k : NameView). give (parts-extended (orphans_of xs k.text) i)) (waited xs))
     ∙ orphans-waited give nothing xs
 
 -- it holds the extensions without a definition
-pub held-orphans : (xs : List TypeItem) (W : List (NameView × List Definition)) → keys_of W ≡ waited xs → ((n : List ℕ) → items_held (lookup (by_text n) W) ≡ map Extended (waiting_of xs n))
+pub held-orphans : (xs : List TypeItem) (W : List (NameView × List Definition)) → keys_of W ≡ waited xs → ((n : List ℕ) → items_held (lookup (by_text n) W) ≡ map Extended (orphans_of xs n))
     → flat_map (λ e. extended_parts e.1) W ≡ flat_map (orphans_of xs) (extended_names xs)
 held-orphans xs W names each = held-by (λ ps. ps) refl xs W names each
 
 -- and what is adopted from it is what is adopted at the end of the list
-pub held-adopted : (xs : List TypeItem) (W : List (NameView × List Definition)) → keys_of W ≡ waited xs → ((n : List ℕ) → items_held (lookup (by_text n) W) ≡ map Extended (waiting_of xs n))
+pub held-adopted : (xs : List TypeItem) (W : List (NameView × List Definition)) → keys_of W ≡ waited xs → ((n : List ℕ) → items_held (lookup (by_text n) W) ≡ map Extended (orphans_of xs n))
     → flat_map (λ held. adopted_by (extended_parts held)) (values_of W) ≡ adopted xs
 held-adopted xs W names each = flat_map-map (λ held. adopted_by (extended_parts held)) (λ e. e.1) W ∙ held-by adopted_by refl xs W names each
 

@@ -13,7 +13,7 @@ use Rattle.apollo_schema.specs.DefinitionList.{first, extensions_of}
 use Rattle.apollo_schema.specs.SchemaMeaning.{by_text}
 use Rattle.apollo_schema.specs.TypeMeaning.{type_from, parts}
 use Rattle.apollo_schema.specs.Adoption.{extended_names, orphans_of}
-use Rattle.apollo_schema.specs.Prefixes.{folded, waiting_of, waited_at, waited}
+use Rattle.apollo_schema.specs.Prefixes.{folded, waited_at, waited}
 use Rattle.apollo_schema.specs.Stands.{Stands, items_held}
 use Rattle.apollo_schema.specs.OrphanNames.{first_name, orphan_names, name_if_any, names_held, IsExtendedUnder}
 use Rattle.apollo_schema.proofs.Texts.{same-true, same-is}
@@ -21,7 +21,7 @@ use Rattle.apollo_schema.proofs.EachLemmas.{each-append, each-weaken, flat_map-e
 use Rattle.apollo_schema.proofs.ItemLemmas.{snoc_ind, first-push_definition, first-push_undefined, extensions_of-push_extension, waited-push}
 use Rattle.apollo_schema.proofs.OrphanLemmas.{orphans-waited, held-waited}
 use Rattle.apollo_schema.proofs.TypeLemmas.{Own, Own-named}
-use Rattle.apollo_schema.proofs.WaitingLemmas.{waiting_of-defined, waiting_of-undefined}
+use Rattle.apollo_schema.proofs.WaitingLemmas.{orphans_of-defined, orphans_of-undefined}
 
 -- a name without a definition in a longer list has none in a front
 neither : {X : Type 0} (o m : Option X) → option_or o m ≡ None → o ≡ None
@@ -84,24 +84,24 @@ name_if_any-map f k [] = refl
 name_if_any-map f k (x ∷ xs) = refl
 
 -- what waits under a name has that name
-waiting-name : (xs : List TypeItem) (k : NameView) → IsFirst xs k → name_if_any k (map Extended (waiting_of xs k.text)) ≡ first_name (waiting_of xs k.text)
-waiting-name xs k is = name_if_any-map Extended k (waiting_of xs k.text) ∙ by (first xs k.text) refl
+waiting-name : (xs : List TypeItem) (k : NameView) → IsFirst xs k → name_if_any k (map Extended (orphans_of xs k.text)) ≡ first_name (orphans_of xs k.text)
+waiting-name xs k is = name_if_any-map Extended k (orphans_of xs k.text) ∙ by (first xs k.text) refl
   where
     named : (ps : List TypePart) → first_name ps ≡ k ∷ [] → name_if_any k ps ≡ first_name ps
     named [] h = refl
     named (p ∷ ps) h = sym h
 
-    by : (o : Option TypePart) → first xs k.text ≡ o → name_if_any k (waiting_of xs k.text) ≡ first_name (waiting_of xs k.text)
-    by (Some d) e = let none = waiting_of-defined xs k.text d e in ap (name_if_any k) none ∙ sym (ap first_name none)
-    by None e = named (waiting_of xs k.text) (ap first_name (waiting_of-undefined xs k.text e) ∙ is e)
+    by : (o : Option TypePart) → first xs k.text ≡ o → name_if_any k (orphans_of xs k.text) ≡ first_name (orphans_of xs k.text)
+    by (Some d) e = let none = orphans_of-defined xs k.text d e in ap (name_if_any k) none ∙ sym (ap first_name none)
+    by None e = named (orphans_of xs k.text) (ap first_name (orphans_of-undefined xs k.text e) ∙ is e)
 
 -- a table of what waits holds something under the names that are extended and not defined
-held-names : (xs : List TypeItem) (W : List (NameView × List Definition)) → keys_of W ≡ waited xs → ((n : List ℕ) → items_held (lookup (by_text n) W) ≡ map Extended (waiting_of xs n))
+held-names : (xs : List TypeItem) (W : List (NameView × List Definition)) → keys_of W ≡ waited xs → ((n : List ℕ) → items_held (lookup (by_text n) W) ≡ map Extended (orphans_of xs n))
     → names_held W ≡ orphan_names xs
 held-names xs W names each =
     sym (λ i. flat_map (λ (e : NameView × List Definition). name_if_any-map item_of e.0 e.1 i) W)
     ∙ held-waited (λ k items. name_if_any k items) xs W names each
-    ∙ flat_map-each (IsFirst xs) (λ k. name_if_any k (map Extended (waiting_of xs k.text))) (λ k. first_name (waiting_of xs k.text)) (waiting-name xs) (waited xs) (waited-first xs)
+    ∙ flat_map-each (IsFirst xs) (λ k. name_if_any k (map Extended (orphans_of xs k.text))) (λ k. first_name (orphans_of xs k.text)) (waiting-name xs) (waited xs) (waited-first xs)
     ∙ orphans-waited first_name refl xs
 
 -- what holds of the name of each first extension without a definition holds of each of those names
@@ -111,9 +111,9 @@ module _ (xs : List TypeItem) (P : NameView → Type 0) (holds : (e : TypePart) 
     where
       by : (ps : List TypePart) → orphans_of xs n ≡ ps → (o : Option TypePart) → first xs n ≡ o → AllByRecursion P (first_name ps)
       by [] e o f = tt
-      by (p ∷ ps) e (Some d) f = let g : [] ≡ p ∷ ps = sym (waiting_of-defined xs n d f) ∙ e in absurd (cc)
+      by (p ∷ ps) e (Some d) f = let g : [] ≡ p ∷ ps = sym (orphans_of-defined xs n d f) ∙ e in absurd (cc)
       by (p ∷ ps) e None f =
-          let own : Own n (p ∷ ps) = subst (Own n) (sym (waiting_of-undefined xs n f) ∙ e) (Own-named n (filter_map extended_part xs)) in
+          let own : Own n (p ∷ ps) = subst (Own n) (sym (orphans_of-undefined xs n f) ∙ e) (Own-named n (filter_map extended_part xs)) in
           let is : n ≡ key_of p = same-true n (key_of p) own.0 in
           (holds p ps (ap (first xs) (sym is) ∙ f) (ap (orphans_of xs) (sym is) ∙ e), tt)
 

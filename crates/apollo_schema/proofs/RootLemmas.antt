@@ -16,6 +16,7 @@ use Rattle.graphql_ast.specs.declared.type_system.SchemaExtension.{SchemaExtensi
 use Rattle.graphql_ast.specs.declared.definition.Definition.{Definition}
 use Rattle.apollo_component.specs.declared.component.ComponentName.{ComponentName}
 use Rattle.apollo_component.specs.declared.extension.ComponentOrigin.{ComponentOrigin}
+use Rattle.apollo_types.specs.SchemaDefinitionWriteOut.{root_of}
 use Rattle.apollo_types.specs.declared.schema_definition.SchemaDefinition.{SchemaDefinition}
 use Rattle.apollo_schema.specs.declared.build_error.BuildError.TheVariants as errors
 use Rattle.apollo_schema.specs.Collisions.{Fault}
@@ -23,7 +24,7 @@ use Rattle.apollo_schema.specs.TypeParts.{TypePart, SchemaPart, Defined, SchemaD
 use Rattle.apollo_schema.specs.Adoption.{adopted_part, adopted_by, schema_of_roots, adopting_schema, rooted_schema, schema_for}
 use Rattle.apollo_schema.specs.RootMeaning.{SourcedSchema, same_operation, schema_directives_of, roots_of, schema_definition_of}
 use Rattle.apollo_schema.specs.RootFaults.{Root, root_fault, root_faults, roots_in, schema_faults}
-use Rattle.apollo_schema.specs.RootTables.{NamedRoot, named_root, first_named, with_roots, root_at, put_root, held_fault, held_faults}
+use Rattle.apollo_schema.specs.RootTables.{NamedRoot, named_root, first_named, with_roots, put_root, held_fault, held_faults}
 use Rattle.apollo_schema.specs.Joining.{schema_numbered, schema_joining_faults}
 use Rattle.apollo_schema.proofs.FoldingLemmas.{enumerate_from-append, extended_parts-append, extended_parts-turn}
 
@@ -78,10 +79,10 @@ put-first d rs op c = by op
       subscription = own Subscription refl i;
     }
 
-pub root_at-first : (d : SchemaDefinition) (rs : List NamedRoot) (op : OperationType) → root_at op (with_roots d rs) ≡ first_named op rs
-root_at-first d rs Query = refl
-root_at-first d rs Mutation = refl
-root_at-first d rs Subscription = refl
+pub root_of-first : (d : SchemaDefinition) (rs : List NamedRoot) (op : OperationType) → root_of (with_roots d rs) op ≡ first_named op rs
+root_of-first d rs Query = refl
+root_of-first d rs Mutation = refl
+root_of-first d rs Subscription = refl
 
 -- one more root is folded
 pub held_faults-push : (rs : List NamedRoot) (o : ComponentOrigin) (xs : List Root) (x : Root)

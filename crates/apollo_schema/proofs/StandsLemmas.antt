@@ -23,9 +23,9 @@ use Rattle.apollo_schema.specs.Collisions.{Fault}
 use Rattle.apollo_schema.specs.TypeFaults.{part_faults, further_definition}
 use Rattle.apollo_schema.specs.SchemaFaults.{other_faults}
 use Rattle.apollo_schema.specs.RootMeaning.{schema_of}
-use Rattle.apollo_schema.specs.Adoption.{schema_orphans}
+use Rattle.apollo_schema.specs.Adoption.{schema_orphans, orphans_of}
 use Rattle.apollo_schema.specs.Joining.{joining_faults}
-use Rattle.apollo_schema.specs.Prefixes.{types_folded_at, schemas_folded_at, folded_at, folded, waiting_of, found_at, found, waited_at, waited}
+use Rattle.apollo_schema.specs.Prefixes.{types_folded_at, schemas_folded_at, folded_at, folded, found_at, found, waited_at, waited}
 use Rattle.apollo_schema.specs.Stands.{Stands, items_held}
 use Rattle.apollo_schema.proofs.Texts.{same-true, same-is}
 use Rattle.apollo_schema.proofs.NameTables.{lookup-put, keys-put, lookup-write}
@@ -35,7 +35,7 @@ use Rattle.apollo_schema.proofs.FaultLemmas.{found_at-new, found_at-again, found
 use Rattle.apollo_schema.proofs.OrphanLemmas.{waited-early, waited-late}
 use Rattle.apollo_schema.proofs.FoldingLemmas.{type_kind-from}
 use Rattle.apollo_schema.proofs.TypeLemmas.{Own, Apart, Own-named, Own-of_kind, Apart-own, types_folded_at-new, types_folded_at-again, types_folded_at-early, types_folded_at-late, type_of-same, type_of-more, type_of-new}
-use Rattle.apollo_schema.proofs.WaitingLemmas.{waiting_of-undefined, type_names-new, type_names-again, type_names-undefined, first-again, first-other, first-own, waiting_of-new, waiting_of-again, waiting_of-late, waiting_of-early, waiting_of-neither}
+use Rattle.apollo_schema.proofs.WaitingLemmas.{orphans_of-undefined, type_names-new, type_names-again, type_names-undefined, first-again, first-other, first-own, orphans_of-new, orphans_of-again, orphans_of-late, orphans_of-early, orphans_of-neither}
 
 -- a longer list folds no less
 pub length-folded-front : (xs ys : List TypeItem) → length (folded xs) ≤ length (folded (xs ++ ys))
@@ -97,7 +97,7 @@ module _ {start : ℕ} {xs : List TypeItem} {t : Tables} (was : Stands start xs 
   -- what is folded at the first definition of a name, and at an extension of a name that has a type
   new-were : (p : TypePart) (es : List TypePart) → is_some (lookup (by_text (key_of p)) t.types) ≡ false
       → es ≡ filter_map extended_part (items_held (lookup (by_text (key_of p)) t.waiting)) → es ≡ extensions_of xs (key_of p)
-  new-were p es absent were = were ∙ ap (filter_map extended_part) (was.waiting (key_of p)) ∙ parts-extended (waiting_of xs (key_of p)) ∙ waiting_of-undefined xs (key_of p) (undefined (key_of p) absent)
+  new-were p es absent were = were ∙ ap (filter_map extended_part) (was.waiting (key_of p)) ∙ parts-extended (orphans_of xs (key_of p)) ∙ orphans_of-undefined xs (key_of p) (undefined (key_of p) absent)
 
   new-folded : (p : TypePart) (es : List TypePart) → is_some (lookup (by_text (key_of p)) t.types) ≡ false
       → es ≡ filter_map extended_part (items_held (lookup (by_text (key_of p)) t.waiting)) → types_folded_at xs (Defined p) ≡ of_kind (kind_of p) es
@@ -155,8 +155,8 @@ module _ {start : ℕ} {xs : List TypeItem} {t : Tables} (was : Stands start xs 
   }
 
   -- what waits under names after an item that neither defines nor extends a type
-  pub same_waiting : (x : TypeItem) (u : Tables) → u.waiting ≡ t.waiting → defined_part x ≡ None → extended_part x ≡ None → (n : List ℕ) → items_held (lookup (by_text n) u.waiting) ≡ map Extended (waiting_of (xs ++ x ∷ []) n)
-  same_waiting x u same undefined unextended n = ap (λ l. items_held (lookup (by_text n) l)) same ∙ was.waiting n ∙ sym (ap (map Extended) (waiting_of-neither xs x undefined unextended n))
+  pub same_waiting : (x : TypeItem) (u : Tables) → u.waiting ≡ t.waiting → defined_part x ≡ None → extended_part x ≡ None → (n : List ℕ) → items_held (lookup (by_text n) u.waiting) ≡ map Extended (orphans_of (xs ++ x ∷ []) n)
+  same_waiting x u same undefined unextended n = ap (λ l. items_held (lookup (by_text n) l)) same ∙ was.waiting n ∙ sym (ap (map Extended) (orphans_of-neither xs x undefined unextended n))
 
   -- the names under which something waits after an item that adds none
   pub same_names : (x : TypeItem) (u : Tables) → keys_of u.waiting ≡ keys_of t.waiting → waited_at xs x ≡ [] → keys_of u.waiting ≡ waited (xs ++ x ∷ [])
@@ -183,7 +183,7 @@ module _ {start : ℕ} {xs : List TypeItem} {t : Tables} (was : Stands start xs 
           each = λ n. ap (lookup (by_text n)) types ∙ was.types.each n ∙ sym (type_of-same start xs (Defined p) n (first-again xs p n d some) (subst (Apart n) (sym none_folded) tt));
         };
         directives = same_directives (Defined p) u directives (filter_map-append directive_part xs (Defined p ∷ []) ∙ append-nil (directive_definitions xs));
-        waiting = λ n. ap (λ l. items_held (lookup (by_text n) l)) waiting ∙ was.waiting n ∙ sym (ap (map Extended) (waiting_of-again xs p n d some));
+        waiting = λ n. ap (λ l. items_held (lookup (by_text n) l)) waiting ∙ was.waiting n ∙ sym (ap (map Extended) (orphans_of-again xs p n d some));
         names = same_names (Defined p) u (ap keys_of waiting) refl;
         faults = more_faults (Defined p) u (further_definition d p) (errors d (parts start (folded xs) (key_of p) d) (late-type p ty d there some)) (found_at-again xs p d some);
         next = next ∙ was.next ∙ ap source_at (sym at ∙ omega arith ∙ counted start xs (Defined p) [] [] (next_number t.ids) at none_folded refl);
@@ -226,7 +226,7 @@ module _ {start : ℕ} {xs : List TypeItem} {t : Tables} (was : Stands start xs 
         directives = same_directives (Defined p) u directives (filter_map-append directive_part xs (Defined p ∷ []) ∙ append-nil (directive_definitions xs));
         names = same_names (Defined p) u names refl;
         faults = more_faults (Defined p) u _ errors (found_at-new xs p none ∙ ap (λ l. part_faults [] p ++ joining_faults p (p ∷ []) l) (sym (new-were p es absent were)));
-        waiting = λ n. waiting n ∙ ap (cond (same n (key_of p)) []) (was.waiting n) ∙ none_if (same n (key_of p)) (waiting_of xs n) ∙ sym (ap (map Extended) (waiting_of-new xs p n none));
+        waiting = λ n. waiting n ∙ ap (cond (same n (key_of p)) []) (was.waiting n) ∙ none_if (same n (key_of p)) (orphans_of xs n) ∙ sym (ap (map Extended) (orphans_of-new xs p n none));
         next = next ∙ ap source_at (omega arith ∙ counted start xs (Defined p) (of_kind (kind_of p) es) [] (next_number t.ids) at folding refl);
       }
 
@@ -246,7 +246,7 @@ module _ {start : ℕ} {xs : List TypeItem} {t : Tables} (was : Stands start xs 
         directives = same_directives (Extended p) u directives (filter_map-append directive_part xs (Extended p ∷ []) ∙ append-nil (directive_definitions xs));
         names = waited-early xs p t.waiting (keys_of u.waiting) none was.names names;
         faults = more_faults (Extended p) u [] (errors ∙ sym (append-nil t.errors)) (found_at-early xs p none);
-        waiting = λ n. waiting n ∙ ap (λ l. cond (same n (key_of p)) (l ++ Extended p ∷ []) l) (was.waiting n) ∙ one_more_if (same n (key_of p)) p (waiting_of xs n) ∙ sym (ap (map Extended) (waiting_of-early xs p n none));
+        waiting = λ n. waiting n ∙ ap (λ l. cond (same n (key_of p)) (l ++ Extended p ∷ []) l) (was.waiting n) ∙ one_more_if (same n (key_of p)) p (orphans_of xs n) ∙ sym (ap (map Extended) (orphans_of-early xs p n none));
         next = next ∙ was.next ∙ ap source_at (sym at ∙ omega arith ∙ counted start xs (Extended p) [] [] (next_number t.ids) at none_folded refl);
       }
 
@@ -285,7 +285,7 @@ module _ {start : ℕ} {xs : List TypeItem} {t : Tables} (was : Stands start xs 
           each = λ n. ap (lookup (by_text n)) types ∙ lookup-write n (key_of p) t.types ty grown there ∙ each n (same n (key_of p)) refl;
         };
         directives = same_directives (Extended p) u directives (filter_map-append directive_part xs (Extended p ∷ []) ∙ append-nil (directive_definitions xs));
-        waiting = λ n. ap (λ l. items_held (lookup (by_text n) l)) waiting ∙ was.waiting n ∙ sym (ap (map Extended) (waiting_of-late xs p n d some));
+        waiting = λ n. ap (λ l. items_held (lookup (by_text n) l)) waiting ∙ was.waiting n ∙ sym (ap (map Extended) (orphans_of-late xs p n d some));
         names = same_names (Extended p) u (ap keys_of waiting) (waited-late xs p d some);
         faults = more_faults (Extended p) u _ (errors d (parts start (folded xs) (key_of p) d) is)
             (found_at-late xs p d some ∙ ap (λ l. joining_faults d l (p ∷ [])) (sym (parts-forget start xs (key_of p) d some)));

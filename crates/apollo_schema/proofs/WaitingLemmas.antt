@@ -9,7 +9,7 @@ use Rattle.apollo_component.proofs.FirstOfEachLemmas.{is_some-lookup, first_of_e
 use Rattle.apollo_schema.specs.TypeParts.{TypePart, TypeItem, Defined, Extended, defined_part, extended_part, key_of, same}
 use Rattle.apollo_schema.specs.DefinitionList.{definitions, first, extensions_of}
 use Rattle.apollo_schema.specs.SchemaMeaning.{type_names}
-use Rattle.apollo_schema.specs.Prefixes.{waiting_of}
+use Rattle.apollo_schema.specs.Adoption.{orphans_of}
 use Rattle.apollo_schema.proofs.Texts.{same-true, same-is}
 use Rattle.apollo_schema.proofs.ItemLemmas.{definitions-push_definition, definitions-push_undefined, first-push_definition, first-push_undefined, extensions_of-push_extension, extensions_of-push_unextended}
 
@@ -48,54 +48,54 @@ module _ (xs : List TypeItem) (p : TypePart) where
   first-own none = first-push_definition xs p (key_of p) ∙ ap (λ o. option_or o (cond (same (key_of p) (key_of p)) (Some p) None)) none ∙ ap (λ b. cond b (Some p) None) (same-is (key_of p) (key_of p) refl)
 
 -- waiting extensions depend on the first definition and on the extensions
-waiting_of-same : (xs ys : List TypeItem) (n : List ℕ) → first ys n ≡ first xs n → extensions_of ys n ≡ extensions_of xs n → waiting_of ys n ≡ waiting_of xs n
-waiting_of-same xs ys n f e = rw (f, e)
+orphans_of-same : (xs ys : List TypeItem) (n : List ℕ) → first ys n ≡ first xs n → extensions_of ys n ≡ extensions_of xs n → orphans_of ys n ≡ orphans_of xs n
+orphans_of-same xs ys n f e = rw (f, e)
 
-pub waiting_of-defined : (xs : List TypeItem) (n : List ℕ) (d : TypePart) → first xs n ≡ Some d → waiting_of xs n ≡ []
-waiting_of-defined xs n d f = rw f
+pub orphans_of-defined : (xs : List TypeItem) (n : List ℕ) (d : TypePart) → first xs n ≡ Some d → orphans_of xs n ≡ []
+orphans_of-defined xs n d f = rw f
 
-pub waiting_of-undefined : (xs : List TypeItem) (n : List ℕ) → first xs n ≡ None → waiting_of xs n ≡ extensions_of xs n
-waiting_of-undefined xs n f = rw f
+pub orphans_of-undefined : (xs : List TypeItem) (n : List ℕ) → first xs n ≡ None → orphans_of xs n ≡ extensions_of xs n
+orphans_of-undefined xs n f = rw f
 
 module _ (xs : List TypeItem) (p : TypePart) where
-  pub waiting_of-new : (n : List ℕ) → first xs (key_of p) ≡ None → waiting_of (xs ++ Defined p ∷ []) n ≡ cond (same n (key_of p)) [] (waiting_of xs n)
-  waiting_of-new n none = by (same n (key_of p)) refl
+  pub orphans_of-new : (n : List ℕ) → first xs (key_of p) ≡ None → orphans_of (xs ++ Defined p ∷ []) n ≡ cond (same n (key_of p)) [] (orphans_of xs n)
+  orphans_of-new n none = by (same n (key_of p)) refl
     where
-      by : (b : Bool) → same n (key_of p) ≡ b → waiting_of (xs ++ Defined p ∷ []) n ≡ cond b [] (waiting_of xs n)
-      by true e = waiting_of-defined (xs ++ Defined p ∷ []) n p (ap (first (xs ++ Defined p ∷ [])) (same-true n (key_of p) e) ∙ first-own xs p none)
-      by false e = waiting_of-same xs (xs ++ Defined p ∷ []) n (first-other xs p n e) (extensions_of-push_unextended xs (Defined p) refl n)
+      by : (b : Bool) → same n (key_of p) ≡ b → orphans_of (xs ++ Defined p ∷ []) n ≡ cond b [] (orphans_of xs n)
+      by true e = orphans_of-defined (xs ++ Defined p ∷ []) n p (ap (first (xs ++ Defined p ∷ [])) (same-true n (key_of p) e) ∙ first-own xs p none)
+      by false e = orphans_of-same xs (xs ++ Defined p ∷ []) n (first-other xs p n e) (extensions_of-push_unextended xs (Defined p) refl n)
 
-  pub waiting_of-again : (n : List ℕ) (d : TypePart) → first xs (key_of p) ≡ Some d → waiting_of (xs ++ Defined p ∷ []) n ≡ waiting_of xs n
-  waiting_of-again n d some = waiting_of-same xs (xs ++ Defined p ∷ []) n (first-again xs p n d some) (extensions_of-push_unextended xs (Defined p) refl n)
+  pub orphans_of-again : (n : List ℕ) (d : TypePart) → first xs (key_of p) ≡ Some d → orphans_of (xs ++ Defined p ∷ []) n ≡ orphans_of xs n
+  orphans_of-again n d some = orphans_of-same xs (xs ++ Defined p ∷ []) n (first-again xs p n d some) (extensions_of-push_unextended xs (Defined p) refl n)
 
   -- an extension of another name
   extensions_of-other : (n : List ℕ) → same n (key_of p) ≡ false → extensions_of (xs ++ Extended p ∷ []) n ≡ extensions_of xs n
   extensions_of-other n e = extensions_of-push_extension xs p n ∙ ap (λ b. extensions_of xs n ++ cond b (p ∷ []) []) e ∙ append-nil (extensions_of xs n)
 
-  pub waiting_of-late : (n : List ℕ) (d : TypePart) → first xs (key_of p) ≡ Some d → waiting_of (xs ++ Extended p ∷ []) n ≡ waiting_of xs n
-  waiting_of-late n d some = by (same n (key_of p)) refl
+  pub orphans_of-late : (n : List ℕ) (d : TypePart) → first xs (key_of p) ≡ Some d → orphans_of (xs ++ Extended p ∷ []) n ≡ orphans_of xs n
+  orphans_of-late n d some = by (same n (key_of p)) refl
     where
-      by : (b : Bool) → same n (key_of p) ≡ b → waiting_of (xs ++ Extended p ∷ []) n ≡ waiting_of xs n
+      by : (b : Bool) → same n (key_of p) ≡ b → orphans_of (xs ++ Extended p ∷ []) n ≡ orphans_of xs n
       by true e =
           let here : first xs n ≡ Some d = ap (first xs) (same-true n (key_of p) e) ∙ some in
-          waiting_of-defined (xs ++ Extended p ∷ []) n d (first-push_undefined xs (Extended p) refl n ∙ here) ∙ sym (waiting_of-defined xs n d here)
-      by false e = waiting_of-same xs (xs ++ Extended p ∷ []) n (first-push_undefined xs (Extended p) refl n) (extensions_of-other n e)
+          orphans_of-defined (xs ++ Extended p ∷ []) n d (first-push_undefined xs (Extended p) refl n ∙ here) ∙ sym (orphans_of-defined xs n d here)
+      by false e = orphans_of-same xs (xs ++ Extended p ∷ []) n (first-push_undefined xs (Extended p) refl n) (extensions_of-other n e)
 
-  pub waiting_of-early : (n : List ℕ) → first xs (key_of p) ≡ None
-      → waiting_of (xs ++ Extended p ∷ []) n ≡ cond (same n (key_of p)) (waiting_of xs n ++ p ∷ []) (waiting_of xs n)
-  waiting_of-early n none = by (same n (key_of p)) refl
+  pub orphans_of-early : (n : List ℕ) → first xs (key_of p) ≡ None
+      → orphans_of (xs ++ Extended p ∷ []) n ≡ cond (same n (key_of p)) (orphans_of xs n ++ p ∷ []) (orphans_of xs n)
+  orphans_of-early n none = by (same n (key_of p)) refl
     where
-      by : (b : Bool) → same n (key_of p) ≡ b → waiting_of (xs ++ Extended p ∷ []) n ≡ cond b (waiting_of xs n ++ p ∷ []) (waiting_of xs n)
+      by : (b : Bool) → same n (key_of p) ≡ b → orphans_of (xs ++ Extended p ∷ []) n ≡ cond b (orphans_of xs n ++ p ∷ []) (orphans_of xs n)
       by true e =
           let here : first xs n ≡ None = ap (first xs) (same-true n (key_of p) e) ∙ none in
-          waiting_of-undefined (xs ++ Extended p ∷ []) n (first-push_undefined xs (Extended p) refl n ∙ here)
-          ∙ extensions_of-push_extension xs p n ∙ ap (λ b. extensions_of xs n ++ cond b (p ∷ []) []) e ∙ ap (λ l. l ++ p ∷ []) (sym (waiting_of-undefined xs n here))
-      by false e = waiting_of-same xs (xs ++ Extended p ∷ []) n (first-push_undefined xs (Extended p) refl n) (extensions_of-other n e)
+          orphans_of-undefined (xs ++ Extended p ∷ []) n (first-push_undefined xs (Extended p) refl n ∙ here)
+          ∙ extensions_of-push_extension xs p n ∙ ap (λ b. extensions_of xs n ++ cond b (p ∷ []) []) e ∙ ap (λ l. l ++ p ∷ []) (sym (orphans_of-undefined xs n here))
+      by false e = orphans_of-same xs (xs ++ Extended p ∷ []) n (first-push_undefined xs (Extended p) refl n) (extensions_of-other n e)
 
 -- an item that defines no type leaves names, and one that extends none either leaves what waits
 module _ (xs : List TypeItem) (x : TypeItem) (none : defined_part x ≡ None) where
   pub type_names-undefined : type_names (xs ++ x ∷ []) ≡ type_names xs
   type_names-undefined = ap (λ l. map (λ e. e.1.name) (first_of_each (same_key same) l)) (definitions-push_undefined xs x none)
 
-  pub waiting_of-neither : extended_part x ≡ None → (n : List ℕ) → waiting_of (xs ++ x ∷ []) n ≡ waiting_of xs n
-  waiting_of-neither unextended n = waiting_of-same xs (xs ++ x ∷ []) n (first-push_undefined xs x none n) (extensions_of-push_unextended xs x unextended n)
+  pub orphans_of-neither : extended_part x ≡ None → (n : List ℕ) → orphans_of (xs ++ x ∷ []) n ≡ orphans_of xs n
+  orphans_of-neither unextended n = orphans_of-same xs (xs ++ x ∷ []) n (first-push_undefined xs x none n) (extensions_of-push_unextended xs x unextended n)

@@ -8,6 +8,7 @@ use Rattle.graphql_ast.specs.declared.operation_type.OperationType.{OperationTyp
 use Rattle.graphql_ast.specs.declared.operation_type.OperationType.TheVariants.{Query, Mutation, Subscription}
 use Rattle.graphql_ast.specs.declared.type_kind.TypeKind.TheVariants as kinds
 use Rattle.apollo_component.specs.FirstOfEach.{first_of_each}
+use Rattle.apollo_types.specs.SchemaDefinitionWriteOut.{default_name}
 use Rattle.apollo_schema.specs.TypeParts.{TypePart, SchemaPart, TypeItem, Defined, SchemaDefined, TypeBody, ScalarBody, ObjectBody, InterfaceBody, UnionBody, EnumBody, InputObjectBody, extended_part, kind_of, key_of, same}
 use Rattle.apollo_schema.specs.DefinitionList.{same_kind, first, extensions_of, first_schema, schema_extensions}
 use Rattle.apollo_schema.specs.RootFaults.{Root, roots_in}
@@ -57,10 +58,13 @@ with_adopted adopts xs = if adopts then xs ++ adopted xs else xs
 abbrev pub is_object_name : List TypeItem → List ℕ → Bool
 is_object_name xs n = option_map_or (λ p. same_kind kinds.Object (kind_of p)) (first xs n) false
 
+-- a root with the operation's default name
+abbrev pub default_root : OperationType → Root
+default_root op = record { value = (op, default_name op); location = None }
+
 -- the root that stands where no schema definition names one: the object type with the operation's default name
 abbrev pub implicit_root : List TypeItem → OperationType → List Root
-implicit_root xs op =
-    if is_object_name xs (default_type_text op) then record { value = (op, record { text = default_type_text op; location = None }); location = None } ∷ [] else []
+implicit_root xs op = if is_object_name xs (default_type_text op) then default_root op ∷ [] else []
 
 abbrev pub implicit_roots : List TypeItem → List Root
 implicit_roots xs = flat_map (implicit_root xs) (Query ∷ Mutation ∷ Subscription ∷ [])

@@ -1,5 +1,5 @@
 -- What one more item adds to a list: the form that the builder is proved against.
-use Rattle.std.specs.Prelude.{ℕ, List, [], ◌∷◌, ◌++◌, map, length, ◌==◌, if◌then◌else◌}
+use Rattle.std.specs.Prelude.{List, [], ◌∷◌, ◌++◌, map, length, ◌==◌, if◌then◌else◌}
 use Rattle.std.specs.Option.{option_map_or}
 use Rattle.graphql_ast.specs.NameView.{NameView}
 use Rattle.apollo_schema.specs.TypeParts.{TypePart, SchemaPart, TypeItem, Defined, Extended, SchemaDefined, SchemaExtended, Other, Folding, OfType, OfSchema, kind_of, key_of}
@@ -9,7 +9,6 @@ use Rattle.apollo_schema.specs.TypeFaults.{part_faults, extension_faults, furthe
 use Rattle.apollo_schema.specs.RootFaults.{schema_faults, further_schema}
 use Rattle.apollo_schema.specs.Joining.{schema_begun_faults}
 use Rattle.apollo_schema.specs.DirectiveMeaning.{directive_definitions}
-use Rattle.apollo_schema.specs.Adoption.{orphans_of}
 use Rattle.apollo_schema.specs.SchemaFaults.{other_faults}
 
 -- the extensions of types that are folded at an item, where these items are before it: at the first definition of a name
@@ -40,10 +39,6 @@ added_after at before (x ∷ xs) = at before x ++ added_after at (before ++ x �
 -- the extensions that are folded, in the order of folding
 abbrev pub folded : List TypeItem → List Folding
 folded xs = added_after folded_at [] xs
-
--- the extensions of a name that have no definition yet
-abbrev pub waiting_of : List TypeItem → List ℕ → List TypePart
-waiting_of = orphans_of
 
 -- what is wrong with extensions of a name with this first definition, one after another, after these
 abbrev pub faults_after : TypePart → List TypePart → List TypePart → List Fault

@@ -35,12 +35,6 @@ with_roots d rs = record {
   subscription = first_named Subscription rs;
 }
 
--- the root of an operation
-abbrev pub root_at : OperationType → SchemaDefinition → Option ComponentName
-root_at Query d = d.query
-root_at Mutation d = d.mutation
-root_at Subscription d = d.subscription
-
 -- the schema definition with a root for an operation that has none
 abbrev pub put_root : OperationType → ComponentName → SchemaDefinition → SchemaDefinition
 put_root Query c d = record d { query = option_or d.query (Some c) }

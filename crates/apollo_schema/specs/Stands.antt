@@ -15,7 +15,7 @@ use Rattle.apollo_schema.specs.Adoption.{extended_names, orphans_of, schema_orph
 use Rattle.apollo_schema.specs.TypeFaults.{orphan}
 use Rattle.apollo_schema.specs.RootFaults.{schema_orphan}
 use Rattle.apollo_schema.specs.SchemaFaults.{faults_in}
-use Rattle.apollo_schema.specs.Prefixes.{added_after, folded, found_at, found, waited, waiting_of}
+use Rattle.apollo_schema.specs.Prefixes.{added_after, folded, found_at, found, waited}
 
 -- what is held under a name: nothing where there is no list
 abbrev pub items_held : Option (List Definition) → List TypeItem
@@ -28,7 +28,7 @@ pub record Stands (start : ℕ) (xs : List TypeItem) (t : Tables) : Type 0 where
   pub orphans : map schema_extension_part t.schema_extensions ≡ schema_orphans xs
   pub types : AreTypesOf start (folded xs) xs t.types
   pub directives : AreDirectivesOf (directive_definitions xs) t.directive_definitions
-  pub waiting : (n : List ℕ) → items_held (lookup (by_text n) t.waiting) ≡ map Extended (waiting_of xs n)
+  pub waiting : (n : List ℕ) → items_held (lookup (by_text n) t.waiting) ≡ map Extended (orphans_of xs n)
   pub names : keys_of t.waiting ≡ waited xs
   pub faults : t.errors ≡ found xs
   pub next : t.ids ≡ source_at (start + length (folded xs))

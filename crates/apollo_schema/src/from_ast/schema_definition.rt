@@ -3,12 +3,13 @@ ghost use Rattle.std.specs.Prelude.{◌≡◌, ◌+◌, ◌^◌, ◌≤◌, List
 ghost use Rattle.std.specs.Option.{option_or};
 ghost use Rattle.apollo_component.specs.Extensions.{next_number, source_at};
 ghost use Rattle.apollo_component.specs.declared.extension.ComponentOrigin.TheVariants as origins;
+ghost use Rattle.apollo_types.specs.SchemaDefinitionWriteOut.{root_of};
 ghost use Rattle.apollo_types.specs.declared.schema_definition.SchemaDefinition.{SchemaDefinition as AnyDefinition};
 ghost use Rattle.apollo_schema.specs.TypeParts.{SchemaPart, schema_definition_part, schema_extension_part};
 ghost use Rattle.apollo_schema.specs.TypeMeaning.{component_name};
 ghost use Rattle.apollo_schema.specs.RootMeaning.{SourcedSchema, schema_from, schema_definition_of};
 ghost use Rattle.apollo_schema.specs.RootFaults.{schema_faults};
-ghost use Rattle.apollo_schema.specs.RootTables.{NamedRoot, named_root, with_roots, root_at, put_root, dropped_root, held_fault, held_faults};
+ghost use Rattle.apollo_schema.specs.RootTables.{NamedRoot, named_root, with_roots, put_root, dropped_root, held_fault, held_faults};
 ghost use Rattle.apollo_schema.specs.Joining.{schema_numbered, schema_begun, schema_begun_faults, schema_joining_faults};
 ghost use Rattle.apollo_schema.specs.Refusals.{RefusedAs};
 
@@ -66,7 +67,7 @@ fn fold_root(
     errors: &mut Items<Fault>,
 ) -> Result<(), AllocError>
     ensures named { OnOk result (definition.new ≡ put_root root.now.value.0 (component_name origin root.now.value.1) definition.old) }
-    ensures faults { OnOk result (errors.new ≡ errors.old ++ held_fault (root_at root.now.value.0 definition.old) root.now) }
+    ensures faults { OnOk result (errors.new ≡ errors.old ++ held_fault (root_of definition.old root.now.value.0) root.now) }
 {
     let (operation_type, _) = &**root;
     match *operation_type {

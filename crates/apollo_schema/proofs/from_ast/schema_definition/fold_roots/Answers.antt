@@ -1,9 +1,10 @@
 use Rattle.std.proofs.Common.{◌≡◌, ◌++◌, map, take, sym, ap, ◌∙◌, append_assoc, arith}
 use Rattle.std.proofs.lemmas.List.{take_all}
+use Rattle.apollo_types.specs.SchemaDefinitionWriteOut.{root_of}
 use Rattle.apollo_schema.specs.TypeMeaning.{component_name}
-use Rattle.apollo_schema.specs.RootTables.{named_root, first_named, with_roots, root_at, put_root, held_fault, held_faults}
+use Rattle.apollo_schema.specs.RootTables.{named_root, first_named, with_roots, put_root, held_fault, held_faults}
 use Rattle.apollo_schema.proofs.KeptLemmas.{map-turn}
-use Rattle.apollo_schema.proofs.RootLemmas.{put-first, root_at-first, held_faults-turn}
+use Rattle.apollo_schema.proofs.RootLemmas.{put-first, root_of-first, held_faults-turn}
 use Rattle.apollo_schema.proofs.from_ast.schema_definition.fold_roots.Goals as goal
 
 pub loop-root-preserved : goal.loop-root-preserved
@@ -27,8 +28,8 @@ loop-root-preserved c =
           let so_far = held_faults rs o (take i xs) in
           let held = rs ++ map f (take i xs) in
           c.in_ok-fold_root.ensures.faults
-          ∙ (λ j. was.faults base rs h j ++ held_fault (root_at op (was.named base rs h j)) x)
-          ∙ ap (λ k. (before ++ so_far) ++ held_fault k x) (root_at-first base held op)
+          ∙ (λ j. was.faults base rs h j ++ held_fault (root_of (was.named base rs h j) op) x)
+          ∙ ap (λ k. (before ++ so_far) ++ held_fault k x) (root_of-first base held op)
           ∙ append_assoc before so_far (held_fault (first_named op held) x)
           ∙ ap (λ l. before ++ l) (sym (held_faults-turn rs o xs i x (omega arith) c.root-item.is));
     }
