@@ -5,7 +5,6 @@ pub mod Line
 pub mod Places
 pub mod Refusals
 pub mod SchemaCommand
-pub mod SchemaFailures
 pub mod SchemaOptions
 pub mod Status
 pub mod Text

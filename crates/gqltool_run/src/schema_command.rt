@@ -66,29 +66,19 @@ pub fn built(
 {
     let mut builder = begun(alloc, options)?;
     for document in documents {
-        if let Err(error) = builder.add_ast(document) {
-            return Err(Failure::from(error));
+        match builder.add_ast(document) {
+            Ok(()) => {}
+            Err(BuilderError::ExtensionIds) => return Err(Failure::ExtensionIds),
+            Err(BuilderError::Memory) => return Err(Failure::Memory),
+            // No earlier call was refused.
+            Err(BuilderError::Failed) => unreachable!(),
         }
     }
     match builder.build() {
         Ok(schema) => Ok((schema, Vec::new(alloc))),
         Err(BuildFailure::Faults(built)) => Ok((built.partial, built.errors)),
         Err(BuildFailure::ExtensionIds) => Err(Failure::ExtensionIds),
-        Err(BuildFailure::Memory | BuildFailure::Failed) => Err(Failure::Memory),
-    }
-}
-
-// A builder answers `Failed` only after it was refused memory or an identity, and then nothing more is asked of it.
-impl From<BuilderError> for Failure {
-    ghost use Rattle.std.specs.Prelude.{◌≡◌};
-    ghost use Rattle.gqltool_run.specs.SchemaFailures.{failure_of_adding};
-
-    ghost from_gives = { λ error failure. failure ≡ failure_of_adding error };
-
-    fn from(error: BuilderError) -> Failure {
-        match error {
-            BuilderError::ExtensionIds => Failure::ExtensionIds,
-            BuilderError::Memory | BuilderError::Failed => Failure::Memory,
-        }
+        Err(BuildFailure::Memory) => Err(Failure::Memory),
+        Err(BuildFailure::Failed) => unreachable!(),
     }
 }

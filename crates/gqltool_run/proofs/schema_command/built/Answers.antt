@@ -1,19 +1,16 @@
-use Rattle.std.proofs.Common.{◌≡◌, ℕ, ◌+◌, ◌<◌, Bool, false, get_or, take, drop, Err, List, [], ◌∷◌, ◌++◌, length, refl, sym, ap, subst, ◌∙◌, append_assoc, arith}
+use Rattle.std.proofs.Common.{◌≡◌, ℕ, ◌+◌, ◌<◌, Bool, false, get_or, take, drop, Err, List, [], ◌∷◌, ◌++◌, length, sym, ap, subst, ◌∙◌, append_assoc, arith}
 use Rattle.std.proofs.lemmas.List.{append-nil, map-append, take_more, take-append-drop, take_all}
 use Rattle.std.proofs.lemmas.Grind.{flat_map-append}
 use Rattle.graphql_ast.specs.declared.document.Document.{Document}
 use Rattle.apollo_schema.specs.BuiltInTable.{built_in_definitions}
 use Rattle.apollo_schema.specs.TypeParts.{Added, added}
-use Rattle.apollo_schema.specs.declared.build_error.BuilderError.{BuilderError}
 use Rattle.apollo_schema.specs.declared.build_error.BuilderError.TheVariants as refusals
 use Rattle.apollo_schema.specs.declared.build_error.BuildFailure.TheVariants as builds
 use Rattle.apollo_schema.specs.BuilderStands.{StandsFor, SpendsIdsSoFar, SpendsIds}
 use Rattle.apollo_schema.specs.SchemaFaults.{faults_of}
 use Rattle.apollo_schema.specs.WholeSchema.{MeansSchema}
 use Rattle.apollo_schema.proofs.LongerLemmas.{spends-longer}
-use Rattle.gqltool_run.specs.declared.failure.Failure.TheVariants as failures
 use Rattle.gqltool_run.specs.SchemaCommand.{all_definitions, list_of}
-use Rattle.gqltool_run.specs.SchemaFailures.{failure_of_adding}
 use Rattle.gqltool_run.proofs.schema_command.built.Goals as goal
 
 -- the list with the definitions of more documents
@@ -31,11 +28,6 @@ list-turn b ds i d lt is =
     ∙ list-append b (take i ds) (d ∷ [])
     ∙ ap (λ l. list_of b (take i ds) ++ added b l) (append-nil d.definitions)
 
-spent_by : (e : BuilderError) → failure_of_adding e ≡ failures.ExtensionIds → e ≡ refusals.ExtensionIds
-spent_by refusals.ExtensionIds h = refl
-spent_by refusals.Memory h = absurd (cc)
-spent_by refusals.Failed h = absurd (cc)
-
 pub loop-document-init : goal.loop-document-init
 loop-document-init c = record { stands = c.in_ok-builder.ensures.stands; adopts = c.in_ok-builder.ensures.adopts; ignores = c.in_ok-builder.ensures.ignores }
 
@@ -49,28 +41,28 @@ loop-document-preserved c =
     record {
       stands = subst (λ (l : List Added). StandsFor 0 l c.add_ast.new.self) (sym (list-turn b ds i d (omega arith) c.document-item.is))
           (subst (λ (s : Bool). StandsFor 0 (list_of b (take i ds) ++ added s d.definitions) c.add_ast.new.self) before.ignores
-          (c.in_default.ensures.stands 0 (list_of b (take i ds)) before.stands));
-      adopts = c.in_default.ensures.settings.0 ∙ before.adopts;
-      ignores = c.in_default.ensures.settings.1 ∙ before.ignores;
+          (c.in-Ok.ensures.stands 0 (list_of b (take i ds)) before.stands));
+      adopts = c.in-Ok.ensures.settings.0 ∙ before.adopts;
+      ignores = c.in-Ok.ensures.settings.1 ∙ before.ignores;
     }
 
-pub returns-in-Ok-clause-means : goal.returns-in-Ok-clause-means
-returns-in-Ok-clause-means c =
+pub returns-in-Ok-build-clause-means : goal.returns-in-Ok-build-clause-means
+returns-in-Ok-build-clause-means c =
     let b = c.args.options.ignore_built_in in
     let ds = c.args.documents.now in
     let i = c.loop-document.document-index in
     let before = c.loop-document.invariant in
-    subst (λ (l : List Document). MeansSchema 0 c.args.options.adopt (list_of b l) c.in-Ok.schema) (take_all i ds (omega arith))
-    (subst (λ (s : Bool). MeansSchema 0 s (list_of b (take i ds)) c.in-Ok.schema) before.adopts
-    (c.in-Ok.ensures.built 0 (list_of b (take i ds)) before.stands))
+    subst (λ (l : List Document). MeansSchema 0 c.args.options.adopt (list_of b l) c.in-Ok-build.schema) (take_all i ds (omega arith))
+    (subst (λ (s : Bool). MeansSchema 0 s (list_of b (take i ds)) c.in-Ok-build.schema) before.adopts
+    (c.in-Ok-build.ensures.built 0 (list_of b (take i ds)) before.stands))
 
-pub returns-in-Ok-clause-faults : goal.returns-in-Ok-clause-faults
-returns-in-Ok-clause-faults c =
+pub returns-in-Ok-build-clause-faults : goal.returns-in-Ok-build-clause-faults
+returns-in-Ok-build-clause-faults c =
     let b = c.args.options.ignore_built_in in
     let ds = c.args.documents.now in
     let i = c.loop-document.document-index in
     let before = c.loop-document.invariant in
-    c.new.ensures.items ∙ sym (c.in-Ok.ensures.faultless 0 (list_of b (take i ds)) before.stands)
+    c.new.ensures.items ∙ sym (c.in-Ok-build.ensures.faultless 0 (list_of b (take i ds)) before.stands)
     ∙ ap (λ (s : Bool). faults_of s (list_of b (take i ds))) before.adopts
     ∙ ap (λ l. faults_of c.args.options.adopt (list_of b l)) (take_all i ds (omega arith))
 
@@ -96,15 +88,14 @@ returns-in-Err-Faults-clause-faults c =
     rw c.in-Err-Faults.field-0-is whole
 
 -- what one document's definitions spend, all that are added spend
-pub returns-in-Err-clause-spent : goal.returns-in-Err-clause-spent
-returns-in-Err-clause-spent c = λ spent.
+pub returns-in-Err-ExtensionIds-clause-spent : goal.returns-in-Err-ExtensionIds-clause-spent
+returns-in-Err-ExtensionIds-clause-spent c = λ spent.
     let b = c.args.options.ignore_built_in in
     let adopt = c.args.options.adopt in
     let ds = c.args.documents.now in
     let i = c.loop-document.document-index in
     let d = c.document-item.result in
     let before = c.loop-document.invariant in
-    let is : c.in-Err.error ≡ refusals.ExtensionIds = spent_by c.in-Err.error cc in
     let refused : c.add_ast.result ≡ Err refusals.ExtensionIds = cc in
     let so_far : SpendsIdsSoFar 0 (list_of b (take (i + 1) ds)) =
     subst (SpendsIdsSoFar 0) (sym (list-turn b ds i d (omega arith) c.document-item.is))
@@ -113,8 +104,8 @@ returns-in-Err-clause-spent c = λ spent.
     subst (SpendsIds 0 adopt) (sym (list-append b (take (i + 1) ds) (drop (i + 1) ds)) ∙ ap (list_of b) (take-append-drop (i + 1) ds))
     (spends-longer 0 adopt (list_of b (take (i + 1) ds)) (added b (all_definitions (drop (i + 1) ds))) so_far)
 
-pub returns-in-Err-ExtensionIds-clause-spent : goal.returns-in-Err-ExtensionIds-clause-spent
-returns-in-Err-ExtensionIds-clause-spent c = λ spent.
+pub returns-in-Err-ExtensionIds-build-clause-spent : goal.returns-in-Err-ExtensionIds-build-clause-spent
+returns-in-Err-ExtensionIds-build-clause-spent c = λ spent.
     let b = c.args.options.ignore_built_in in
     let ds = c.args.documents.now in
     let i = c.loop-document.document-index in
