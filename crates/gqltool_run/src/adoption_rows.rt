@@ -1,6 +1,7 @@
 //! Runs of `schema` over definitions and extensions of the schema, with its options and without.
 
-use crate::fault_rows::{BUILT_IN_SCALARS, expect_of};
+use crate::expectations::expect_output;
+use crate::fault_rows::BUILT_IN_SCALARS;
 use crate::status::Status;
 use std::test::Fail;
 
@@ -26,7 +27,7 @@ pub const WRITTEN: [(&str, &str); 3] = [
 fn schema_definitions_are_written(rt: HostRuntime) -> Result<(), Fail> {
     let alloc = rt.alloc();
     for (input, output) in WRITTEN {
-        expect_of(&rt, alloc, &["schema"], input, Status::Done, output);
+        expect_output(&rt, alloc, &["schema"], input, Status::Done, output);
     }
     Ok(())
 }
@@ -55,7 +56,7 @@ pub const FAULTY: [(&str, &str); 3] = [
 fn faults_of_schema_definitions_are_printed(rt: HostRuntime) -> Result<(), Fail> {
     let alloc = rt.alloc();
     for (input, output) in FAULTY {
-        expect_of(&rt, alloc, &["schema"], input, Status::Faults, output);
+        expect_output(&rt, alloc, &["schema"], input, Status::Faults, output);
     }
     Ok(())
 }
@@ -82,7 +83,7 @@ fn extensions_are_adopted(rt: HostRuntime) -> Result<(), Fail> {
     let alloc = rt.alloc();
     let words = ["schema", "--adopt"];
     for (input, output) in ADOPTED {
-        expect_of(&rt, alloc, &words, input, Status::Done, output);
+        expect_output(&rt, alloc, &words, input, Status::Done, output);
     }
     Ok(())
 }
@@ -108,7 +109,7 @@ fn adopted_extensions_have_faults(rt: HostRuntime) -> Result<(), Fail> {
     let alloc = rt.alloc();
     let words = ["schema", "--adopt"];
     for (input, output) in ADOPTED_WITH_FAULTS {
-        expect_of(&rt, alloc, &words, input, Status::Faults, output);
+        expect_output(&rt, alloc, &words, input, Status::Faults, output);
     }
     Ok(())
 }
@@ -122,7 +123,7 @@ fn built_in_redefinitions_are_ignored(rt: HostRuntime) -> Result<(), Fail> {
     let alloc = rt.alloc();
     let output = "def object Query\nfield foo String\n";
     let ignoring = ["schema", "--ignore-builtin"];
-    expect_of(
+    expect_output(
         &rt,
         alloc,
         &ignoring,
@@ -131,6 +132,6 @@ fn built_in_redefinitions_are_ignored(rt: HostRuntime) -> Result<(), Fail> {
         output,
     );
     let both = ["schema", "--ignore-builtin", "--adopt"];
-    expect_of(&rt, alloc, &both, BUILT_IN_AGAIN, Status::Done, output);
+    expect_output(&rt, alloc, &both, BUILT_IN_AGAIN, Status::Done, output);
     Ok(())
 }

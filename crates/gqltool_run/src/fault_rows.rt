@@ -1,37 +1,12 @@
 //! Runs of `schema` over documents with faults, with directive definitions, and with built-in definitions.
 
-use crate::running::run;
+use crate::expectations::expect_output;
 use crate::status::Status;
-use std::alloc::Global;
-use std::process::Abort;
 use std::test::Fail;
 
 /// The built-in scalar types again, and an object type.
 pub const BUILT_IN_SCALARS: &str =
     "def scalar String\ndef scalar Int\ndef scalar Float\ndef scalar Boolean\ndef scalar ID\ndef object Query\nfield foo String";
-
-/// Expects this output and status for the input.
-fn expect(rt: &impl Abort, alloc: Global, input: &str, status: Status, output: &str) {
-    expect_of(rt, alloc, &["schema"], input, status, output);
-}
-
-/// Expects this output and status for the words and the input.
-pub fn expect_of(
-    rt: &impl Abort,
-    alloc: Global,
-    words: &[&str],
-    input: &str,
-    status: Status,
-    output: &str,
-) {
-    let mut reader = input.as_bytes();
-    let mut written = Vec::new(alloc);
-    let mut said = Vec::new(alloc);
-    let ended = run(alloc, words, &mut reader, &mut written, &mut said);
-    assert_eq!(rt; ended, status, "at {input:?}");
-    assert_eq!(rt; written.as_slice(), output.as_bytes(), "at {input:?}");
-    assert_eq!(rt; said.as_slice(), "".as_bytes(), "at {input:?}");
-}
 
 /// Inputs without a fault, and what is written.
 pub const FAULTLESS: [(&str, &str); 4] = [
@@ -57,7 +32,7 @@ pub const FAULTLESS: [(&str, &str); 4] = [
 fn documents_without_faults(rt: HostRuntime) -> Result<(), Fail> {
     let alloc = rt.alloc();
     for (input, output) in FAULTLESS {
-        expect(&rt, alloc, input, Status::Done, output);
+        expect_output(&rt, alloc, &["schema"], input, Status::Done, output);
     }
     Ok(())
 }
@@ -145,7 +120,7 @@ pub const FAULTY: [(&str, &str); 17] = [
 fn documents_with_faults(rt: HostRuntime) -> Result<(), Fail> {
     let alloc = rt.alloc();
     for (input, output) in FAULTY {
-        expect(&rt, alloc, input, Status::Faults, output);
+        expect_output(&rt, alloc, &["schema"], input, Status::Faults, output);
     }
     Ok(())
 }

@@ -1,9 +1,9 @@
 //! Rows of the notation: each kind of type, and directives.
 
+use crate::expectations::expect_output;
 use crate::printing::print;
 use crate::reading::read;
 use crate::refusal::{ReadError, Reason, RefusedLine};
-use crate::running::run;
 use crate::status::Status;
 use graphql_ast::definition::Definition;
 use graphql_ast::source::{FileId, SourceSpan};
@@ -110,13 +110,7 @@ pub const EACH_KIND: &str =
 #[test]
 fn a_schema_has_types_of_each_kind(rt: HostRuntime) -> Result<(), Fail> {
     let alloc = rt.alloc();
-    let mut reader = EACH_KIND.as_bytes();
-    let mut written = Vec::new(alloc);
-    let mut said = Vec::new(alloc);
-    let status = run(alloc, &["schema"], &mut reader, &mut written, &mut said);
-    assert_eq!(rt; status, Status::Done);
-    assert_eq!(rt; written.as_slice(), EACH_KIND.as_bytes());
-    assert_eq!(rt; said.as_slice(), "".as_bytes());
+    expect_output(&rt, alloc, &["schema"], EACH_KIND, Status::Done, EACH_KIND);
     Ok(())
 }
 

@@ -6,6 +6,8 @@
 pub mod above;
 #[cfg(test)]
 mod adoption_rows;
+#[cfg(test)]
+mod expectations;
 pub mod failure;
 mod fault_printing;
 #[cfg(test)]

@@ -8,9 +8,11 @@ use crate::kind_rows::{EACH_KIND, SAME};
 use crate::printing::print;
 use crate::reading::read;
 use crate::root_rows::PRINTED;
+use crate::schema_calls::{AROUND, EXTENSIONS_FIRST};
 use crate::schema_command::built;
 use crate::schema_options::SchemaOptions;
 use crate::schema_rows::ROWS;
+use crate::tests::{SAME as SAME_OBJECTS, WRITTEN as WRITTEN_OBJECTS};
 use apollo_schema::schema::Schema;
 use graphql_ast::collections::items::Items;
 use graphql_ast::collections::table::Table;
@@ -100,7 +102,10 @@ fn schemas_without_faults_are_rebuilt(rt: HostRuntime) -> Result<(), Fail> {
     expect_all_rebuilt(&rt, alloc, PLAIN, &ROWS)?;
     expect_all_rebuilt(&rt, alloc, PLAIN, &FAULTLESS)?;
     expect_all_rebuilt(&rt, alloc, PLAIN, &WRITTEN)?;
-    expect_rebuilt(&rt, alloc, PLAIN, EACH_KIND)
+    expect_all_rebuilt(&rt, alloc, PLAIN, &WRITTEN_OBJECTS)?;
+    expect_rebuilt(&rt, alloc, PLAIN, EACH_KIND)?;
+    expect_rebuilt(&rt, alloc, PLAIN, AROUND)?;
+    expect_rebuilt(&rt, alloc, PLAIN, EXTENSIONS_FIRST)
 }
 
 #[test]
@@ -152,6 +157,9 @@ fn a_schema_definition_without_a_root_is_not_rebuilt(rt: HostRuntime) -> Result<
 #[test]
 fn schemas_of_single_definitions_are_rebuilt(rt: HostRuntime) -> Result<(), Fail> {
     let alloc = rt.alloc();
+    for input in SAME_OBJECTS {
+        expect_rebuilt(&rt, alloc, PLAIN, input)?;
+    }
     for input in SAME {
         expect_rebuilt(&rt, alloc, PLAIN, input)?;
         expect_rebuilt(&rt, alloc, ADOPTING, input)?;

@@ -54,7 +54,8 @@ fn origins(alloc: Global, schema: &Schema, name: &str) -> Result<String, Fail> {
     Ok(text)
 }
 
-const AROUND: &str =
+/// Extensions before and behind their definitions, of two types.
+pub const AROUND: &str =
     "ext object Q\nfield b Int\nfield e Int\next object R\nfield z Int\ndef object Q\nfield a Int\next object Q\n@ d\nimplements N\n\ndef object R\next object Q\nfield c Int";
 
 #[test]
@@ -134,7 +135,7 @@ fn documents_one_by_one_have_the_same_origins(rt: HostRuntime) -> Result<(), Fai
 }
 
 /// An extension of each kind, and then their definitions.
-const EXTENSIONS_FIRST: &str =
+pub const EXTENSIONS_FIRST: &str =
     "ext scalar S\n@ b\next object O\n@ b\nimplements B\nfield b Int\next interface I\n@ b\nimplements B\nfield b Int\next union U\n@ b\nmember B\next enum E\n@ b\nvalue B\next input N\n@ b\nfield b Int\ndef scalar S\n@ a\ndef object O\n@ a\nimplements A\nfield a Int\ndef interface I\n@ a\nimplements A\nfield a Int\ndef union U\n@ a\nmember A\ndef enum E\n@ a\nvalue A\ndef input N\n@ a\nfield a Int\n";
 
 /// The definition of each kind, with its extension behind it.

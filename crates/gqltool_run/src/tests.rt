@@ -1,5 +1,6 @@
 //! Runs of the program over memory, and over streams that fail.
 
+use crate::expectations::{expect_output, expect_run};
 use crate::failure::Failure;
 use crate::refusal::{Reason, RefusedLine};
 use crate::running::run;
@@ -65,36 +66,9 @@ impl Write for FailingWriter {
     }
 }
 
-/// Runs over memory, and compares the status and both outputs.
-fn expect_run(
-    rt: &impl Abort,
-    alloc: Global,
-    words: &[&str],
-    input: &[u8],
-    status: Status,
-    output: &str,
-    errors: &str,
-) {
-    let mut reader = input;
-    let mut written = Vec::new(alloc);
-    let mut said = Vec::new(alloc);
-    let ended = run(alloc, words, &mut reader, &mut written, &mut said);
-    assert_eq!(rt; ended, status, "at {input:?}");
-    assert_eq!(rt; written.as_slice(), output.as_bytes(), "at {input:?}");
-    assert_eq!(rt; said.as_slice(), errors.as_bytes(), "at {input:?}");
-}
-
 /// Expects this output for the input, and no error.
 fn expect_written(rt: &impl Abort, alloc: Global, input: &str, output: &str) {
-    expect_run(
-        rt,
-        alloc,
-        &["schema"],
-        input.as_bytes(),
-        Status::Done,
-        output,
-        "",
-    );
+    expect_output(rt, alloc, &["schema"], input, Status::Done, output);
 }
 
 /// Expects that the input is refused with this text on the error output.
@@ -102,39 +76,43 @@ fn expect_refused(rt: &impl Abort, alloc: Global, input: &[u8], errors: &str) {
     expect_run(rt, alloc, &["schema"], input, Status::Refused, "", errors);
 }
 
+/// Inputs that are written as they are.
+pub const SAME: [&str; 6] = [
+    "",
+    "def object T\n",
+    "def object T\nfield a [[Int!]]!\n",
+    "def object T\n@ d\n@ e\nimplements N\nimplements M\nfield b Int\nfield c T!\n",
+    "def object T\nfield a Int\nfield@ d\nfield@ e\narg x [Int]\narg y Int!\nfield b Int\narg x Int\n",
+    "def object _\nfield _1 a_B9\n",
+];
+
+/// Inputs without a fault, and what is written.
+pub const WRITTEN: [(&str, &str); 7] = [
+    ("\n\n", ""),
+    ("---", ""),
+    ("---\n---\n", ""),
+    ("def object T", "def object T\n"),
+    (
+        "\ndef object T\n\n\nfield a Int",
+        "def object T\nfield a Int\n",
+    ),
+    (
+        "def object T\nfield a Int\narg x Int\n@ d\nfield@ e\nimplements N",
+        "def object T\n@ d\nimplements N\nfield a Int\nfield@ e\narg x Int\n",
+    ),
+    (
+        "def object A\nfield a Int\n---\ndef object B\nfield b Int\n",
+        "def object A\nfield a Int\ndef object B\nfield b Int\n",
+    ),
+];
+
 #[test]
 fn definitions_are_written(rt: HostRuntime) -> Result<(), Fail> {
     let alloc = rt.alloc();
-    let same = [
-        "",
-        "def object T\n",
-        "def object T\nfield a [[Int!]]!\n",
-        "def object T\n@ d\n@ e\nimplements N\nimplements M\nfield b Int\nfield c T!\n",
-        "def object T\nfield a Int\nfield@ d\nfield@ e\narg x [Int]\narg y Int!\nfield b Int\narg x Int\n",
-        "def object _\nfield _1 a_B9\n",
-    ];
-    for text in same {
+    for text in SAME {
         expect_written(&rt, alloc, text, text);
     }
-    let rows = [
-        ("\n\n", ""),
-        ("---", ""),
-        ("---\n---\n", ""),
-        ("def object T", "def object T\n"),
-        (
-            "\ndef object T\n\n\nfield a Int",
-            "def object T\nfield a Int\n",
-        ),
-        (
-            "def object T\nfield a Int\narg x Int\n@ d\nfield@ e\nimplements N",
-            "def object T\n@ d\nimplements N\nfield a Int\nfield@ e\narg x Int\n",
-        ),
-        (
-            "def object A\nfield a Int\n---\ndef object B\nfield b Int\n",
-            "def object A\nfield a Int\ndef object B\nfield b Int\n",
-        ),
-    ];
-    for (input, output) in rows {
+    for (input, output) in WRITTEN {
         expect_written(&rt, alloc, input, output);
     }
     Ok(())
@@ -324,7 +302,7 @@ fn schema_takes_options_in_any_order(rt: HostRuntime) -> Result<(), Fail> {
     ];
     for words in rows {
         let text = "def object T\n";
-        expect_run(&rt, alloc, words, text.as_bytes(), Status::Done, text, "");
+        expect_output(&rt, alloc, words, text, Status::Done, text);
     }
     Ok(())
 }
