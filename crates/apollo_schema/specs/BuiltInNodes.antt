@@ -1,4 +1,5 @@
--- Nodes in the file of built-in definitions, with no description and no directive.
+-- Nodes in the file of built-in definitions, with no description and no directive: GraphQL specification of October
+-- 2021, sections 3.5, 3.13 and 4.2.
 use Rattle.std.specs.Prelude.{ℕ, List, [], ◌∷◌, Option, None, Some, false, option_map}
 use Rattle.graphql_ast.specs.NameView.{NameView}
 use Rattle.graphql_ast.specs.NodeView.{NodeView}

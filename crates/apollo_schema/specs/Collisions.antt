@@ -1,4 +1,4 @@
--- Named components that a name before them keeps out.
+-- Named components that a name before them keeps out: GraphQL specification of October 2021, sections 3.6 to 3.10.
 use Rattle.std.specs.Prelude.{List, [], ◌∷◌, ◌++◌, Option}
 use Rattle.std.specs.List.{find}
 use Rattle.std.specs.Option.{option_map_or}

@@ -102,7 +102,7 @@ pub struct WithErrors<T> {
 }
 
 /// Why a builder stopped. It answers `Failed` from then on.
-#[derive(Clone, Copy, Debug, PartialEq, Eq, Error)]
+#[derive(Debug, Drop, PartialEq, Eq, Error)]
 pub enum BuilderError {
     #[error("out of memory")]
     Memory,

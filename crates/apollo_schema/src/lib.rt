@@ -12,8 +12,8 @@ pub mod orphan_names;
 mod orphans;
 pub mod schema;
 pub mod schema_builder;
-pub mod state;
-pub mod tables;
+mod state;
+mod tables;
 #[cfg(test)]
 mod tests;
 mod waiting;

@@ -126,8 +126,8 @@ impl SchemaBuilder {
     ///
     /// `Faults`, with what could be built, comes exactly where what was added has faults: they stand in the order of
     /// discovery, extensions without a definition after all others, those of types before those of the schema. `Memory`
-    /// is want of memory; `ExtensionIds` comes only where the extensions folded pass the largest number; `Failed` comes
-    /// exactly after a refusal.
+    /// is want of memory; `ExtensionIds` comes only where the extensions folded pass the largest number, and a schema, with
+    /// faults or without, only where they don't; `Failed` comes exactly after a refusal.
     pub fn build(self) -> Result<Schema, BuildFailure>
         ensures built { IfOk result (λ schema. (start : ℕ) (xs : List Added) → StandsFor start xs self → MeansSchema start (adopts self) xs schema) }
         ensures faultless { OnOk result ((start : ℕ) (xs : List Added) → StandsFor start xs self → faults_of (adopts self) xs ≡ []) }
@@ -136,6 +136,7 @@ impl SchemaBuilder {
         ensures sources { IfOk result (λ schema. schema.sources ≡ sources_of self) }
         ensures failed { HasFailed self ↔ (result ≡ Err BuildFailure.Failed) }
         ensures spent { result ≡ Err BuildFailure.ExtensionIds → (start : ℕ) (xs : List Added) → StandsFor start xs self → SpendsIds start (adopts self) xs }
+        ensures unspent { HasBuilt result → (start : ℕ) (xs : List Added) → StandsFor start xs self → ¬ SpendsIds start (adopts self) xs }
     {
         let (built, _source) = self.build_with_source();
         built
