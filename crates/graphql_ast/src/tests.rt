@@ -2,6 +2,7 @@
 
 mod arguments;
 mod containers;
+mod copies;
 mod definitions;
 mod documents;
 mod names;

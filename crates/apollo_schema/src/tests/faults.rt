@@ -87,8 +87,9 @@ fn built(alloc: Global, definitions: Items<Definition>) -> Result<WithErrors<Sch
 fn an_operation_is_at_fault(rt: HostRuntime) -> Result<(), Fail> {
     let alloc = rt.alloc();
     let found = built(alloc, operation(alloc)?)?;
-    let (place, _) = fault(&found)?;
+    let (place, error) = fault(&found)?;
     assert_eq!(rt; *place, Some(PLACE));
+    assert!(rt; error.clone()? == *error);
     let said = text(alloc, &found)?;
     assert_eq!(rt;
         said.as_str(),

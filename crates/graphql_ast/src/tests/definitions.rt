@@ -1,3 +1,4 @@
+use super::copies::is_held_copied;
 use super::names::PLACE;
 use crate::collections::items::Items;
 use crate::definition::Definition;
@@ -224,6 +225,7 @@ fn check(rt: &impl Abort, definition: Definition, text: &str) -> Result<(), Allo
     let copy = definition.clone()?;
     assert!(rt; copy == definition);
     assert_eq!(rt; copy.location(), Some(PLACE));
+    assert!(rt; is_held_copied(&definition)?);
     Ok(())
 }
 

@@ -1,3 +1,4 @@
+use super::copies::is_copied;
 use super::names::{PLACE, hash_of};
 use crate::collections::boxed::Boxed;
 use crate::collections::items::Items;
@@ -96,6 +97,24 @@ fn trees_are_equal_without_places(rt: HostRuntime) -> Result<(), Fail> {
     shorter.make_mut()?.directives = DirectiveList::new(alloc);
     assert!(rt; shorter != *node);
     assert_eq!(rt; (shorter.directives.len(), node.directives.len()), (0, 1));
+    Ok(())
+}
+
+#[test]
+fn parts_of_trees_are_copied(rt: HostRuntime) -> Result<(), Fail> {
+    let alloc = rt.alloc();
+    let selection = selection(alloc, Some(PLACE))?;
+    let fragment = inline(&selection).ok_or("no inline fragment")?;
+    assert!(rt; is_copied(&**fragment)?);
+    assert!(rt; is_copied(&fragment.directives)?);
+    let directive = fragment.directives.first().ok_or("no directive")?;
+    assert!(rt; is_copied(&**directive)?);
+    let argument = directive.arguments.first().ok_or("no argument")?;
+    assert!(rt; is_copied(&**argument)?);
+    let Some(Selection::Field(field)) = fragment.selection_set.first() else {
+        return Err(Fail::from("no field"));
+    };
+    assert!(rt; is_copied(&**field)?);
     Ok(())
 }
 
