@@ -7,12 +7,16 @@ use Rattle.graphql_ast.specs.declared.document.Document.{Document}
 use Rattle.apollo_schema.specs.declared.schema.Schema.{Schema}
 use Rattle.apollo_schema.specs.BuiltInTable.{built_in_definitions}
 use Rattle.apollo_schema.specs.TypeParts.{Added, added}
+use Rattle.apollo_schema.specs.BuilderStands.{SpendsIds}
 use Rattle.apollo_schema.specs.Collisions.{Fault}
 use Rattle.apollo_schema.specs.SchemaFaults.{faults_of}
 use Rattle.apollo_schema.specs.WholeSchema.{MeansSchema}
 use Rattle.apollo_schema.specs.SchemaWriteOut.{write_schema}
 use Rattle.gqltool_run.specs.declared.schema_options.SchemaOptions.{SchemaOptions}
-use Rattle.gqltool_run.specs.Documents.{AreDocumentsOf}
+use Rattle.gqltool_run.specs.declared.failure.Failure.{Failure}
+use Rattle.gqltool_run.specs.declared.failure.Failure.TheVariants as failures
+use Rattle.gqltool_run.specs.Line.{lines_of}
+use Rattle.gqltool_run.specs.Documents.{AreDocumentsOf, IsFirstRefused}
 use Rattle.gqltool_run.specs.SchemaOptions.{AreSchemaWords}
 use Rattle.gqltool_run.specs.Text.{definitions_text}
 
@@ -49,6 +53,15 @@ pub record IsAnswer (options : SchemaOptions) (input text : List ℕ) (has_fault
   pub prints : text ≡ definitions_text (write_schema schema) ++ lines
   pub tells : AreFaultLines (faults_of options.adopt (list_of options.ignore_built_in documents)) lines
   pub any : has_faults ≡ not (length (faults_of options.adopt (list_of options.ignore_built_in documents)) == 0)
+
+-- why an input has no answer with these options: a line says nothing where it stands, or the extensions spend the numbers;
+-- want of memory says nothing
+abbrev pub IsCause : SchemaOptions → List ℕ → Failure → Type 0
+IsCause options input failures.Usage = ⊥
+IsCause options input failures.CannotRead = ⊥
+IsCause options input (failures.RefusedLine refused) = IsFirstRefused (lines_of input) refused
+IsCause options input failures.Memory = Unit {0}
+IsCause options input failures.ExtensionIds = (documents : List Document) × (AreDocumentsOf input documents × SpendsIds 0 options.adopt (list_of options.ignore_built_in documents))
 
 -- the text is the answer to these words and this input
 abbrev pub IsAnswerTo : List (List ℕ) → List ℕ → List ℕ → Bool → Type 0

@@ -1,9 +1,9 @@
 //! The run of the program.
-ghost use Rattle.std.specs.Prelude.{All, ◌≡◌, ℕ, Bool, true, false, List, map, IfOk, OnOk, IfSome, string_bytes};
+ghost use Rattle.std.specs.Prelude.{All, ◌≡◌, ℕ, Bool, true, false, List, map, IfOk, IfErr, OnOk, IfSome, string_bytes};
 ghost use Rattle.std.specs.Io.KnownBytes.{Appends};
 ghost use Rattle.graphql_ast.specs.declared.definition.Definition.{Definition};
 ghost use Rattle.gqltool_run.specs.Line.{IsLine, lines_of};
-ghost use Rattle.gqltool_run.specs.SchemaCommand.{IsAnswer, IsAnswerTo};
+ghost use Rattle.gqltool_run.specs.SchemaCommand.{IsAnswer, IsAnswerTo, IsCause};
 ghost use Rattle.gqltool_run.specs.SchemaOptions.{AreSchemaWords};
 ghost use Rattle.gqltool_run.specs.Status.{Writes};
 ghost use Rattle.gqltool_run.specs.Text.{definitions_text};
@@ -41,7 +41,7 @@ pub fn run<R: Read, O: Write, E: Write>(
     ensures quiet { Writes result → errors.new ≡ errors.old }
     ensures usage { ((options : SchemaOptions) → ¬ AreSchemaWords (map (λ word. word.now) words.now) options) → (result ≡ Status.Refused) × (reader.new ≡ reader.old) }
 {
-    let answer = match answer(alloc, words, reader) {
+    let answer = match answer_words(alloc, words, reader) {
         Ok(answer) => answer,
         Err(failure) => {
             let _ = writeln!(errors, "{failure}");
@@ -60,13 +60,13 @@ pub fn run<R: Read, O: Write, E: Write>(
 
 /// What is to be written, and whether something is at fault.
 #[derive(Drop)]
-struct WholeAnswer {
-    text: String,
-    has_faults: bool,
+pub struct Answer {
+    pub text: String,
+    pub has_faults: bool,
 }
 
 /// The answer to the words and the input. Nothing is read where the words are refused.
-fn answer<R: Read>(alloc: Global, words: &[&str], reader: &mut R) -> Result<WholeAnswer, Failure>
+fn answer_words<R: Read>(alloc: Global, words: &[&str], reader: &mut R) -> Result<Answer, Failure>
     ensures read { OnOk result (IfSome (R.remaining reader.old) (λ input. All IsLine (lines_of input))) }
     ensures means { IfOk result (λ answer. IfSome (R.remaining reader.old) (λ input. IsAnswerTo (map (λ word. word.now) words.now) input (string_bytes answer.text) answer.has_faults)) }
     ensures printed { IfOk result (λ answer. answer.has_faults ≡ false → (definitions : List Definition) × (string_bytes answer.text ≡ definitions_text definitions)) }
@@ -80,17 +80,21 @@ fn answer<R: Read>(alloc: Global, words: &[&str], reader: &mut R) -> Result<Whol
     Ok(answer)
 }
 
-/// The answer of `schema` with these options to an input.
-fn schema_answer(alloc: Global, options: SchemaOptions, input: &str) -> Result<WholeAnswer, Failure>
+/// The answer of `schema` with these options to an input: the print of the write-out, and then a line for each fault.
+///
+/// `RefusedLine` tells the first line that says nothing where it stands; `ExtensionIds` comes only where the numbers don't
+/// suffice for the extensions of the input; `Memory` is want of memory. There is no other error.
+pub fn schema_answer(alloc: Global, options: SchemaOptions, input: &str) -> Result<Answer, Failure>
     ensures read { OnOk result (All IsLine (lines_of input.now)) }
     ensures means { IfOk result (λ answer. IsAnswer options input.now (string_bytes answer.text) answer.has_faults) }
     ensures printed { IfOk result (λ answer. answer.has_faults ≡ false → (definitions : List Definition) × (string_bytes answer.text ≡ definitions_text definitions)) }
+    ensures causes { IfErr result (IsCause options input.now) }
 {
     let documents = read(alloc, input)?;
     let (schema, faults) = built(alloc, options, documents.as_slice())?;
     let mut text = print(alloc, schema.to_ast(alloc)?.as_slice())?;
     push_faults(alloc, &mut text, faults.as_slice())?;
-    Ok(WholeAnswer {
+    Ok(Answer {
         text,
         has_faults: !faults.is_empty(),
     })

@@ -1,6 +1,7 @@
 use Rattle.std.proofs.Common.{◌≡◌, ℕ, ◌==◌, Bool, true, false, not, List, [], ◌∷◌, ◌++◌, length, vec_len, refl, sym, ap, subst, ◌∙◌, arith}
 use Rattle.std.proofs.lemmas.Bool.Decides.{nat_tests}
 use Rattle.std.proofs.lemmas.List.{append-nil}
+use Rattle.std.proofs.lemmas.Result.{err_from_is_err_and}
 use Rattle.graphql_ast.specs.declared.document.Document.{Document}
 use Rattle.apollo_schema.specs.Collisions.{Fault}
 use Rattle.apollo_schema.specs.SchemaFaults.{faults_of}
@@ -48,3 +49,13 @@ returns-clause-printed c = λ none.
           ++ no-lines c.as_slice-3.result.now lines empty c.in_ok-push_faults.ensures.1.1 i)
           ∙ append-nil (definitions_text (write_schema c.in_ok-schema.schema)),
     )
+
+pub returns-in_err-text-clause-causes : goal.returns-in_err-text-clause-causes
+returns-in_err-text-clause-causes c =
+    let exit = err_from_is_err_and c.from_residual-in_err-text.result c.from_residual-in_err-text.ensures.1 in
+    rw (exit.1, exit.2) tt
+
+pub returns-in_err-push_faults-clause-causes : goal.returns-in_err-push_faults-clause-causes
+returns-in_err-push_faults-clause-causes c =
+    let exit = err_from_is_err_and c.from_residual-in_err-push_faults.result c.from_residual-in_err-push_faults.ensures.1 in
+    rw (exit.1, exit.2) tt

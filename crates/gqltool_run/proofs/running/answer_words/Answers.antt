@@ -1,7 +1,7 @@
 use Rattle.std.proofs.Common.{◌≡◌, ℕ, All, List, Option, None, Some, IfSome, map, string_bytes, subst, ◌∙◌}
 use Rattle.gqltool_run.specs.Line.{IsLine, lines_of}
 use Rattle.gqltool_run.specs.SchemaCommand.{IsAnswer, IsAnswerTo}
-use Rattle.gqltool_run.proofs.running.answer.Goals as goal
+use Rattle.gqltool_run.proofs.running.answer_words.Goals as goal
 
 if_some : {X : Type 0} (o : Option X) (P Q : X → Type 0) → ((x : X) → P x → Q x) → IfSome o P → IfSome o Q
 if_some None P Q f h = h
