@@ -69,7 +69,8 @@ found-name k ks = find-name k.name ks ∙ ap (option_map (λ (k : ComponentName)
 pub found-key : {V : Type 0} (n : NameView) (es : List (NameView × V)) → find (same_text n) (keys_of es) ≡ lookup_key (same_text n) (first_of_each (same_key same_text) es)
 found-key n es = sym (lookup_key-find (same_text n) (first_of_each (same_key same_text) es) ∙ ap (find (same_text n)) (keys_of-first_of_each same_text es) ∙ find-first_of_each same_text name_laws n (keys_of es))
 
-key-any : {V : Type 0} (n : NameView) (es : List (NameView × V)) → is_some (find (same_text n) (keys_of es)) ≡ list_any (λ e. same_text n e.0) es
+-- a name is found where some entry has it
+pub key-any : {V : Type 0} (n : NameView) (es : List (NameView × V)) → is_some (find (same_text n) (keys_of es)) ≡ list_any (λ e. same_text n e.0) es
 key-any n [] = refl
 key-any {V} n (e ∷ es) = by (same_text n e.0) (key-any n es)
   where

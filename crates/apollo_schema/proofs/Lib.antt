@@ -14,6 +14,7 @@ pub mod KeptLemmas
 pub mod KindParts
 pub mod LongerLemmas
 pub mod NameTables
+pub mod OnceLemmas
 pub mod OrphanLemmas
 pub mod OrphanNameLemmas
 pub mod OutcomeLemmas

@@ -1,11 +1,15 @@
 //! Laws of the definitions, for those who build on them.
-ghost use Rattle.std.specs.Prelude.{◌≡◌, ◌⊎◌, ◌≤◌, ℕ, Bool, List, [], ◌∷◌, ◌++◌, None, Some, true, false, length, codes, map, filter_map, option_map, All};
-ghost use Rattle.apollo_schema.specs.TypeParts.{TypePart, TypeItem, Added, kind_of, added, added_items};
+ghost use Rattle.std.specs.Prelude.{◌≡◌, ◌⊎◌, ◌≤◌, ◌+◌, ℕ, Bool, List, [], ◌∷◌, ◌++◌, None, Some, true, false, length, codes, map, filter, filter_map, option_map, All};
+ghost use Rattle.std.specs.List.{range_with_len};
+ghost use Rattle.std.specs.Option.{option_map_or};
+ghost use Rattle.apollo_schema.specs.TypeParts.{TypePart, TypeItem, Added, kind_of, key_of, added, added_items};
 ghost use Rattle.apollo_schema.specs.DefinitionList.{first, extensions_of, of_kind};
-ghost use Rattle.apollo_schema.specs.Places.{folding_order};
+ghost use Rattle.apollo_schema.specs.Places.{types, schemas, extension_places, first_place, is_met, folding_order};
 ghost use Rattle.apollo_schema.specs.TypeMeaning.{sourced, type_of};
 ghost use Rattle.apollo_schema.specs.WholeSchema.{whole, folds};
 ghost use Rattle.apollo_schema.specs.WorkedRow.{line, folding_place, extensions_around, written_around, extensions_that_wait, extension_of_another_kind};
+ghost use Rattle.apollo_schema.specs.declared.collision.Collection.{Collection};
+ghost use Rattle.apollo_schema.specs.Collisions.{Entry, collisions};
 ghost use Rattle.apollo_schema.specs.SchemaFaults.{faults_of};
 ghost use Rattle.apollo_schema.specs.FaultRow.{faulty_list, its_faults};
 ghost use Rattle.apollo_schema.specs.Adoption.{adopted, with_adopted};
@@ -16,6 +20,9 @@ ghost use Rattle.apollo_schema.specs.BuiltInTable.{built_in_definitions};
 ghost use Rattle.apollo_schema.specs.BuiltInNames.{defined_names, component_names, Distinct};
 ghost use Rattle.apollo_schema.specs.BuilderStands.{StandsFor, HasFailed, SpendsIdsSoFar, SpendsIds, first_number};
 ghost use Rattle.apollo_types.specs.TypeWriteOut.{write_type};
+ghost use Rattle.apollo_component.specs.FirstOfEach.{first_of_each, same_key};
+ghost use Rattle.graphql_ast.specs.NameView.{NameView};
+ghost use Rattle.graphql_ast.specs.ArgumentsByName.{same_text};
 ghost use Rattle.graphql_ast.specs.Clones.{IsExact};
 
 use crate::schema::Schema;
@@ -26,6 +33,13 @@ use crate::schema_builder::SchemaBuilder;
 pub fn folded_extensions()
     ensures { (start : ℕ) (xs : List TypeItem) (n : List ℕ) (d : TypePart) → first xs n ≡ Some d
         → map (λ s. s.1) (sourced n start (folding_order xs)) ≡ of_kind (kind_of d) (extensions_of xs n) }
+{}
+
+/// Each extension of a type whose name is defined is met at one moment of the list, and each other one at none; and so are
+/// those of the schema.
+pub fn each_extension_is_met_once()
+    ensures types { (xs : List TypeItem) → All (λ e. length (filter (λ i. is_met types xs i e) (range_with_len 0 (length xs))) ≡ option_map_or (λ _. 1) (first_place types xs (key_of e.1)) 0) (extension_places types xs) }
+    ensures schemas { (xs : List TypeItem) → All (λ e. length (filter (λ i. is_met schemas xs i e) (range_with_len 0 (length xs))) ≡ option_map_or (λ _. 1) (first_place schemas xs []) 0) (extension_places schemas xs) }
 {}
 
 /// A list folds no more extensions than a list that begins with it folds once that is completed. So where the numbers
@@ -64,6 +78,11 @@ pub fn extension_of_another_kind()
 pub fn built_in_names_are_distinct()
     ensures definitions { Distinct (defined_names built_in_definitions) }
     ensures components { All (λ definition. Distinct (component_names definition)) built_in_definitions }
+{}
+
+/// Each component of a collection is kept, or at fault once: as many are at fault as are not the first of their names.
+pub fn each_component_is_kept_or_at_fault()
+    ensures { (c : Collection) (ty : NameView) (es : List Entry) → length (first_of_each (same_key same_text) es) + length (collisions c ty [] es) ≡ length es }
 {}
 
 /// The faults of a list, computed: they stand in the order in which they are found, and not in that of the list.
