@@ -2,7 +2,7 @@
 
 use crate::expectations::{expect_output, expect_run};
 use crate::failure::Failure;
-use crate::refusal::{Reason, RefusedLine};
+use crate::refusal::{ReadError, Reason, RefusedLine};
 use crate::running::run;
 use crate::status::Status;
 use std::alloc::{AllocError, Global};
@@ -449,6 +449,20 @@ fn failures_and_their_texts(rt: HostRuntime) -> Result<(), Fail> {
         assert_eq!(rt; said.as_str(), text);
         assert_eq!(rt; failure.status(), status, "at {text:?}");
     }
+    Ok(())
+}
+
+#[test]
+fn texts_of_refused_readings(rt: HostRuntime) -> Result<(), Fail> {
+    let alloc = rt.alloc();
+    let refused = RefusedLine {
+        number: 3,
+        reason: Reason::BadWord,
+    };
+    let said = format!(in alloc; "{}", ReadError::Refused(refused))?;
+    assert_eq!(rt; said.as_str(), "line 3: bad word");
+    let said = format!(in alloc; "{}", ReadError::Memory)?;
+    assert_eq!(rt; said.as_str(), "out of memory");
     Ok(())
 }
 
