@@ -5,7 +5,7 @@ use crate::printing::print;
 use crate::reading::read;
 use apollo_component::component::ComponentName;
 use apollo_component::extension::ComponentOrigin;
-use apollo_schema::build_error::{BuildFailure, WithErrors};
+use apollo_schema::build_error::BuildFailure;
 use apollo_schema::schema::Schema;
 use apollo_schema::schema_builder::SchemaBuilder;
 use apollo_types::extended_type::ExtendedType;
@@ -198,34 +198,6 @@ fn adopting(alloc: Global, input: &str) -> Result<SchemaBuilder, Fail> {
         builder.add_ast(document)?;
     }
     Ok(builder)
-}
-
-/// Extensions that wait for a definition, and a fault.
-const WAITING: &str =
-    "def object T\nfield a Int\nfield a Int\next object U\nfield b Int\next-schema\n@ d\n";
-
-/// What is built with faults.
-fn faulty(builder: SchemaBuilder) -> Result<WithErrors<Schema>, Fail> {
-    match builder.build() {
-        Err(BuildFailure::Faults(found)) => Ok(found),
-        _ => Err(Fail::from("no faults")),
-    }
-}
-
-/// Whether two builders build equal schemas with the same faults.
-fn build_the_same(one: SchemaBuilder, other: SchemaBuilder) -> Result<bool, Fail> {
-    let one = faulty(one)?;
-    let other = faulty(other)?;
-    Ok(one.partial == other.partial && one.errors.as_slice() == other.errors.as_slice())
-}
-
-#[test]
-fn a_copy_of_a_builder_builds_the_same(rt: HostRuntime) -> Result<(), Fail> {
-    let alloc = rt.alloc();
-    let builder = adopting(alloc, WAITING)?;
-    let copy = builder.clone()?;
-    assert!(rt; build_the_same(builder, copy)?);
-    Ok(())
 }
 
 /// The schema of what a builder holds, whatever is at fault, and the number that its source gives next.
