@@ -80,7 +80,7 @@ pub fn built_in_names_are_distinct()
     ensures components { All (λ definition. Distinct (component_names definition)) built_in_definitions }
 {}
 
-/// Each component of a collection is kept, or at fault once: as many are at fault as are not the first of their names.
+/// Of the components of a collection, as many are at fault as are not the first of their names, which are kept.
 pub fn each_component_is_kept_or_at_fault()
     ensures { (c : Collection) (ty : NameView) (es : List Entry) → length (first_of_each (same_key same_text) es) + length (collisions c ty [] es) ≡ length es }
 {}
