@@ -1,6 +1,6 @@
 -- Identities of extensions.
 use Rattle.std.specs.Prelude.{ℕ, Option, None, Some, Bool, true, false, ◌==◌}
-use Rattle.graphql_ast.specs.declared.source.SourceSpan.{SourceSpan}
+use Rattle.graphql_nodes.specs.declared.source.SourceSpan.{SourceSpan}
 use Rattle.apollo_component.specs.declared.extension.ExtensionSource.{ExtensionSource}
 use Rattle.apollo_component.specs.declared.extension.ExtensionId.{ExtensionId}
 use Rattle.apollo_component.specs.declared.extension.ComponentOrigin.{ComponentOrigin}

@@ -9,8 +9,8 @@ ghost use Rattle.std.specs.Hash as fed;
 ghost use Rattle.std.proofs.Common.{rules};
 
 use crate::extension::ComponentOrigin;
-use graphql_ast::name::Name;
-use graphql_ast::node::Node;
+use graphql_nodes::name::Name;
+use graphql_nodes::node::Node;
 use std::alloc::{AllocError, Global};
 use std::fmt;
 use std::hash::{Hash, Hasher};

@@ -2,8 +2,8 @@
 ghost use Rattle.std.specs.Prelude.{◌≡◌, [], ◌∷◌, ◌++◌, OnOk, OnErr};
 
 use crate::component::Component;
-use graphql_ast::collections::items::Items;
 use graphql_ast::directive::Directive;
+use graphql_nodes::collections::items::Items;
 use std::alloc::{AllocError, Global};
 use std::ops::Deref;
 

@@ -8,8 +8,8 @@ ghost use Rattle.std.specs.Option.{option_copied};
 ghost use Rattle.std.proofs.Common.{rules};
 ghost use Rattle.apollo_component.specs.Extensions.{extension_id, number_of, place_of, next_number, source_at, id_of};
 
-use graphql_ast::node::Node;
-use graphql_ast::source::SourceSpan;
+use graphql_nodes::node::Node;
+use graphql_nodes::source::SourceSpan;
 use std::alloc::{AllocError, Global};
 use std::hash::{Hash, Hasher};
 use thiserror::Error;

@@ -5,5 +5,3 @@ pub mod component;
 pub mod directive_list;
 pub mod extension;
 pub mod named;
-#[cfg(test)]
-mod tests;

@@ -1,11 +1,9 @@
-//! Collections of named things, of which the first of each name stays.
+//! Sets of keys, of which the first of each stays.
 ghost use Rattle.std.specs.Prelude.{◌≡◌, List, [], ◌∷◌, ◌++◌, not, IfOk, OnErr};
 ghost use Rattle.std.specs.List.{list_any};
 ghost use Rattle.apollo_component.specs.FirstOfEach.{first_of_each};
 
-use graphql_ast::collections::key_set::KeySet;
-use graphql_ast::name::Name;
-use graphql_ast::type_system::{EnumValueDefinition, FieldDefinition, InputValueDefinition};
+use graphql_nodes::collections::key_set::KeySet;
 use std::alloc::AllocError;
 use std::hash::Hash;
 
@@ -17,39 +15,4 @@ pub fn add_key<T: Eq + Hash + Drop>(set: &mut KeySet<T>, key: T) -> Result<bool,
 {
     let added = set.insert(key)?;
     Ok(added)
-}
-
-/// A definition that has a name.
-pub trait Named {
-    ghost use Rattle.graphql_ast.specs.NameView.{NameView};
-
-    ghost name_of: { Self → NameView };
-
-    /// The name of what is defined.
-    fn name(&self) -> &Name
-        ensures { result.now ≡ name_of self.now };
-}
-
-impl Named for FieldDefinition {
-    ghost name_of = { λ field. field.name };
-
-    fn name(&self) -> &Name {
-        &self.name
-    }
-}
-
-impl Named for InputValueDefinition {
-    ghost name_of = { λ value. value.name };
-
-    fn name(&self) -> &Name {
-        &self.name
-    }
-}
-
-impl Named for EnumValueDefinition {
-    ghost name_of = { λ value. value.value };
-
-    fn name(&self) -> &Name {
-        &self.value
-    }
 }

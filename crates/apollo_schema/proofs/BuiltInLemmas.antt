@@ -1,17 +1,20 @@
 -- What follows for a build of the built-in definitions alone.
 use Rattle.std.proofs.Common.{◌≡◌, ◌≢◌, ℕ, ◌+◌, ◌^◌, ◌≤◌, false, List, [], Result, Ok, Err, refl, ap, subst, ◌∙◌, IfErr, arith}
 use Rattle.apollo_schema.specs.declared.schema.Schema.{Schema}
-use Rattle.apollo_schema.specs.declared.build_error.BuildFailure.{BuildFailure}
-use Rattle.apollo_schema.specs.declared.build_error.BuildFailure.TheVariants as failures
+use Rattle.apollo_schema.specs.declared.build_failure.BuildFailure.{BuildFailure}
+use Rattle.apollo_schema.specs.declared.build_failure.BuildFailure.TheVariants as failures
 use Rattle.apollo_schema.specs.declared.schema_builder.SchemaBuilder.{SchemaBuilder}
 use Rattle.apollo_schema.specs.declared.state.State.{State}
 use Rattle.apollo_schema.specs.declared.state.State.TheVariants.{Open, Failed}
-use Rattle.apollo_schema.specs.TypeParts.{TypeItem, Added, added, added_items}
-use Rattle.apollo_schema.specs.BuiltInTable.{built_in_definitions}
-use Rattle.apollo_schema.specs.SchemaFaults.{faults_of, IfFaults}
-use Rattle.apollo_schema.specs.WholeSchema.{MeansSchema, folds}
+use Rattle.apollo_meaning.specs.TypeParts.{TypeItem, Added, added, added_items}
+use Rattle.apollo_built_in.specs.BuiltInTable.{built_in_definitions}
+use Rattle.apollo_meaning.specs.SchemaFaults.{faults_of}
+use Rattle.apollo_schema.specs.BuildAnswers.{IfFaults}
+use Rattle.apollo_schema.specs.MeantSchema.{MeansSchema}
+use Rattle.apollo_meaning.specs.WholeSchema.{folds}
 use Rattle.apollo_schema.specs.Stands.{StateStands, StateFailed}
-use Rattle.apollo_schema.specs.BuilderStands.{StandsFor, HasFailed, SpendsIds, sources_of, adopts}
+use Rattle.apollo_schema.specs.BuilderStands.{StandsFor, HasFailed, sources_of, adopts}
+use Rattle.apollo_meaning.specs.SpentIds.{SpendsIds}
 
 -- they have no faults
 faultless : faults_of false (added false built_in_definitions) ≡ []

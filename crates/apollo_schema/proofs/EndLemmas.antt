@@ -5,32 +5,32 @@ use Rattle.std.specs.Map.{lookup, values_of}
 use Rattle.std.specs.Option.{option_map, option_map_or, option_or}
 use Rattle.std.proofs.lemmas.List.{append-nil}
 use Rattle.std.proofs.lemmas.List.Folds.{flat_map-map}
-use Rattle.graphql_ast.specs.NameView.{NameView}
-use Rattle.graphql_ast.specs.NodeView.{NodeView}
-use Rattle.graphql_ast.specs.OperationTexts.{default_type_text}
-use Rattle.graphql_ast.specs.declared.operation_type.OperationType.{OperationType}
-use Rattle.graphql_ast.specs.declared.operation_type.OperationType.TheVariants.{Query, Mutation, Subscription}
-use Rattle.graphql_ast.specs.declared.type_kind.TypeKind.TheVariants as kinds
+use Rattle.graphql_nodes.specs.NameView.{NameView}
+use Rattle.graphql_nodes.specs.NodeView.{NodeView}
+use Rattle.graphql_nodes.specs.OperationTexts.{default_type_text}
+use Rattle.graphql_nodes.specs.declared.operation_type.OperationType.{OperationType}
+use Rattle.graphql_nodes.specs.declared.operation_type.OperationType.TheVariants.{Query, Mutation, Subscription}
+use Rattle.graphql_nodes.specs.declared.type_kind.TypeKind.TheVariants as kinds
 use Rattle.graphql_ast.specs.declared.definition.Definition.{Definition}
 use Rattle.apollo_component.specs.Extensions.{next_number, source_at}
 use Rattle.apollo_types.specs.SchemaDefinitionWriteOut.{is_some_object}
 use Rattle.apollo_types.specs.declared.schema_definition.SchemaDefinition.{SchemaDefinition}
 use Rattle.apollo_schema.specs.declared.tables.Tables.{Tables}
-use Rattle.apollo_schema.specs.TypeParts.{TypePart, SchemaPart, TypeItem, SchemaDefined, TypeBody, ScalarBody, ObjectBody, InterfaceBody, UnionBody, EnumBody, InputObjectBody, extended_parts, schema_extension_part, kind_of, body_kind}
-use Rattle.apollo_schema.specs.DefinitionList.{same_kind, first, first_schema, schema_extensions}
-use Rattle.apollo_schema.specs.TypeMeaning.{Sourced, type_at, type_from, parts}
-use Rattle.apollo_schema.specs.TypeFaults.{orphan}
-use Rattle.apollo_schema.specs.RootFaults.{roots_in, schema_orphan, further_schema}
-use Rattle.apollo_schema.specs.Adoption.{extended_names, orphans_of, schema_orphans, is_object_name, default_root, implicit_root, implicit_roots, schema_for, implied_schema}
-use Rattle.apollo_schema.specs.HeldRoots.{held_root, held_roots}
-use Rattle.apollo_schema.specs.Joining.{schema_begun, schema_begun_faults}
-use Rattle.apollo_schema.specs.SchemaMeaning.{by_text, AreTypesOf}
-use Rattle.apollo_schema.specs.RootMeaning.{schema_of}
-use Rattle.apollo_schema.specs.DirectiveMeaning.{directive_definitions, AreDirectivesOf}
-use Rattle.apollo_schema.specs.Prefixes.{folded, found_at, found}
+use Rattle.apollo_meaning.specs.TypeParts.{TypePart, SchemaPart, TypeItem, SchemaDefined, TypeBody, ScalarBody, ObjectBody, InterfaceBody, UnionBody, EnumBody, InputObjectBody, extended_parts, schema_extension_part, kind_of, body_kind}
+use Rattle.apollo_meaning.specs.DefinitionList.{same_kind, first, first_schema, schema_extensions}
+use Rattle.apollo_meaning.specs.TypeMeaning.{Sourced, type_at, type_from, parts}
+use Rattle.apollo_meaning.specs.TypeFaults.{orphan}
+use Rattle.apollo_meaning.specs.RootFaults.{roots_in, schema_orphan, further_schema}
+use Rattle.apollo_meaning.specs.Adoption.{extended_names, orphans_of, schema_orphans, is_object_name, default_root, implicit_root, implicit_roots, schema_for, implied_schema}
+use Rattle.apollo_folding.specs.HeldRoots.{held_root, held_roots}
+use Rattle.apollo_meaning.specs.Joining.{schema_begun, schema_begun_faults}
+use Rattle.apollo_meaning.specs.SchemaMeaning.{by_text, AreTypesOf}
+use Rattle.apollo_meaning.specs.RootMeaning.{schema_of}
+use Rattle.apollo_meaning.specs.DirectiveMeaning.{directive_definitions, AreDirectivesOf}
+use Rattle.apollo_meaning.specs.Prefixes.{folded, found_at, found}
 use Rattle.apollo_schema.specs.Stands.{Stands, Ends}
-use Rattle.apollo_schema.proofs.ItemLemmas.{first_schema-push_definition}
-use Rattle.apollo_schema.proofs.OrphanLemmas.{held-orphans}
+use Rattle.apollo_meaning.proofs.ItemLemmas.{first_schema-push_definition}
+use Rattle.apollo_meaning.proofs.OrphanLemmas.{held-orphans}
 use Rattle.apollo_schema.proofs.SchemaStandsLemmas.{schema_known, schema_unknown, Stands-schema_new, schema_new-spent}
 
 pub none-of : {X : Type 0} (o : Option X) → is_some o ≡ false → o ≡ None

@@ -4,14 +4,14 @@ use Rattle.std.specs.List.{enumerate_from, filter_map}
 use Rattle.std.specs.Option.{option_map_or}
 use Rattle.std.proofs.lemmas.List.{append-nil}
 use Rattle.std.proofs.lemmas.List.Elements.{filter-append}
-use Rattle.apollo_schema.specs.TypeParts.{TypePart, TypeItem, Defined, Extended, Folding, OfType, OfSchema, kind_of, key_of, same}
-use Rattle.apollo_schema.specs.DefinitionList.{same_kind, first, extensions_of, of_kind}
-use Rattle.apollo_schema.specs.TypeMeaning.{Sourced, extension_part, of_type, sourced, parts}
-use Rattle.apollo_schema.specs.TypeFaults.{part_faults, extension_faults, further_definition}
-use Rattle.apollo_schema.specs.Joining.{joining_faults}
-use Rattle.apollo_schema.specs.Prefixes.{faults_after, found_at, folded}
-use Rattle.apollo_schema.proofs.TypeLemmas.{type_foldings}
-use Rattle.apollo_schema.proofs.PartLemmas.{of_name}
+use Rattle.apollo_meaning.specs.TypeParts.{TypePart, TypeItem, Defined, Extended, Folding, OfType, OfSchema, kind_of, key_of, same}
+use Rattle.apollo_meaning.specs.DefinitionList.{same_kind, first, extensions_of, of_kind}
+use Rattle.apollo_meaning.specs.TypeMeaning.{Sourced, extension_part, of_type, sourced, parts}
+use Rattle.apollo_meaning.specs.TypeFaults.{part_faults, extension_faults, further_definition}
+use Rattle.apollo_meaning.specs.Joining.{joining_faults}
+use Rattle.apollo_meaning.specs.Prefixes.{faults_after, found_at, folded}
+use Rattle.apollo_meaning.proofs.TypeLemmas.{type_foldings}
+use Rattle.apollo_meaning.proofs.PartLemmas.{of_name}
 
 -- extensions that join a definition and those before them
 pub joining-after : (d : TypePart) (before es : List TypePart) → joining_faults d (d ∷ of_kind (kind_of d) before) es ≡ faults_after d before es

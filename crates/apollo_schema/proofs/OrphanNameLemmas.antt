@@ -5,22 +5,24 @@ use Rattle.std.specs.Option.{option_or, option_map, option_map_or}
 use Rattle.std.specs.Map.{lookup, keys_of}
 use Rattle.std.proofs.lemmas.Bool.Decides.{nat_tests}
 use Rattle.std.proofs.lemmas.List.Elements.{filter-append, filter_map-append, All-from_recursion}
-use Rattle.graphql_ast.specs.NameView.{NameView}
+use Rattle.graphql_nodes.specs.NameView.{NameView}
 use Rattle.graphql_ast.specs.declared.definition.Definition.{Definition}
 use Rattle.apollo_schema.specs.declared.tables.Tables.{Tables}
-use Rattle.apollo_schema.specs.TypeParts.{TypePart, TypeItem, Defined, Extended, SchemaDefined, SchemaExtended, Other, item_of, extended_part, key_of, same}
-use Rattle.apollo_schema.specs.DefinitionList.{first, extensions_of}
-use Rattle.apollo_schema.specs.SchemaMeaning.{by_text}
-use Rattle.apollo_schema.specs.TypeMeaning.{type_from, parts}
-use Rattle.apollo_schema.specs.Adoption.{extended_names, orphans_of}
-use Rattle.apollo_schema.specs.Prefixes.{folded, waited_at, waited}
-use Rattle.apollo_schema.specs.Stands.{Stands, items_held}
-use Rattle.apollo_schema.specs.OrphanNames.{first_name, orphan_names, name_if_any, names_held, IsExtendedUnder}
-use Rattle.apollo_schema.proofs.Texts.{same-true, same-is}
-use Rattle.apollo_schema.proofs.EachLemmas.{each-append, each-weaken, flat_map-each}
-use Rattle.apollo_schema.proofs.ItemLemmas.{snoc_ind, first-push_definition, first-push_undefined, extensions_of-push_extension, waited-push}
-use Rattle.apollo_schema.proofs.OrphanLemmas.{orphans-waited, held-waited}
-use Rattle.apollo_schema.proofs.TypeLemmas.{Own, Own-named}
+use Rattle.apollo_meaning.specs.TypeParts.{TypePart, TypeItem, Defined, Extended, SchemaDefined, SchemaExtended, Other, item_of, extended_part, key_of, same}
+use Rattle.apollo_meaning.specs.DefinitionList.{first, extensions_of}
+use Rattle.apollo_meaning.specs.SchemaMeaning.{by_text}
+use Rattle.apollo_meaning.specs.TypeMeaning.{type_from, parts}
+use Rattle.apollo_meaning.specs.Adoption.{extended_names, orphans_of}
+use Rattle.apollo_meaning.specs.Prefixes.{folded, waited_at, waited}
+use Rattle.apollo_schema.specs.Stands.{Stands}
+use Rattle.apollo_meaning.specs.HeldItems.{items_held}
+use Rattle.apollo_meaning.specs.OrphanNames.{first_name, orphan_names}
+use Rattle.apollo_schema.specs.NamesLeft.{name_if_any, names_held, IsExtendedUnder}
+use Rattle.apollo_meaning.proofs.Texts.{same-true, same-is}
+use Rattle.apollo_meaning.proofs.EachLemmas.{each-append, each-weaken, flat_map-each}
+use Rattle.apollo_meaning.proofs.ItemLemmas.{snoc_ind, first-push_definition, first-push_undefined, extensions_of-push_extension, waited-push}
+use Rattle.apollo_meaning.proofs.OrphanLemmas.{orphans-waited, held-waited}
+use Rattle.apollo_meaning.proofs.TypeLemmas.{Own, Own-named}
 use Rattle.apollo_schema.proofs.WaitingLemmas.{orphans_of-defined, orphans_of-undefined}
 
 -- a name without a definition in a longer list has none in a front

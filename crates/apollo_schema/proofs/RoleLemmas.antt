@@ -1,18 +1,18 @@
 -- What a definition does for a type, from the names that it defines and extends.
 use Rattle.std.proofs.Common.{◌≡◌, ◌⊎◌, inl, inr, false, List, [], ◌∷◌, Some, refl, sym, ap, ◌∙◌}
 use Rattle.std.specs.Option.{option_map, unwrap_or}
-use Rattle.graphql_ast.specs.NameView.{NameView}
-use Rattle.graphql_ast.specs.NodeView.{NodeView}
+use Rattle.graphql_nodes.specs.NameView.{NameView}
+use Rattle.graphql_nodes.specs.NodeView.{NodeView}
 use Rattle.graphql_ast.specs.Definitions.{location_of}
 use Rattle.graphql_ast.specs.DefinitionTexts.{definition_text}
 use Rattle.graphql_ast.specs.declared.operation.OperationDefinition.{OperationDefinition}
 use Rattle.graphql_ast.specs.declared.operation.FragmentDefinition.{FragmentDefinition}
-use Rattle.apollo_schema.specs.declared.build_error.BuildError.TheVariants as errors
-use Rattle.apollo_schema.specs.DirectiveMeaning.{Directives, directive_definitions}
-use Rattle.apollo_schema.specs.SchemaFaults.{other_faults}
+use Rattle.apollo_meaning.specs.declared.build_error.BuildError.TheVariants as errors
+use Rattle.apollo_meaning.specs.DirectiveMeaning.{Directives, directive_definitions}
+use Rattle.apollo_meaning.specs.SchemaFaults.{other_faults}
 use Rattle.graphql_ast.specs.declared.definition.Definition.{Definition}
 use Rattle.graphql_ast.specs.declared.definition.Definition.TheVariants as ast
-use Rattle.apollo_schema.specs.TypeParts.{TypePart, TypeItem, Defined, Extended, SchemaDefined, SchemaExtended, Other, item_of, items_of, ignorable_if, added, added_items, defined_part, extended_part}
+use Rattle.apollo_meaning.specs.TypeParts.{TypePart, TypeItem, Defined, Extended, SchemaDefined, SchemaExtended, Other, item_of, items_of, ignorable_if, added, added_items, defined_part, extended_part}
 
 pub defined-item : (x : TypeItem) (n : NameView) → option_map (λ p. p.name) (defined_part x) ≡ Some n → (p : TypePart) × ((x ≡ Defined p) × (p.name ≡ n))
 defined-item (Defined p) n h = (p, (refl, ap (λ o. unwrap_or o n) h))

@@ -4,23 +4,23 @@ use Rattle.std.proofs.Common.{◌≡◌, ℕ, ◌+◌, ◌^◌, ◌≤◌, List,
 use Rattle.std.specs.Option.{option_map, option_map_or, option_or, unwrap_or}
 use Rattle.std.specs.Map.{keys_of}
 use Rattle.std.proofs.lemmas.List.{append-nil, map-append}
-use Rattle.graphql_ast.specs.NodeView.{NodeView}
-use Rattle.graphql_ast.specs.declared.source.SourceSpan.{SourceSpan}
+use Rattle.graphql_nodes.specs.NodeView.{NodeView}
+use Rattle.graphql_nodes.specs.declared.source.SourceSpan.{SourceSpan}
 use Rattle.graphql_ast.specs.declared.type_system.SchemaExtension.{SchemaExtension}
 use Rattle.apollo_component.specs.Extensions.{next_number, source_at}
 use Rattle.apollo_component.specs.declared.extension.ComponentOrigin.TheVariants as origins
 use Rattle.apollo_types.specs.declared.schema_definition.SchemaDefinition.{SchemaDefinition}
-use Rattle.apollo_schema.specs.declared.build_error.BuildError.TheVariants as errors
+use Rattle.apollo_meaning.specs.declared.build_error.BuildError.TheVariants as errors
 use Rattle.apollo_schema.specs.declared.tables.Tables.{Tables}
-use Rattle.apollo_schema.specs.TypeParts.{SchemaPart, TypeItem, SchemaDefined, SchemaExtended, schema_extension_part}
-use Rattle.apollo_schema.specs.DefinitionList.{first_schema, schema_extensions}
-use Rattle.apollo_schema.specs.RootMeaning.{SourcedSchema, schema_from, schema_parts}
-use Rattle.apollo_schema.specs.RootFaults.{schema_faults, further_schema}
-use Rattle.apollo_schema.specs.DirectiveMeaning.{directive_part, directive_definitions, AreDirectivesOf}
-use Rattle.apollo_schema.specs.Joining.{schema_numbered, schema_begun, schema_begun_faults}
-use Rattle.apollo_schema.specs.Prefixes.{schemas_folded_at, folded}
+use Rattle.apollo_meaning.specs.TypeParts.{SchemaPart, TypeItem, SchemaDefined, SchemaExtended, schema_extension_part}
+use Rattle.apollo_meaning.specs.DefinitionList.{first_schema, schema_extensions}
+use Rattle.apollo_meaning.specs.RootMeaning.{SourcedSchema, schema_from, schema_parts}
+use Rattle.apollo_meaning.specs.RootFaults.{schema_faults, further_schema}
+use Rattle.apollo_meaning.specs.DirectiveMeaning.{directive_part, directive_definitions, AreDirectivesOf}
+use Rattle.apollo_meaning.specs.Joining.{schema_numbered, schema_begun, schema_begun_faults}
+use Rattle.apollo_meaning.specs.Prefixes.{schemas_folded_at, folded}
 use Rattle.apollo_schema.specs.Stands.{Stands}
-use Rattle.apollo_schema.proofs.ItemLemmas.{filter_map-push_none, first_schema-push_definition, first_schema-push_undefined, schema_extensions-push_extension, schema_extensions-push_unextended}
+use Rattle.apollo_meaning.proofs.ItemLemmas.{filter_map-push_none, first_schema-push_definition, first_schema-push_undefined, schema_extensions-push_extension, schema_extensions-push_unextended}
 use Rattle.apollo_schema.proofs.SchemaLemmas.{schema_of-same, schema_of-more, schema-unfolded, schema_sourced-parts}
 use Rattle.apollo_schema.proofs.StandsLemmas.{counted, length-map, at, same_types, same_waiting, same_names, same_directives, more_faults}
 

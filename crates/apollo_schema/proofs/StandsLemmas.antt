@@ -7,41 +7,36 @@ use Rattle.std.proofs.lemmas.List.{append-nil, map-append}
 use Rattle.std.proofs.lemmas.List.Elements.{filter_map-append}
 use Rattle.std.proofs.lemmas.Map.{keys-set_value}
 use Rattle.indexmap.specs.IndexMap.{insert_entry}
-use Rattle.graphql_ast.specs.ArgumentsByName.{same_text}
+use Rattle.graphql_nodes.specs.SameText.{same_text}
 use Rattle.graphql_ast.specs.declared.definition.Definition.{Definition}
 use Rattle.apollo_component.specs.Extensions.{next_number, source_at}
 use Rattle.apollo_component.specs.declared.extension.ComponentOrigin.TheVariants as origins
 use Rattle.apollo_types.specs.declared.extended_type.ExtendedType.{ExtendedType}
 use Rattle.apollo_schema.specs.declared.tables.Tables.{Tables}
-use Rattle.apollo_schema.specs.TypeParts.{TypePart, SchemaPart, TypeItem, Defined, Extended, Other, OfType, OfSchema, defined_part, extended_part, defined_schema, extended_schema, schema_extension_part, kind_of, key_of, same}
-use Rattle.apollo_schema.specs.DefinitionList.{first, extensions_of, of_kind}
-use Rattle.apollo_schema.specs.TypeMeaning.{Sourced, type_from, extension_part, numbered, parts, type_of}
+use Rattle.apollo_meaning.specs.TypeParts.{TypePart, SchemaPart, TypeItem, Defined, Extended, Other, OfType, OfSchema, defined_part, extended_part, defined_schema, extended_schema, schema_extension_part, kind_of, key_of, same}
+use Rattle.apollo_meaning.specs.DefinitionList.{first, extensions_of, of_kind}
+use Rattle.apollo_meaning.specs.TypeMeaning.{Sourced, type_from, extension_part, numbered, parts, type_of}
 use Rattle.apollo_types.specs.TypeWriteOut.{type_kind}
-use Rattle.apollo_schema.specs.SchemaMeaning.{by_text, AreTypesOf}
-use Rattle.apollo_schema.specs.DirectiveMeaning.{directive_part, directive_definitions, AreDirectivesOf}
-use Rattle.apollo_schema.specs.Collisions.{Fault}
-use Rattle.apollo_schema.specs.TypeFaults.{part_faults, further_definition}
-use Rattle.apollo_schema.specs.SchemaFaults.{other_faults}
-use Rattle.apollo_schema.specs.RootMeaning.{schema_of}
-use Rattle.apollo_schema.specs.Adoption.{schema_orphans, orphans_of}
-use Rattle.apollo_schema.specs.Joining.{joining_faults}
-use Rattle.apollo_schema.specs.Prefixes.{types_folded_at, schemas_folded_at, folded_at, folded, found_at, found, waited_at, waited}
-use Rattle.apollo_schema.specs.Stands.{Stands, items_held}
-use Rattle.apollo_schema.proofs.Texts.{same-true, same-is}
-use Rattle.apollo_schema.proofs.NameTables.{lookup-put, keys-put, lookup-write}
-use Rattle.apollo_schema.proofs.ItemLemmas.{parts-extended, first-push_undefined, first_schema-push_undefined, schema_extensions-push_unextended, folded-push, found-push, waited-push}
+use Rattle.apollo_meaning.specs.SchemaMeaning.{by_text, AreTypesOf}
+use Rattle.apollo_meaning.specs.DirectiveMeaning.{directive_part, directive_definitions, AreDirectivesOf}
+use Rattle.apollo_meaning.specs.Collisions.{Fault}
+use Rattle.apollo_meaning.specs.TypeFaults.{part_faults, further_definition}
+use Rattle.apollo_meaning.specs.SchemaFaults.{other_faults}
+use Rattle.apollo_meaning.specs.RootMeaning.{schema_of}
+use Rattle.apollo_meaning.specs.Adoption.{schema_orphans, orphans_of}
+use Rattle.apollo_meaning.specs.Joining.{joining_faults}
+use Rattle.apollo_meaning.specs.Prefixes.{types_folded_at, schemas_folded_at, folded_at, folded, found_at, found, waited_at, waited}
+use Rattle.apollo_schema.specs.Stands.{Stands}
+use Rattle.apollo_meaning.specs.HeldItems.{items_held}
+use Rattle.apollo_meaning.proofs.Texts.{same-true, same-is}
+use Rattle.apollo_folding.proofs.NameTables.{lookup-put, keys-put, lookup-write}
+use Rattle.apollo_meaning.proofs.ItemLemmas.{parts-extended, first-push_undefined, first_schema-push_undefined, schema_extensions-push_unextended, folded-push, found-push, waited-push}
 use Rattle.apollo_schema.proofs.SchemaLemmas.{schema_of-same}
 use Rattle.apollo_schema.proofs.FaultLemmas.{found_at-new, found_at-again, found_at-early, found_at-late, parts-forget}
-use Rattle.apollo_schema.proofs.OrphanLemmas.{waited-early, waited-late}
-use Rattle.apollo_schema.proofs.FoldingLemmas.{type_kind-from}
-use Rattle.apollo_schema.proofs.TypeLemmas.{Own, Apart, Own-named, Own-of_kind, Apart-own, types_folded_at-new, types_folded_at-again, types_folded_at-early, types_folded_at-late, type_of-same, type_of-more, type_of-new}
+use Rattle.apollo_meaning.proofs.OrphanLemmas.{waited-early, waited-late}
+use Rattle.apollo_meaning.proofs.FoldingLemmas.{type_kind-from}
+use Rattle.apollo_meaning.proofs.TypeLemmas.{Own, Apart, Own-named, Own-of_kind, Apart-own, types_folded_at-new, types_folded_at-again, types_folded_at-early, types_folded_at-late, type_of-same, type_of-more, type_of-new}
 use Rattle.apollo_schema.proofs.WaitingLemmas.{orphans_of-undefined, type_names-new, type_names-again, type_names-undefined, first-again, first-other, first-own, orphans_of-new, orphans_of-again, orphans_of-late, orphans_of-early, orphans_of-neither}
-
--- a longer list folds no less
-pub length-folded-front : (xs ys : List TypeItem) → length (folded xs) ≤ length (folded (xs ++ ys))
-length-folded-front xs [] = omega (arith, ap (λ l. length (folded l)) (append-nil xs))
-length-folded-front xs (y ∷ ys) =
-    omega (arith, length-folded-front (xs ++ y ∷ []) ys, ap (λ l. length (folded l)) (append_assoc xs (y ∷ []) ys), ap length (folded-push xs y), length-append (folded xs) (folded_at xs y))
 
 pub length-map : {A B : Type 0} (f : A → B) (xs : List A) → length (map f xs) ≡ length xs
 length-map f [] = refl

@@ -6,12 +6,12 @@ use Rattle.std.specs.Cmp.Lexicographic.{nat_list_eq_equiv}
 use Rattle.std.proofs.lemmas.List.{append-nil, map-append}
 use Rattle.apollo_component.specs.FirstOfEach.{first_of_each, same_key}
 use Rattle.apollo_component.proofs.FirstOfEachLemmas.{is_some-lookup, first_of_each-push_new, first_of_each-push_old}
-use Rattle.apollo_schema.specs.TypeParts.{TypePart, TypeItem, Defined, Extended, defined_part, extended_part, key_of, same}
-use Rattle.apollo_schema.specs.DefinitionList.{definitions, first, extensions_of}
-use Rattle.apollo_schema.specs.SchemaMeaning.{type_names}
-use Rattle.apollo_schema.specs.Adoption.{orphans_of}
-use Rattle.apollo_schema.proofs.Texts.{same-true, same-is}
-use Rattle.apollo_schema.proofs.ItemLemmas.{definitions-push_definition, definitions-push_undefined, first-push_definition, first-push_undefined, extensions_of-push_extension, extensions_of-push_unextended}
+use Rattle.apollo_meaning.specs.TypeParts.{TypePart, TypeItem, Defined, Extended, defined_part, extended_part, key_of, same}
+use Rattle.apollo_meaning.specs.DefinitionList.{definitions, first, extensions_of}
+use Rattle.apollo_meaning.specs.SchemaMeaning.{type_names}
+use Rattle.apollo_meaning.specs.Adoption.{orphans_of}
+use Rattle.apollo_meaning.proofs.Texts.{same-true, same-is}
+use Rattle.apollo_meaning.proofs.ItemLemmas.{definitions-push_definition, definitions-push_undefined, first-push_definition, first-push_undefined, extensions_of-push_extension, extensions_of-push_unextended}
 
 by_key : IsEquivalence (same_key {V = TypePart} same)
 by_key = on_equiv (λ e. e.0) nat_list_eq_equiv

@@ -1,10 +1,10 @@
 -- What a schema is written out as, and what a name of it gives: GraphQL specification of October 2021, section 3.3.
 use Rattle.std.specs.Prelude.{List, ◌++◌, Option, None, Some, flat_map, map, filter, drop, if◌then◌else◌}
-use Rattle.graphql_ast.specs.NameView.{NameView}
-use Rattle.graphql_ast.specs.NodeView.{NodeView}
-use Rattle.graphql_ast.specs.Tables.{lookup, values_of}
-use Rattle.graphql_ast.specs.BuiltIn.{is_built_in}
-use Rattle.graphql_ast.specs.ArgumentsByName.{same_text}
+use Rattle.graphql_nodes.specs.NameView.{NameView}
+use Rattle.graphql_nodes.specs.NodeView.{NodeView}
+use Rattle.graphql_nodes.specs.Tables.{lookup, values_of}
+use Rattle.graphql_nodes.specs.BuiltIn.{is_built_in}
+use Rattle.graphql_nodes.specs.SameText.{same_text}
 use Rattle.graphql_ast.specs.declared.definition.Definition.{Definition}
 use Rattle.graphql_ast.specs.declared.definition.Definition.TheVariants as ast
 use Rattle.graphql_ast.specs.declared.type_system.DirectiveDefinition.{DirectiveDefinition}
@@ -13,7 +13,7 @@ use Rattle.apollo_types.specs.TypeWriteOut.{type_location, write_type}
 use Rattle.apollo_types.specs.declared.object_type.ObjectType.{ObjectType}
 use Rattle.apollo_types.specs.declared.extended_type.ExtendedType.{ExtendedType}
 use Rattle.apollo_types.specs.declared.extended_type.ExtendedType.TheVariants.{Object}
-use Rattle.apollo_schema.specs.DirectiveMeaning.{is_handed_in}
+use Rattle.apollo_meaning.specs.DirectiveMeaning.{is_handed_in}
 use Rattle.apollo_schema.specs.declared.schema.Schema.{Schema}
 
 -- the directive definitions that are handed in, in order

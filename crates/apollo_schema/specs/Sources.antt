@@ -2,8 +2,8 @@
 use Rattle.std.specs.Prelude.{List, fold}
 use Rattle.indexmap.specs.IndexMap.{insert_entry}
 use Rattle.std.specs.Prelude.{Bool, nat_eq}
-use Rattle.graphql_ast.specs.declared.source.FileId.{FileId}
-use Rattle.graphql_ast.specs.declared.source.SourceFile.{SourceFile}
+use Rattle.graphql_nodes.specs.declared.source.FileId.{FileId}
+use Rattle.graphql_nodes.specs.declared.source.SourceFile.{SourceFile}
 
 abbrev pub Files : Type 0
 Files = List (FileId × SourceFile)

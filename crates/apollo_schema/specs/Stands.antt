@@ -1,26 +1,21 @@
 -- What a builder holds for a list.
-use Rattle.std.specs.Prelude.{◌≡◌, ℕ, ◌+◌, ◌≤◌, Bool, List, [], ◌++◌, length, map, Option, None, Some}
+use Rattle.std.specs.Prelude.{◌≡◌, ℕ, ◌+◌, ◌≤◌, Bool, List, ◌++◌, length, map}
 use Rattle.std.specs.List.{flat_map}
-use Rattle.graphql_ast.specs.Tables.{keys_of, lookup}
-use Rattle.graphql_ast.specs.declared.definition.Definition.{Definition}
+use Rattle.graphql_nodes.specs.Tables.{keys_of, lookup}
 use Rattle.apollo_component.specs.Extensions.{next_number, source_at}
 use Rattle.apollo_schema.specs.declared.tables.Tables.{Tables}
 use Rattle.apollo_schema.specs.declared.state.State.{State}
 use Rattle.apollo_schema.specs.declared.state.State.TheVariants.{Open, Failed}
-use Rattle.apollo_schema.specs.TypeParts.{TypeItem, Extended, Added, items_of, added_items, schema_extension_part}
-use Rattle.apollo_schema.specs.SchemaMeaning.{by_text, AreTypesOf}
-use Rattle.apollo_schema.specs.DirectiveMeaning.{directive_definitions, AreDirectivesOf}
-use Rattle.apollo_schema.specs.RootMeaning.{schema_of}
-use Rattle.apollo_schema.specs.Adoption.{extended_names, orphans_of, schema_orphans, completed}
-use Rattle.apollo_schema.specs.TypeFaults.{orphan}
-use Rattle.apollo_schema.specs.RootFaults.{schema_orphan}
-use Rattle.apollo_schema.specs.SchemaFaults.{faults_in}
-use Rattle.apollo_schema.specs.Prefixes.{added_after, folded, found_at, found, waited}
-
--- what is held under a name: nothing where there is no list
-abbrev pub items_held : Option (List Definition) → List TypeItem
-items_held None = []
-items_held (Some xs) = items_of xs
+use Rattle.apollo_meaning.specs.TypeParts.{TypeItem, Extended, Added, added_items, schema_extension_part}
+use Rattle.apollo_meaning.specs.SchemaMeaning.{by_text, AreTypesOf}
+use Rattle.apollo_meaning.specs.HeldItems.{items_held}
+use Rattle.apollo_meaning.specs.DirectiveMeaning.{directive_definitions, AreDirectivesOf}
+use Rattle.apollo_meaning.specs.RootMeaning.{schema_of}
+use Rattle.apollo_meaning.specs.Adoption.{extended_names, orphans_of, schema_orphans, completed}
+use Rattle.apollo_meaning.specs.TypeFaults.{orphan}
+use Rattle.apollo_meaning.specs.RootFaults.{schema_orphan}
+use Rattle.apollo_meaning.specs.SchemaFaults.{faults_in}
+use Rattle.apollo_meaning.specs.Prefixes.{added_after, folded, found_at, found, waited}
 
 -- these tables are those of the list, with its extensions numbered from `start`
 pub record Stands (start : ℕ) (xs : List TypeItem) (t : Tables) : Type 0 where

@@ -1,20 +1,29 @@
 //! Schemas, built from documents of the type system: GraphQL specification of October 2021, section 3.
 #![tactic(auto)]
 
-mod adoption;
-pub mod build_error;
-pub mod built_in;
-mod collision;
-mod directive_definition;
-mod from_ast;
+pub mod build_failure;
 pub mod laws;
 pub mod orphan_names;
-mod orphans;
 pub mod schema;
 pub mod schema_builder;
 mod state;
 mod tables;
-#[cfg(test)]
-mod tests;
-mod waiting;
 mod write_out;
+
+pub use crate::build_failure::{BuildFailure, WithErrors};
+pub use crate::orphan_names::OrphanNames;
+pub use crate::schema::Schema;
+pub use crate::schema_builder::SchemaBuilder;
+pub use apollo_component::component::{Component, ComponentName};
+pub use apollo_component::directive_list::DirectiveList;
+pub use apollo_component::extension::{ComponentOrigin, ExtensionId, ExtensionSource, IdsSpent};
+pub use apollo_folding::builder_error::BuilderError;
+pub use apollo_meaning::build_error::{BuildError, Fault, Faults};
+pub use apollo_types::enum_type::EnumType;
+pub use apollo_types::extended_type::ExtendedType;
+pub use apollo_types::input_object_type::InputObjectType;
+pub use apollo_types::interface_type::InterfaceType;
+pub use apollo_types::object_type::ObjectType;
+pub use apollo_types::scalar_type::ScalarType;
+pub use apollo_types::schema_definition::SchemaDefinition;
+pub use apollo_types::union_type::UnionType;

@@ -2,12 +2,12 @@
 ghost use Rattle.std.specs.Prelude.{◌≡◌, []};
 ghost use Rattle.std.specs.Iterator.{YieldsFirstRef, item_count};
 ghost use Rattle.std.specs.Map.Iter.{TakesFirst, deref};
-ghost use Rattle.apollo_schema.specs.OrphanNames.{names_held, names_left};
+ghost use Rattle.apollo_schema.specs.NamesLeft.{names_held, names_left};
 
-use graphql_ast::collections::items::Items;
-use graphql_ast::collections::table::Table;
 use graphql_ast::definition::Definition;
-use graphql_ast::name::Name;
+use graphql_nodes::collections::items::Items;
+use graphql_nodes::collections::table::Table;
+use graphql_nodes::name::Name;
 use indexmap::map::Iter;
 use std::iter::FusedIterator;
 

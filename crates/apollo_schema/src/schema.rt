@@ -6,13 +6,13 @@ use crate::write_out::{write_directives, write_type};
 use apollo_types::extended_type::ExtendedType;
 use apollo_types::object_type::ObjectType;
 use apollo_types::schema_definition::SchemaDefinition;
-use graphql_ast::collections::table::Table;
 use graphql_ast::definition::Definition;
-use graphql_ast::name::{Name, NamedType};
-use graphql_ast::node::Node;
-use graphql_ast::operation_type::OperationType;
-use graphql_ast::source::SourceMap;
 use graphql_ast::type_system::DirectiveDefinition;
+use graphql_nodes::collections::table::Table;
+use graphql_nodes::name::{Name, NamedType};
+use graphql_nodes::node::Node;
+use graphql_nodes::operation_type::OperationType;
+use graphql_nodes::source::SourceMap;
 use std::alloc::{AllocError, Global};
 
 /// A schema: its definition, and its types and directive definitions under their names, by first definition.

@@ -1,19 +1,22 @@
 //! The schema builder: documents go in, in any number and order of definitions, and a schema comes out.
 ghost use Rattle.std.specs.Prelude.{◌≡◌, false, true, ◌≢◌, ℕ, ◌+◌, ◌≤◌, List, [], ◌++◌, All, is_some, Err, OnOk, OnErr, IfOk, IfErr, ◌↔◌};
 ghost use Rattle.apollo_component.specs.Extensions.{next_number, source_at};
-ghost use Rattle.apollo_schema.specs.TypeParts.{Added, added};
-ghost use Rattle.apollo_schema.specs.WholeSchema.{MeansSchema, folds};
-ghost use Rattle.apollo_schema.specs.SchemaFaults.{faults_of, IfFaults};
-ghost use Rattle.apollo_schema.specs.BuiltInTable.{built_in_definitions};
+ghost use Rattle.apollo_meaning.specs.TypeParts.{Added, added};
+ghost use Rattle.apollo_schema.specs.MeantSchema.{MeansSchema};
+ghost use Rattle.apollo_meaning.specs.WholeSchema.{folds};
+ghost use Rattle.apollo_meaning.specs.SchemaFaults.{faults_of};
+ghost use Rattle.apollo_schema.specs.BuildAnswers.{IfFaults};
+ghost use Rattle.apollo_built_in.specs.BuiltInTable.{built_in_definitions};
 ghost use Rattle.apollo_schema.specs.Sources.{merged};
 ghost use Rattle.apollo_schema.specs.Stands.{HasStood};
 
-use crate::build_error::{BuildFailure, BuilderError};
+use crate::build_failure::BuildFailure;
 use crate::orphan_names::OrphanNames;
 use crate::schema::Schema;
 use crate::state::State;
 use crate::tables::Tables;
 use apollo_component::extension::ExtensionSource;
+use apollo_folding::builder_error::BuilderError;
 use graphql_ast::document::Document;
 use std::alloc::{AllocError, Global};
 
@@ -36,12 +39,15 @@ pub struct SchemaBuilder {
 }
 
 impl SchemaBuilder {
-    ghost use Rattle.graphql_ast.specs.Tables.{lookup};
-    ghost use Rattle.apollo_schema.specs.TypeParts.{added_items};
-    ghost use Rattle.apollo_schema.specs.SchemaMeaning.{by_text};
-    ghost use Rattle.apollo_schema.specs.OrphanNames.{orphan_names, names_left, IsExtendedUnder};
+    ghost use Rattle.graphql_nodes.specs.Tables.{lookup};
+    ghost use Rattle.apollo_meaning.specs.TypeParts.{added_items};
+    ghost use Rattle.apollo_meaning.specs.SchemaMeaning.{by_text};
+    ghost use Rattle.apollo_meaning.specs.OrphanNames.{orphan_names};
+    ghost use Rattle.apollo_schema.specs.NamesLeft.{names_left, IsExtendedUnder};
     ghost use Rattle.apollo_schema.specs.BuilderHolds.{types_held, waiting_held};
-    ghost use Rattle.apollo_schema.specs.BuilderStands.{StandsFor, HasFailed, IsLeftWith, HasBuilt, WasRefused, SpendsIds, SpendsIdsSoFar, folds_so_far, first_number, sources_of, adopts, ignores};
+    ghost use Rattle.apollo_schema.specs.BuilderStands.{StandsFor, HasFailed, IsLeftWith, first_number, sources_of, adopts, ignores};
+    ghost use Rattle.apollo_schema.specs.BuildAnswers.{HasBuilt, WasRefused};
+    ghost use Rattle.apollo_meaning.specs.SpentIds.{SpendsIds, SpendsIdsSoFar, folds_so_far};
 
     /// A builder of the built-in definitions alone, without either option, whose first extension has the number 0. The
     /// error is want of memory.

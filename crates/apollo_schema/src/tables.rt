@@ -1,18 +1,14 @@
 //! What a builder holds.
-ghost use Rattle.std.specs.Prelude.{◌≡◌, Bool, false, None, ℕ, ◌+◌, ◌^◌, ◌≤◌, List, [], ◌∷◌, ◌++◌, length, map, is_some, OnOk, IfOk, IfErr, Some, if◌then◌else◌};
-ghost use Rattle.graphql_ast.specs.Tables.{insert_entry};
-ghost use Rattle.graphql_ast.specs.ArgumentsByName.{same_text};
-ghost use Rattle.graphql_ast.specs.BuiltIn.{is_built_in};
+ghost use Rattle.std.specs.Prelude.{◌≡◌, false, None, ℕ, ◌+◌, ◌^◌, ◌≤◌, List, [], ◌∷◌, ◌++◌, length, map, is_some, OnOk, IfOk, IfErr, Some};
+ghost use Rattle.graphql_nodes.specs.Tables.{insert_entry};
+ghost use Rattle.graphql_nodes.specs.SameText.{same_text};
 ghost use Rattle.apollo_component.specs.Extensions.{next_number, source_at};
 ghost use Rattle.apollo_component.specs.declared.extension.ComponentOrigin.TheVariants as origins;
-ghost use Rattle.apollo_schema.specs.TypeParts.{TypePart, TypeItem, Defined, Extended, SchemaDefined, SchemaExtended, added, added_item, added_items, item_of, defined_part, extended_part, definition_part, extended_parts, schema_definition_part, schema_extension_part, kind_of};
-ghost use Rattle.apollo_schema.specs.DefinitionList.{of_kind};
-ghost use Rattle.apollo_schema.specs.TypeMeaning.{Sourced, type_from, extension_part, numbered};
-ghost use Rattle.apollo_schema.specs.TypeFaults.{part_faults, redefinition, built_in_redefinition, further_definition};
-ghost use Rattle.apollo_schema.specs.Joining.{joining_faults, schema_begun, schema_begun_faults};
-ghost use Rattle.apollo_schema.specs.BuiltInTable.{built_in_definitions};
-ghost use Rattle.apollo_schema.specs.Prefixes.{folded};
-ghost use Rattle.apollo_schema.specs.Refusals.{RefusedAs};
+ghost use Rattle.apollo_meaning.specs.TypeParts.{TypePart, TypeItem, Defined, Extended, SchemaDefined, SchemaExtended, added, added_item, added_items, item_of, defined_part, extended_part, schema_definition_part, schema_extension_part};
+ghost use Rattle.apollo_meaning.specs.Joining.{schema_begun, schema_begun_faults};
+ghost use Rattle.apollo_built_in.specs.BuiltInTable.{built_in_definitions};
+ghost use Rattle.apollo_meaning.specs.Prefixes.{folded};
+ghost use Rattle.apollo_folding.specs.Refusals.{RefusedAs};
 ghost use Rattle.apollo_schema.specs.Stands.{Stands};
 ghost use Rattle.apollo_schema.specs.Sources.{merged};
 
@@ -20,28 +16,28 @@ mod completion;
 mod copy;
 mod orphan_names;
 
-use crate::build_error::{BuildError, BuilderError, Fault};
-use crate::built_in::built_in_definitions;
-use crate::directive_definition::define_directive;
-use crate::from_ast::schema_definition::{begin_schema, extend_schema};
-use crate::from_ast::{
-    defined_name, extend_type, extend_type_by_all, extended_name, type_from_ast,
-};
-use crate::waiting::{take_waiting, wait};
+use apollo_built_in::definitions::built_in_definitions;
 use apollo_component::extension::ExtensionSource;
+use apollo_folding::builder_error::BuilderError;
+use apollo_folding::directive_definition::define_directive;
+use apollo_folding::from_ast::schema_definition::{begin_schema, extend_schema};
+use apollo_folding::from_ast::{begin_type, defined_name, extend_type, extended_name};
+use apollo_folding::redefinition::note_redefinition;
+use apollo_folding::waiting::{take_waiting, wait};
+use apollo_meaning::build_error::{BuildError, Fault};
 use apollo_types::extended_type::ExtendedType;
 use apollo_types::schema_definition::SchemaDefinition;
-use graphql_ast::collections::items::Items;
-use graphql_ast::collections::static_text::StaticText;
-use graphql_ast::collections::table::Table;
 use graphql_ast::definition::Definition;
 use graphql_ast::document::Document;
-use graphql_ast::name::Name;
-use graphql_ast::node::Node;
-use graphql_ast::source::SourceMap;
-use graphql_ast::type_kind::TypeKind;
 use graphql_ast::type_system as ast;
 use graphql_ast::type_system::{DirectiveDefinition, SchemaExtension};
+use graphql_nodes::collections::items::Items;
+use graphql_nodes::collections::static_text::StaticText;
+use graphql_nodes::collections::table::Table;
+use graphql_nodes::name::Name;
+use graphql_nodes::node::Node;
+use graphql_nodes::source::SourceMap;
+use graphql_nodes::type_kind::TypeKind;
 use std::alloc::{AllocError, Global};
 use std::mem;
 
@@ -60,30 +56,6 @@ pub struct Tables {
     errors: Items<Fault>,
 }
 
-/// The type of a definition with these extensions folded in, if it defines one.
-fn begin(
-    alloc: Global,
-    definition: &Definition,
-    extensions: &[Definition],
-    ids: &mut ExtensionSource,
-    errors: &mut Items<Fault>,
-) -> Result<Option<ExtendedType>, BuilderError>
-    ensures made { IfOk result (λ ty. (p : TypePart) (b : Bool) → definition_part definition.now ≡ Some p → let q = record p { ignorable = b } in
-        ty ≡ Some (type_from q ((origins.Definition, q) ∷ map extension_part (numbered (next_number ids.old) (of_kind (kind_of p) (extended_parts extensions.now)))))) }
-    ensures faults { OnOk result ((p : TypePart) (b : Bool) → definition_part definition.now ≡ Some p → let q = record p { ignorable = b } in
-        errors.new ≡ errors.old ++ (part_faults [] p ++ joining_faults q (q ∷ []) (extended_parts extensions.now))) }
-    ensures next { OnOk result ((p : TypePart) → definition_part definition.now ≡ Some p
-        → ids.new ≡ source_at (next_number ids.old + length (of_kind (kind_of p) (extended_parts extensions.now)))) }
-    ensures refused { IfErr result (λ error. RefusedAs error ((p : TypePart) → definition_part definition.now ≡ Some p
-        → 2 ^ 64 ≤ next_number ids.old + length (of_kind (kind_of p) (extended_parts extensions.now)))) }
-{
-    let Some(mut ty) = type_from_ast(alloc, definition, errors)? else {
-        return Ok(None);
-    };
-    extend_type_by_all(&mut ty, extensions, ids, errors)?;
-    Ok(Some(ty))
-}
-
 /// Puts a type under a name.
 fn put(
     types: &mut Table<Name, ExtendedType>,
@@ -97,60 +69,12 @@ fn put(
     Ok(())
 }
 
-/// The fault of a further definition of a type's name.
-fn redefinition(previous: &ExtendedType, name: &Name) -> Result<Fault, AllocError>
-    ensures { IfOk result (λ fault. (d p : TypePart) (done : List Sourced) → previous.now ≡ type_from d done → p.name ≡ name.now → fault ≡ redefinition d p) }
-{
-    let error = BuildError::TypeDefinitionCollision {
-        previous_location: previous.name().location(),
-        name: name.clone()?,
-    };
-    Ok((name.location(), error))
-}
-
-/// The fault of a further definition of a built-in type's name.
-fn built_in_redefinition(
-    previous: &ExtendedType,
-    name: &Name,
-    definition: &Definition,
-) -> Result<Fault, AllocError>
-    ensures { IfOk result (λ fault. (d p : TypePart) (done : List Sourced) → previous.now ≡ type_from d done → item_of definition.now ≡ Defined p → p.name ≡ name.now
-        → fault ≡ built_in_redefinition d p) }
-{
-    if definition.type_kind() == Some(TypeKind::Scalar) {
-        let error = BuildError::BuiltInScalarTypeRedefinition;
-        return Ok((definition.location(), error));
-    }
-    let fault = redefinition(previous, name)?;
-    Ok(fault)
-}
-
-/// Notes a further definition of a type's name, unless the type is built in and such definitions are ignored.
-fn note_redefinition(
-    previous: &ExtendedType,
-    name: &Name,
-    definition: &Definition,
-    ignores: bool,
-    errors: &mut Items<Fault>,
-) -> Result<(), AllocError>
-    ensures { OnOk result ((d p : TypePart) (done : List Sourced) → previous.now ≡ type_from d done → item_of definition.now ≡ Defined p → p.name ≡ name.now
-        → errors.new ≡ errors.old ++ further_definition d (record p { ignorable = ignores })) }
-{
-    if !previous.is_built_in() {
-        errors.push(redefinition(previous, name)?)?;
-        return Ok(());
-    }
-    if !ignores {
-        errors.push(built_in_redefinition(previous, name, definition)?)?;
-    }
-    Ok(())
-}
-
 impl Tables {
     /// Tables of no definition, which draw from this source.
     fn new(alloc: Global, ids: ExtensionSource) -> Tables
         ensures stands { Stands (next_number ids) [] result }
         ensures sources { result.sources ≡ [] }
+        ensures given { (result.alloc ≡ alloc) × (result.ids ≡ ids) }
     {
         Tables {
             alloc,
@@ -203,7 +127,7 @@ impl Tables {
             return Ok(());
         }
         let extensions = take_waiting(self.alloc, &mut self.waiting, name);
-        let made = begin(
+        let made = begin_type(
             self.alloc,
             definition,
             extensions.as_slice(),

@@ -1,14 +1,14 @@
 //! The parts of a schema's write-out.
 ghost use Rattle.std.specs.Prelude.{◌≡◌, ◌++◌, OnOk};
-ghost use Rattle.graphql_ast.specs.Tables.{values_of};
+ghost use Rattle.graphql_nodes.specs.Tables.{values_of};
 ghost use Rattle.apollo_schema.specs.SchemaWriteOut.{write_directives, write_held_type};
 
 use apollo_types::extended_type::ExtendedType;
-use graphql_ast::collections::table::Table;
 use graphql_ast::definition::Definition;
-use graphql_ast::name::Name;
-use graphql_ast::node::Node;
 use graphql_ast::type_system::DirectiveDefinition;
+use graphql_nodes::collections::table::Table;
+use graphql_nodes::name::Name;
+use graphql_nodes::node::Node;
 use std::alloc::{AllocError, Global};
 
 /// Adds the directive definitions at the end, in order, without the built-in ones.

@@ -1,7 +1,7 @@
 -- What an object type is written out as: GraphQL specification of October 2021, section 3.6.
 use Rattle.std.specs.Prelude.{List, ◌++◌, map, Option}
-use Rattle.graphql_ast.specs.Tables.{values_of}
-use Rattle.graphql_ast.specs.declared.source.SourceSpan.{SourceSpan}
+use Rattle.graphql_nodes.specs.Tables.{values_of}
+use Rattle.graphql_nodes.specs.declared.source.SourceSpan.{SourceSpan}
 use Rattle.graphql_ast.specs.declared.definition.Definition.{Definition}
 use Rattle.graphql_ast.specs.declared.definition.Definition.TheVariants.{ObjectTypeDefinition, ObjectTypeExtension}
 use Rattle.apollo_component.specs.Extensions.{place_of}

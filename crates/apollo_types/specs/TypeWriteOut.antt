@@ -1,10 +1,10 @@
 -- What a type of any kind is written out as, what it is called, and its kind: GraphQL specification of October 2021, section 3.4.
 use Rattle.std.specs.Prelude.{List, Option, Bool, true, false}
-use Rattle.graphql_ast.specs.NameView.{NameView}
-use Rattle.graphql_ast.specs.declared.source.SourceSpan.{SourceSpan}
+use Rattle.graphql_nodes.specs.NameView.{NameView}
+use Rattle.graphql_nodes.specs.declared.source.SourceSpan.{SourceSpan}
 use Rattle.graphql_ast.specs.declared.definition.Definition.{Definition}
-use Rattle.graphql_ast.specs.declared.type_kind.TypeKind.{TypeKind}
-use Rattle.graphql_ast.specs.declared.type_kind.TypeKind.TheVariants as kinds
+use Rattle.graphql_nodes.specs.declared.type_kind.TypeKind.{TypeKind}
+use Rattle.graphql_nodes.specs.declared.type_kind.TypeKind.TheVariants as kinds
 use Rattle.apollo_types.specs.ScalarWriteOut.{write_scalar}
 use Rattle.apollo_types.specs.ObjectWriteOut.{write_object}
 use Rattle.apollo_types.specs.InterfaceWriteOut.{write_interface}

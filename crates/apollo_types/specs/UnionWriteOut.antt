@@ -1,6 +1,6 @@
 -- What a union type is written out as: GraphQL specification of October 2021, section 3.8.
 use Rattle.std.specs.Prelude.{List, ◌++◌, map, Option}
-use Rattle.graphql_ast.specs.declared.source.SourceSpan.{SourceSpan}
+use Rattle.graphql_nodes.specs.declared.source.SourceSpan.{SourceSpan}
 use Rattle.graphql_ast.specs.declared.definition.Definition.{Definition}
 use Rattle.graphql_ast.specs.declared.definition.Definition.TheVariants.{UnionTypeDefinition, UnionTypeExtension}
 use Rattle.apollo_component.specs.Extensions.{place_of}

@@ -2,8 +2,8 @@
 -- of October 2021, section 3.4.3.
 use Rattle.std.specs.Prelude.{List, ◌∷◌, map, filter}
 use Rattle.std.specs.List.{filter_map}
-use Rattle.graphql_ast.specs.NameView.{NameView}
-use Rattle.graphql_ast.specs.NodeView.{NodeView}
+use Rattle.graphql_nodes.specs.NameView.{NameView}
+use Rattle.graphql_nodes.specs.NodeView.{NodeView}
 use Rattle.graphql_ast.specs.declared.definition.Definition.{Definition}
 use Rattle.apollo_component.specs.Extensions.{id_of, same_id, same_origin}
 use Rattle.apollo_component.specs.FirstOfEach.{first_of_each}

@@ -7,15 +7,15 @@ use crate::write_out::{
 use apollo_component::component::Component;
 use apollo_component::directive_list::DirectiveList;
 use apollo_component::extension::{ComponentOrigin, ExtensionId};
-use graphql_ast::collections::key_set::KeySet;
-use graphql_ast::collections::table::Table;
 use graphql_ast::definition::Definition;
 use graphql_ast::directive as ast_directive;
-use graphql_ast::name::Name;
-use graphql_ast::node::Node;
-use graphql_ast::node_str::NodeStr;
-use graphql_ast::source::SourceSpan;
 use graphql_ast::type_system::{EnumTypeDefinition, EnumTypeExtension, EnumValueDefinition};
+use graphql_nodes::collections::key_set::KeySet;
+use graphql_nodes::collections::table::Table;
+use graphql_nodes::name::Name;
+use graphql_nodes::node::Node;
+use graphql_nodes::node_str::NodeStr;
+use graphql_nodes::source::SourceSpan;
 use std::alloc::{AllocError, Global};
 
 /// An enum type. Equality ignores places and origins, and the order of values.

@@ -8,10 +8,10 @@ use crate::object_type::ObjectType;
 use crate::scalar_type::ScalarType;
 use crate::union_type::UnionType;
 use graphql_ast::definition::Definition;
-use graphql_ast::name::Name;
-use graphql_ast::node::Node;
-use graphql_ast::source::SourceSpan;
-use graphql_ast::type_kind::TypeKind;
+use graphql_nodes::name::Name;
+use graphql_nodes::node::Node;
+use graphql_nodes::source::SourceSpan;
+use graphql_nodes::type_kind::TypeKind;
 use std::alloc::{AllocError, Global};
 
 /// A type of a schema, by its kind.
@@ -41,7 +41,7 @@ impl Clone for ExtendedType {
 }
 
 impl ExtendedType {
-    ghost use Rattle.graphql_ast.specs.BuiltIn.{is_built_in};
+    ghost use Rattle.graphql_nodes.specs.BuiltIn.{is_built_in};
     ghost use Rattle.apollo_types.specs.TypeWriteOut.{write_type, type_kind, is_object, type_name, type_location};
 
     /// The kind of the type.

@@ -2,8 +2,8 @@
 ghost use Rattle.std.specs.Prelude.{◌≡◌, List, [], ◌∷◌, ◌++◌, map, IfOk, OnOk};
 ghost use Rattle.std.specs.List.{list_all};
 ghost use Rattle.std.specs.Option.{option_copied};
-ghost use Rattle.graphql_ast.specs.ArgumentsByName.{same_text};
-ghost use Rattle.graphql_ast.specs.Tables.{lookup};
+ghost use Rattle.graphql_nodes.specs.SameText.{same_text};
+ghost use Rattle.graphql_nodes.specs.Tables.{lookup};
 ghost use Rattle.apollo_component.specs.declared.extension.ComponentOrigin.{ComponentOrigin as Origin};
 ghost use Rattle.apollo_types.specs.WriteOut.{identities};
 ghost use Rattle.apollo_types.specs.SchemaDefinitionWriteOut.{no_schema_definition, operation_types, root_of, root_origin_of, root_node, named_roots, schema_origins, roots_of_origin, is_some_object, has_own_root, has_implied_root, is_implied, is_written, write_schema_definition};
@@ -13,16 +13,16 @@ use crate::write_out::{WriteOut, add_origin, add_origins, is_same, nodes_from, w
 use apollo_component::component::ComponentName;
 use apollo_component::directive_list::DirectiveList;
 use apollo_component::extension::{ComponentOrigin, ExtensionId};
-use graphql_ast::collections::items::Items;
-use graphql_ast::collections::key_set::KeySet;
-use graphql_ast::collections::table::Table;
 use graphql_ast::definition::Definition;
-use graphql_ast::name::NamedType;
-use graphql_ast::node::Node;
-use graphql_ast::node_str::NodeStr;
-use graphql_ast::operation_type::OperationType;
-use graphql_ast::source::SourceSpan;
 use graphql_ast::{directive as ast_directive, type_system as ast};
+use graphql_nodes::collections::items::Items;
+use graphql_nodes::collections::key_set::KeySet;
+use graphql_nodes::collections::table::Table;
+use graphql_nodes::name::NamedType;
+use graphql_nodes::node::Node;
+use graphql_nodes::node_str::NodeStr;
+use graphql_nodes::operation_type::OperationType;
+use graphql_nodes::source::SourceSpan;
 use std::alloc::{AllocError, Global};
 
 /// The operation types, in the order of the roots.

@@ -2,25 +2,25 @@
 ghost use Rattle.std.specs.Prelude.{◌≡◌, List, [], ◌∷◌, ◌++◌, map, IfOk, OnOk};
 ghost use Rattle.apollo_component.specs.Extensions.{same_origin};
 ghost use Rattle.apollo_component.specs.declared.extension.ComponentOrigin.{ComponentOrigin as Origin};
-ghost use Rattle.graphql_ast.specs.Tables.{values_of};
+ghost use Rattle.graphql_nodes.specs.Tables.{values_of};
 ghost use Rattle.apollo_types.specs.WriteOut.{origin_of, name_origin_of, identities, nodes_of_origin, names_of_origin, written_as};
 
 use apollo_component::component::{Component, ComponentName};
 use apollo_component::extension::{ComponentOrigin, ExtensionId};
 use apollo_component::named::add_key;
-use graphql_ast::collections::items::Items;
-use graphql_ast::collections::key_set::KeySet;
-use graphql_ast::collections::table::Table;
 use graphql_ast::definition::Definition;
-use graphql_ast::name::Name;
-use graphql_ast::node::Node;
-use graphql_ast::source::SourceSpan;
+use graphql_nodes::collections::items::Items;
+use graphql_nodes::collections::key_set::KeySet;
+use graphql_nodes::collections::table::Table;
+use graphql_nodes::name::Name;
+use graphql_nodes::node::Node;
+use graphql_nodes::source::SourceSpan;
 use std::alloc::{AllocError, Global};
 
 /// A type or the like that is written out as a definition, and an extension for each identity of its components.
 pub trait WriteOut {
     ghost use Rattle.std.specs.Prelude.{List, Option};
-    ghost use Rattle.graphql_ast.specs.declared.source.SourceSpan.{SourceSpan};
+    ghost use Rattle.graphql_nodes.specs.declared.source.SourceSpan.{SourceSpan};
     ghost use Rattle.graphql_ast.specs.declared.definition.Definition.{Definition};
     ghost use Rattle.apollo_component.specs.declared.extension.ComponentOrigin.{ComponentOrigin};
     ghost use Rattle.apollo_component.specs.declared.extension.ExtensionId.{ExtensionId};

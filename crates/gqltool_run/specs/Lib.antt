@@ -1,11 +1,5 @@
-pub mod Components
-pub mod Documents
-pub mod HeaderWords
-pub mod Line
-pub mod Places
-pub mod Refusals
+pub mod Commands
+pub mod FaultLines
 pub mod SchemaCommand
 pub mod SchemaOptions
 pub mod Status
-pub mod Text
-pub mod WholeItems

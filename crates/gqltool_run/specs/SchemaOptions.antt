@@ -4,15 +4,15 @@ use Rattle.gqltool_run.specs.declared.schema_options.SchemaOptions.{SchemaOption
 
 -- these words are the options that are on, each once, in any order: `--adopt` where the first is, `--ignore-builtin`
 -- where the second is
-abbrev pub AreWordsOf : Bool → Bool → List (List ℕ) → Type 0
-AreWordsOf false false words = words ≡ []
-AreWordsOf true false words = words ≡ codes "--adopt" ∷ []
-AreWordsOf false true words = words ≡ codes "--ignore-builtin" ∷ []
-AreWordsOf true true words = (words ≡ codes "--adopt" ∷ codes "--ignore-builtin" ∷ []) ⊎ (words ≡ codes "--ignore-builtin" ∷ codes "--adopt" ∷ [])
+abbrev pub AreOptionWords : Bool → Bool → List (List ℕ) → Type 0
+AreOptionWords false false words = words ≡ []
+AreOptionWords true false words = words ≡ codes "--adopt" ∷ []
+AreOptionWords false true words = words ≡ codes "--ignore-builtin" ∷ []
+AreOptionWords true true words = (words ≡ codes "--adopt" ∷ codes "--ignore-builtin" ∷ []) ⊎ (words ≡ codes "--ignore-builtin" ∷ codes "--adopt" ∷ [])
 
 -- these words are these options
 abbrev pub AreOptions : List (List ℕ) → SchemaOptions → Type 0
-AreOptions words options = AreWordsOf options.adopt options.ignore_built_in words
+AreOptions words options = AreOptionWords options.adopt options.ignore_built_in words
 
 -- these words are the command `schema` with these options
 abbrev pub AreSchemaWords : List (List ℕ) → SchemaOptions → Type 0

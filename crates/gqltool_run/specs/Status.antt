@@ -4,8 +4,10 @@ use Rattle.gqltool_run.specs.declared.status.Status.{Status}
 use Rattle.gqltool_run.specs.declared.status.Status.TheVariants as s
 use Rattle.gqltool_run.specs.declared.failure.Failure.{Failure}
 use Rattle.gqltool_run.specs.declared.failure.Failure.TheVariants as f
-use Rattle.gqltool_run.specs.declared.refusal.ReadError.{ReadError}
-use Rattle.gqltool_run.specs.declared.refusal.ReadError.TheVariants as r
+use Rattle.gqltool_run.specs.declared.input.InputError.{InputError}
+use Rattle.gqltool_run.specs.declared.input.InputError.TheVariants as i
+use Rattle.bench_notation.specs.declared.refusal.ReadError.{ReadError}
+use Rattle.bench_notation.specs.declared.refusal.ReadError.TheVariants as r
 
 -- the exit status
 abbrev pub exit_code : Status → ℕ
@@ -33,3 +35,8 @@ status_of f.ExtensionIds = s.Exhausted
 abbrev pub failure_of_read : ReadError → Failure
 failure_of_read (r.Refused line) = f.RefusedLine line
 failure_of_read r.Memory = f.Memory
+
+-- why a run has nothing to write whose input could not be had
+abbrev pub failure_of_input : InputError → Failure
+failure_of_input i.CannotRead = f.CannotRead
+failure_of_input i.Memory = f.Memory

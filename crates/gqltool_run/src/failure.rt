@@ -1,7 +1,8 @@
 //! Why a run has nothing to write.
 
-use crate::refusal::{ReadError, RefusedLine};
+use crate::input::InputError;
 use crate::status::Status;
+use bench_notation::refusal::{ReadError, RefusedLine};
 use std::alloc::AllocError;
 use thiserror::Error;
 
@@ -30,6 +31,20 @@ impl From<AllocError> for Failure {
 
     fn from(_error: AllocError) -> Failure {
         Failure::Memory
+    }
+}
+
+impl From<InputError> for Failure {
+    ghost use Rattle.std.specs.Prelude.{◌≡◌};
+    ghost use Rattle.gqltool_run.specs.Status.{failure_of_input};
+
+    ghost from_gives = { λ error failure. failure ≡ failure_of_input error };
+
+    fn from(error: InputError) -> Failure {
+        match error {
+            InputError::CannotRead => Failure::CannotRead,
+            InputError::Memory => Failure::Memory,
+        }
     }
 }
 

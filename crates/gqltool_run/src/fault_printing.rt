@@ -1,9 +1,9 @@
 //! Faults as text.
 ghost use Rattle.std.specs.Prelude.{◌≡◌, ℕ, List, ◌++◌, OnOk, string_bytes};
-ghost use Rattle.gqltool_run.specs.SchemaCommand.{AreFaultLines, fault_line, place_text};
+ghost use Rattle.gqltool_run.specs.FaultLines.{AreFaultLines, fault_line, place_text};
 
-use apollo_schema::build_error::{BuildError, Fault};
-use graphql_ast::source::SourceSpan;
+use apollo_meaning::build_error::{BuildError, Fault};
+use graphql_nodes::source::SourceSpan;
 use std::alloc::{AllocError, Global};
 
 /// Adds the lines of faults.

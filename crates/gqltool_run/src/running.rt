@@ -1,22 +1,18 @@
 //! The run of the program.
-ghost use Rattle.std.specs.Prelude.{All, ◌≡◌, ℕ, Bool, true, false, List, map, IfOk, IfErr, OnOk, IfSome, string_bytes};
+ghost use Rattle.std.specs.Prelude.{All, ◌≡◌, Err, false, true, IfErr, IfOk, IfSome, OnOk, string_bytes};
 ghost use Rattle.std.specs.Io.KnownBytes.{Appends};
-ghost use Rattle.graphql_ast.specs.declared.definition.Definition.{Definition};
-ghost use Rattle.gqltool_run.specs.Line.{IsLine, lines_of};
-ghost use Rattle.gqltool_run.specs.SchemaCommand.{IsAnswer, IsAnswerTo, IsCause};
-ghost use Rattle.gqltool_run.specs.SchemaOptions.{AreSchemaWords};
+ghost use Rattle.bench_notation.specs.Line.{IsLine, lines_of, texts_of};
+ghost use Rattle.gqltool_run.specs.Commands.{AppendAnswer, AppendPrint, AreNoCommand, HaveAnswer, IsAnswerOf, IsAnswerTo, IsCauseOf, IsPrintOf, IsPrintTo};
 ghost use Rattle.gqltool_run.specs.Status.{Writes};
-ghost use Rattle.gqltool_run.specs.Text.{definitions_text};
 
+use crate::answer::Answer;
+use crate::command::{Command, read_command};
 use crate::failure::Failure;
-use crate::fault_printing::push_faults;
-use crate::printing::print;
-use crate::reading::read;
-use crate::schema_command::built;
-use crate::schema_options::{SchemaOptions, read_command};
+use crate::input::read_all;
+use crate::schema_command::schema_answer;
 use crate::status::Status;
 use std::alloc::Global;
-use std::io::{self, ErrorKind, Read, Write};
+use std::io::{self, Read, Write};
 
 /// Runs the program on the words that follow its name.
 ///
@@ -31,15 +27,17 @@ pub fn run<R: Read, O: Write, E: Write>(
 ) -> Status
     ensures refused { result ≡ Status.Refused → output.new ≡ output.old }
     ensures exhausted { result ≡ Status.Exhausted → output.new ≡ output.old }
-    ensures read { Writes result → IfSome (R.remaining reader.old) (λ input. All IsLine (lines_of input)) }
-    ensures means { result ≡ Status.Done → IfSome (R.remaining reader.old) (λ input. (text : List ℕ)
-        × (IsAnswerTo (map (λ word. word.now) words.now) input text false × Appends (O.contents output.old) (O.contents output.new) text)) }
-    ensures faults { result ≡ Status.Faults → IfSome (R.remaining reader.old) (λ input. (text : List ℕ)
-        × (IsAnswerTo (map (λ word. word.now) words.now) input text true × Appends (O.contents output.old) (O.contents output.new) text)) }
-    ensures not_written { result ≡ Status.NotWritten → IfSome (R.remaining reader.old) (λ input. (text : List ℕ) × ((has_faults : Bool) × IsAnswerTo (map (λ word. word.now) words.now) input text has_faults)) }
-    ensures done { result ≡ Status.Done → (definitions : List Definition) × Appends (O.contents output.old) (O.contents output.new) (definitions_text definitions) }
     ensures quiet { Writes result → errors.new ≡ errors.old }
-    ensures usage { ((options : SchemaOptions) → ¬ AreSchemaWords (map (λ word. word.now) words.now) options) → (result ≡ Status.Refused) × (reader.new ≡ reader.old) }
+
+    // What was read, and what is appended to the output.
+    ensures read { Writes result → IfSome (R.remaining reader.old) (λ input. All IsLine (lines_of input)) }
+    ensures means { result ≡ Status.Done → IfSome (R.remaining reader.old) (AppendAnswer (texts_of words.now) false (O.contents output.old) (O.contents output.new)) }
+    ensures faults { result ≡ Status.Faults → IfSome (R.remaining reader.old) (AppendAnswer (texts_of words.now) true (O.contents output.old) (O.contents output.new)) }
+    ensures done { result ≡ Status.Done → AppendPrint (texts_of words.now) (O.contents output.old) (O.contents output.new) }
+    ensures not_written { result ≡ Status.NotWritten → IfSome (R.remaining reader.old) (HaveAnswer (texts_of words.now)) }
+
+    // Words that are no command are refused before anything is read.
+    ensures usage { AreNoCommand (texts_of words.now) → (result ≡ Status.Refused) × (reader.new ≡ reader.old) }
 {
     let answer = match answer_words(alloc, words, reader) {
         Ok(answer) => answer,
@@ -58,59 +56,34 @@ pub fn run<R: Read, O: Write, E: Write>(
     }
 }
 
-/// What is to be written, and whether something is at fault.
-#[derive(Drop)]
-pub struct Answer {
-    pub text: String,
-    pub has_faults: bool,
-}
-
 /// The answer to the words and the input. Nothing is read where the words are refused.
 fn answer_words<R: Read>(alloc: Global, words: &[&str], reader: &mut R) -> Result<Answer, Failure>
     ensures read { OnOk result (IfSome (R.remaining reader.old) (λ input. All IsLine (lines_of input))) }
-    ensures means { IfOk result (λ answer. IfSome (R.remaining reader.old) (λ input. IsAnswerTo (map (λ word. word.now) words.now) input (string_bytes answer.text) answer.has_faults)) }
-    ensures printed { IfOk result (λ answer. answer.has_faults ≡ false → (definitions : List Definition) × (string_bytes answer.text ≡ definitions_text definitions)) }
-    ensures usage { ((options : SchemaOptions) → ¬ AreSchemaWords (map (λ word. word.now) words.now) options) → (result ≡ Err Failure.Usage) × (reader.new ≡ reader.old) }
+    ensures means { IfOk result (λ answer. IfSome (R.remaining reader.old) (λ input. IsAnswerTo (texts_of words.now) input (string_bytes answer.text) answer.has_faults)) }
+    ensures printed { IfOk result (λ answer. answer.has_faults ≡ false → IsPrintTo (texts_of words.now) (string_bytes answer.text)) }
+    ensures usage { AreNoCommand (texts_of words.now) → (result ≡ Err Failure.Usage) × (reader.new ≡ reader.old) }
 {
-    let Some(options) = read_command(words) else {
+    let Some(command) = read_command(words) else {
         return Err(Failure::Usage);
     };
     let input = read_all(alloc, reader)?;
-    let answer = schema_answer(alloc, options, input.as_str())?;
+    let answer = answer_command(alloc, command, input.as_str())?;
     Ok(answer)
 }
 
-/// The answer of `schema` with these options to an input: the print of the write-out, and then a line for each fault.
+/// The answer of a command to an input.
 ///
 /// `RefusedLine` tells the first line that says nothing where it stands; `ExtensionIds` comes only where the numbers don't
 /// suffice for the extensions of the input; `Memory` is want of memory. There is no other error.
-pub fn schema_answer(alloc: Global, options: SchemaOptions, input: &str) -> Result<Answer, Failure>
+fn answer_command(alloc: Global, command: Command, input: &str) -> Result<Answer, Failure>
     ensures read { OnOk result (All IsLine (lines_of input.now)) }
-    ensures means { IfOk result (λ answer. IsAnswer options input.now (string_bytes answer.text) answer.has_faults) }
-    ensures printed { IfOk result (λ answer. answer.has_faults ≡ false → (definitions : List Definition) × (string_bytes answer.text ≡ definitions_text definitions)) }
-    ensures causes { IfErr result (IsCause options input.now) }
+    ensures means { IfOk result (λ answer. IsAnswerOf command input.now (string_bytes answer.text) answer.has_faults) }
+    ensures printed { IfOk result (λ answer. answer.has_faults ≡ false → IsPrintOf command (string_bytes answer.text)) }
+    ensures causes { IfErr result (IsCauseOf command input.now) }
 {
-    let documents = read(alloc, input)?;
-    let (schema, faults) = built(alloc, options, documents.as_slice())?;
-    let mut text = print(alloc, schema.to_ast(alloc)?.as_slice())?;
-    push_faults(alloc, &mut text, faults.as_slice())?;
-    Ok(Answer {
-        text,
-        has_faults: !faults.is_empty(),
-    })
-}
-
-/// The whole input.
-fn read_all<R: Read>(alloc: Global, reader: &mut R) -> Result<String, Failure>
-    ensures { IfOk result (λ text. IfSome (R.remaining reader.old) (λ input. string_bytes text ≡ input)) }
-{
-    let mut bytes = Vec::new(alloc);
-    match reader.read_to_end(&mut bytes) {
-        Ok(_) => {}
-        Err(error) if error.kind() == ErrorKind::OutOfMemory => return Err(Failure::Memory),
-        Err(_) => return Err(Failure::CannotRead),
+    match command {
+        Command::Schema(options) => schema_answer(alloc, options, input),
     }
-    String::from_utf8(bytes).map_err(|_| Failure::CannotRead)
 }
 
 fn write_out<O: Write>(output: &mut O, text: &str) -> io::Result<()>

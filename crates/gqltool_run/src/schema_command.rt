@@ -1,21 +1,51 @@
-//! What the command `schema` makes of its documents.
-ghost use Rattle.std.specs.Prelude.{◌≡◌, ℕ, List, [], true, Err, IfOk, IfErr, if◌then◌else◌};
-ghost use Rattle.apollo_schema.specs.TypeParts.{Added};
-ghost use Rattle.apollo_schema.specs.BuilderStands.{StandsFor, SpendsIds, adopts, ignores};
-ghost use Rattle.apollo_schema.specs.SchemaFaults.{faults_of};
-ghost use Rattle.apollo_schema.specs.WholeSchema.{MeansSchema};
-ghost use Rattle.gqltool_run.specs.SchemaCommand.{list_of};
+//! The command `schema`.
+ghost use Rattle.std.specs.Prelude.{◌≡◌, ℕ, All, List, [], true, false, Err, IfOk, IfErr, OnOk, if◌then◌else◌, string_bytes};
+ghost use Rattle.graphql_ast.specs.declared.definition.Definition.{Definition};
+ghost use Rattle.bench_notation.specs.Line.{IsLine, lines_of};
+ghost use Rattle.bench_notation.specs.Text.{definitions_text};
+ghost use Rattle.apollo_meaning.specs.TypeParts.{Added};
+ghost use Rattle.apollo_schema.specs.BuilderStands.{StandsFor, adopts, ignores};
+ghost use Rattle.apollo_meaning.specs.SpentIds.{SpendsIds};
+ghost use Rattle.apollo_meaning.specs.SchemaFaults.{faults_of};
+ghost use Rattle.apollo_schema.specs.MeantSchema.{MeansSchema};
+ghost use Rattle.gqltool_run.specs.SchemaCommand.{IsAnswer, IsCause, list_of};
 ghost use Rattle.gqltool_run.specs.Status.{status_of};
 ghost use Rattle.gqltool_run.specs.declared.status.Status.{Status};
 ghost use Rattle.gqltool_run.specs.declared.status.Status.TheVariants as Status;
 
+use crate::answer::Answer;
 use crate::failure::Failure;
+use crate::fault_printing::push_faults;
 use crate::schema_options::SchemaOptions;
-use apollo_schema::build_error::{BuildFailure, BuilderError, Faults};
+use apollo_folding::builder_error::BuilderError;
+use apollo_meaning::build_error::Faults;
+use apollo_schema::build_failure::BuildFailure;
 use apollo_schema::schema::Schema;
 use apollo_schema::schema_builder::SchemaBuilder;
+use bench_notation::printing::print;
+use bench_notation::reading::read;
 use graphql_ast::document::Document;
 use std::alloc::{AllocError, Global};
+
+/// The answer of `schema` with these options to an input: the print of the write-out, and then a line for each fault.
+///
+/// `RefusedLine` tells the first line that says nothing where it stands; `ExtensionIds` comes only where the numbers don't
+/// suffice for the extensions of the input; `Memory` is want of memory. There is no other error.
+pub fn schema_answer(alloc: Global, options: SchemaOptions, input: &str) -> Result<Answer, Failure>
+    ensures read { OnOk result (All IsLine (lines_of input.now)) }
+    ensures means { IfOk result (λ answer. IsAnswer options input.now (string_bytes answer.text) answer.has_faults) }
+    ensures printed { IfOk result (λ answer. answer.has_faults ≡ false → (definitions : List Definition) × (string_bytes answer.text ≡ definitions_text definitions)) }
+    ensures causes { IfErr result (IsCause options input.now) }
+{
+    let documents = read(alloc, input)?;
+    let (schema, faults) = built(alloc, options, documents.as_slice())?;
+    let mut text = print(alloc, schema.to_ast(alloc)?.as_slice())?;
+    push_faults(alloc, &mut text, faults.as_slice())?;
+    Ok(Answer {
+        text,
+        has_faults: !faults.is_empty(),
+    })
+}
 
 /// The builder, with adoption if it had it or `adopt` is set.
 fn with_adoption(builder: SchemaBuilder, adopt: bool) -> SchemaBuilder
@@ -54,7 +84,7 @@ fn begun(alloc: Global, options: SchemaOptions) -> Result<SchemaBuilder, AllocEr
 /// The schema of the documents, and its faults.
 ///
 /// `Memory` is want of memory; `ExtensionIds` comes only where the extensions folded pass the largest number.
-pub fn built(
+fn built(
     alloc: Global,
     options: SchemaOptions,
     documents: &[Document],

@@ -1,6 +1,7 @@
 //! The options of the command `schema`.
-ghost use Rattle.std.specs.Prelude.{map, MatchOption};
-ghost use Rattle.gqltool_run.specs.SchemaOptions.{AreOptions, AreSchemaWords};
+ghost use Rattle.std.specs.Prelude.{MatchOption};
+ghost use Rattle.bench_notation.specs.Line.{texts_of};
+ghost use Rattle.gqltool_run.specs.SchemaOptions.{AreOptions};
 
 /// What the options of the command `schema` say.
 #[derive(Debug, Clone, Copy, PartialEq, Eq)]
@@ -11,19 +12,9 @@ pub struct SchemaOptions {
     pub ignore_built_in: bool,
 }
 
-/// The options of the command `schema` that these words are. Other words are no such command.
-pub fn read_command(words: &[&str]) -> Option<SchemaOptions>
-    ensures { MatchOption result ((options : SchemaOptions) → ¬ AreSchemaWords (map (λ word. word.now) words.now) options) (AreSchemaWords (map (λ word. word.now) words.now)) }
-{
-    match words {
-        ["schema", options @ ..] => read_options(options),
-        _ => None,
-    }
-}
-
 /// The options that these words are, in any order, each at most once. No other words are options.
-fn read_options(words: &[&str]) -> Option<SchemaOptions>
-    ensures { MatchOption result ((options : SchemaOptions) → ¬ AreOptions (map (λ word. word.now) words.now) options) (AreOptions (map (λ word. word.now) words.now)) }
+pub fn read_options(words: &[&str]) -> Option<SchemaOptions>
+    ensures { MatchOption result ((options : SchemaOptions) → ¬ AreOptions (texts_of words.now) options) (AreOptions (texts_of words.now)) }
 {
     let (adopt, ignore_built_in) = match words {
         [] => (false, false),

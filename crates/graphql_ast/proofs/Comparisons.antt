@@ -6,8 +6,8 @@ use Rattle.std.proofs.lemmas.Bool.{eqb-true}
 use denote.Enum.Declared.{Declared}
 use denote.Enum.Bare.{Bare, sameb, same_true, true_same}
 use lib.Pointwise.{pointwise, bytes_decides}
-use Rattle.graphql_ast.specs.NameView.{NameView}
-use Rattle.graphql_ast.specs.NodeView.{NodeView}
+use Rattle.graphql_nodes.specs.NameView.{NameView}
+use Rattle.graphql_nodes.specs.NodeView.{NodeView}
 use Rattle.graphql_ast.specs.Bare.{bare_name, bare_node}
 
 -- at two values, the test E is true exactly where f gives them one value

@@ -1,10 +1,8 @@
 pub mod Comparisons
 pub mod DirectiveEquality
 pub mod DocumentEquality
-pub mod KeySetClones
 pub mod NameEquality
 pub mod SelectionEquality
-pub mod TableLemmas
 pub mod TypeEquality
 pub mod TypeSystemEquality
 pub mod ValueEquality

@@ -1,8 +1,8 @@
 -- Equality of the errors of names.
 use Rattle.std.proofs.Common.{refl, None}
 use Rattle.graphql_ast.specs.Bare.{bare_invalid_name}
-use Rattle.graphql_ast.specs.declared.name.InvalidNameError.{InvalidNameError}
-use Rattle.graphql_ast.specs.contracts.name.InvalidNameErrorPartialEq.TheImpl as invalid
+use Rattle.graphql_nodes.specs.declared.name.InvalidNameError.{InvalidNameError}
+use Rattle.graphql_nodes.specs.contracts.name.InvalidNameErrorPartialEq.TheImpl as invalid
 use Rattle.graphql_ast.proofs.Comparisons.{Compares, of_part, made, texts}
 
 pub invalid_names : Compares invalid.ghosts.eq bare_invalid_name

@@ -3,8 +3,8 @@ use Rattle.std.proofs.Common.{rules, ◌≡◌, Bool, true, false, ◌&&◌, Lis
 use Rattle.std.specs.Option.{option_map, option_eq}
 use lib.Pointwise.{pointwise}
 use denote.Hole.Compared.{compared_is}
-use Rattle.graphql_ast.specs.NameView.{NameView}
-use Rattle.graphql_ast.specs.NodeView.{NodeView}
+use Rattle.graphql_nodes.specs.NameView.{NameView}
+use Rattle.graphql_nodes.specs.NodeView.{NodeView}
 use Rattle.graphql_ast.specs.Bare.{bare_name, bare_node, bare_argument, bare_directive_list}
 use Rattle.graphql_ast.specs.BareSelections.{bare_selection, bare_field, bare_inline_fragment, bare_fragment_spread, selection_step, field_step, inline_step}
 use Rattle.graphql_ast.specs.declared.directive.Argument.{Argument}

@@ -2,7 +2,7 @@
 use Rattle.std.proofs.Common.{rules, ◌≡◌, Bool, true, false, ap, subst, nat_eq}
 use lib.Pointwise.{pointwise}
 use denote.Hole.Compared.{compared, compared_is}
-use Rattle.graphql_ast.specs.NameView.{NameView}
+use Rattle.graphql_nodes.specs.NameView.{NameView}
 use Rattle.graphql_ast.specs.Bare.{bare_name, bare_type, type_step}
 use Rattle.graphql_ast.specs.declared.type_reference.Type.TheBlock as block
 use Rattle.graphql_ast.specs.declared.type_reference.Type.{«Type» as TypeReference, roll-Type, out-Type, fold-roll-Type, ind-Type, the_lemmas}

@@ -2,11 +2,11 @@
 use Rattle.std.proofs.Common.{refl, List, subst, Bool, ◌&&◌, nat_eq}
 use lib.Pointwise.{pointwise}
 use denote.Enum.Bare.{sameb}
-use Rattle.graphql_ast.specs.NameView.{NameView}
-use Rattle.graphql_ast.specs.declared.operation_type.OperationType.{OperationType}
-use Rattle.graphql_ast.specs.declared.directive_location.DirectiveLocation.{DirectiveLocation}
-use Rattle.graphql_ast.specs.contracts.operation_type.OperationType as kind
-use Rattle.graphql_ast.specs.contracts.directive_location.DirectiveLocation as place
+use Rattle.graphql_nodes.specs.NameView.{NameView}
+use Rattle.graphql_nodes.specs.declared.operation_type.OperationType.{OperationType}
+use Rattle.graphql_nodes.specs.declared.directive_location.DirectiveLocation.{DirectiveLocation}
+use Rattle.graphql_nodes.specs.contracts.operation_type.OperationType as kind
+use Rattle.graphql_nodes.specs.contracts.directive_location.DirectiveLocation as place
 use Rattle.graphql_ast.specs.BareTypeSystem.{bare_root_operation, bare_input_value_definition, bare_field_definition, bare_enum_value_definition, bare_directive_definition, bare_schema_definition, bare_scalar_type_definition, bare_object_type_definition, bare_interface_type_definition, bare_union_type_definition, bare_enum_type_definition, bare_input_object_type_definition, bare_schema_extension, bare_scalar_type_extension, bare_object_type_extension, bare_interface_type_extension, bare_union_type_extension, bare_enum_type_extension, bare_input_object_type_extension}
 use Rattle.graphql_ast.specs.declared.type_system.InputValueDefinition.{InputValueDefinition}
 use Rattle.graphql_ast.specs.declared.type_system.FieldDefinition.{FieldDefinition}

@@ -3,8 +3,8 @@ use Rattle.std.proofs.Common.{rules, ◌≡◌, Bool, true, false, ◌&&◌, Lis
 use Rattle.std.proofs.Math.Bool.{beq}
 use lib.Pointwise.{pointwise, bytes_decides}
 use denote.Hole.Compared.{compared, compared_is}
-use Rattle.graphql_ast.specs.NameView.{NameView}
-use Rattle.graphql_ast.specs.NodeView.{NodeView}
+use Rattle.graphql_nodes.specs.NameView.{NameView}
+use Rattle.graphql_nodes.specs.NodeView.{NodeView}
 use Rattle.graphql_ast.specs.Bare.{bare_name, bare_node, bare_value, value_step}
 use Rattle.graphql_ast.specs.declared.value.Value.TheBlock as block
 use Rattle.graphql_ast.specs.declared.value.Value.{Value, roll-Value, out-Value, fold-roll-Value, ind-Value, the_lemmas}

@@ -2,7 +2,7 @@
 use Rattle.std.specs.Prelude.{◌≡◌, Option, Result, Ok, Err}
 use Rattle.std.specs.Option.{option_copied}
 use Rattle.std.specs.Borrow.{Bor}
-use Rattle.graphql_ast.specs.NodeView.{NodeView}
+use Rattle.graphql_nodes.specs.NodeView.{NodeView}
 use Rattle.graphql_ast.specs.declared.value.Value.{Value}
 use Rattle.graphql_ast.specs.declared.argument.ArgumentByNameError.{ArgumentByNameError}
 

@@ -1,18 +1,14 @@
 -- Arguments by their names: GraphQL specification of October 2021, sections 2.6 and 3.6.1.
-use Rattle.std.specs.Prelude.{List, Option, None, Some, Bool, true, false, find, nat_eq, Result, Ok, Err, option_map}
-use Rattle.std.specs.Cmp.Lexicographic.{pointwise}
-use Rattle.graphql_ast.specs.NameView.{NameView}
-use Rattle.graphql_ast.specs.NodeView.{NodeView}
+use Rattle.std.specs.Prelude.{List, Option, None, Some, Bool, true, false, find, Result, Ok, Err, option_map}
+use Rattle.graphql_nodes.specs.NameView.{NameView}
+use Rattle.graphql_nodes.specs.NodeView.{NodeView}
+use Rattle.graphql_nodes.specs.SameText.{same_text}
 use Rattle.graphql_ast.specs.TypeReferences.{is_required}
 use Rattle.graphql_ast.specs.declared.value.Value.{Value}
 use Rattle.graphql_ast.specs.declared.directive.Argument.{Argument}
 use Rattle.graphql_ast.specs.declared.type_system.InputValueDefinition.{InputValueDefinition}
 use Rattle.graphql_ast.specs.declared.argument.ArgumentByNameError.{ArgumentByNameError}
 use Rattle.graphql_ast.specs.declared.argument.ArgumentByNameError.TheVariants.{RequiredArgumentNotSpecified, NoSuchArgument}
-
--- two names have one text
-abbrev pub same_text : NameView → NameView → Bool
-same_text a b = pointwise nat_eq a.text b.text
 
 -- the first argument definition of the name
 abbrev pub defined_argument : List (NodeView InputValueDefinition) → NameView → Option (NodeView InputValueDefinition)

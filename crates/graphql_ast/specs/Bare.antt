@@ -1,8 +1,8 @@
 -- Parts of the syntax tree without their locations. Trees that differ in locations alone have one bare tree.
 use Rattle.std.specs.Prelude.{◌≡◌, None, Bool, map, IsTrue, ◌↔◌}
-use Rattle.graphql_ast.specs.NameView.{NameView}
-use Rattle.graphql_ast.specs.NodeView.{NodeView}
-use Rattle.graphql_ast.specs.declared.name.InvalidNameError.{InvalidNameError}
+use Rattle.graphql_nodes.specs.NameView.{NameView}
+use Rattle.graphql_nodes.specs.NodeView.{NodeView}
+use Rattle.graphql_nodes.specs.declared.name.InvalidNameError.{InvalidNameError}
 use Rattle.graphql_ast.specs.declared.value.Value.{Value, fold-Value, roll-Value}
 use Rattle.graphql_ast.specs.declared.value.Value.TheOpen.{Value-F}
 use Rattle.graphql_ast.specs.declared.type_reference.Type.{«Type» as TypeReference, fold-Type, roll-Type}

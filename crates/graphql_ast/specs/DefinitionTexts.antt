@@ -1,18 +1,9 @@
--- What messages call kinds of types, and definitions.
+-- What messages call definitions.
 use Rattle.std.specs.Prelude.{ℕ, List, codes}
-use Rattle.graphql_ast.specs.declared.type_kind.TypeKind.{TypeKind}
-use Rattle.graphql_ast.specs.declared.type_kind.TypeKind.TheVariants as k
+use Rattle.graphql_nodes.specs.declared.type_kind.TypeKind.TheVariants as k
+use Rattle.graphql_nodes.specs.KindTexts.{kind_definition_text, kind_extension_text}
 use Rattle.graphql_ast.specs.declared.definition.Definition.{Definition}
 use Rattle.graphql_ast.specs.declared.definition.Definition.TheVariants as d
-
--- a kind alone
-abbrev pub kind_text : TypeKind → List ℕ
-kind_text k.Scalar = codes "a scalar type"
-kind_text k.Object = codes "an object type"
-kind_text k.Interface = codes "an interface type"
-kind_text k.Union = codes "a union type"
-kind_text k.Enum = codes "an enum type"
-kind_text k.InputObject = codes "an input object type"
 
 -- a definition or extension
 abbrev pub definition_text : Definition → List ℕ
@@ -20,16 +11,16 @@ definition_text (d.OperationDefinition n) = codes "an operation definition"
 definition_text (d.FragmentDefinition n) = codes "a fragment definition"
 definition_text (d.DirectiveDefinition n) = codes "a directive definition"
 definition_text (d.SchemaDefinition n) = codes "a schema definition"
-definition_text (d.ScalarTypeDefinition n) = codes "a scalar type definition"
-definition_text (d.ObjectTypeDefinition n) = codes "an object type definition"
-definition_text (d.InterfaceTypeDefinition n) = codes "an interface type definition"
-definition_text (d.UnionTypeDefinition n) = codes "a union type definition"
-definition_text (d.EnumTypeDefinition n) = codes "an enum type definition"
-definition_text (d.InputObjectTypeDefinition n) = codes "an input object type definition"
+definition_text (d.ScalarTypeDefinition n) = kind_definition_text k.Scalar
+definition_text (d.ObjectTypeDefinition n) = kind_definition_text k.Object
+definition_text (d.InterfaceTypeDefinition n) = kind_definition_text k.Interface
+definition_text (d.UnionTypeDefinition n) = kind_definition_text k.Union
+definition_text (d.EnumTypeDefinition n) = kind_definition_text k.Enum
+definition_text (d.InputObjectTypeDefinition n) = kind_definition_text k.InputObject
 definition_text (d.SchemaExtension n) = codes "a schema extension"
-definition_text (d.ScalarTypeExtension n) = codes "a scalar type extension"
-definition_text (d.ObjectTypeExtension n) = codes "an object type extension"
-definition_text (d.InterfaceTypeExtension n) = codes "an interface type extension"
-definition_text (d.UnionTypeExtension n) = codes "a union type extension"
-definition_text (d.EnumTypeExtension n) = codes "an enum type extension"
-definition_text (d.InputObjectTypeExtension n) = codes "an input object type extension"
+definition_text (d.ScalarTypeExtension n) = kind_extension_text k.Scalar
+definition_text (d.ObjectTypeExtension n) = kind_extension_text k.Object
+definition_text (d.InterfaceTypeExtension n) = kind_extension_text k.Interface
+definition_text (d.UnionTypeExtension n) = kind_extension_text k.Union
+definition_text (d.EnumTypeExtension n) = kind_extension_text k.Enum
+definition_text (d.InputObjectTypeExtension n) = kind_extension_text k.InputObject

@@ -1,10 +1,10 @@
 -- What a definition names, where it stands, and the kind of its type: GraphQL specification of October 2021, sections
 -- 2.2 and 3.4.
 use Rattle.std.specs.Prelude.{Option, None, Some}
-use Rattle.graphql_ast.specs.NameView.{NameView}
-use Rattle.graphql_ast.specs.declared.source.SourceSpan.{SourceSpan}
-use Rattle.graphql_ast.specs.declared.type_kind.TypeKind.{TypeKind}
-use Rattle.graphql_ast.specs.declared.type_kind.TypeKind.TheVariants as k
+use Rattle.graphql_nodes.specs.NameView.{NameView}
+use Rattle.graphql_nodes.specs.declared.source.SourceSpan.{SourceSpan}
+use Rattle.graphql_nodes.specs.declared.type_kind.TypeKind.{TypeKind}
+use Rattle.graphql_nodes.specs.declared.type_kind.TypeKind.TheVariants as k
 use Rattle.graphql_ast.specs.declared.definition.Definition.{Definition}
 use Rattle.graphql_ast.specs.declared.definition.Definition.TheVariants as d
 

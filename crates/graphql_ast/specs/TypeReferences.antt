@@ -1,6 +1,6 @@
 -- What a type reference names: GraphQL specification of October 2021, section 2.11.
 use Rattle.std.specs.Prelude.{Bool, true, false}
-use Rattle.graphql_ast.specs.NameView.{NameView}
+use Rattle.graphql_nodes.specs.NameView.{NameView}
 use Rattle.graphql_ast.specs.declared.type_reference.Type.{«Type» as TypeReference, fold-Type, out-Type}
 use Rattle.graphql_ast.specs.declared.type_reference.Type.TheOpen.{Type-F}
 

@@ -3,10 +3,11 @@ ghost use Rattle.std.specs.Prelude.{◌≡◌};
 ghost use Rattle.std.specs.Option.{option_copied};
 
 use crate::directive::Argument;
-use crate::name::Name;
-use crate::node::Node;
 use crate::type_system::{DirectiveDefinition, FieldDefinition, InputValueDefinition};
 use crate::value::Value;
+use graphql_nodes::name::Name;
+use graphql_nodes::named::{Named, first_of_name};
+use graphql_nodes::node::Node;
 
 /// Why an argument has no value.
 #[derive(Clone, Copy, Debug, PartialEq, Eq)]
@@ -24,10 +25,7 @@ impl FieldDefinition {
     pub fn argument_by_name(&self, name: &Name) -> Option<&Node<InputValueDefinition>>
         ensures { option_copied result ≡ defined_argument self.now.arguments name.now }
     {
-        self.arguments
-            .as_slice()
-            .iter()
-            .find(|argument| argument.name == *name)
+        first_of_name(self.arguments.as_slice(), name)
     }
 }
 
@@ -38,10 +36,7 @@ impl DirectiveDefinition {
     pub fn argument_by_name(&self, name: &Name) -> Option<&Node<InputValueDefinition>>
         ensures { option_copied result ≡ defined_argument self.now.arguments name.now }
     {
-        self.arguments
-            .as_slice()
-            .iter()
-            .find(|argument| argument.name == *name)
+        first_of_name(self.arguments.as_slice(), name)
     }
 }
 
@@ -56,10 +51,7 @@ impl Argument {
     ) -> Option<&'a Node<Value>>
         ensures { option_copied result ≡ specified_value arguments.now name.now }
     {
-        arguments
-            .iter()
-            .find(|given| given.name == *name)
-            .map(|given| &given.value)
+        first_of_name(arguments, name).map(|given| &given.value)
     }
 
     /// The value of the argument of the name: the specified one, else the default one of its definition, else none.
@@ -87,5 +79,13 @@ impl Argument {
             return Err(ArgumentByNameError::RequiredArgumentNotSpecified);
         }
         Ok(None)
+    }
+}
+
+impl Named for Argument {
+    ghost name_of = { λ argument. argument.name };
+
+    fn name(&self) -> &Name {
+        &self.name
     }
 }

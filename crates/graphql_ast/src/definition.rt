@@ -2,17 +2,17 @@
 ghost use Rattle.std.specs.Prelude.{◌≡◌, IfOk, ◌↔◌, IsTrue};
 ghost use Rattle.std.specs.Option.{option_copied};
 
-use crate::name::Name;
-use crate::node::Node;
 use crate::operation::{FragmentDefinition, OperationDefinition};
-use crate::source::SourceSpan;
-use crate::type_kind::TypeKind;
 use crate::type_system::{
     DirectiveDefinition, EnumTypeDefinition, EnumTypeExtension, InputObjectTypeDefinition,
     InputObjectTypeExtension, InterfaceTypeDefinition, InterfaceTypeExtension,
     ObjectTypeDefinition, ObjectTypeExtension, ScalarTypeDefinition, ScalarTypeExtension,
     SchemaDefinition, SchemaExtension, UnionTypeDefinition, UnionTypeExtension,
 };
+use graphql_nodes::name::Name;
+use graphql_nodes::node::Node;
+use graphql_nodes::source::SourceSpan;
+use graphql_nodes::type_kind::TypeKind;
 use std::alloc::AllocError;
 
 /// A definition or extension of a document.
@@ -184,19 +184,19 @@ impl Definition {
             Definition::FragmentDefinition(_) => "a fragment definition",
             Definition::DirectiveDefinition(_) => "a directive definition",
             Definition::SchemaDefinition(_) => "a schema definition",
-            Definition::ScalarTypeDefinition(_) => "a scalar type definition",
-            Definition::ObjectTypeDefinition(_) => "an object type definition",
-            Definition::InterfaceTypeDefinition(_) => "an interface type definition",
-            Definition::UnionTypeDefinition(_) => "a union type definition",
-            Definition::EnumTypeDefinition(_) => "an enum type definition",
-            Definition::InputObjectTypeDefinition(_) => "an input object type definition",
+            Definition::ScalarTypeDefinition(_) => TypeKind::Scalar.describe_definition(),
+            Definition::ObjectTypeDefinition(_) => TypeKind::Object.describe_definition(),
+            Definition::InterfaceTypeDefinition(_) => TypeKind::Interface.describe_definition(),
+            Definition::UnionTypeDefinition(_) => TypeKind::Union.describe_definition(),
+            Definition::EnumTypeDefinition(_) => TypeKind::Enum.describe_definition(),
+            Definition::InputObjectTypeDefinition(_) => TypeKind::InputObject.describe_definition(),
             Definition::SchemaExtension(_) => "a schema extension",
-            Definition::ScalarTypeExtension(_) => "a scalar type extension",
-            Definition::ObjectTypeExtension(_) => "an object type extension",
-            Definition::InterfaceTypeExtension(_) => "an interface type extension",
-            Definition::UnionTypeExtension(_) => "a union type extension",
-            Definition::EnumTypeExtension(_) => "an enum type extension",
-            Definition::InputObjectTypeExtension(_) => "an input object type extension",
+            Definition::ScalarTypeExtension(_) => TypeKind::Scalar.describe_extension(),
+            Definition::ObjectTypeExtension(_) => TypeKind::Object.describe_extension(),
+            Definition::InterfaceTypeExtension(_) => TypeKind::Interface.describe_extension(),
+            Definition::UnionTypeExtension(_) => TypeKind::Union.describe_extension(),
+            Definition::EnumTypeExtension(_) => TypeKind::Enum.describe_extension(),
+            Definition::InputObjectTypeExtension(_) => TypeKind::InputObject.describe_extension(),
         }
     }
 }

@@ -1,10 +1,10 @@
 //! Arguments and applied directives: GraphQL specification of October 2021, sections 2.6 and 2.12.
 ghost use Rattle.std.specs.Prelude.{◌≡◌, [], ◌∷◌, ◌++◌, OnOk, OnErr};
 
-use crate::collections::items::Items;
-use crate::name::Name;
-use crate::node::Node;
 use crate::value::Value;
+use graphql_nodes::collections::items::Items;
+use graphql_nodes::name::Name;
+use graphql_nodes::node::Node;
 use std::alloc::{AllocError, Global};
 use std::ops::Deref;
 

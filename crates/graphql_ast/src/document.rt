@@ -1,10 +1,10 @@
 //! Documents: GraphQL specification of October 2021, section 2.2.
 ghost use Rattle.std.specs.Prelude.{◌≡◌, [], IfOk};
 
-use crate::collections::items::Items;
-use crate::collections::table::Table;
 use crate::definition::Definition;
-use crate::source::SourceMap;
+use graphql_nodes::collections::items::Items;
+use graphql_nodes::collections::table::Table;
+use graphql_nodes::source::SourceMap;
 use std::alloc::Global;
 
 /// The definitions of a document, in order, and the files that they come from.

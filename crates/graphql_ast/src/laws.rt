@@ -8,22 +8,13 @@ ghost use Rattle.graphql_ast.specs.Bare.{ComparesBy, bare_name, bare_invalid_nam
 ghost use Rattle.graphql_ast.specs.BareSelections.{bare_selection, bare_field, bare_inline_fragment, bare_fragment_spread};
 ghost use Rattle.graphql_ast.specs.BareTypeSystem.{bare_field_definition, bare_input_value_definition, bare_enum_value_definition, bare_directive_definition, bare_schema_definition, bare_scalar_type_definition, bare_object_type_definition, bare_interface_type_definition, bare_union_type_definition, bare_enum_type_definition, bare_input_object_type_definition, bare_schema_extension, bare_scalar_type_extension, bare_object_type_extension, bare_interface_type_extension, bare_union_type_extension, bare_enum_type_extension, bare_input_object_type_extension};
 ghost use Rattle.graphql_ast.specs.BareDocuments.{bare_variable_definition, bare_operation_definition, bare_fragment_definition, bare_definition, bare_document};
-ghost use Rattle.graphql_ast.specs.Clones.{IsExact};
+ghost use Rattle.graphql_nodes.specs.Clones.{IsExact};
 
-use crate::collections::boxed::Boxed;
-use crate::collections::items::Items;
-use crate::collections::key_set::KeySet;
-use crate::collections::shared::Shared;
-use crate::collections::table::Table;
 use crate::definition::Definition;
 use crate::directive::{Argument, Directive, DirectiveList};
 use crate::document::Document;
-use crate::name::{InvalidNameError, Name};
-use crate::node::Node;
-use crate::node_str::NodeStr;
 use crate::operation::{FragmentDefinition, OperationDefinition, VariableDefinition};
 use crate::selection::{Field, FragmentSpread, InlineFragment, Selection};
-use crate::source::SourceFile;
 use crate::type_reference::Type;
 use crate::type_system::{
     DirectiveDefinition, EnumTypeDefinition, EnumTypeExtension, EnumValueDefinition,
@@ -33,6 +24,15 @@ use crate::type_system::{
     UnionTypeDefinition, UnionTypeExtension,
 };
 use crate::value::Value;
+use graphql_nodes::collections::boxed::Boxed;
+use graphql_nodes::collections::items::Items;
+use graphql_nodes::collections::key_set::KeySet;
+use graphql_nodes::collections::shared::Shared;
+use graphql_nodes::collections::table::Table;
+use graphql_nodes::name::{InvalidNameError, Name};
+use graphql_nodes::node::Node;
+use graphql_nodes::node_str::NodeStr;
+use graphql_nodes::source::SourceFile;
 use std::hash::Hash;
 
 /// Nodes are equal where their values are, lists where their elements are in order, and a box or shared value where

@@ -1,13 +1,13 @@
 //! Operations and fragments: GraphQL specification of October 2021, sections 2.3, 2.8 and 2.10.
 
-use crate::collections::items::Items;
 use crate::directive::DirectiveList;
-use crate::name::{Name, NamedType};
-use crate::node::Node;
-use crate::operation_type::OperationType;
 use crate::selection::Selection;
 use crate::type_reference::Type;
 use crate::value::Value;
+use graphql_nodes::collections::items::Items;
+use graphql_nodes::name::{Name, NamedType};
+use graphql_nodes::node::Node;
+use graphql_nodes::operation_type::OperationType;
 
 /// A query, mutation or subscription, anonymous where it has no name.
 #[derive(Drop, PartialEq, Eq, Hash, Clone)]

@@ -1,10 +1,10 @@
 //! Selections: GraphQL specification of October 2021, sections 2.4 to 2.8.
 ghost use Rattle.std.specs.Prelude.{◌≡◌, IfOk};
 
-use crate::collections::items::Items;
 use crate::directive::{Argument, DirectiveList};
-use crate::name::{Name, NamedType};
-use crate::node::Node;
+use graphql_nodes::collections::items::Items;
+use graphql_nodes::name::{Name, NamedType};
+use graphql_nodes::node::Node;
 use std::alloc::AllocError;
 
 /// One entry of a selection set.

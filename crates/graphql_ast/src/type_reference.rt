@@ -1,8 +1,8 @@
 //! References to types: GraphQL specification of October 2021, section 2.11.
 ghost use Rattle.std.specs.Prelude.{◌≡◌, IfOk, ◌↔◌, IsTrue};
 
-use crate::collections::boxed::Boxed;
-use crate::name::NamedType;
+use graphql_nodes::collections::boxed::Boxed;
+use graphql_nodes::name::NamedType;
 use std::alloc::AllocError;
 
 /// A reference to a type: a name, or a list of a type, either of which may be non-null.

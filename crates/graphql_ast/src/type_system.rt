@@ -1,14 +1,15 @@
 //! Definitions and extensions of the type system: GraphQL specification of October 2021, section 3.
 
-use crate::collections::items::Items;
 use crate::directive::DirectiveList;
-use crate::directive_location::DirectiveLocation;
-use crate::name::{Name, NamedType};
-use crate::node::Node;
-use crate::node_str::NodeStr;
-use crate::operation_type::OperationType;
 use crate::type_reference::Type;
 use crate::value::Value;
+use graphql_nodes::collections::items::Items;
+use graphql_nodes::directive_location::DirectiveLocation;
+use graphql_nodes::name::{Name, NamedType};
+use graphql_nodes::named::Named;
+use graphql_nodes::node::Node;
+use graphql_nodes::node_str::NodeStr;
+use graphql_nodes::operation_type::OperationType;
 
 /// A field of an object or interface type (section 3.6).
 #[derive(Drop, PartialEq, Eq, Hash, Clone)]
@@ -165,4 +166,28 @@ pub struct InputObjectTypeExtension {
     pub name: Name,
     pub directives: DirectiveList,
     pub fields: Items<Node<InputValueDefinition>>,
+}
+
+impl Named for FieldDefinition {
+    ghost name_of = { λ field. field.name };
+
+    fn name(&self) -> &Name {
+        &self.name
+    }
+}
+
+impl Named for InputValueDefinition {
+    ghost name_of = { λ value. value.name };
+
+    fn name(&self) -> &Name {
+        &self.name
+    }
+}
+
+impl Named for EnumValueDefinition {
+    ghost name_of = { λ value. value.value };
+
+    fn name(&self) -> &Name {
+        &self.value
+    }
 }

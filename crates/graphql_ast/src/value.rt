@@ -1,10 +1,10 @@
 //! Input values: GraphQL specification of October 2021, section 2.9.
 ghost use Rattle.std.specs.Prelude.{◌≡◌, IfOk};
 
-use crate::collections::items::Items;
-use crate::collections::text::Text;
-use crate::name::Name;
-use crate::node::Node;
+use graphql_nodes::collections::items::Items;
+use graphql_nodes::collections::text::Text;
+use graphql_nodes::name::Name;
+use graphql_nodes::node::Node;
 use std::alloc::AllocError;
 
 /// An input value. Numbers are their texts.

@@ -2,23 +2,26 @@
 ghost use Rattle.std.specs.Prelude.{◌≡◌, Bool, ◌≢◌, ℕ, ◌+◌, ◌^◌, ◌≤◌, List, [], ◌∷◌, ◌++◌, length, Err, OnOk, IfOk, IfErr};
 ghost use Rattle.std.specs.Option.{option_map_or};
 ghost use Rattle.apollo_component.specs.Extensions.{next_number, source_at};
-ghost use Rattle.apollo_schema.specs.TypeParts.{TypeItem, SchemaDefined, Added, added_items, schema_definition_part};
-ghost use Rattle.apollo_schema.specs.Adoption.{with_adopted, implied_schema, completed};
-ghost use Rattle.apollo_schema.specs.WholeSchema.{MeansSchema, folds};
-ghost use Rattle.apollo_schema.specs.SchemaFaults.{faults_of, IfFaults};
-ghost use Rattle.apollo_schema.specs.Prefixes.{folded};
-ghost use Rattle.apollo_schema.specs.Refusals.{RefusedAs, failure_of};
+ghost use Rattle.apollo_meaning.specs.TypeParts.{TypeItem, SchemaDefined, Added, added_items, schema_definition_part};
+ghost use Rattle.apollo_meaning.specs.Adoption.{with_adopted, implied_schema, completed};
+ghost use Rattle.apollo_schema.specs.MeantSchema.{MeansSchema};
+ghost use Rattle.apollo_meaning.specs.WholeSchema.{folds};
+ghost use Rattle.apollo_meaning.specs.SchemaFaults.{faults_of};
+ghost use Rattle.apollo_schema.specs.BuildAnswers.{IfFaults, failure_of, HasBuilt, WasRefused};
+ghost use Rattle.apollo_meaning.specs.Prefixes.{folded};
+ghost use Rattle.apollo_folding.specs.Refusals.{RefusedAs};
 ghost use Rattle.apollo_schema.specs.Stands.{Stands, Ends, Completes};
-ghost use Rattle.apollo_schema.specs.BuilderStands.{HasBuilt, WasRefused, SpendsIds};
+ghost use Rattle.apollo_meaning.specs.SpentIds.{SpendsIds};
 
-use crate::adoption::{adopted_definitions, definition_or_none, implied_definition};
-use crate::build_error::{BuildFailure, BuilderError, WithErrors};
-use crate::orphans::{note_orphans, note_schema_orphans};
+use crate::build_failure::{BuildFailure, WithErrors};
 use crate::schema::Schema;
 use crate::tables::Tables;
 use apollo_component::extension::ExtensionSource;
-use graphql_ast::node::Node;
+use apollo_folding::adoption::{adopted_definitions, definition_or_none, implied_definition};
+use apollo_folding::builder_error::BuilderError;
+use apollo_folding::orphans::{note_orphans, note_schema_orphans};
 use graphql_ast::type_system as ast;
+use graphql_nodes::node::Node;
 use std::alloc::AllocError;
 
 impl Tables {

@@ -1,25 +1,45 @@
 //! Copies of what a builder holds.
-ghost use Rattle.std.specs.Prelude.{◌≡◌};
+ghost use Rattle.std.specs.Prelude.{◌≡◌, OnOk};
 
 use super::Tables;
 use apollo_component::extension::ExtensionSource;
 use std::alloc::AllocError;
+
+/// Puts a copy of a value in the place of another.
+fn copy_into<T: Clone + Drop>(place: &mut T, original: &T) -> Result<(), AllocError>
+    ensures { OnOk result (T.Clone.is_clone original.now place.new) }
+{
+    *place = original.clone()?;
+    Ok(())
+}
+
+impl Tables {
+    /// Takes over copies of all that others hold, but for their source.
+    fn copy_from(&mut self, original: &Tables) -> Result<(), AllocError>
+        ensures { OnOk result (self.new ≡ record original.now { alloc = self.old.alloc; ids = self.old.ids }) }
+    {
+        copy_into(&mut self.sources, &original.sources)?;
+        copy_into(&mut self.schema_definition, &original.schema_definition)?;
+        copy_into(&mut self.schema_extensions, &original.schema_extensions)?;
+        copy_into(&mut self.types, &original.types)?;
+        copy_into(
+            &mut self.directive_definitions,
+            &original.directive_definitions,
+        )?;
+        copy_into(&mut self.waiting, &original.waiting)?;
+        copy_into(&mut self.errors, &original.errors)?;
+        Ok(())
+    }
+}
 
 /// A copy draws the numbers that the original draws.
 impl Clone for Tables {
     ghost is_clone = { λ a b. b ≡ a };
 
     fn clone(&self) -> Result<Tables, AllocError> {
-        Ok(Tables {
-            alloc: self.alloc,
-            sources: self.sources.clone()?,
-            schema_definition: self.schema_definition.clone()?,
-            schema_extensions: self.schema_extensions.clone()?,
-            types: self.types.clone()?,
-            directive_definitions: self.directive_definitions.clone()?,
-            waiting: self.waiting.clone()?,
-            ids: ExtensionSource::starting_at(self.ids.next_number()),
-            errors: self.errors.clone()?,
-        })
+        let ids = ExtensionSource::starting_at(self.ids.next_number());
+        let mut copy = Tables::new(self.alloc, ids);
+        copy.copy_from(self)?;
+        Ok(copy)
     }
 }

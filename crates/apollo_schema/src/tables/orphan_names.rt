@@ -1,10 +1,11 @@
 //! The names that a builder holds extensions of, and no definition.
 ghost use Rattle.std.specs.Prelude.{◌≡◌, ℕ, List, None, All};
-ghost use Rattle.graphql_ast.specs.Tables.{lookup};
-ghost use Rattle.apollo_schema.specs.TypeParts.{TypeItem};
-ghost use Rattle.apollo_schema.specs.SchemaMeaning.{by_text};
+ghost use Rattle.graphql_nodes.specs.Tables.{lookup};
+ghost use Rattle.apollo_meaning.specs.TypeParts.{TypeItem};
+ghost use Rattle.apollo_meaning.specs.SchemaMeaning.{by_text};
 ghost use Rattle.apollo_schema.specs.Stands.{Stands};
-ghost use Rattle.apollo_schema.specs.OrphanNames.{orphan_names, names_left, IsExtendedUnder};
+ghost use Rattle.apollo_meaning.specs.OrphanNames.{orphan_names};
+ghost use Rattle.apollo_schema.specs.NamesLeft.{names_left, IsExtendedUnder};
 
 use super::Tables;
 use crate::orphan_names::OrphanNames;

@@ -1,5 +1,5 @@
 use Rattle.std.proofs.Common.{◌≡◌, length}
-use Rattle.apollo_schema.specs.OrphanNames.{names_held}
+use Rattle.apollo_schema.specs.NamesLeft.{names_held}
 use Rattle.apollo_schema.proofs.orphan_names.next_held.Given as goal
 
 abbrev pub invariant-loop-name : goal.invariant-loop-name

@@ -1,6 +1,6 @@
 use Rattle.std.proofs.Common.{◌≡◌, ◌++◌, map, ap, ◌∙◌, rules}
 use Rattle.std.proofs.lemmas.Map.Iter.{iter_end}
-use Rattle.graphql_ast.specs.Tables.{values_of}
+use Rattle.graphql_nodes.specs.Tables.{values_of}
 use Rattle.apollo_types.specs.WriteOut.{origin_of, identities}
 use Rattle.apollo_types.proofs.write_out.add_value_origins.Goals as goal
 

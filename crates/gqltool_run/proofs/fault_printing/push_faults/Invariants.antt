@@ -1,5 +1,5 @@
 use Rattle.std.proofs.Common.{◌≡◌, ℕ, List, ◌++◌, take, string_bytes}
-use Rattle.gqltool_run.specs.SchemaCommand.{AreFaultLines}
+use Rattle.gqltool_run.specs.FaultLines.{AreFaultLines}
 use Rattle.gqltool_run.proofs.fault_printing.push_faults.Given as goal
 
 abbrev pub invariant-loop-fault : goal.invariant-loop-fault

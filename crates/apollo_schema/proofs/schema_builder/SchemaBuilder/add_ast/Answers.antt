@@ -2,16 +2,16 @@ use Rattle.std.proofs.Common.{◌≡◌, ℕ, ◌+◌, ◌^◌, ◌≤◌, List,
 use Rattle.std.proofs.lemmas.List.{map-append}
 use Rattle.std.proofs.Math.Logic.{∥∥₁_map}
 use Rattle.apollo_component.specs.Extensions.{source_at}
-use Rattle.apollo_schema.specs.declared.build_error.BuilderError.{BuilderError}
-use Rattle.apollo_schema.specs.declared.build_error.BuilderError.TheVariants.{ExtensionIds}
-use Rattle.apollo_schema.specs.TypeParts.{TypeItem, Folding, added, added_item, added_items}
-use Rattle.apollo_schema.specs.Places.{folding_order}
-use Rattle.apollo_schema.specs.Prefixes.{folded}
-use Rattle.apollo_schema.specs.Refusals.{RefusedAs}
+use Rattle.apollo_folding.specs.declared.builder_error.BuilderError.{BuilderError}
+use Rattle.apollo_folding.specs.declared.builder_error.BuilderError.TheVariants.{ExtensionIds}
+use Rattle.apollo_meaning.specs.TypeParts.{TypeItem, Folding, added, added_item, added_items}
+use Rattle.apollo_meaning.specs.Places.{folding_order}
+use Rattle.apollo_meaning.specs.Prefixes.{folded}
+use Rattle.apollo_folding.specs.Refusals.{RefusedAs}
 use Rattle.apollo_schema.specs.declared.state.State.TheVariants.{Failed}
 use Rattle.apollo_schema.specs.Stands.{Stands, HasStood, StateStands}
 use Rattle.apollo_schema.proofs.OutcomeLemmas.{past}
-use Rattle.apollo_schema.proofs.PlaceLemmas.{folding_order-forget}
+use Rattle.apollo_meaning.proofs.PlaceLemmas.{folding_order-forget}
 use Rattle.apollo_schema.proofs.schema_builder.SchemaBuilder.add_ast.Goals as goal
 
 pub invariant_of-self-in_default-take_document : goal.invariant_of-self-in_default-take_document

@@ -1,13 +1,13 @@
 use Rattle.std.proofs.Common.{◌≡◌, false, is_some, All, ap, sym, subst}
 use mathlib.Core.Bool.{Bool-set}
 use Rattle.std.proofs.Math.Logic.{∥∥₁_map, ∥∥₁_elim}
-use Rattle.graphql_ast.specs.Tables.{lookup}
-use Rattle.graphql_ast.specs.NameView.{NameView}
+use Rattle.graphql_nodes.specs.Tables.{lookup}
+use Rattle.graphql_nodes.specs.NameView.{NameView}
 use Rattle.apollo_schema.specs.declared.state.State.{State}
-use Rattle.apollo_schema.specs.TypeParts.{added_items}
-use Rattle.apollo_schema.specs.SchemaMeaning.{by_text}
+use Rattle.apollo_meaning.specs.TypeParts.{added_items}
+use Rattle.apollo_meaning.specs.SchemaMeaning.{by_text}
 use Rattle.apollo_schema.specs.Stands.{HasStood, StateStands}
-use Rattle.apollo_schema.specs.OrphanNames.{names_left, IsExtendedUnder}
+use Rattle.apollo_schema.specs.NamesLeft.{names_left, IsExtendedUnder}
 use Rattle.apollo_schema.specs.BuilderHolds.{state_types, state_waiting}
 use Rattle.apollo_schema.proofs.schema_builder.SchemaBuilder.iter_orphan_extension_types.Goals as goal
 

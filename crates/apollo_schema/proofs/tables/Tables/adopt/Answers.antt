@@ -1,11 +1,11 @@
 use Rattle.std.proofs.Common.{◌≡◌, ◌+◌, ◌^◌, ◌≤◌, false, List, ◌++◌, length, sym, ap, subst, ◌∙◌}
 use Rattle.std.proofs.lemmas.Result.{err_from_is_err_and}
-use Rattle.apollo_schema.specs.TypeParts.{TypeItem, added, added_items, items_of}
-use Rattle.apollo_schema.specs.Adoption.{adopted, with_adopted}
-use Rattle.apollo_schema.specs.Prefixes.{folded}
+use Rattle.apollo_meaning.specs.TypeParts.{TypeItem, added, added_items, items_of}
+use Rattle.apollo_meaning.specs.Adoption.{adopted, with_adopted}
+use Rattle.apollo_meaning.specs.Prefixes.{folded}
 use Rattle.apollo_schema.specs.Stands.{Stands}
-use Rattle.apollo_schema.proofs.OrphanLemmas.{held-adopted}
-use Rattle.apollo_schema.proofs.RefusalLemmas.{RefusedAs-weaker}
+use Rattle.apollo_meaning.proofs.OrphanLemmas.{held-adopted}
+use Rattle.apollo_folding.proofs.RefusalLemmas.{RefusedAs-weaker}
 use Rattle.apollo_schema.proofs.RoleLemmas.{unset-items}
 use Rattle.apollo_schema.proofs.tables.Tables.adopt.Goals as goal
 

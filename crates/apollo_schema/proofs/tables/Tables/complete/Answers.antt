@@ -1,9 +1,9 @@
 use Rattle.std.proofs.Common.{sym, ◌∙◌, arith}
 use Rattle.std.proofs.lemmas.Result.{err_from_is_err_and}
-use Rattle.apollo_schema.specs.Adoption.{with_adopted, implied_schema}
-use Rattle.apollo_schema.proofs.CompletionLemmas.{faults-completed}
-use Rattle.apollo_schema.proofs.RefusalLemmas.{RefusedAs-weaker}
-use Rattle.apollo_schema.proofs.StandsLemmas.{length-folded-front}
+use Rattle.apollo_meaning.specs.Adoption.{with_adopted, implied_schema}
+use Rattle.apollo_meaning.proofs.CompletionLemmas.{faults-completed}
+use Rattle.apollo_folding.proofs.RefusalLemmas.{RefusedAs-weaker}
+use Rattle.apollo_meaning.proofs.ItemLemmas.{length-folded-front}
 use Rattle.apollo_schema.proofs.tables.Tables.complete.Goals as goal
 
 pub returns-in_err-adopt-clause-refused : goal.returns-in_err-adopt-clause-refused

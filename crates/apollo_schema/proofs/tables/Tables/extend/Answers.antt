@@ -3,18 +3,18 @@ use Rattle.std.specs.List.{filter_map}
 use Rattle.std.specs.Map.{keys_of, lookup, set_value}
 use Rattle.std.specs.Option.{option_copied_mut}
 use Rattle.std.proofs.lemmas.Result.{err_from_is_err_and}
-use Rattle.graphql_ast.specs.NameView.{NameView}
+use Rattle.graphql_nodes.specs.NameView.{NameView}
 use Rattle.graphql_ast.specs.declared.definition.Definition.{Definition}
 use Rattle.apollo_component.specs.Extensions.{next_number, source_at}
-use Rattle.apollo_schema.specs.TypeParts.{TypePart, Extended, item_of, extended_part, extended_parts, kind_of, key_of, same}
-use Rattle.apollo_schema.specs.DefinitionList.{of_kind}
-use Rattle.apollo_schema.specs.TypeMeaning.{Sourced, type_from, extension_part, numbered}
+use Rattle.apollo_meaning.specs.TypeParts.{TypePart, Extended, item_of, extended_part, extended_parts, kind_of, key_of, same}
+use Rattle.apollo_meaning.specs.DefinitionList.{of_kind}
+use Rattle.apollo_meaning.specs.TypeMeaning.{Sourced, type_from, extension_part, numbered}
 use Rattle.apollo_types.specs.TypeWriteOut.{type_kind}
-use Rattle.apollo_schema.specs.Joining.{joining_faults}
-use Rattle.apollo_schema.specs.SchemaMeaning.{by_text}
-use Rattle.apollo_schema.specs.Stands.{items_held}
+use Rattle.apollo_meaning.specs.Joining.{joining_faults}
+use Rattle.apollo_meaning.specs.SchemaMeaning.{by_text}
+use Rattle.apollo_meaning.specs.HeldItems.{items_held}
 use Rattle.apollo_schema.proofs.StandsLemmas.{Stands-early, Stands-late, late-spent}
-use Rattle.apollo_schema.proofs.RefusalLemmas.{RefusedAs-weaker}
+use Rattle.apollo_folding.proofs.RefusalLemmas.{RefusedAs-weaker}
 use Rattle.apollo_schema.proofs.tables.Tables.extend.Goals as goal
 
 -- the extension is the one part

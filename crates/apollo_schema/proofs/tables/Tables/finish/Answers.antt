@@ -1,16 +1,17 @@
 use Rattle.std.proofs.Common.{◌≡◌, ℕ, ◌+◌, ◌^◌, ◌≤◌, List, length, sym, ap, subst, ◌∙◌}
 use Rattle.apollo_component.specs.Extensions.{source_at}
-use Rattle.apollo_schema.specs.declared.build_error.BuildFailure.TheVariants as failures
-use Rattle.apollo_schema.specs.declared.build_error.BuilderError.{BuilderError}
-use Rattle.apollo_schema.specs.declared.build_error.BuilderError.TheVariants as refusals
-use Rattle.apollo_schema.specs.TypeParts.{TypeItem, Folding, added_items}
-use Rattle.apollo_schema.specs.WholeSchema.{whole}
-use Rattle.apollo_schema.specs.Refusals.{RefusedAs, failure_of}
-use Rattle.apollo_schema.specs.Adoption.{completed}
-use Rattle.apollo_schema.specs.Prefixes.{folded}
+use Rattle.apollo_schema.specs.declared.build_failure.BuildFailure.TheVariants as failures
+use Rattle.apollo_folding.specs.declared.builder_error.BuilderError.{BuilderError}
+use Rattle.apollo_folding.specs.declared.builder_error.BuilderError.TheVariants as refusals
+use Rattle.apollo_meaning.specs.TypeParts.{TypeItem, Folding, added_items}
+use Rattle.apollo_meaning.specs.WholeSchema.{whole}
+use Rattle.apollo_folding.specs.Refusals.{RefusedAs}
+use Rattle.apollo_schema.specs.BuildAnswers.{failure_of}
+use Rattle.apollo_meaning.specs.Adoption.{completed}
+use Rattle.apollo_meaning.specs.Prefixes.{folded}
 use Rattle.apollo_schema.specs.Stands.{Stands}
 use Rattle.apollo_schema.proofs.OutcomeLemmas.{if_ok, on_ok, if_err, past, past-either}
-use Rattle.apollo_schema.proofs.PlaceLemmas.{folding_order-forget}
+use Rattle.apollo_meaning.proofs.PlaceLemmas.{folding_order-forget}
 use Rattle.apollo_schema.proofs.tables.Tables.finish.Goals as goal
 
 pub returns-in-Ok-clause-built : goal.returns-in-Ok-clause-built

@@ -1,8 +1,8 @@
 use Rattle.std.proofs.Common.{map, sym, ap, ◌∙◌}
-use Rattle.apollo_schema.specs.TypeParts.{schema_extension_part}
-use Rattle.apollo_schema.specs.RootFaults.{roots_in}
-use Rattle.apollo_schema.specs.Adoption.{schema_for}
-use Rattle.apollo_schema.specs.HeldRoots.{held_roots}
+use Rattle.apollo_meaning.specs.TypeParts.{schema_extension_part}
+use Rattle.apollo_meaning.specs.RootFaults.{roots_in}
+use Rattle.apollo_meaning.specs.Adoption.{schema_for}
+use Rattle.apollo_folding.specs.HeldRoots.{held_roots}
 use Rattle.apollo_schema.proofs.EndLemmas.{implied-standing, implied-held, none-of}
 use Rattle.apollo_schema.proofs.tables.Tables.implied_schema.Goals as goal
 

@@ -3,13 +3,14 @@ use Rattle.std.specs.Option.{unwrap_or}
 use Rattle.std.proofs.lemmas.Bool.Decides.{nat_tests}
 use Rattle.apollo_schema.specs.declared.schema.Schema.{Schema}
 use Rattle.apollo_schema.specs.declared.tables.Tables.{Tables}
-use Rattle.apollo_schema.specs.TypeParts.{Folding, Added, added_items}
-use Rattle.apollo_schema.specs.SchemaMeaning.{AreTypesOf}
-use Rattle.apollo_schema.specs.DirectiveMeaning.{directive_definitions, AreDirectivesOf}
-use Rattle.apollo_schema.specs.Prefixes.{folded}
-use Rattle.apollo_schema.specs.WholeSchema.{AreOf, MeansSchema, whole, no_schema}
+use Rattle.apollo_meaning.specs.TypeParts.{Folding, Added, added_items}
+use Rattle.apollo_meaning.specs.SchemaMeaning.{AreTypesOf}
+use Rattle.apollo_meaning.specs.DirectiveMeaning.{directive_definitions, AreDirectivesOf}
+use Rattle.apollo_meaning.specs.Prefixes.{folded}
+use Rattle.apollo_schema.specs.MeantSchema.{AreOf, MeansSchema}
+use Rattle.apollo_meaning.specs.WholeSchema.{whole, no_schema}
 use Rattle.apollo_schema.specs.Stands.{Completes}
-use Rattle.apollo_schema.proofs.PlaceLemmas.{folding_order-forget}
+use Rattle.apollo_meaning.proofs.PlaceLemmas.{folding_order-forget}
 use Rattle.apollo_schema.proofs.tables.Tables.into_schema.Goals as goal
 
 -- the schema of tables that hold all that a list means is the one that the list means

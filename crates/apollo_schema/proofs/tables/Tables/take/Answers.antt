@@ -2,11 +2,11 @@ use Rattle.std.proofs.Common.{◌≡◌, ℕ, ◌+◌, ◌<◌, Bool, get_or, ta
 use Rattle.std.proofs.lemmas.List.{map-append, take_more, take-append-drop, take_all}
 use Rattle.std.proofs.lemmas.Result.{err_from_is_err_and}
 use Rattle.graphql_ast.specs.declared.definition.Definition.{Definition}
-use Rattle.apollo_schema.specs.TypeParts.{TypeItem, added, added_item, added_items}
-use Rattle.apollo_schema.specs.Prefixes.{folded}
+use Rattle.apollo_meaning.specs.TypeParts.{TypeItem, added, added_item, added_items}
+use Rattle.apollo_meaning.specs.Prefixes.{folded}
 use Rattle.apollo_schema.specs.Stands.{Stands}
-use Rattle.apollo_schema.proofs.StandsLemmas.{length-folded-front}
-use Rattle.apollo_schema.proofs.RefusalLemmas.{RefusedAs-weaker}
+use Rattle.apollo_meaning.proofs.ItemLemmas.{length-folded-front}
+use Rattle.apollo_folding.proofs.RefusalLemmas.{RefusedAs-weaker}
 use Rattle.apollo_schema.proofs.tables.Tables.take.Goals as goal
 
 taken-append : (b : Bool) (ds es : List Definition) → added_items (added b (ds ++ es)) ≡ added_items (added b ds) ++ added_items (added b es)

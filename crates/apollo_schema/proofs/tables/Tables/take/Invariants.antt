@@ -1,5 +1,5 @@
 use Rattle.std.proofs.Common.{◌≡◌, ℕ, List, ◌++◌, take}
-use Rattle.apollo_schema.specs.TypeParts.{TypeItem, added, added_items}
+use Rattle.apollo_meaning.specs.TypeParts.{TypeItem, added, added_items}
 use Rattle.apollo_schema.specs.Stands.{Stands}
 use Rattle.apollo_schema.proofs.tables.Tables.take.Given as goal
 

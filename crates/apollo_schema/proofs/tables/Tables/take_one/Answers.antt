@@ -1,10 +1,10 @@
 use Rattle.std.proofs.Common.{◌≡◌, ◌+◌, ◌^◌, ◌≤◌, Bool, false, [], ◌∷◌, ◌++◌, length, Option, None, Some, is_some, refl, sym, ap, subst, ◌∙◌}
 use Rattle.std.specs.Option.{option_copied, option_map}
 use Rattle.std.proofs.lemmas.Result.{err_from_is_err_and}
-use Rattle.apollo_schema.specs.TypeParts.{TypePart, TypeItem, Defined, Extended, SchemaDefined, SchemaExtended, Other, item_of, ignorable_if, defined_part, extended_part}
-use Rattle.apollo_schema.specs.Prefixes.{folded}
+use Rattle.apollo_meaning.specs.TypeParts.{TypePart, TypeItem, Defined, Extended, SchemaDefined, SchemaExtended, Other, item_of, ignorable_if, defined_part, extended_part}
+use Rattle.apollo_meaning.specs.Prefixes.{folded}
 use Rattle.apollo_schema.specs.Stands.{Stands}
-use Rattle.apollo_schema.proofs.RefusalLemmas.{RefusedAs-weaker}
+use Rattle.apollo_folding.proofs.RefusalLemmas.{RefusedAs-weaker}
 use Rattle.apollo_schema.proofs.RoleLemmas.{defined-item, extended-item}
 use Rattle.apollo_schema.proofs.tables.Tables.take_one.Goals as goal
 

@@ -3,10 +3,10 @@ use Rattle.std.proofs.lemmas.List.{append-nil}
 use Rattle.graphql_ast.specs.DefinitionTexts.{definition_text}
 use Rattle.graphql_ast.specs.declared.definition.Definition.{Definition}
 use Rattle.graphql_ast.specs.declared.definition.Definition.TheVariants as ast
-use Rattle.apollo_schema.specs.declared.build_error.BuildError.TheVariants as errors
+use Rattle.apollo_meaning.specs.declared.build_error.BuildError.TheVariants as errors
 use Rattle.apollo_schema.specs.declared.tables.Tables.{Tables}
-use Rattle.apollo_schema.specs.DirectiveMeaning.{directive_definitions, AreDirectivesOf}
-use Rattle.apollo_schema.specs.TypeParts.{TypeItem, Other, item_of}
+use Rattle.apollo_meaning.specs.DirectiveMeaning.{directive_definitions, AreDirectivesOf}
+use Rattle.apollo_meaning.specs.TypeParts.{TypeItem, Other, item_of}
 use Rattle.apollo_schema.specs.Stands.{Stands}
 use Rattle.apollo_schema.proofs.StandsLemmas.{Stands-other}
 use Rattle.apollo_schema.proofs.RoleLemmas.{executable-other, executable-item}

@@ -1,0 +1,21 @@
+-- What rows stand for, as the code holds them.
+use Rattle.std.specs.Prelude.{[], ◌∷◌}
+use Rattle.graphql_nodes.specs.NodeView.{NodeView}
+use Rattle.graphql_ast.specs.declared.type_reference.Type.{«Type» as TypeReference}
+use Rattle.graphql_ast.specs.declared.type_system.FieldDefinition.{FieldDefinition}
+use Rattle.apollo_built_in.specs.BuiltInNodes as nodes
+use Rattle.apollo_built_in.specs.BuiltInTable.{include_deprecated}
+use Rattle.apollo_built_in.specs.declared.nodes.TypeRow.{TypeRow}
+use Rattle.apollo_built_in.specs.declared.nodes.TypeRow.TheVariants as type_rows
+use Rattle.apollo_built_in.specs.declared.nodes.FieldRow.{FieldRow}
+use Rattle.apollo_built_in.specs.declared.nodes.FieldRow.TheVariants as field_rows
+
+abbrev pub row_type : TypeRow → TypeReference
+row_type (type_rows.Named text) = nodes.named text.now
+row_type (type_rows.NonNull text) = nodes.non_null text.now
+row_type (type_rows.ListOf text) = nodes.list_of (nodes.non_null text.now)
+row_type (type_rows.NonNullListOf text) = nodes.non_null_list_of (nodes.non_null text.now)
+
+abbrev pub row_field : FieldRow → NodeView FieldDefinition
+row_field (field_rows.Field text ty) = nodes.field text.now [] (row_type ty)
+row_field (field_rows.Filtered text ty) = nodes.field text.now (include_deprecated ∷ []) (row_type ty)

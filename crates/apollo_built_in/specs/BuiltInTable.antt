@@ -1,0 +1,137 @@
+-- The definitions that every schema has: GraphQL specification of October 2021, sections 3.5 (scalars), 3.13
+-- (directives) and 4.2 (schema introspection).
+use Prim.Native.String.{String}
+use Rattle.std.specs.Prelude.{List, [], ◌∷◌, ◌++◌, None, Some, false, map, codes}
+use Rattle.graphql_nodes.specs.NodeView.{NodeView}
+use Rattle.graphql_nodes.specs.declared.directive_location.DirectiveLocation.TheVariants as at
+use Rattle.graphql_ast.specs.declared.type_reference.Type.{«Type» as TypeReference}
+use Rattle.graphql_ast.specs.declared.value.Value.{Boolean, «String» as Text}
+use Rattle.graphql_ast.specs.declared.type_system.FieldDefinition.{FieldDefinition}
+use Rattle.graphql_ast.specs.declared.type_system.InputValueDefinition.{InputValueDefinition}
+use Rattle.graphql_ast.specs.declared.type_system.EnumValueDefinition.{EnumValueDefinition}
+use Rattle.graphql_ast.specs.declared.definition.Definition.{Definition}
+use Rattle.apollo_built_in.specs.BuiltInNodes as nodes
+use Rattle.apollo_built_in.specs.BuiltInNodes.{list_of, non_null_list_of}
+
+-- parts of the table by their texts
+abbrev pub named : String → TypeReference
+named text = nodes.named (codes text)
+
+abbrev pub non_null : String → TypeReference
+non_null text = nodes.non_null (codes text)
+
+abbrev pub field : String → TypeReference → NodeView FieldDefinition
+field text ty = nodes.field (codes text) [] ty
+
+abbrev pub field_with : String → NodeView InputValueDefinition → TypeReference → NodeView FieldDefinition
+field_with text argument ty = nodes.field (codes text) (argument ∷ []) ty
+
+abbrev pub value : String → NodeView EnumValueDefinition
+value text = nodes.enum_value (codes text)
+
+-- `includeDeprecated: Boolean = false`
+abbrev pub include_deprecated : NodeView InputValueDefinition
+include_deprecated = nodes.argument (codes "includeDeprecated") (named "Boolean") (Some (Boolean false))
+
+abbrev pub built_in_scalars : List Definition
+built_in_scalars = map (λ text. nodes.scalar (codes text)) ("Int" ∷ "Float" ∷ "String" ∷ "Boolean" ∷ "ID" ∷ [])
+
+abbrev pub skip_directive : Definition
+skip_directive = nodes.directive (codes "skip")
+    (nodes.argument (codes "if") (non_null "Boolean") None)
+    (at.Field ∷ at.FragmentSpread ∷ at.InlineFragment ∷ [])
+
+abbrev pub include_directive : Definition
+include_directive = nodes.directive (codes "include")
+    (nodes.argument (codes "if") (non_null "Boolean") None)
+    (at.Field ∷ at.FragmentSpread ∷ at.InlineFragment ∷ [])
+
+abbrev pub deprecated_directive : Definition
+deprecated_directive = nodes.directive (codes "deprecated")
+    (nodes.argument (codes "reason") (named "String") (Some (Text (codes "No longer supported"))))
+    (at.FieldDefinition ∷ at.EnumValue ∷ [])
+
+abbrev pub specified_by_directive : Definition
+specified_by_directive = nodes.directive (codes "specifiedBy")
+    (nodes.argument (codes "url") (non_null "String") None)
+    (at.Scalar ∷ [])
+
+abbrev pub built_in_directives : List Definition
+built_in_directives = skip_directive ∷ include_directive ∷ deprecated_directive ∷ specified_by_directive ∷ []
+
+abbrev pub schema_type : Definition
+schema_type = nodes.object (codes "__Schema") (
+    field "description" (named "String")
+    ∷ field "types" (non_null_list_of (non_null "__Type"))
+    ∷ field "queryType" (non_null "__Type")
+    ∷ field "mutationType" (named "__Type")
+    ∷ field "subscriptionType" (named "__Type")
+    ∷ field "directives" (non_null_list_of (non_null "__Directive"))
+    ∷ [])
+
+abbrev pub type_type : Definition
+type_type = nodes.object (codes "__Type") (
+    field "kind" (non_null "__TypeKind")
+    ∷ field "name" (named "String")
+    ∷ field "description" (named "String")
+    ∷ field_with "fields" include_deprecated (list_of (non_null "__Field"))
+    ∷ field "interfaces" (list_of (non_null "__Type"))
+    ∷ field "possibleTypes" (list_of (non_null "__Type"))
+    ∷ field_with "enumValues" include_deprecated (list_of (non_null "__EnumValue"))
+    ∷ field "inputFields" (list_of (non_null "__InputValue"))
+    ∷ field "ofType" (named "__Type")
+    ∷ field "specifiedByURL" (named "String")
+    ∷ [])
+
+abbrev pub type_kind_type : Definition
+type_kind_type = nodes.enumeration (codes "__TypeKind") (map value (
+    "SCALAR" ∷ "OBJECT" ∷ "INTERFACE" ∷ "UNION" ∷ "ENUM" ∷ "INPUT_OBJECT" ∷ "LIST" ∷ "NON_NULL" ∷ []))
+
+abbrev pub field_type : Definition
+field_type = nodes.object (codes "__Field") (
+    field "name" (non_null "String")
+    ∷ field "description" (named "String")
+    ∷ field "args" (non_null_list_of (non_null "__InputValue"))
+    ∷ field "type" (non_null "__Type")
+    ∷ field "isDeprecated" (non_null "Boolean")
+    ∷ field "deprecationReason" (named "String")
+    ∷ [])
+
+abbrev pub input_value_type : Definition
+input_value_type = nodes.object (codes "__InputValue") (
+    field "name" (non_null "String")
+    ∷ field "description" (named "String")
+    ∷ field "type" (non_null "__Type")
+    ∷ field "defaultValue" (named "String")
+    ∷ [])
+
+abbrev pub enum_value_type : Definition
+enum_value_type = nodes.object (codes "__EnumValue") (
+    field "name" (non_null "String")
+    ∷ field "description" (named "String")
+    ∷ field "isDeprecated" (non_null "Boolean")
+    ∷ field "deprecationReason" (named "String")
+    ∷ [])
+
+abbrev pub directive_type : Definition
+directive_type = nodes.object (codes "__Directive") (
+    field "name" (non_null "String")
+    ∷ field "description" (named "String")
+    ∷ field "locations" (non_null_list_of (non_null "__DirectiveLocation"))
+    ∷ field "args" (non_null_list_of (non_null "__InputValue"))
+    ∷ field "isRepeatable" (non_null "Boolean")
+    ∷ [])
+
+abbrev pub directive_location_type : Definition
+directive_location_type = nodes.enumeration (codes "__DirectiveLocation") (map value (
+    "QUERY" ∷ "MUTATION" ∷ "SUBSCRIPTION" ∷ "FIELD" ∷ "FRAGMENT_DEFINITION" ∷ "FRAGMENT_SPREAD" ∷ "INLINE_FRAGMENT"
+    ∷ "VARIABLE_DEFINITION" ∷ "SCHEMA" ∷ "SCALAR" ∷ "OBJECT" ∷ "FIELD_DEFINITION" ∷ "ARGUMENT_DEFINITION" ∷ "INTERFACE"
+    ∷ "UNION" ∷ "ENUM" ∷ "ENUM_VALUE" ∷ "INPUT_OBJECT" ∷ "INPUT_FIELD_DEFINITION" ∷ []))
+
+abbrev pub introspection_types : List Definition
+introspection_types =
+    schema_type ∷ type_type ∷ type_kind_type ∷ field_type ∷ input_value_type ∷ enum_value_type ∷ directive_type
+    ∷ directive_location_type ∷ []
+
+unfoldable pub built_in_definitions : List Definition
+built_in_definitions = built_in_scalars ++ built_in_directives ++ introspection_types

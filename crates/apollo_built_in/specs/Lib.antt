@@ -1,0 +1,3 @@
+pub mod BuiltInNodes
+pub mod BuiltInRows
+pub mod BuiltInTable

@@ -1,0 +1,5 @@
+//! The built-in definitions: GraphQL specification of October 2021, sections 3.5, 3.13 and 4.2.
+#![tactic(auto)]
+
+pub mod definitions;
+mod nodes;

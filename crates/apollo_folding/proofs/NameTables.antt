@@ -1,0 +1,50 @@
+-- Tables under names, looked up by text.
+use Rattle.std.proofs.Common.{◌≡◌, ℕ, Bool, true, false, cond, List, [], ◌∷◌, ◌++◌, Some, None, is_some, IsSome, refl, sym, ap, ◌∙◌}
+use Rattle.std.specs.Map.{lookup, keys_of, set_value}
+use Rattle.std.specs.Cmp.{on_equiv}
+use Rattle.std.specs.Cmp.Lexicographic.{nat_list_eq_equiv}
+use Rattle.std.proofs.lemmas.Map.{lookup-set_value}
+use Rattle.std.proofs.lemmas.List.{map-append}
+use Rattle.indexmap.specs.IndexMap.{insert_entry}
+use Rattle.graphql_nodes.specs.NameView.{NameView}
+use Rattle.graphql_nodes.specs.SameText.{same_text}
+use Rattle.apollo_component.proofs.FirstOfEachLemmas.{is_some-lookup, insert_entry-last}
+use Rattle.apollo_meaning.specs.TypeParts.{same}
+use Rattle.apollo_meaning.specs.SchemaMeaning.{by_text}
+use Rattle.apollo_meaning.proofs.Texts.{same-true, same-is, same-flip}
+
+module _ {V : Type 0} where
+  -- an entry that is put is found under its text, and each other as before
+  pub lookup-put : (n : List ℕ) (es : List (NameView × V)) (k : NameView) (v : V) → lookup (by_text n) (insert_entry same_text es k v) ≡ cond (same n k.text) (Some v) (lookup (by_text n) es)
+  lookup-put n [] k v = refl
+  lookup-put n (e ∷ es) k v = by (same k.text e.0.text) refl (same n k.text) refl (lookup-put n es k v)
+    where
+      by : (b : Bool) → same k.text e.0.text ≡ b → (c : Bool) → same n k.text ≡ c → lookup (by_text n) (insert_entry same_text es k v) ≡ cond (same n k.text) (Some v) (lookup (by_text n) es)
+          → lookup (by_text n) (cond b ((e.0, v) ∷ es) (e ∷ insert_entry same_text es k v)) ≡ cond c (Some v) (cond (same n e.0.text) (Some e.1) (lookup (by_text n) es))
+      by true p true q rest = ap (λ d. cond d (Some v) (lookup (by_text n) es)) (ap (same n) (sym (same-true k.text e.0.text p)) ∙ q)
+      by true p false q rest =
+          let apart : same n e.0.text ≡ false = ap (same n) (sym (same-true k.text e.0.text p)) ∙ q in
+          ap (λ d. cond d (Some v) (lookup (by_text n) es)) apart ∙ sym (ap (λ d. cond d (Some e.1) (lookup (by_text n) es)) apart)
+      by false p true q rest =
+          ap (λ d. cond d (Some e.1) (lookup (by_text n) (insert_entry same_text es k v))) (ap (λ (m : List ℕ). same m e.0.text) (same-true n k.text q) ∙ p) ∙ rest ∙ ap (λ d. cond d (Some v) (lookup (by_text n) es)) q
+      by false p false q rest = ap (cond (same n e.0.text) (Some e.1)) (rest ∙ ap (λ d. cond d (Some v) (lookup (by_text n) es)) q)
+
+  -- a new name goes last
+  pub keys-put : (es : List (NameView × V)) (k : NameView) (v : V) → is_some (lookup (by_text k.text) es) ≡ false → keys_of (insert_entry same_text es k v) ≡ keys_of es ++ k ∷ []
+  keys-put es k v absent =
+      ap keys_of (insert_entry-last same_text es k v (sym (is_some-lookup (by_text k.text) es) ∙ absent)) ∙ map-append (λ e. e.0) es ((k, v) ∷ [])
+
+  -- a value that is written is found under its text, and each other as before
+  pub lookup-write : (n m : List ℕ) (es : List (NameView × V)) (v w : V) → lookup (by_text m) es ≡ Some v → lookup (by_text n) (set_value (by_text m) es w) ≡ cond (same n m) (Some w) (lookup (by_text n) es)
+  lookup-write n m es v w there =
+      let q : NameView = record { text = n; location = None } in
+      let found : IsSome (lookup (by_text m) es) = ap is_some there in
+      lookup-set_value (on_equiv (λ (x : NameView). x.text) nat_list_eq_equiv) (by_text m) (λ x y h. ap (λ (t : List ℕ). same t y.text) (same-true m x.text h)) q w es found
+      ∙ ap (λ c. cond c (Some w) (lookup (by_text n) es)) (same-swap m n)
+    where
+      same-swap : (a b : List ℕ) → same a b ≡ same b a
+      same-swap a b = by (same a b) refl
+        where
+          by : (c : Bool) → same a b ≡ c → c ≡ same b a
+          by true e = sym (same-is b a (sym (same-true a b e)))
+          by false e = sym (same-flip a b e)

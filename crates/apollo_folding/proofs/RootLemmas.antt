@@ -1,0 +1,270 @@
+-- The roots of a schema definition and its extensions, one after another, and what a list is completed with.
+use Rattle.std.proofs.Common.{◌≡◌, ℕ, ◌+◌, ◌<◌, Bool, true, false, cond, ◌||◌, ◌&&◌, ◌==◌, not, if◌then◌else◌, get_or, take, drop, List, [], ◌∷◌, ◌++◌, Option, None, Some, length, map, refl, sym, ap, ◌∙◌, append_assoc, arith}
+use Rattle.std.proofs.lemmas.Bool.Decides.{nat_tests}
+use Rattle.std.specs.List.{find, flat_map, list_any, cons_option}
+use Rattle.std.specs.Option.{option_map, option_map_or, option_or}
+use Rattle.std.proofs.lemmas.List.{append-nil, map-append, take_more, take-append-drop}
+use Rattle.std.proofs.lemmas.List.Folds.{find-append}
+use Rattle.std.proofs.lemmas.Grind.{flat_map-append}
+use Rattle.std.proofs.lemmas.Simd.{map-map}
+use Rattle.graphql_nodes.specs.NameView.{NameView}
+use Rattle.graphql_nodes.specs.NodeView.{NodeView}
+use Rattle.graphql_nodes.specs.OperationTexts.{operation_text}
+use Rattle.graphql_nodes.specs.declared.operation_type.OperationType.{OperationType}
+use Rattle.graphql_nodes.specs.declared.operation_type.OperationType.TheVariants.{Query, Mutation, Subscription}
+use Rattle.graphql_ast.specs.declared.type_system.SchemaExtension.{SchemaExtension}
+use Rattle.graphql_ast.specs.declared.definition.Definition.{Definition}
+use Rattle.apollo_component.specs.declared.component.ComponentName.{ComponentName}
+use Rattle.apollo_component.specs.declared.extension.ComponentOrigin.{ComponentOrigin}
+use Rattle.apollo_types.specs.SchemaDefinitionWriteOut.{root_of}
+use Rattle.apollo_types.specs.declared.schema_definition.SchemaDefinition.{SchemaDefinition}
+use Rattle.apollo_meaning.specs.declared.build_error.BuildError.TheVariants as errors
+use Rattle.apollo_meaning.specs.Collisions.{Fault}
+use Rattle.apollo_meaning.specs.TypeParts.{TypePart, SchemaPart, Defined, SchemaDefined, item_of, extended_part, extended_parts, schema_extension_part}
+use Rattle.apollo_meaning.specs.Adoption.{adopted_part, adopted_by, schema_of_roots, adopting_schema, rooted_schema, schema_for}
+use Rattle.apollo_meaning.specs.RootMeaning.{SourcedSchema, same_operation, schema_directives_of, roots_of, schema_definition_of}
+use Rattle.apollo_meaning.specs.RootFaults.{Root, root_fault, root_faults, roots_in, schema_faults}
+use Rattle.apollo_folding.specs.RootTables.{NamedRoot, named_root, first_named, with_roots, put_root, held_fault, held_faults}
+use Rattle.apollo_meaning.specs.Joining.{schema_numbered, schema_joining_faults}
+use Rattle.apollo_meaning.proofs.FoldingLemmas.{enumerate_from-append, extended_parts-append, extended_parts-turn}
+
+or-none : {X : Type 0} (o : Option X) → option_or o None ≡ o
+or-none None = refl
+or-none (Some x) = refl
+
+-- one more root
+first-push : (op : OperationType) (rs : List NamedRoot) (r : NamedRoot) → first_named op (rs ++ r ∷ []) ≡ option_or (first_named op rs) (cond (same_operation op r.0) (Some r.1) None)
+first-push op rs r =
+    ap (option_map (λ (r : NamedRoot). r.1)) (find-append (λ (r : NamedRoot). same_operation op r.0) rs (r ∷ [])) ∙ by (find (λ (r : NamedRoot). same_operation op r.0) rs) (same_operation op r.0)
+  where
+    by : (o : Option NamedRoot) (b : Bool) → option_map (λ (r : NamedRoot). r.1) (option_or o (cond b (Some r) None)) ≡ option_or (option_map (λ (r : NamedRoot). r.1) o) (cond b (Some r.1) None)
+    by None true = refl
+    by None false = refl
+    by (Some x) b = refl
+
+-- a root is put where its operation has none
+pub put-first : (d : SchemaDefinition) (rs : List NamedRoot) (op : OperationType) (c : ComponentName) → put_root op c (with_roots d rs) ≡ with_roots d (rs ++ (op, c) ∷ [])
+put-first d rs op c = by op
+  where
+    other : (op by : OperationType) → same_operation op by ≡ false → first_named op rs ≡ first_named op (rs ++ (by, c) ∷ [])
+    other op by apart =
+        let r : NamedRoot = (by, c) in
+        sym (first-push op rs r ∙ ap (λ b. option_or (first_named op rs) (cond b (Some c) None)) apart ∙ or-none (first_named op rs))
+
+    own : (op : OperationType) → same_operation op op ≡ true → option_or (first_named op rs) (Some c) ≡ first_named op (rs ++ (op, c) ∷ [])
+    own op one =
+        let r : NamedRoot = (op, c) in
+        sym (first-push op rs r ∙ ap (λ b. option_or (first_named op rs) (cond b (Some c) None)) one)
+
+    by : (op : OperationType) → put_root op c (with_roots d rs) ≡ with_roots d (rs ++ (op, c) ∷ [])
+    by Query = λ i. record {
+      description = d.description;
+      directives = d.directives;
+      query = own Query refl i;
+      mutation = other Mutation Query refl i;
+      subscription = other Subscription Query refl i;
+    }
+    by Mutation = λ i. record {
+      description = d.description;
+      directives = d.directives;
+      query = other Query Mutation refl i;
+      mutation = own Mutation refl i;
+      subscription = other Subscription Mutation refl i;
+    }
+    by Subscription = λ i. record {
+      description = d.description;
+      directives = d.directives;
+      query = other Query Subscription refl i;
+      mutation = other Mutation Subscription refl i;
+      subscription = own Subscription refl i;
+    }
+
+pub root_of-first : (d : SchemaDefinition) (rs : List NamedRoot) (op : OperationType) → root_of (with_roots d rs) op ≡ first_named op rs
+root_of-first d rs Query = refl
+root_of-first d rs Mutation = refl
+root_of-first d rs Subscription = refl
+
+-- one more root is folded
+pub held_faults-push : (rs : List NamedRoot) (o : ComponentOrigin) (xs : List Root) (x : Root)
+    → held_faults rs o (xs ++ x ∷ []) ≡ held_faults rs o xs ++ held_fault (first_named x.value.0 (rs ++ map (named_root o) xs)) x
+held_faults-push rs o [] x = append-nil (held_fault (first_named x.value.0 rs) x) ∙ ap (λ l. held_fault (first_named x.value.0 l) x) (sym (append-nil rs))
+held_faults-push rs o (y ∷ xs) x =
+    let this = held_fault (first_named y.value.0 rs) y in
+    let more = rs ++ named_root o y ∷ [] in
+    ap (λ l. this ++ l)
+    (held_faults-push more o xs x ∙ ap (λ l. held_faults more o xs ++ held_fault (first_named x.value.0 l) x) (append_assoc rs (named_root o y ∷ []) (map (named_root o) xs)))
+    ∙ sym (append_assoc this (held_faults more o xs) (held_fault (first_named x.value.0 (rs ++ named_root o y ∷ map (named_root o) xs)) x))
+
+pub held_faults-turn : (rs : List NamedRoot) (o : ComponentOrigin) (xs : List Root) (i : ℕ) (x : Root) → i < length xs → x ≡ get_or xs i x
+    → held_faults rs o (take (i + 1) xs) ≡ held_faults rs o (take i xs) ++ held_fault (first_named x.value.0 (rs ++ map (named_root o) (take i xs))) x
+held_faults-turn rs o xs i x lt is =
+    ap (held_faults rs o) (take_more xs i x lt ∙ ap (λ y. take i xs ++ y ∷ []) (sym is)) ∙ held_faults-push rs o (take i xs) x
+
+-- names of roots, without their origins
+abbrev Named : Type 0
+Named = OperationType × NameView
+
+abbrev name_of : NamedRoot → Named
+name_of r = (r.0, r.1.name)
+
+abbrev first_name : OperationType → List Named → Option NameView
+first_name op ns = option_map (λ n. n.1) (find (λ n. same_operation op n.0) ns)
+
+abbrev name_fault : Root → Option NameView → List Fault
+name_fault r o = option_map_or (λ n. (r.location, errors.DuplicateRootOperation n.location (operation_text r.value.0)) ∷ []) o []
+
+name-first : (op : OperationType) (rs : List NamedRoot) → option_map (λ c. c.name) (first_named op rs) ≡ first_name op (map name_of rs)
+name-first op [] = refl
+name-first op (r ∷ rs) = by (same_operation op r.0) (name-first op rs)
+  where
+    by : (b : Bool) → option_map (λ c. c.name) (first_named op rs) ≡ first_name op (map name_of rs)
+        → option_map (λ (c : ComponentName). c.name) (option_map (λ (r : NamedRoot). r.1) (cond b (Some r) (find (λ r. same_operation op r.0) rs)))
+        ≡ option_map (λ (n : Named). n.1) (cond b (Some (name_of r)) (find (λ n. same_operation op n.0) (map name_of rs)))
+    by true rest = refl
+    by false rest = rest
+
+held-name : (o : Option ComponentName) (x : Root) → held_fault o x ≡ name_fault x (option_map (λ c. c.name) o)
+held-name None x = refl
+held-name (Some c) x = refl
+
+root-name : (before : List Root) (x : Root) → root_fault before x ≡ name_fault x (first_name x.value.0 (map (λ k. k.value) before))
+root-name [] x = refl
+root-name (k ∷ ks) x = by (same_operation x.value.0 k.value.0) (root-name ks x)
+  where
+    by : (b : Bool) → root_fault ks x ≡ name_fault x (first_name x.value.0 (map (λ k. k.value) ks))
+        → option_map_or (λ (kept : Root). (x.location, errors.DuplicateRootOperation kept.value.1.location (operation_text x.value.0)) ∷ []) (cond b (Some k) (find (λ (k : Root). same_operation x.value.0 k.value.0) ks)) []
+        ≡ name_fault x (option_map (λ (n : Named). n.1) (cond b (Some k.value) (find (λ (n : Named). same_operation x.value.0 n.0) (map (λ (k : Root). k.value) ks))))
+    by true rest = refl
+    by false rest = rest
+
+-- where the roots before are the same, so are the faults
+pub held-root_faults : (o : ComponentOrigin) (rs : List NamedRoot) (before xs : List Root) → map name_of rs ≡ map (λ k. k.value) before → held_faults rs o xs ≡ root_faults before xs
+held-root_faults o rs before [] same = refl
+held-root_faults o rs before (x ∷ xs) same =
+    let this : held_fault (first_named x.value.0 rs) x ≡ root_fault before x =
+    held-name (first_named x.value.0 rs) x ∙ ap (name_fault x) (name-first x.value.0 rs ∙ ap (first_name x.value.0) same) ∙ sym (root-name before x) in
+    let more : map name_of (rs ++ named_root o x ∷ []) ≡ map (λ (k : Root). k.value) (before ++ x ∷ []) =
+    map-append name_of rs (named_root o x ∷ []) ∙ ap (λ l. l ++ x.value ∷ []) same ∙ sym (map-append (λ (k : Root). k.value) before (x ∷ [])) in
+    let rest : held_faults (rs ++ named_root o x ∷ []) o xs ≡ root_faults (before ++ x ∷ []) xs = held-root_faults o (rs ++ named_root o x ∷ []) (before ++ x ∷ []) xs more in
+    λ i. this i ++ rest i
+
+-- the roots that parts name are those that they hold
+pub roots-joined : (done : List SourcedSchema) → map name_of (flat_map roots_of done) ≡ map (λ k. k.value) (roots_in (map (λ s. s.1) done))
+roots-joined [] = refl
+roots-joined (s ∷ done) =
+    let here : map name_of (roots_of s) ≡ map (λ (k : Root). k.value) s.1.roots = map-map name_of (named_root s.0) s.1.roots in
+    let rest : map name_of (flat_map roots_of done) ≡ map (λ (k : Root). k.value) (roots_in (map (λ s. s.1) done)) = roots-joined done in
+    map-append name_of (roots_of s) (flat_map roots_of done)
+    ∙ (λ i. here i ++ rest i)
+    ∙ sym (map-append (λ (k : Root). k.value) s.1.roots (roots_in (map (λ s. s.1) done)))
+
+-- the faults of a part that joins parts
+pub held-schema_faults : (done : List SourcedSchema) (o : ComponentOrigin) (part : SchemaPart) → held_faults (flat_map roots_of done) o part.roots ≡ schema_faults (map (λ s. s.1) done) part
+held-schema_faults done o part = held-root_faults o (flat_map roots_of done) (roots_in (map (λ s. s.1) done)) part.roots (roots-joined done)
+
+-- what parts and one more have, joined
+module _ {X : Type 0} (of : SourcedSchema → List X) (done : List SourcedSchema) (s : SourcedSchema) where
+  one_more : flat_map of (done ++ s ∷ []) ≡ flat_map of done ++ of s
+  one_more = rw (flat_map-append, append-nil (of s))
+
+-- the schema definition with the directives and roots of parts and of one more is that of all
+pub schema-push : (d : SchemaDefinition) (head : SchemaPart) (done : List SourcedSchema) (s : SourcedSchema)
+    → d.description ≡ head.description
+    → d.directives.0 ≡ flat_map schema_directives_of done ++ schema_directives_of s
+    → with_roots d (flat_map roots_of done ++ roots_of s) ≡ schema_definition_of head (done ++ s ∷ [])
+schema-push d head done s description directives =
+    let all : d.directives.0 ≡ flat_map schema_directives_of (done ++ s ∷ []) = rw (one_more schema_directives_of done s) directives in
+    let roots : flat_map roots_of done ++ roots_of s ≡ flat_map roots_of (done ++ s ∷ []) = sym (one_more roots_of done s) in
+    λ i. record {
+      description = description i;
+      directives = record { 0 = all i };
+      query = first_named Query (roots i);
+      mutation = first_named Mutation (roots i);
+      subscription = first_named Subscription (roots i);
+    }
+
+-- more extensions have the next numbers
+pub schema_numbered-more : (done : List SourcedSchema) (start : ℕ) (ps qs : List SchemaPart)
+    → done ++ schema_numbered start (ps ++ qs) ≡ (done ++ schema_numbered start ps) ++ schema_numbered (start + length ps) qs
+schema_numbered-more done start ps qs =
+    rw (enumerate_from-append start ps qs, map-append) (sym (append_assoc done (schema_numbered start ps) (schema_numbered (start + length ps) qs)))
+
+schemas-numbered : (n : ℕ) (ps : List SchemaPart) → map (λ s. s.1) (schema_numbered n ps) ≡ ps
+schemas-numbered n [] = refl
+schemas-numbered n (p ∷ ps) = ap (λ l. p ∷ l) (schemas-numbered (n + 1) ps)
+
+-- numbers leave the extensions as they are
+pub schema_parts-numbered : (done : List SourcedSchema) (n : ℕ) (ps : List SchemaPart) → map (λ s. s.1) (done ++ schema_numbered n ps) ≡ map (λ s. s.1) done ++ ps
+schema_parts-numbered done n ps = map-append (λ s. s.1) done (schema_numbered n ps) ∙ ap (λ l. map (λ s. s.1) done ++ l) (schemas-numbered n ps)
+
+-- one more extension joins the parts and the extensions before it
+pub schema_joining-push : (parts es : List SchemaPart) (e : SchemaPart) → schema_joining_faults parts (es ++ e ∷ []) ≡ schema_joining_faults parts es ++ schema_faults (parts ++ es) e
+schema_joining-push parts [] e = append-nil (schema_faults parts e) ∙ ap (λ l. schema_faults l e) (sym (append-nil parts))
+schema_joining-push parts (x ∷ es) e =
+    let this = schema_faults parts x in
+    let more = parts ++ x ∷ [] in
+    ap (λ l. this ++ l) (schema_joining-push more es e ∙ ap (λ l. schema_joining_faults more es ++ schema_faults l e) (append_assoc parts (x ∷ []) es))
+    ∙ sym (append_assoc this (schema_joining_faults more es) (schema_faults (parts ++ x ∷ es) e))
+
+-- what the first extension of a type among definitions is adopted as
+pub adopted-first : (xs : List Definition) (i : ℕ) (x d : Definition) → i < length xs → x ≡ get_or xs i x → extended_parts (take i xs) ≡ []
+    → Some (item_of d) ≡ option_map (λ e. Defined (adopted_part e)) (extended_part (item_of x))
+    → adopted_by (extended_parts xs) ≡ item_of d ∷ []
+adopted-first xs i x d lt is none made =
+    let rest = extended_parts (drop (i + 1) xs) in
+    let whole : extended_parts (take (i + 1) xs) ++ rest ≡ extended_parts xs = sym (extended_parts-append (take (i + 1) xs) (drop (i + 1) xs)) ∙ ap extended_parts (take-append-drop (i + 1) xs) in
+    let turn : extended_parts (take (i + 1) xs) ≡ extended_parts (x ∷ []) = extended_parts-turn xs i x lt is ∙ ap (λ l. l ++ extended_parts (x ∷ [])) none in
+    ap adopted_by (sym whole ∙ ap (λ l. l ++ rest) turn) ∙ by rest (extended_part (item_of x)) made
+  where
+    by : (rest : List TypePart) (o : Option TypePart) → Some (item_of d) ≡ option_map (λ e. Defined (adopted_part e)) o → adopted_by (cons_option o [] ++ rest) ≡ item_of d ∷ []
+    by rest None h = cc
+    by rest (Some e) h = cc
+
+-- a definition that is adopted as nothing extends no type
+pub adopted-none : (xs : List Definition) (i : ℕ) (x : Definition) → i < length xs → x ≡ get_or xs i x → extended_parts (take i xs) ≡ []
+    → None ≡ option_map (λ e. Defined (adopted_part e)) (extended_part (item_of x))
+    → extended_parts (take (i + 1) xs) ≡ []
+adopted-none xs i x lt is none made = extended_parts-turn xs i x lt is ∙ ap (λ l. l ++ extended_parts (x ∷ [])) none ∙ by (extended_part (item_of x)) made
+  where
+    by : (o : Option TypePart) → None ≡ option_map (λ e. Defined (adopted_part e)) o → cons_option o [] ≡ []
+    by None h = refl
+    by (Some e) h = cc
+
+some-apart : {X : Type 0} (x : X) (xs : List X) → (length (x ∷ xs) == 0) ≡ false
+some-apart x xs = grind (arith, nat_tests)
+
+-- extensions that name no root have none, and others have one
+names-roots : (xs : List (NodeView SchemaExtension)) → list_any (λ e. not (length e.value.root_operations == 0)) xs ≡ not (length (roots_in (map schema_extension_part xs)) == 0)
+names-roots [] = refl
+names-roots (x ∷ xs) = by x.value.root_operations (names-roots xs)
+  where
+    by : (rs : List Root) → list_any (λ (e : NodeView SchemaExtension). not (length e.value.root_operations == 0)) xs ≡ not (length (roots_in (map schema_extension_part xs)) == 0)
+        → (not (length rs == 0) || list_any (λ (e : NodeView SchemaExtension). not (length e.value.root_operations == 0)) xs) ≡ not (length (rs ++ roots_in (map schema_extension_part xs)) == 0)
+    by [] rest = rest
+    by (r ∷ rs) rest =
+        ap (λ b. not b || list_any (λ (e : NodeView SchemaExtension). not (length e.value.root_operations == 0)) xs) (some-apart r rs)
+        ∙ ap not (sym (some-apart r (rs ++ roots_in (map schema_extension_part xs))))
+
+-- where they are not adopted, a schema definition is implied if there is a root
+implied-rooted : (roots : List Root) → (length roots == 0) ≡ false → SchemaDefined (schema_of_roots roots) ∷ [] ≡ rooted_schema roots
+implied-rooted [] some = cc
+implied-rooted (r ∷ rs) some = refl
+
+module _ (xs : List (NodeView SchemaExtension)) (implicit roots : List Root) where
+  abbrev AreImplied : Bool → Type 0
+  AreImplied adopts = roots ≡ (if adopts && list_any (λ e. not (length e.value.root_operations == 0)) xs then [] else implicit)
+
+  -- where they are, one is implied
+  pub implied-adopting : (adopts : Bool) → adopts ≡ true → AreImplied adopts → SchemaDefined (schema_of_roots roots) ∷ [] ≡ schema_for adopts (roots_in (map schema_extension_part xs)) implicit
+  implied-adopting false adopted is = cc
+  implied-adopting true adopted is =
+      ap (λ l. SchemaDefined (schema_of_roots l) ∷ []) (is ∙ ap (λ b. if b then [] else implicit) (names-roots xs)) ∙ by (roots_in (map schema_extension_part xs))
+    where
+      by : (rs : List Root) → SchemaDefined (schema_of_roots (if not (length rs == 0) then [] else implicit)) ∷ [] ≡ adopting_schema rs implicit
+      by [] = refl
+      by (r ∷ rs) = ap (λ b. SchemaDefined (schema_of_roots (if not b then [] else implicit)) ∷ []) (some-apart r rs)
+
+  -- and so with a root, either way
+  pub implied-some : (adopts : Bool) → (length roots == 0) ≡ false → AreImplied adopts → SchemaDefined (schema_of_roots roots) ∷ [] ≡ schema_for adopts (roots_in (map schema_extension_part xs)) implicit
+  implied-some true some is = implied-adopting true refl is
+  implied-some false some is = implied-rooted roots some ∙ ap rooted_schema is

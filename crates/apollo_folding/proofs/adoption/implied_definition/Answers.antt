@@ -1,0 +1,24 @@
+use Rattle.std.proofs.Common.{◌≡◌, ◌==◌, true, false, None, [], ◌∷◌, length, sym, ap, ◌∙◌, rules}
+use Rattle.apollo_meaning.specs.TypeParts.{SchemaPart, SchemaDefined, schema_definition_part}
+use Rattle.apollo_meaning.specs.Adoption.{schema_of_roots}
+use Rattle.apollo_folding.specs.HeldRoots.{held_roots}
+use Rattle.apollo_folding.proofs.RootLemmas.{implied-adopting, implied-some}
+use Rattle.apollo_folding.proofs.adoption.implied_definition.Goals.{else-not-adopts-via-then-not-adopts+else-is_empty, else-not-adopts-via-else-not-adopts}
+use Rattle.apollo_folding.proofs.adoption.implied_definition.Goals as goal
+
+pub returns : goal.returns
+returns c =
+    let roots = c.in_ok-root_operations.root_operations in
+    let xs = c.args.extensions.now in
+    let implicit = held_roots c.args.types.now in
+    let made : schema_definition_part c.in_ok-new.field-0 ≡ schema_of_roots roots =
+    ap schema_definition_part c.in_ok-new.ensures ∙ λ i. record { location = None; description = None; directives = c.new.ensures i; roots = roots } in
+    ap (λ (s : SchemaPart). SchemaDefined s ∷ []) made
+    ∙ elim c.else-not-adopts.branch [
+      | else-not-adopts-via-then-not-adopts+else-is_empty w ↦
+          let some : (length roots == 0) ≡ false = sym w.is_empty.ensures ∙ w.if-is_empty.false in
+          implied-some xs implicit roots c.args.adopts some c.in_ok-root_operations.ensures
+      | else-not-adopts-via-else-not-adopts w ↦
+          let adopting : c.args.adopts ≡ true = search rules in
+          implied-adopting xs implicit roots c.args.adopts adopting c.in_ok-root_operations.ensures
+    ]

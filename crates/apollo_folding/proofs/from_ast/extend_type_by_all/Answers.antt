@@ -1,0 +1,62 @@
+use Rattle.std.proofs.Common.{◌≡◌, ℕ, ◌+◌, [], ◌∷◌, ◌++◌, map, length, take, sym, ap, ◌∙◌, append_assoc, arith, length-append}
+use Rattle.std.proofs.lemmas.Result.{err_from_is_err_and}
+use Rattle.graphql_nodes.specs.declared.type_kind.TypeKind.{TypeKind}
+use Rattle.apollo_component.specs.Extensions.{next_number, source_at}
+use Rattle.apollo_meaning.specs.TypeParts.{extended_parts, kind_of}
+use Rattle.apollo_meaning.specs.DefinitionList.{of_kind}
+use Rattle.apollo_meaning.specs.TypeMeaning.{type_from, extension_part, numbered}
+use Rattle.apollo_meaning.specs.Joining.{joining_faults}
+use Rattle.apollo_types.specs.TypeWriteOut.{type_kind}
+use Rattle.apollo_meaning.proofs.FoldingLemmas.{numbered-more, of_kind-turn, of_kind-past, type_kind-from}
+use Rattle.apollo_folding.proofs.JoiningLemmas.{parts-numbered, joining-turn}
+use Rattle.apollo_folding.proofs.RefusalLemmas.{RefusedAs-weaker}
+use Rattle.apollo_folding.proofs.from_ast.extend_type_by_all.Goals as goal
+
+pub loop-extension-preserved : goal.loop-extension-preserved
+loop-extension-preserved c =
+    let xs = c.args.extensions.now in
+    let i = c.loop-extension.extension-index in
+    let x = c.extension-item.result in
+    let start = next_number c.args.ids.now in
+    let k = type_kind c.args.ty.now in
+    let before = λ (k : TypeKind). of_kind k (extended_parts (take i xs)) in
+    let these = λ (k : TypeKind). of_kind k (extended_parts (x ∷ [])) in
+    let was = c.loop-extension.invariant in
+    let now = c.in_ok-extend_type.ensures in
+    let at : next_number c.loop-extension.ids ≡ start + length (before k) = ap next_number was.next in
+    let turn = λ (k : TypeKind). of_kind-turn k xs i x (omega arith) c.extension-item.is in
+    record {
+      folded = λ head done h.
+          let kinds : k ≡ kind_of head = ap type_kind h ∙ type_kind-from head done in
+          now.folded head (done ++ map extension_part (numbered start (before (kind_of head)))) (was.folded head done h)
+          ∙ ap (λ (n : ℕ). type_from head ((done ++ map extension_part (numbered start (before (kind_of head)))) ++ map extension_part (numbered n (these (kind_of head))))) (at ∙ ap (λ k. start + length (before k)) kinds)
+          ∙ ap (type_from head) (sym (numbered-more done start (before (kind_of head)) (these (kind_of head))) ∙ ap (λ l. done ++ map extension_part (numbered start l)) (sym (turn (kind_of head))));
+      faults = λ head done h.
+          let base = map (λ s. s.1) done in
+          let early = extended_parts (take i xs) in
+          let this = extended_parts (x ∷ []) in
+          let faults = c.args.errors.now in
+          now.faults head (done ++ map extension_part (numbered start (before (kind_of head)))) (was.folded head done h)
+          ∙ (λ i. was.faults head done h i ++ joining_faults head (parts-numbered done start (before (kind_of head)) i) this)
+          ∙ append_assoc faults (joining_faults head base early) (joining_faults head (base ++ before (kind_of head)) this)
+          ∙ ap (λ l. faults ++ l) (sym (joining-turn head base xs i x (omega arith) c.extension-item.is));
+      kind = now.kind ∙ was.kind;
+      next =
+          let kinds : type_kind c.loop-extension.ty ≡ k = was.kind in
+          let sum : next_number c.loop-extension.ids + length (these k) ≡ start + length (of_kind k (extended_parts (take (i + 1) xs))) =
+          omega (arith, at, ap length (turn k), length-append (before k) (these k)) in
+          now.next ∙ ap (λ k. source_at (next_number c.loop-extension.ids + length (these k))) kinds ∙ ap source_at sum;
+    }
+
+pub returns-in_err-extend_type-clause-refused : goal.returns-in_err-extend_type-clause-refused
+returns-in_err-extend_type-clause-refused c =
+    let xs = c.args.extensions.now in
+    let i = c.loop-extension.extension-index in
+    let x = c.extension-item.result in
+    let k = type_kind c.args.ty.now in
+    let was = c.loop-extension.invariant in
+    let at : next_number c.loop-extension.ids ≡ next_number c.args.ids.now + length (of_kind k (extended_parts (take i xs))) = ap next_number was.next in
+    let kinds : length (of_kind (type_kind c.loop-extension.ty) (extended_parts (x ∷ []))) ≡ length (of_kind k (extended_parts (x ∷ []))) = ap (λ k. length (of_kind k (extended_parts (x ∷ [])))) was.kind in
+    let past = of_kind-past k xs i x (omega arith) c.extension-item.is in
+    let exit = err_from_is_err_and c.from_residual.result c.from_residual.ensures.1 in
+    rw (exit.1, exit.2) (RefusedAs-weaker c.in_err-extend_type.field-0.0 _ _ (λ full. omega (arith, past, at, kinds, full)) c.in_err-extend_type.ensures.refused)

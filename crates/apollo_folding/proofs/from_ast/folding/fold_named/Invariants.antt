@@ -1,0 +1,17 @@
+use Rattle.std.proofs.Common.{◌≡◌, List, ◌++◌, map, take}
+use Rattle.graphql_nodes.specs.NameView.{NameView}
+use Rattle.graphql_nodes.specs.NodeView.{NodeView}
+use Rattle.graphql_nodes.specs.Tables.{keys_of}
+use Rattle.apollo_component.specs.declared.component.Component.{Component}
+use Rattle.apollo_meaning.specs.TypeMeaning.{component, distinct_entries}
+use Rattle.apollo_meaning.specs.Collisions.{collisions}
+use Rattle.apollo_folding.proofs.from_ast.folding.fold_named.Given as goal
+
+abbrev pub invariant-loop-node : goal.invariant-loop-node
+invariant-loop-node g l =
+    record {
+      added : (es : List (NameView × Component g.row.T.Denot)) → l.fn.table ≡ distinct_entries es
+          → l.table ≡ distinct_entries (es ++ map (λ (n : NodeView g.row.T.Denot). (g.T.Named.name_of n.value, component l.origin n)) (take l.node-index l.nodes));
+      faults : (es : List (NameView × Component g.row.T.Denot)) → l.fn.table ≡ distinct_entries es
+          → l.errors ≡ l.fn.errors ++ collisions l.collection l.type_name (keys_of es) (map (λ (n : NodeView g.row.T.Denot). (g.T.Named.name_of n.value, n.location)) (take l.node-index l.nodes));
+    }

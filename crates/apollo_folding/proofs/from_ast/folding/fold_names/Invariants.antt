@@ -1,0 +1,14 @@
+use Rattle.std.proofs.Common.{◌≡◌, List, ◌++◌, map, take}
+use Rattle.apollo_component.specs.declared.component.ComponentName.{ComponentName}
+use Rattle.apollo_meaning.specs.TypeMeaning.{component_name, distinct_names}
+use Rattle.apollo_meaning.specs.Collisions.{collisions}
+use Rattle.apollo_meaning.specs.TypeFaults.{name_entries}
+use Rattle.apollo_folding.proofs.from_ast.folding.fold_names.Given as goal
+
+abbrev pub invariant-loop-name : goal.invariant-loop-name
+invariant-loop-name l =
+    record {
+      added : (ks : List ComponentName) → l.fn.set ≡ distinct_names ks → l.set ≡ distinct_names (ks ++ map (component_name l.origin) (take l.name-index l.names));
+      faults : (ks : List ComponentName) → l.fn.set ≡ distinct_names ks
+          → l.errors ≡ l.fn.errors ++ collisions l.collection l.type_name (map (λ k. k.name) ks) (name_entries (take l.name-index l.names));
+    }

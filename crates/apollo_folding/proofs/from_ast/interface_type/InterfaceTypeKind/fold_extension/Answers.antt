@@ -1,0 +1,20 @@
+use Rattle.std.proofs.Common.{◌≡◌, ◌++◌, map, ◌∙◌}
+use Rattle.apollo_meaning.specs.TypeParts.{InterfaceBody, interface_extension_part}
+use Rattle.apollo_meaning.specs.TypeFaults.{body_faults}
+use Rattle.apollo_folding.proofs.from_ast.interface_type.InterfaceTypeKind.fold_extension.Goals as goal
+
+pub returns-clause-folded : goal.returns-clause-folded
+returns-clause-folded c = λ head done was.
+    let n = c.args.node.now in
+    let directives : n.value.directives.0 ≡ c.as_slice.result.now = cc in
+    let interfaces : n.value.implements_interfaces ≡ c.as_slice-2.result.now = cc in
+    let fields : n.value.fields ≡ c.as_slice-3.result.now = cc in
+    c.in_ok-fold.ensures.folded head (interface_extension_part n) done directives (λ i. InterfaceBody (interfaces i) (fields i)) was
+
+pub returns-clause-faults : goal.returns-clause-faults
+returns-clause-faults c = λ head done was.
+    let n = c.args.node.now in
+    let interfaces : c.as_slice-2.result.now ≡ n.value.implements_interfaces = cc in
+    let fields : c.as_slice-3.result.now ≡ n.value.fields = cc in
+    let name : c.deref-5.result.now.name ≡ n.value.name = cc in
+    c.in_ok-fold.ensures.faults head done was ∙ λ i. c.args.errors.now ++ body_faults (InterfaceBody (interfaces i) (fields i)) (name i) (map (λ s. s.1) done)

@@ -1,0 +1,19 @@
+use Rattle.std.proofs.Common.{◌≡◌, ap, ◌∙◌}
+use Rattle.graphql_nodes.specs.NameView.{NameView}
+use Rattle.graphql_nodes.specs.KindTexts.{kind_text}
+use Rattle.apollo_types.specs.TypeWriteOut.{type_kind, type_name}
+use Rattle.apollo_meaning.specs.declared.build_error.BuildError.TheVariants as errors
+use Rattle.apollo_meaning.specs.TypeParts.{kind_of}
+use Rattle.apollo_meaning.proofs.FoldingLemmas.{type_kind-from, type_name-from}
+use Rattle.apollo_folding.proofs.JoiningLemmas.{extension_text}
+use Rattle.apollo_folding.proofs.from_ast.kind_mismatch.Goals as goal
+
+pub returns : goal.returns
+returns c = λ head e done was is named.
+    let name = c.in_ok-clone.ensures.cases ∙ named in
+    let extension = c.new.ensures ∙ c.describe.ensures ∙ extension_text c.args.extension.now e is in
+    let place = c.location.ensures ∙ ap (λ (n : NameView). n.location) (c.name.ensures ∙ ap type_name was ∙ type_name-from head done) in
+    let kind : c.kind.result ≡ kind_of head = c.kind.ensures ∙ ap type_kind was ∙ type_kind-from head done in
+    let definition = c.new-2.ensures ∙ c.describe-2.ensures ∙ ap kind_text kind in
+    let about = c.location-2.ensures ∙ ap (λ (n : NameView). n.location) named in
+    λ i. (about i, errors.TypeExtensionKindMismatch (name i) (extension i) (place i) (definition i))

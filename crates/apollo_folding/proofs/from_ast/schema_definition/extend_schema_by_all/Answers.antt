@@ -1,0 +1,68 @@
+use Rattle.std.proofs.Common.{◌≡◌, ℕ, ◌+◌, [], ◌∷◌, ◌++◌, map, length, take, sym, ap, ◌∙◌, append_assoc, arith}
+use Rattle.std.proofs.lemmas.List.{length-map, length-take-le, take_all}
+use Rattle.std.proofs.lemmas.Result.{err_from_is_err_and}
+use Rattle.apollo_component.specs.Extensions.{next_number, source_at}
+use Rattle.apollo_meaning.specs.TypeParts.{schema_extension_part}
+use Rattle.apollo_meaning.specs.RootMeaning.{schema_from}
+use Rattle.apollo_meaning.specs.RootFaults.{schema_faults}
+use Rattle.apollo_meaning.specs.Joining.{schema_numbered, schema_joining_faults}
+use Rattle.apollo_meaning.proofs.KeptLemmas.{map-turn}
+use Rattle.apollo_folding.proofs.RootLemmas.{schema_numbered-more, schema_parts-numbered, schema_joining-push}
+use Rattle.apollo_folding.proofs.RefusalLemmas.{RefusedAs-weaker}
+use Rattle.apollo_folding.proofs.from_ast.schema_definition.extend_schema_by_all.Goals as goal
+
+pub loop-extension-preserved : goal.loop-extension-preserved
+loop-extension-preserved c =
+    let xs = c.args.extensions.now in
+    let i = c.loop-extension.extension-index in
+    let x = c.extension-item.result in
+    let start = next_number c.args.ids.now in
+    let so_far = map schema_extension_part (take i xs) in
+    let this = schema_extension_part x in
+    let was = c.loop-extension.invariant in
+    let now = c.in_ok-extend_schema.ensures in
+    let size : length (take i xs) ≡ i = length-take-le i xs (omega arith) in
+    let size_after : length (take (i + 1) xs) ≡ i + 1 = length-take-le (i + 1) xs (omega arith) in
+    let at : next_number c.loop-extension.ids ≡ start + length (take i xs) = ap next_number was.next in
+    let first : next_number c.loop-extension.ids ≡ start + length so_far = at ∙ ap (λ n. start + n) (sym (length-map (take i xs) schema_extension_part)) in
+    let turn : map schema_extension_part (take (i + 1) xs) ≡ so_far ++ this ∷ [] = map-turn schema_extension_part [] xs i x (omega arith) c.extension-item.is in
+    record {
+      folded = λ head done h.
+          now.folded head (done ++ schema_numbered start so_far) (was.folded head done h)
+          ∙ ap (λ (n : ℕ). schema_from head ((done ++ schema_numbered start so_far) ++ schema_numbered n (this ∷ []))) first
+          ∙ ap (schema_from head) (sym (schema_numbered-more done start so_far (this ∷ [])) ∙ ap (λ l. done ++ schema_numbered start l) (sym turn));
+      faults = λ head done h.
+          let base = map (λ s. s.1) done in
+          let before = c.args.errors.now in
+          now.faults head (done ++ schema_numbered start so_far) (was.folded head done h)
+          ∙ (λ j. was.faults head done h j ++ schema_faults (schema_parts-numbered done start so_far j) this)
+          ∙ append_assoc before (schema_joining_faults base so_far) (schema_faults (base ++ so_far) this)
+          ∙ ap (λ l. before ++ l) (sym (schema_joining-push base so_far this) ∙ ap (schema_joining_faults base) (sym turn));
+      next =
+          let sum : next_number c.loop-extension.ids + 1 ≡ start + length (take (i + 1) xs) = omega (arith, at, size, size_after) in
+          now.next ∙ ap source_at sum;
+    }
+
+pub returns-in_err-extend_schema-clause-refused : goal.returns-in_err-extend_schema-clause-refused
+returns-in_err-extend_schema-clause-refused c =
+    let xs = c.args.extensions.now in
+    let i = c.loop-extension.extension-index in
+    let was = c.loop-extension.invariant in
+    let at : next_number c.loop-extension.ids ≡ next_number c.args.ids.now + length (take i xs) = ap next_number was.next in
+    let size : length (take i xs) ≡ i = length-take-le i xs (omega arith) in
+    let exit = err_from_is_err_and c.from_residual.result c.from_residual.ensures.1 in
+    rw (exit.1, exit.2) (RefusedAs-weaker c.in_err-extend_schema.field-0.0 _ _ (λ full. omega (arith, at, size, full)) c.in_err-extend_schema.ensures.refused)
+
+pub returns-clause-folded : goal.returns-clause-folded
+returns-clause-folded c = λ head done h.
+    let xs = c.args.extensions.now in
+    let whole : take c.loop-extension.extension-index xs ≡ xs = take_all c.loop-extension.extension-index xs (omega arith) in
+    c.loop-extension.invariant.folded head done h
+    ∙ ap (λ l. schema_from head (done ++ schema_numbered (next_number c.args.ids.now) (map schema_extension_part l))) whole
+
+pub returns-clause-faults : goal.returns-clause-faults
+returns-clause-faults c = λ head done h.
+    let xs = c.args.extensions.now in
+    let whole : take c.loop-extension.extension-index xs ≡ xs = take_all c.loop-extension.extension-index xs (omega arith) in
+    c.loop-extension.invariant.faults head done h
+    ∙ ap (λ l. c.args.errors.now ++ schema_joining_faults (map (λ s. s.1) done) (map schema_extension_part l)) whole

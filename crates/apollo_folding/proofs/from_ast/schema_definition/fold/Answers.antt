@@ -1,0 +1,29 @@
+use Rattle.std.proofs.Common.{◌++◌, map, sym, ap, ◌∙◌}
+use Rattle.std.specs.List.{flat_map}
+use Rattle.apollo_types.specs.declared.schema_definition.SchemaDefinition.{SchemaDefinition}
+use Rattle.apollo_meaning.specs.TypeMeaning.{component}
+use Rattle.apollo_meaning.specs.RootMeaning.{SourcedSchema, schema_directives_of, roots_of}
+use Rattle.apollo_folding.specs.RootTables.{named_root, with_roots, held_faults}
+use Rattle.apollo_folding.proofs.RootLemmas.{schema-push, held-schema_faults}
+use Rattle.apollo_folding.proofs.from_ast.schema_definition.fold.Goals as goal
+
+pub returns-clause-folded : goal.returns-clause-folded
+returns-clause-folded c = λ head part done directives roots was.
+    let o = c.args.origin in
+    let s : SourcedSchema = (o, part) in
+    let base : SchemaDefinition = record c.args.definition.now { directives = c.fold_directives.new.list } in
+    let first = flat_map roots_of done in
+    let folded = c.in_ok-fold_directives.ensures ∙ ap (λ l. l ++ map (component o) c.args.directives.now) (ap (λ (d : SchemaDefinition). d.directives.0) was)
+    ∙ ap (λ l. flat_map schema_directives_of done ++ map (component o) l) (sym directives) in
+    c.in_ok-fold_roots.ensures.named base first (λ i. record { description = base.description; directives = base.directives; query = (was i).query; mutation = (was i).mutation; subscription = (was i).subscription })
+    ∙ ap (λ l. with_roots base (first ++ map (named_root o) l)) (sym roots)
+    ∙ schema-push base head done s (ap (λ (d : SchemaDefinition). d.description) was) folded
+
+pub returns-clause-faults : goal.returns-clause-faults
+returns-clause-faults c = λ head part done roots was.
+    let o = c.args.origin in
+    let base : SchemaDefinition = record c.args.definition.now { directives = c.fold_directives.new.list } in
+    let before = c.args.errors.now in
+    c.in_ok-fold_roots.ensures.faults base (flat_map roots_of done) (λ i. record { description = base.description; directives = base.directives; query = (was i).query; mutation = (was i).mutation; subscription = (was i).subscription })
+    ∙ ap (λ l. before ++ held_faults (flat_map roots_of done) o l) (sym roots)
+    ∙ ap (λ l. before ++ l) (held-schema_faults done o part)

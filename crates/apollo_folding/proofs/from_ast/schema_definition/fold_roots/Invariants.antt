@@ -1,0 +1,11 @@
+use Rattle.std.proofs.Common.{◌≡◌, List, ◌++◌, map, take}
+use Rattle.apollo_types.specs.declared.schema_definition.SchemaDefinition.{SchemaDefinition}
+use Rattle.apollo_folding.specs.RootTables.{NamedRoot, named_root, with_roots, held_faults}
+use Rattle.apollo_folding.proofs.from_ast.schema_definition.fold_roots.Given as goal
+
+abbrev pub invariant-loop-root : goal.invariant-loop-root
+invariant-loop-root l =
+    record {
+      named : (base : SchemaDefinition) (rs : List NamedRoot) → l.fn.definition ≡ with_roots base rs → l.definition ≡ with_roots base (rs ++ map (named_root l.origin) (take l.root-index l.roots));
+      faults : (base : SchemaDefinition) (rs : List NamedRoot) → l.fn.definition ≡ with_roots base rs → l.errors ≡ l.fn.errors ++ held_faults rs l.origin (take l.root-index l.roots);
+    }

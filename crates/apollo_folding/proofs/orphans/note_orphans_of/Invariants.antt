@@ -1,0 +1,7 @@
+use Rattle.std.proofs.Common.{◌≡◌, ◌++◌, map, take}
+use Rattle.apollo_meaning.specs.TypeParts.{extended_parts}
+use Rattle.apollo_meaning.specs.TypeFaults.{orphan}
+use Rattle.apollo_folding.proofs.orphans.note_orphans_of.Given as goal
+
+abbrev pub invariant-loop-extension : goal.invariant-loop-extension
+invariant-loop-extension l = l.errors ≡ l.fn.errors ++ map orphan (extended_parts (take l.extension-index l.extensions))

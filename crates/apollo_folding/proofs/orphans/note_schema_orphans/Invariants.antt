@@ -1,0 +1,7 @@
+use Rattle.std.proofs.Common.{◌≡◌, ◌++◌, map, take}
+use Rattle.apollo_meaning.specs.TypeParts.{schema_extension_part}
+use Rattle.apollo_meaning.specs.RootFaults.{schema_orphan}
+use Rattle.apollo_folding.proofs.orphans.note_schema_orphans.Given as goal
+
+abbrev pub invariant-loop-extension : goal.invariant-loop-extension
+invariant-loop-extension l = l.errors ≡ l.fn.errors ++ map schema_orphan (map schema_extension_part (take l.extension-index l.extensions))

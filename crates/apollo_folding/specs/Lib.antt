@@ -1,0 +1,3 @@
+pub mod HeldRoots
+pub mod Refusals
+pub mod RootTables

@@ -1,0 +1,214 @@
+//! What a build completes a list with: types that are extended only, where they are adopted, and the definition of the
+//! schema that is implied. GraphQL specification of October 2021, sections 3.3.1 and 3.4.3.
+ghost use Rattle.std.specs.Prelude.{◌≡◌, ◌==◌, ◌&&◌, if◌then◌else◌, [], ◌∷◌, ◌++◌, length, map, not, option_map, IfOk, OnOk};
+ghost use Rattle.std.specs.List.{flat_map, list_any};
+ghost use Rattle.std.specs.Option.{option_map_or, unwrap_or};
+ghost use Rattle.graphql_nodes.specs.Tables.{values_of};
+ghost use Rattle.apollo_meaning.specs.TypeParts.{Defined, SchemaDefined, item_of, items_of, extended_part, extended_parts, schema_definition_part, schema_extension_part};
+ghost use Rattle.apollo_meaning.specs.Adoption.{adopted_part, adopted_by, schema_for};
+ghost use Rattle.apollo_meaning.specs.RootFaults.{roots_in};
+ghost use Rattle.apollo_folding.specs.HeldRoots.{held_root, held_roots};
+ghost use Rattle.apollo_meaning.specs.WholeSchema.{no_schema};
+
+use apollo_types::extended_type::ExtendedType;
+use apollo_types::schema_definition::SchemaDefinition;
+use graphql_ast::definition::Definition;
+use graphql_ast::directive::DirectiveList;
+use graphql_ast::type_system as ast;
+use graphql_ast::type_system::SchemaExtension;
+use graphql_nodes::collections::items::Items;
+use graphql_nodes::collections::table::Table;
+use graphql_nodes::name::{Name, NamedType};
+use graphql_nodes::node::Node;
+use graphql_nodes::operation_type::OperationType;
+use std::alloc::{AllocError, Global};
+
+/// The empty definition of the kind of an extension, with its name and at its place, if it extends a type.
+fn empty_definition(alloc: Global, extension: &Definition) -> Result<Option<Definition>, AllocError>
+    ensures { IfOk result (λ made. option_map item_of made ≡ option_map (λ e. Defined (adopted_part e)) (extended_part (item_of extension.now))) }
+{
+    let definition = match extension {
+        Definition::ScalarTypeExtension(node) => {
+            let empty = ast::ScalarTypeDefinition {
+                description: None,
+                name: node.name.clone()?,
+                directives: DirectiveList::new(alloc),
+            };
+            Definition::ScalarTypeDefinition(node.same_location(alloc, empty)?)
+        }
+        Definition::ObjectTypeExtension(node) => {
+            let empty = ast::ObjectTypeDefinition {
+                description: None,
+                name: node.name.clone()?,
+                implements_interfaces: Items::new(alloc),
+                directives: DirectiveList::new(alloc),
+                fields: Items::new(alloc),
+            };
+            Definition::ObjectTypeDefinition(node.same_location(alloc, empty)?)
+        }
+        Definition::InterfaceTypeExtension(node) => {
+            let empty = ast::InterfaceTypeDefinition {
+                description: None,
+                name: node.name.clone()?,
+                implements_interfaces: Items::new(alloc),
+                directives: DirectiveList::new(alloc),
+                fields: Items::new(alloc),
+            };
+            Definition::InterfaceTypeDefinition(node.same_location(alloc, empty)?)
+        }
+        Definition::UnionTypeExtension(node) => {
+            let empty = ast::UnionTypeDefinition {
+                description: None,
+                name: node.name.clone()?,
+                directives: DirectiveList::new(alloc),
+                members: Items::new(alloc),
+            };
+            Definition::UnionTypeDefinition(node.same_location(alloc, empty)?)
+        }
+        Definition::EnumTypeExtension(node) => {
+            let empty = ast::EnumTypeDefinition {
+                description: None,
+                name: node.name.clone()?,
+                directives: DirectiveList::new(alloc),
+                values: Items::new(alloc),
+            };
+            Definition::EnumTypeDefinition(node.same_location(alloc, empty)?)
+        }
+        Definition::InputObjectTypeExtension(node) => {
+            let empty = ast::InputObjectTypeDefinition {
+                description: None,
+                name: node.name.clone()?,
+                directives: DirectiveList::new(alloc),
+                fields: Items::new(alloc),
+            };
+            Definition::InputObjectTypeDefinition(node.same_location(alloc, empty)?)
+        }
+        _ => return Ok(None),
+    };
+    Ok(Some(definition))
+}
+
+/// Adds the empty definition of the first of these that extends a type.
+fn adopt_first(
+    alloc: Global,
+    extensions: &[Definition],
+    adopted: &mut Items<Definition>,
+) -> Result<(), AllocError>
+    ensures { OnOk result (items_of adopted.new ≡ items_of adopted.old ++ adopted_by (extended_parts extensions.now)) }
+{
+    for extension in extensions {
+        if let Some(definition) = empty_definition(alloc, extension)? {
+            adopted.push(definition)?;
+            return Ok(());
+        }
+    }
+    Ok(())
+}
+
+/// The empty definitions of the names under which something waits, in order.
+pub fn adopted_definitions(
+    alloc: Global,
+    waiting: &Table<Name, Items<Definition>>,
+) -> Result<Items<Definition>, AllocError>
+    ensures { IfOk result (λ adopted. items_of adopted ≡ flat_map (λ held. adopted_by (extended_parts held)) (values_of waiting.now)) }
+{
+    let mut adopted = Items::new(alloc);
+    for extensions in waiting.values() {
+        adopt_first(alloc, extensions.as_slice(), &mut adopted)?;
+    }
+    Ok(adopted)
+}
+
+/// Adds the implicit root of an operation, if its default name is an object type's.
+fn push_implicit_root(
+    alloc: Global,
+    types: &Table<NamedType, ExtendedType>,
+    operation_type: OperationType,
+    roots: &mut Items<Node<(OperationType, NamedType)>>,
+) -> Result<(), AllocError>
+    ensures { OnOk result (roots.new ≡ roots.old ++ held_root types.now operation_type) }
+{
+    let name = operation_type.default_type_name(alloc)?;
+    if let Some(ExtendedType::Object(_)) = types.get(&name) {
+        roots.push(Node::new(alloc, (operation_type, name))?)?;
+    }
+    Ok(())
+}
+
+/// The implicit roots.
+fn implicit_roots(
+    alloc: Global,
+    types: &Table<NamedType, ExtendedType>,
+) -> Result<Items<Node<(OperationType, NamedType)>>, AllocError>
+    ensures { IfOk result (λ roots. roots ≡ held_roots types.now) }
+{
+    let mut roots = Items::new(alloc);
+    push_implicit_root(alloc, types, OperationType::Query, &mut roots)?;
+    push_implicit_root(alloc, types, OperationType::Mutation, &mut roots)?;
+    push_implicit_root(alloc, types, OperationType::Subscription, &mut roots)?;
+    Ok(roots)
+}
+
+/// Whether one of these names a root.
+fn names_root(extensions: &[Node<SchemaExtension>]) -> bool
+    ensures { result ≡ list_any (λ e. not (length e.value.root_operations == 0)) extensions.now }
+{
+    for extension in extensions {
+        if !extension.root_operations.is_empty() {
+            return true;
+        }
+    }
+    false
+}
+
+/// The roots of the schema definition that is implied: the implicit ones, unless these extensions are adopted and name a
+/// root.
+fn implied_roots(
+    alloc: Global,
+    extensions: &[Node<SchemaExtension>],
+    types: &Table<NamedType, ExtendedType>,
+    adopts: bool,
+) -> Result<Items<Node<(OperationType, NamedType)>>, AllocError>
+    ensures { IfOk result (λ roots. roots ≡ (if adopts && list_any (λ e. not (length e.value.root_operations == 0)) extensions.now then [] else held_roots types.now)) }
+{
+    if adopts && names_root(extensions) {
+        return Ok(Items::new(alloc));
+    }
+    let roots = implicit_roots(alloc, types)?;
+    Ok(roots)
+}
+
+/// The schema definition that is implied where none stands, for these extensions of the schema and these types.
+pub fn implied_definition(
+    alloc: Global,
+    extensions: &[Node<SchemaExtension>],
+    types: &Table<NamedType, ExtendedType>,
+    adopts: bool,
+) -> Result<Option<Node<ast::SchemaDefinition>>, AllocError>
+    ensures { IfOk result (λ implied. option_map_or (λ node. SchemaDefined (schema_definition_part node) ∷ []) implied []
+        ≡ schema_for adopts (roots_in (map schema_extension_part extensions.now)) (held_roots types.now)) }
+{
+    let root_operations = implied_roots(alloc, extensions, types, adopts)?;
+    if !adopts && root_operations.is_empty() {
+        return Ok(None);
+    }
+    let definition = ast::SchemaDefinition {
+        description: None,
+        directives: DirectiveList::new(alloc),
+        root_operations,
+    };
+    Ok(Some(Node::new(alloc, definition)?))
+}
+
+/// The definition of a schema, or the one of a schema that has none.
+pub fn definition_or_none(
+    alloc: Global,
+    definition: Option<Node<SchemaDefinition>>,
+) -> Result<Node<SchemaDefinition>, AllocError>
+    ensures { IfOk result (λ node. node ≡ unwrap_or definition no_schema) }
+{
+    match definition {
+        Some(node) => Ok(node),
+        None => Node::new(alloc, SchemaDefinition::new(alloc)),
+    }
+}

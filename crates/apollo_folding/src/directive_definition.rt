@@ -1,0 +1,42 @@
+//! Definitions of directives: GraphQL specification of October 2021, section 3.13.
+ghost use Rattle.std.specs.Prelude.{◌≡◌, [], ◌∷◌, ◌++◌, OnOk};
+ghost use Rattle.apollo_meaning.specs.DirectiveMeaning.{Directives, AreDirectivesOf, directive_faults};
+
+use apollo_meaning::build_error::BuildError;
+use graphql_ast::type_system::DirectiveDefinition;
+use graphql_nodes::collections::items::Items;
+use graphql_nodes::collections::table::Table;
+use graphql_nodes::name::Name;
+use graphql_nodes::node::Node;
+use graphql_nodes::source::SourceSpan;
+use std::alloc::AllocError;
+
+/// Takes a directive definition: GraphQL specification of October 2021, section 3.13.
+///
+/// The first of a name that is handed in replaces a built-in one, at its place. A further one of the name is dropped,
+/// with a fault.
+pub fn define_directive(
+    table: &mut Table<Name, Node<DirectiveDefinition>>,
+    node: &Node<DirectiveDefinition>,
+    errors: &mut Items<(Option<SourceSpan>, BuildError)>,
+) -> Result<(), AllocError>
+    ensures defined { OnOk result ((ds : Directives) → AreDirectivesOf ds table.old → AreDirectivesOf (ds ++ node.now ∷ []) table.new) }
+    ensures faults { OnOk result ((ds : Directives) → AreDirectivesOf ds table.old → errors.new ≡ errors.old ++ directive_faults ds node.now) }
+{
+    let Some(previous) = table.get_mut(&node.name) else {
+        table.insert(node.name.clone()?, node.clone()?)?;
+        return Ok(());
+    };
+    if previous.is_built_in() {
+        *previous = node.clone()?;
+        return Ok(());
+    }
+    errors.push((
+        node.name.location(),
+        BuildError::DirectiveDefinitionCollision {
+            previous_location: previous.name.location(),
+            name: node.name.clone()?,
+        },
+    ))?;
+    Ok(())
+}

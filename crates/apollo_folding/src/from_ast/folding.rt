@@ -1,0 +1,131 @@
+//! Components folded into the collections of a type.
+ghost use Rattle.std.specs.Prelude.{◌≡◌, List, [], ◌∷◌, ◌++◌, map, OnOk};
+ghost use Rattle.graphql_nodes.specs.NameView.{NameView};
+ghost use Rattle.graphql_nodes.specs.Tables.{keys_of};
+ghost use Rattle.apollo_component.specs.declared.component.Component.{Component as AnyComponent};
+ghost use Rattle.apollo_component.specs.declared.component.ComponentName.{ComponentName as AnyName};
+ghost use Rattle.apollo_meaning.specs.TypeMeaning.{component, component_name, distinct_names, distinct_entries};
+ghost use Rattle.apollo_meaning.specs.TypeFaults.{name_entries};
+ghost use Rattle.apollo_meaning.specs.Collisions.{collision_at, collisions};
+
+use apollo_component::component::{Component, ComponentName};
+use apollo_component::directive_list::DirectiveList;
+use apollo_component::extension::ComponentOrigin;
+use apollo_meaning::build_error::Fault;
+use apollo_meaning::collision::Collection;
+use graphql_ast::directive::Directive;
+use graphql_nodes::collections::items::Items;
+use graphql_nodes::collections::key_set::KeySet;
+use graphql_nodes::collections::table::Table;
+use graphql_nodes::name::Name;
+use graphql_nodes::named::Named;
+use graphql_nodes::node::Node;
+use std::alloc::AllocError;
+
+/// Adds directives at the end, in order.
+pub fn fold_directives(
+    list: &mut DirectiveList,
+    directives: &[Node<Directive>],
+    origin: ComponentOrigin,
+) -> Result<(), AllocError>
+    ensures { OnOk result (list.new.0 ≡ list.old.0 ++ map (component origin) directives.now) }
+{
+    for directive in directives {
+        list.push(Component::with_origin(directive.clone()?, origin))?;
+    }
+    Ok(())
+}
+
+/// Adds a name, or notes the fault where it is there.
+fn fold_name(
+    set: &mut KeySet<ComponentName>,
+    name: &Name,
+    origin: ComponentOrigin,
+    collection: Collection,
+    type_name: &Name,
+    errors: &mut Items<Fault>,
+) -> Result<(), AllocError>
+    ensures added { OnOk result ((ks : List AnyName) → set.old ≡ distinct_names ks
+        → set.new ≡ distinct_names (ks ++ component_name origin name.now ∷ [])) }
+    ensures faults { OnOk result ((ks : List AnyName) → set.old ≡ distinct_names ks
+        → errors.new ≡ errors.old ++ collision_at collection type_name.now (map (λ k. k.name) ks) (name.now, name.now.location)) }
+{
+    let component = ComponentName::with_origin(name.clone()?, origin);
+    match set.get(&component) {
+        Some(kept) => {
+            let error = collection.collision(&kept.name, type_name)?;
+            errors.push((name.location(), error))?;
+        }
+        None => {
+            set.insert(component)?;
+        }
+    }
+    Ok(())
+}
+
+/// Adds names in order, each unless it is there, and notes a fault for each that is.
+pub fn fold_names(
+    set: &mut KeySet<ComponentName>,
+    names: &[Name],
+    origin: ComponentOrigin,
+    collection: Collection,
+    type_name: &Name,
+    errors: &mut Items<Fault>,
+) -> Result<(), AllocError>
+    ensures added { OnOk result ((ks : List AnyName) → set.old ≡ distinct_names ks
+        → set.new ≡ distinct_names (ks ++ map (component_name origin) names.now)) }
+    ensures faults { OnOk result ((ks : List AnyName) → set.old ≡ distinct_names ks
+        → errors.new ≡ errors.old ++ collisions collection type_name.now (map (λ k. k.name) ks) (name_entries names.now)) }
+{
+    for name in names {
+        fold_name(set, name, origin, collection, type_name, errors)?;
+    }
+    Ok(())
+}
+
+/// Adds a definition under its name, or notes the fault where the name is there.
+fn fold_entry<T: Named + Drop>(
+    table: &mut Table<Name, Component<T>>,
+    node: &Node<T>,
+    origin: ComponentOrigin,
+    collection: Collection,
+    type_name: &Name,
+    errors: &mut Items<Fault>,
+) -> Result<(), AllocError>
+    ensures added { OnOk result ((es : List (NameView × AnyComponent T)) → table.old ≡ distinct_entries es
+        → table.new ≡ distinct_entries (es ++ (T.name_of node.now.value, component origin node.now) ∷ [])) }
+    ensures faults { OnOk result ((es : List (NameView × AnyComponent T)) → table.old ≡ distinct_entries es
+        → errors.new ≡ errors.old ++ collision_at collection type_name.now (keys_of es) (T.name_of node.now.value, node.now.location)) }
+{
+    match table.get_key_value(node.name()) {
+        Some((kept, _)) => {
+            let error = collection.collision(kept, type_name)?;
+            errors.push((node.location(), error))?;
+        }
+        None => {
+            let name = node.name().clone()?;
+            table.insert(name, Component::with_origin(node.clone()?, origin))?;
+        }
+    }
+    Ok(())
+}
+
+/// Adds definitions under their names in order, each unless its name is there, and notes a fault for each whose name is.
+pub fn fold_named<T: Named + Drop>(
+    table: &mut Table<Name, Component<T>>,
+    nodes: &[Node<T>],
+    origin: ComponentOrigin,
+    collection: Collection,
+    type_name: &Name,
+    errors: &mut Items<Fault>,
+) -> Result<(), AllocError>
+    ensures added { OnOk result ((es : List (NameView × AnyComponent T)) → table.old ≡ distinct_entries es
+        → table.new ≡ distinct_entries (es ++ map (λ n. (T.name_of n.value, component origin n)) nodes.now)) }
+    ensures faults { OnOk result ((es : List (NameView × AnyComponent T)) → table.old ≡ distinct_entries es
+        → errors.new ≡ errors.old ++ collisions collection type_name.now (keys_of es) (map (λ n. (T.name_of n.value, n.location)) nodes.now)) }
+{
+    for node in nodes {
+        fold_entry(table, node, origin, collection, type_name, errors)?;
+    }
+    Ok(())
+}

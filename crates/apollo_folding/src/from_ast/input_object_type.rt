@@ -1,0 +1,118 @@
+//! Input object types from definitions and extensions.
+ghost use Rattle.std.specs.Prelude.{◌≡◌, List, [], ◌∷◌, ◌++◌, map, refl, OnOk};
+ghost use Rattle.graphql_nodes.specs.declared.type_kind.TypeKind.TheVariants as kinds;
+ghost use Rattle.apollo_meaning.specs.TypeParts.{TypePart, InputObjectBody, input_object_definition_part, input_object_extension_part};
+ghost use Rattle.apollo_meaning.specs.TypeMeaning.{Sourced, input_object_of};
+ghost use Rattle.apollo_meaning.specs.TypeFaults.{body_faults};
+
+use crate::from_ast::folding::{fold_directives, fold_named};
+use crate::from_ast::kind::Kind;
+use apollo_component::directive_list::DirectiveList;
+use apollo_component::extension::ComponentOrigin;
+use apollo_meaning::build_error::Fault;
+use apollo_meaning::collision::Collection;
+use apollo_types::input_object_type::InputObjectType;
+use graphql_ast::definition::Definition;
+use graphql_ast::directive::Directive;
+use graphql_ast::type_system::{
+    InputObjectTypeDefinition, InputObjectTypeExtension, InputValueDefinition,
+};
+use graphql_nodes::collections::items::Items;
+use graphql_nodes::collections::table::Table;
+use graphql_nodes::name::Name;
+use graphql_nodes::node::Node;
+use std::alloc::{AllocError, Global};
+
+/// Folds the components of a definition or extension in.
+fn fold(
+    ty: &mut InputObjectType,
+    directives: &[Node<Directive>],
+    fields: &[Node<InputValueDefinition>],
+    origin: ComponentOrigin,
+    type_name: &Name,
+    errors: &mut Items<Fault>,
+) -> Result<(), AllocError>
+    ensures folded { OnOk result ((head part : TypePart) (done : List Sourced)
+        → part.directives ≡ directives.now → part.body ≡ InputObjectBody fields.now → ty.old ≡ input_object_of head done
+        → ty.new ≡ input_object_of head (done ++ (origin, part) ∷ [])) }
+    ensures faults { OnOk result ((head : TypePart) (done : List Sourced) → ty.old ≡ input_object_of head done
+        → errors.new ≡ errors.old ++ body_faults (InputObjectBody fields.now) type_name.now (map (λ s. s.1) done)) }
+{
+    fold_directives(&mut ty.directives, directives, origin)?;
+    fold_named(
+        &mut ty.fields,
+        fields,
+        origin,
+        Collection::InputFields,
+        type_name,
+        errors,
+    )?;
+    Ok(())
+}
+
+impl Kind for InputObjectType {
+    type Definition = InputObjectTypeDefinition;
+
+    type Extension = InputObjectTypeExtension;
+
+    ghost kind = { kinds.InputObject };
+
+    ghost made = { input_object_of };
+
+    ghost of_definition = { input_object_definition_part };
+
+    ghost of_extension = { input_object_extension_part };
+
+    fn extension(definition: &Definition) -> Option<&Node<InputObjectTypeExtension>> {
+        match definition {
+            Definition::InputObjectTypeExtension(node) => Some(node),
+            _ => None,
+        }
+    }
+
+    fn bare(alloc: Global, node: &Node<InputObjectTypeDefinition>) -> Result<Self, AllocError> {
+        Ok(InputObjectType {
+            description: node.description.clone()?,
+            name: node.name.clone()?,
+            directives: DirectiveList::new(alloc),
+            fields: Table::new(alloc),
+        })
+    }
+
+    fn fold_definition(
+        &mut self,
+        node: &Node<InputObjectTypeDefinition>,
+        errors: &mut Items<Fault>,
+    ) -> Result<(), AllocError> {
+        fold(
+            self,
+            node.directives.as_slice(),
+            node.fields.as_slice(),
+            ComponentOrigin::Definition,
+            &node.name,
+            errors,
+        )?;
+        Ok(())
+    }
+
+    fn fold_extension(
+        &mut self,
+        node: &Node<InputObjectTypeExtension>,
+        origin: ComponentOrigin,
+        errors: &mut Items<Fault>,
+    ) -> Result<(), AllocError> {
+        fold(
+            self,
+            node.directives.as_slice(),
+            node.fields.as_slice(),
+            origin,
+            &node.name,
+            errors,
+        )?;
+        Ok(())
+    }
+
+    ghost copies = { λ x y same. same };
+
+    ghost place = { λ extension. refl };
+}

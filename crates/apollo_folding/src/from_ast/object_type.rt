@@ -1,0 +1,129 @@
+//! Object types from definitions and extensions.
+ghost use Rattle.std.specs.Prelude.{◌≡◌, List, [], ◌∷◌, ◌++◌, map, refl, OnOk};
+ghost use Rattle.graphql_nodes.specs.declared.type_kind.TypeKind.TheVariants as kinds;
+ghost use Rattle.apollo_meaning.specs.TypeParts.{TypePart, ObjectBody, object_definition_part, object_extension_part};
+ghost use Rattle.apollo_meaning.specs.TypeMeaning.{Sourced, object_of};
+ghost use Rattle.apollo_meaning.specs.TypeFaults.{body_faults};
+
+use crate::from_ast::folding::{fold_directives, fold_named, fold_names};
+use crate::from_ast::kind::Kind;
+use apollo_component::directive_list::DirectiveList;
+use apollo_component::extension::ComponentOrigin;
+use apollo_meaning::build_error::Fault;
+use apollo_meaning::collision::Collection;
+use apollo_types::object_type::ObjectType;
+use graphql_ast::definition::Definition;
+use graphql_ast::directive::Directive;
+use graphql_ast::type_system::{FieldDefinition, ObjectTypeDefinition, ObjectTypeExtension};
+use graphql_nodes::collections::items::Items;
+use graphql_nodes::collections::key_set::KeySet;
+use graphql_nodes::collections::table::Table;
+use graphql_nodes::name::Name;
+use graphql_nodes::node::Node;
+use std::alloc::{AllocError, Global};
+
+/// Folds the components of a definition or extension in.
+fn fold(
+    ty: &mut ObjectType,
+    directives: &[Node<Directive>],
+    interfaces: &[Name],
+    fields: &[Node<FieldDefinition>],
+    origin: ComponentOrigin,
+    type_name: &Name,
+    errors: &mut Items<Fault>,
+) -> Result<(), AllocError>
+    ensures folded { OnOk result ((head part : TypePart) (done : List Sourced)
+        → part.directives ≡ directives.now → part.body ≡ ObjectBody interfaces.now fields.now → ty.old ≡ object_of head done
+        → ty.new ≡ object_of head (done ++ (origin, part) ∷ [])) }
+    ensures faults { OnOk result ((head : TypePart) (done : List Sourced) → ty.old ≡ object_of head done
+        → errors.new ≡ errors.old ++ body_faults (ObjectBody interfaces.now fields.now) type_name.now (map (λ s. s.1) done)) }
+{
+    fold_directives(&mut ty.directives, directives, origin)?;
+    fold_names(
+        &mut ty.implements_interfaces,
+        interfaces,
+        origin,
+        Collection::ObjectInterfaces,
+        type_name,
+        errors,
+    )?;
+    fold_named(
+        &mut ty.fields,
+        fields,
+        origin,
+        Collection::ObjectFields,
+        type_name,
+        errors,
+    )?;
+    Ok(())
+}
+
+impl Kind for ObjectType {
+    type Definition = ObjectTypeDefinition;
+
+    type Extension = ObjectTypeExtension;
+
+    ghost kind = { kinds.Object };
+
+    ghost made = { object_of };
+
+    ghost of_definition = { object_definition_part };
+
+    ghost of_extension = { object_extension_part };
+
+    fn extension(definition: &Definition) -> Option<&Node<ObjectTypeExtension>> {
+        match definition {
+            Definition::ObjectTypeExtension(node) => Some(node),
+            _ => None,
+        }
+    }
+
+    fn bare(alloc: Global, node: &Node<ObjectTypeDefinition>) -> Result<Self, AllocError> {
+        Ok(ObjectType {
+            description: node.description.clone()?,
+            name: node.name.clone()?,
+            implements_interfaces: KeySet::new(alloc),
+            directives: DirectiveList::new(alloc),
+            fields: Table::new(alloc),
+        })
+    }
+
+    fn fold_definition(
+        &mut self,
+        node: &Node<ObjectTypeDefinition>,
+        errors: &mut Items<Fault>,
+    ) -> Result<(), AllocError> {
+        fold(
+            self,
+            node.directives.as_slice(),
+            node.implements_interfaces.as_slice(),
+            node.fields.as_slice(),
+            ComponentOrigin::Definition,
+            &node.name,
+            errors,
+        )?;
+        Ok(())
+    }
+
+    fn fold_extension(
+        &mut self,
+        node: &Node<ObjectTypeExtension>,
+        origin: ComponentOrigin,
+        errors: &mut Items<Fault>,
+    ) -> Result<(), AllocError> {
+        fold(
+            self,
+            node.directives.as_slice(),
+            node.implements_interfaces.as_slice(),
+            node.fields.as_slice(),
+            origin,
+            &node.name,
+            errors,
+        )?;
+        Ok(())
+    }
+
+    ghost copies = { λ x y same. same };
+
+    ghost place = { λ extension. refl };
+}

@@ -1,0 +1,217 @@
+//! The definition of the schema from its definitions and extensions.
+ghost use Rattle.std.specs.Prelude.{◌≡◌, ◌+◌, ◌^◌, ◌≤◌, List, [], ◌∷◌, ◌++◌, length, map, None, Some, IfOk, IfErr, OnOk};
+ghost use Rattle.std.specs.Option.{option_or};
+ghost use Rattle.apollo_component.specs.Extensions.{next_number, source_at};
+ghost use Rattle.apollo_component.specs.declared.extension.ComponentOrigin.TheVariants as origins;
+ghost use Rattle.apollo_types.specs.SchemaDefinitionWriteOut.{root_of};
+ghost use Rattle.apollo_types.specs.declared.schema_definition.SchemaDefinition.{SchemaDefinition as AnyDefinition};
+ghost use Rattle.apollo_meaning.specs.TypeParts.{SchemaPart, schema_definition_part, schema_extension_part};
+ghost use Rattle.apollo_meaning.specs.TypeMeaning.{component_name};
+ghost use Rattle.apollo_meaning.specs.RootMeaning.{SourcedSchema, schema_from, schema_definition_of};
+ghost use Rattle.apollo_meaning.specs.RootFaults.{schema_faults};
+ghost use Rattle.apollo_folding.specs.RootTables.{NamedRoot, named_root, with_roots, put_root, dropped_root, held_fault, held_faults};
+ghost use Rattle.apollo_meaning.specs.Joining.{schema_numbered, schema_begun, schema_begun_faults, schema_joining_faults};
+ghost use Rattle.apollo_folding.specs.Refusals.{RefusedAs};
+
+use crate::builder_error::BuilderError;
+use crate::from_ast::folding::fold_directives;
+use apollo_component::component::ComponentName;
+use apollo_component::extension::{ComponentOrigin, ExtensionId, ExtensionSource};
+use apollo_meaning::build_error::{BuildError, Fault};
+use apollo_types::schema_definition::SchemaDefinition;
+use graphql_ast::directive::Directive;
+use graphql_ast::type_system as ast;
+use graphql_ast::type_system::SchemaExtension;
+use graphql_nodes::collections::items::Items;
+use graphql_nodes::collections::static_text::StaticText;
+use graphql_nodes::name::NamedType;
+use graphql_nodes::node::Node;
+use graphql_nodes::operation_type::OperationType;
+use std::alloc::{AllocError, Global};
+
+/// The fault of a root whose operation has this one.
+fn dropped_root(root: &Node<(OperationType, NamedType)>, kept: &ComponentName) -> Fault
+    ensures { result ≡ dropped_root root.now kept.now }
+{
+    let (operation_type, _) = &**root;
+    let error = BuildError::DuplicateRootOperation {
+        previous_location: kept.name.location(),
+        operation_type: StaticText::new(operation_type.name()),
+    };
+    (root.location(), error)
+}
+
+/// Names a root, or notes the fault where its operation has one.
+fn name_root(
+    held: &mut Option<ComponentName>,
+    root: &Node<(OperationType, NamedType)>,
+    origin: ComponentOrigin,
+    errors: &mut Items<Fault>,
+) -> Result<(), AllocError>
+    ensures named { OnOk result (held.new ≡ option_or held.old (Some (component_name origin root.now.value.1))) }
+    ensures faults { OnOk result (errors.new ≡ errors.old ++ held_fault held.old root.now) }
+{
+    if let Some(kept) = &*held {
+        errors.push(dropped_root(root, kept))?;
+        return Ok(());
+    }
+    let (_, name) = &**root;
+    *held = Some(ComponentName::with_origin(name.clone()?, origin));
+    Ok(())
+}
+
+/// Names a root of the schema, or notes the fault where its operation has one.
+fn fold_root(
+    definition: &mut SchemaDefinition,
+    root: &Node<(OperationType, NamedType)>,
+    origin: ComponentOrigin,
+    errors: &mut Items<Fault>,
+) -> Result<(), AllocError>
+    ensures named { OnOk result (definition.new ≡ put_root root.now.value.0 (component_name origin root.now.value.1) definition.old) }
+    ensures faults { OnOk result (errors.new ≡ errors.old ++ held_fault (root_of definition.old root.now.value.0) root.now) }
+{
+    let (operation_type, _) = &**root;
+    match *operation_type {
+        OperationType::Query => name_root(&mut definition.query, root, origin, errors)?,
+        OperationType::Mutation => name_root(&mut definition.mutation, root, origin, errors)?,
+        OperationType::Subscription => {
+            name_root(&mut definition.subscription, root, origin, errors)?
+        }
+    }
+    Ok(())
+}
+
+/// Names roots of the schema in order, and notes a fault for each whose operation has one.
+fn fold_roots(
+    definition: &mut SchemaDefinition,
+    roots: &[Node<(OperationType, NamedType)>],
+    origin: ComponentOrigin,
+    errors: &mut Items<Fault>,
+) -> Result<(), AllocError>
+    ensures named { OnOk result ((base : AnyDefinition) (rs : List NamedRoot) → definition.old ≡ with_roots base rs
+        → definition.new ≡ with_roots base (rs ++ map (named_root origin) roots.now)) }
+    ensures faults { OnOk result ((base : AnyDefinition) (rs : List NamedRoot) → definition.old ≡ with_roots base rs
+        → errors.new ≡ errors.old ++ held_faults rs origin roots.now) }
+{
+    for root in roots {
+        fold_root(definition, root, origin, errors)?;
+    }
+    Ok(())
+}
+
+/// Folds the components of a definition or extension in.
+fn fold(
+    definition: &mut SchemaDefinition,
+    directives: &[Node<Directive>],
+    roots: &[Node<(OperationType, NamedType)>],
+    origin: ComponentOrigin,
+    errors: &mut Items<Fault>,
+) -> Result<(), AllocError>
+    ensures folded { OnOk result ((head part : SchemaPart) (done : List SourcedSchema)
+        → part.directives ≡ directives.now → part.roots ≡ roots.now → definition.old ≡ schema_definition_of head done
+        → definition.new ≡ schema_definition_of head (done ++ (origin, part) ∷ [])) }
+    ensures faults { OnOk result ((head part : SchemaPart) (done : List SourcedSchema)
+        → part.roots ≡ roots.now → definition.old ≡ schema_definition_of head done
+        → errors.new ≡ errors.old ++ schema_faults (map (λ s. s.1) done) part) }
+{
+    fold_directives(&mut definition.directives, directives, origin)?;
+    fold_roots(definition, roots, origin, errors)?;
+    Ok(())
+}
+
+/// The schema definition of a definition without its components.
+fn bare(alloc: Global, definition: &ast::SchemaDefinition) -> Result<SchemaDefinition, AllocError>
+    ensures { IfOk result (λ made. made ≡ record { description = definition.now.description; directives = record { 0 = [] }; query = None; mutation = None; subscription = None }) }
+{
+    Ok(SchemaDefinition {
+        description: definition.description.clone()?,
+        ..SchemaDefinition::new(alloc)
+    })
+}
+
+/// The schema definition of a definition alone.
+fn schema_from_ast(
+    alloc: Global,
+    node: &Node<ast::SchemaDefinition>,
+    errors: &mut Items<Fault>,
+) -> Result<Node<SchemaDefinition>, AllocError>
+    ensures made { IfOk result (λ made. let head = schema_definition_part node.now in made ≡ schema_from head ((origins.Definition, head) ∷ [])) }
+    ensures faults { OnOk result (errors.new ≡ errors.old ++ schema_faults [] (schema_definition_part node.now)) }
+{
+    let mut definition = bare(alloc, node)?;
+    fold(
+        &mut definition,
+        node.directives.as_slice(),
+        node.root_operations.as_slice(),
+        ComponentOrigin::Definition,
+        errors,
+    )?;
+    let made = node.same_location(alloc, definition)?;
+    Ok(made)
+}
+
+/// Folds an extension in under the source's next identity.
+pub fn extend_schema(
+    node: &mut Node<SchemaDefinition>,
+    extension: &Node<SchemaExtension>,
+    ids: &mut ExtensionSource,
+    errors: &mut Items<Fault>,
+) -> Result<(), BuilderError>
+    ensures folded { OnOk result ((head : SchemaPart) (done : List SourcedSchema) → node.old ≡ schema_from head done
+        → node.new ≡ schema_from head (done ++ schema_numbered (next_number ids.old) (schema_extension_part extension.now ∷ []))) }
+    ensures faults { OnOk result ((head : SchemaPart) (done : List SourcedSchema) → node.old ≡ schema_from head done
+        → errors.new ≡ errors.old ++ schema_faults (map (λ s. s.1) done) (schema_extension_part extension.now)) }
+    ensures next { OnOk result (ids.new ≡ source_at (next_number ids.old + 1)) }
+    ensures grows { next_number ids.old ≤ next_number ids.new }
+    ensures refused { IfErr result (λ error. RefusedAs error (2 ^ 64 ≤ next_number ids.old + 1)) }
+{
+    let id = ExtensionId::new(ids, extension)?;
+    fold(
+        node.make_mut()?,
+        extension.directives.as_slice(),
+        extension.root_operations.as_slice(),
+        ComponentOrigin::Extension(id),
+        errors,
+    )?;
+    Ok(())
+}
+
+/// Folds extensions in, in order.
+fn extend_schema_by_all(
+    node: &mut Node<SchemaDefinition>,
+    extensions: &[Node<SchemaExtension>],
+    ids: &mut ExtensionSource,
+    errors: &mut Items<Fault>,
+) -> Result<(), BuilderError>
+    ensures folded { OnOk result ((head : SchemaPart) (done : List SourcedSchema) → node.old ≡ schema_from head done
+        → node.new ≡ schema_from head (done ++ schema_numbered (next_number ids.old) (map schema_extension_part extensions.now))) }
+    ensures faults { OnOk result ((head : SchemaPart) (done : List SourcedSchema) → node.old ≡ schema_from head done
+        → errors.new ≡ errors.old ++ schema_joining_faults (map (λ s. s.1) done) (map schema_extension_part extensions.now)) }
+    ensures next { OnOk result (ids.new ≡ source_at (next_number ids.old + length extensions.now)) }
+    ensures grows { next_number ids.old ≤ next_number ids.new }
+    ensures refused { IfErr result (λ error. RefusedAs error (2 ^ 64 ≤ next_number ids.old + length extensions.now)) }
+{
+    for extension in extensions {
+        extend_schema(node, extension, ids, errors)?;
+    }
+    Ok(())
+}
+
+/// The schema definition of a definition with these extensions folded in.
+pub fn begin_schema(
+    alloc: Global,
+    node: &Node<ast::SchemaDefinition>,
+    extensions: &[Node<SchemaExtension>],
+    ids: &mut ExtensionSource,
+    errors: &mut Items<Fault>,
+) -> Result<Node<SchemaDefinition>, BuilderError>
+    ensures made { IfOk result (λ made. made ≡ schema_begun (next_number ids.old) (schema_definition_part node.now) (map schema_extension_part extensions.now)) }
+    ensures faults { OnOk result (errors.new ≡ errors.old ++ schema_begun_faults (schema_definition_part node.now) (map schema_extension_part extensions.now)) }
+    ensures next { OnOk result (ids.new ≡ source_at (next_number ids.old + length extensions.now)) }
+    ensures grows { next_number ids.old ≤ next_number ids.new }
+    ensures refused { IfErr result (λ error. RefusedAs error (2 ^ 64 ≤ next_number ids.old + length extensions.now)) }
+{
+    let mut definition = schema_from_ast(alloc, node, errors)?;
+    extend_schema_by_all(&mut definition, extensions, ids, errors)?;
+    Ok(definition)
+}

@@ -1,0 +1,11 @@
+//! The steps of a build: a definition made into a type, an extension folded into one, what waits, what is adopted, and
+//! what is left over. GraphQL specification of October 2021, section 3.
+#![tactic(auto)]
+
+pub mod adoption;
+pub mod builder_error;
+pub mod directive_definition;
+pub mod from_ast;
+pub mod orphans;
+pub mod redefinition;
+pub mod waiting;

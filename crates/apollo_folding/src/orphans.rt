@@ -1,0 +1,66 @@
+//! Extensions without a definition.
+ghost use Rattle.std.specs.Prelude.{◌≡◌, ◌+◌, [], ◌∷◌, ◌++◌, map, OnOk, Some};
+ghost use Rattle.std.specs.List.{flat_map};
+ghost use Rattle.graphql_nodes.specs.Tables.{values_of};
+ghost use Rattle.apollo_meaning.specs.TypeParts.{extended_parts, schema_extension_part};
+ghost use Rattle.apollo_meaning.specs.TypeFaults.{orphan};
+ghost use Rattle.apollo_meaning.specs.RootFaults.{schema_orphan};
+
+use crate::from_ast::extended_name;
+use apollo_meaning::build_error::{BuildError, Fault};
+use graphql_ast::definition::Definition;
+use graphql_ast::type_system::SchemaExtension;
+use graphql_nodes::collections::items::Items;
+use graphql_nodes::collections::table::Table;
+use graphql_nodes::name::Name;
+use graphql_nodes::node::Node;
+use std::alloc::AllocError;
+
+/// Notes an extension whose name has no definition.
+fn note_orphan(extension: &Definition, errors: &mut Items<Fault>) -> Result<(), AllocError>
+    ensures { OnOk result (errors.new ≡ errors.old ++ map orphan (extended_parts (extension.now ∷ []))) }
+{
+    let Some(name) = extended_name(extension) else {
+        return Ok(());
+    };
+    let error = BuildError::OrphanTypeExtension {
+        name: name.clone()?,
+    };
+    errors.push((name.location(), error))
+}
+
+/// Notes extensions whose name has no definition, in order.
+fn note_orphans_of(extensions: &[Definition], errors: &mut Items<Fault>) -> Result<(), AllocError>
+    ensures { OnOk result (errors.new ≡ errors.old ++ map orphan (extended_parts extensions.now)) }
+{
+    for extension in extensions {
+        note_orphan(extension, errors)?;
+    }
+    Ok(())
+}
+
+/// Notes all that still waits, by name.
+pub fn note_orphans(
+    waiting: &Table<Name, Items<Definition>>,
+    errors: &mut Items<Fault>,
+) -> Result<(), AllocError>
+    ensures { OnOk result (errors.new ≡ errors.old ++ map orphan (flat_map extended_parts (values_of waiting.now))) }
+{
+    for extensions in waiting.values() {
+        note_orphans_of(extensions.as_slice(), errors)?;
+    }
+    Ok(())
+}
+
+/// Notes extensions of a schema that has no definition, in order.
+pub fn note_schema_orphans(
+    extensions: &[Node<SchemaExtension>],
+    errors: &mut Items<Fault>,
+) -> Result<(), AllocError>
+    ensures { OnOk result (errors.new ≡ errors.old ++ map schema_orphan (map schema_extension_part extensions.now)) }
+{
+    for extension in extensions {
+        errors.push((extension.location(), BuildError::OrphanSchemaExtension))?;
+    }
+    Ok(())
+}

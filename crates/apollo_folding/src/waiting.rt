@@ -1,0 +1,55 @@
+//! Extensions that wait for the definition of their name.
+ghost use Rattle.std.specs.Prelude.{◌≡◌, None, ℕ, ◌+◌, List, [], ◌∷◌, ◌++◌, is_some, OnOk, IfErr, Some, if◌then◌else◌};
+ghost use Rattle.graphql_nodes.specs.Tables.{keys_of, lookup};
+ghost use Rattle.apollo_meaning.specs.TypeParts.{item_of, items_of, same};
+ghost use Rattle.apollo_meaning.specs.SchemaMeaning.{by_text};
+ghost use Rattle.apollo_meaning.specs.HeldItems.{items_held};
+
+use crate::builder_error::BuilderError;
+use graphql_ast::definition::Definition;
+use graphql_nodes::collections::items::Items;
+use graphql_nodes::collections::table::Table;
+use graphql_nodes::name::Name;
+use std::alloc::Global;
+use std::mem;
+
+/// Takes out what waits under a name, and leaves nothing there.
+pub fn take_waiting(
+    alloc: Global,
+    waiting: &mut Table<Name, Items<Definition>>,
+    name: &Name,
+) -> Items<Definition>
+    ensures taken { items_of result ≡ items_held (lookup (by_text name.now.text) waiting.old) }
+    ensures names { keys_of waiting.new ≡ keys_of waiting.old }
+    ensures left { (n : List ℕ) → items_held (lookup (by_text n) waiting.new)
+        ≡ (if same n name.now.text then [] else items_held (lookup (by_text n) waiting.old)) }
+{
+    match waiting.get_mut(name) {
+        Some(extensions) => mem::replace(extensions, Items::new(alloc)),
+        None => Items::new(alloc),
+    }
+}
+
+/// Lets an extension wait for the definition of its name.
+pub fn wait(
+    alloc: Global,
+    waiting: &mut Table<Name, Items<Definition>>,
+    name: &Name,
+    extension: &Definition,
+) -> Result<(), BuilderError>
+    ensures waits { OnOk result ((n : List ℕ) → items_held (lookup (by_text n) waiting.new)
+        ≡ (if same n name.now.text
+        then items_held (lookup (by_text n) waiting.old) ++ item_of extension.now ∷ []
+        else items_held (lookup (by_text n) waiting.old))) }
+    ensures names { OnOk result (keys_of waiting.new ≡ (if is_some (lookup (by_text name.now.text) waiting.old) then keys_of waiting.old else keys_of waiting.old ++ name.now ∷ [])) }
+    ensures refused { IfErr result (λ error. error ≡ BuilderError.Memory) }
+{
+    if let Some(extensions) = waiting.get_mut(name) {
+        extensions.push(extension.clone()?)?;
+        return Ok(());
+    }
+    let mut extensions = Items::new(alloc);
+    extensions.push(extension.clone()?)?;
+    waiting.insert(name.clone()?, extensions)?;
+    Ok(())
+}

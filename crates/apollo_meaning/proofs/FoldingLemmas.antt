@@ -1,0 +1,102 @@
+-- Extensions that are folded one after another.
+use Rattle.std.proofs.Common.{◌≡◌, ℕ, ◌+◌, ◌<◌, ◌≤◌, get_or, take, drop, Bool, List, [], ◌∷◌, ◌++◌, length, map, refl, sym, ap, ◌∙◌, append_assoc, length-append, arith}
+use Rattle.std.specs.List.{filter_map, enumerate_from}
+use Rattle.std.proofs.lemmas.List.{map-append, take_more, take-append-drop}
+use Rattle.std.proofs.lemmas.List.Elements.{filter-append, filter_map-append}
+use Rattle.graphql_nodes.specs.declared.type_kind.TypeKind.{TypeKind}
+use Rattle.apollo_component.specs.declared.extension.ComponentOrigin.TheVariants as origins
+use Rattle.graphql_ast.specs.declared.definition.Definition.{Definition}
+use Rattle.apollo_meaning.specs.TypeParts.{TypePart, TypeBody, ScalarBody, ObjectBody, InterfaceBody, UnionBody, EnumBody, InputObjectBody, item_of, items_of, extended_part, extended_parts, body_kind, kind_of}
+use Rattle.apollo_meaning.specs.DefinitionList.{same_kind, of_kind}
+use Rattle.apollo_meaning.specs.TypeMeaning.{Sourced, type_at, type_from, extension_part, numbered}
+use Rattle.apollo_types.specs.TypeWriteOut.{type_kind, type_name, type_location}
+
+-- numbers go on
+pub enumerate_from-append : {X : Type 0} (n : ℕ) (xs ys : List X) → enumerate_from n (xs ++ ys) ≡ enumerate_from n xs ++ enumerate_from (n + length xs) ys
+enumerate_from-append n [] ys = grind arith
+enumerate_from-append n (x ∷ xs) ys = grind (arith, enumerate_from-append (n + 1) xs ys)
+
+-- more extensions have the next numbers
+pub numbered-more : (done : List Sourced) (start : ℕ) (ps qs : List TypePart)
+    → done ++ map extension_part (numbered start (ps ++ qs)) ≡ (done ++ map extension_part (numbered start ps)) ++ map extension_part (numbered (start + length ps) qs)
+numbered-more done start ps qs =
+    rw (enumerate_from-append start ps qs, map-append) (sym (append_assoc done (map extension_part (numbered start ps)) (map extension_part (numbered (start + length ps) qs))))
+
+pub extended_parts-append : (xs ys : List Definition) → extended_parts (xs ++ ys) ≡ extended_parts xs ++ extended_parts ys
+extended_parts-append xs ys = ap (filter_map extended_part) (map-append item_of xs ys) ∙ filter_map-append extended_part (items_of xs) (items_of ys)
+
+-- one more definition of a list
+pub extended_parts-turn : (xs : List Definition) (i : ℕ) (x : Definition) → i < length xs → x ≡ get_or xs i x → extended_parts (take (i + 1) xs) ≡ extended_parts (take i xs) ++ extended_parts (x ∷ [])
+extended_parts-turn xs i x lt is = ap extended_parts (take_more xs i x lt ∙ ap (λ y. take i xs ++ y ∷ []) (sym is)) ∙ extended_parts-append (take i xs) (x ∷ [])
+
+-- the extensions of a kind among one more definition
+module _ (k : TypeKind) (xs : List Definition) (i : ℕ) (x : Definition) (lt : i < length xs) (is : x ≡ get_or xs i x) where
+  pub of_kind-turn : of_kind k (extended_parts (take (i + 1) xs)) ≡ of_kind k (extended_parts (take i xs)) ++ of_kind k (extended_parts (x ∷ []))
+  of_kind-turn =
+      ap (of_kind k) (extended_parts-turn xs i x lt is) ∙ filter-append (λ p. same_kind k (kind_of p)) (extended_parts (take i xs)) (extended_parts (x ∷ []))
+
+  -- those so far and this one are no more than all
+  pub of_kind-past : length (of_kind k (extended_parts (take i xs))) + length (of_kind k (extended_parts (x ∷ []))) ≤ length (of_kind k (extended_parts xs))
+  of_kind-past =
+      let whole : of_kind k (extended_parts (take (i + 1) xs)) ++ of_kind k (extended_parts (drop (i + 1) xs)) ≡ of_kind k (extended_parts xs) =
+      sym (filter-append (λ p. same_kind k (kind_of p)) (extended_parts (take (i + 1) xs)) (extended_parts (drop (i + 1) xs)))
+      ∙ ap (of_kind k) (sym (extended_parts-append (take (i + 1) xs) (drop (i + 1) xs)) ∙ ap extended_parts (take-append-drop (i + 1) xs)) in
+      omega (
+        arith,
+        ap length of_kind-turn,
+        length-append (of_kind k (extended_parts (take i xs))) (of_kind k (extended_parts (x ∷ []))),
+        ap length whole,
+        length-append (of_kind k (extended_parts (take (i + 1) xs))) (of_kind k (extended_parts (drop (i + 1) xs))),
+      )
+
+-- the type of parts has the kind of the head
+pub type_kind-from : (head : TypePart) (done : List Sourced) → type_kind (type_from head done) ≡ kind_of head
+type_kind-from head done = by head.body
+  where
+    by : (b : TypeBody) → type_kind (type_at b head done) ≡ body_kind b
+    by ScalarBody = refl
+    by (ObjectBody interfaces fields) = refl
+    by (InterfaceBody interfaces fields) = refl
+    by (UnionBody members) = refl
+    by (EnumBody values) = refl
+    by (InputObjectBody fields) = refl
+
+-- and its name
+pub type_name-from : (head : TypePart) (done : List Sourced) → type_name (type_from head done) ≡ head.name
+type_name-from head done = by head.body
+  where
+    by : (b : TypeBody) → type_name (type_at b head done) ≡ head.name
+    by ScalarBody = refl
+    by (ObjectBody interfaces fields) = refl
+    by (InterfaceBody interfaces fields) = refl
+    by (UnionBody members) = refl
+    by (EnumBody values) = refl
+    by (InputObjectBody fields) = refl
+
+-- and its place
+pub type_location-from : (head : TypePart) (done : List Sourced) → type_location (type_from head done) ≡ head.location
+type_location-from head done = by head.body
+  where
+    by : (b : TypeBody) → type_location (type_at b head done) ≡ head.location
+    by ScalarBody = refl
+    by (ObjectBody interfaces fields) = refl
+    by (InterfaceBody interfaces fields) = refl
+    by (UnionBody members) = refl
+    by (EnumBody values) = refl
+    by (InputObjectBody fields) = refl
+
+-- whether a definition is ignorable changes no type
+pub type_from-ignorable : (p : TypePart) (b : Bool) (es : List Sourced)
+    → type_from (record p { ignorable = b }) ((origins.Definition, record p { ignorable = b }) ∷ es) ≡ type_from p ((origins.Definition, p) ∷ es)
+type_from-ignorable p b es = by p.body
+  where
+    q : TypePart
+    q = record p { ignorable = b }
+
+    by : (body : TypeBody) → type_at body q ((origins.Definition, q) ∷ es) ≡ type_at body p ((origins.Definition, p) ∷ es)
+    by ScalarBody = refl
+    by (ObjectBody interfaces fields) = refl
+    by (InterfaceBody interfaces fields) = refl
+    by (UnionBody members) = refl
+    by (EnumBody values) = refl
+    by (InputObjectBody fields) = refl

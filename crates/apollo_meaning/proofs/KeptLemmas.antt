@@ -1,0 +1,137 @@
+-- Components that a name before them keeps out, and those that are kept.
+use Rattle.std.proofs.Common.{◌≡◌, ◌+◌, ◌<◌, ℕ, Bool, true, false, cond, ◌||◌, List, [], ◌∷◌, ◌++◌, length, map, take, get_or, Some, None, is_some, refl, sym, ap, ◌∙◌, append_assoc, if◌then◌else◌}
+use Rattle.std.specs.List.{find, list_any}
+use Rattle.std.specs.Option.{option_map}
+use Rattle.std.specs.Map.{keys_of, lookup_key}
+use Rattle.std.specs.Cmp.{IsEquivalence, on_equiv}
+use Rattle.std.specs.Cmp.Lexicographic.{nat_list_eq_equiv}
+use Rattle.std.proofs.lemmas.List.{append-nil, take_more, map-append}
+use Rattle.indexmap.specs.IndexMap.{insert_entry}
+use Rattle.graphql_nodes.specs.NameView.{NameView}
+use Rattle.graphql_nodes.specs.NodeView.{NodeView}
+use Rattle.graphql_nodes.specs.SameText.{same_text}
+use Rattle.apollo_component.specs.declared.extension.ComponentOrigin.{ComponentOrigin}
+use Rattle.apollo_component.specs.FirstOfEach.{first_of_each, same_key}
+use Rattle.apollo_component.specs.declared.component.Component.{Component}
+use Rattle.apollo_component.specs.declared.component.ComponentName.{ComponentName}
+use Rattle.apollo_component.proofs.FirstOfEachLemmas.{find-first_of_each, first_of_each-push_new, first_of_each-push_old, keys_of-first_of_each, lookup_key-find, list_any-first_of_each, insert_entry-last}
+use Rattle.apollo_meaning.specs.declared.collision.Collection.{Collection}
+use Rattle.apollo_meaning.specs.TypeMeaning.{component, component_name, same_component_name, distinct_names}
+use Rattle.apollo_meaning.specs.TypeFaults.{name_entries}
+use Rattle.apollo_meaning.specs.Collisions.{Fault, Entry, collision_at, collisions}
+
+pub name_laws : IsEquivalence same_text
+name_laws = on_equiv (λ n. n.text) nat_list_eq_equiv
+
+pub component_name_laws : IsEquivalence same_component_name
+component_name_laws = on_equiv (λ c. c.name.text) nat_list_eq_equiv
+
+pub entry_laws : {V : Type 0} → IsEquivalence (same_key {V = V} same_text)
+entry_laws = on_equiv (λ e. e.0.text) nat_list_eq_equiv
+
+-- something is found where something passes
+found-any : {X : Type 0} (test : X → Bool) (xs : List X) → is_some (find test xs) ≡ list_any test xs
+found-any test [] = refl
+found-any test (x ∷ xs) = by (test x) (found-any test xs)
+  where
+    by : (b : Bool) → is_some (find test xs) ≡ list_any test xs → is_some (cond b (Some x) (find test xs)) ≡ (b || list_any test xs)
+    by true rest = refl
+    by false rest = rest
+
+module _ {X : Type 0} (same : X → X → Bool) (laws : IsEquivalence same) (xs : List X) (x : X) where
+  -- one that is found is not added
+  pub kept-old : (y : X) → find (same x) (first_of_each same xs) ≡ Some y → first_of_each same xs ≡ first_of_each same (xs ++ x ∷ [])
+  kept-old y found = sym (first_of_each-push_old same laws xs x (sym (list_any-first_of_each same laws x xs) ∙ sym (found-any (same x) (first_of_each same xs)) ∙ ap is_some found))
+
+  -- one that is not found goes last
+  pub kept-new : find (same x) (first_of_each same xs) ≡ None → first_of_each same xs ++ x ∷ [] ≡ first_of_each same (xs ++ x ∷ [])
+  kept-new none = sym (first_of_each-push_new same laws xs x (sym (list_any-first_of_each same laws x xs) ∙ sym (found-any (same x) (first_of_each same xs)) ∙ ap is_some none))
+
+  pub kept-put : find (same x) (first_of_each same xs) ≡ None
+      → (if list_any (same x) (first_of_each same xs) then first_of_each same xs else first_of_each same xs ++ x ∷ []) ≡ first_of_each same (xs ++ x ∷ [])
+  kept-put none =
+      ap (λ b. if b then first_of_each same xs else first_of_each same xs ++ x ∷ []) (sym (found-any (same x) (first_of_each same xs)) ∙ ap is_some none) ∙ kept-new none
+
+find-name : (n : NameView) (ks : List ComponentName) → find (same_text n) (map (λ k. k.name) ks) ≡ option_map (λ k. k.name) (find (λ k. same_text n k.name) ks)
+find-name n [] = refl
+find-name n (k ∷ ks) = by (same_text n k.name) (find-name n ks)
+  where
+    by : (b : Bool) → find (same_text n) (map (λ k. k.name) ks) ≡ option_map (λ k. k.name) (find (λ k. same_text n k.name) ks)
+        → cond b (Some k.name) (find (same_text n) (map (λ k. k.name) ks)) ≡ option_map (λ (k : ComponentName). k.name) (cond b (Some k) (find (λ k. same_text n k.name) ks))
+    by true rest = refl
+    by false rest = rest
+
+-- the name that is found among names that are left is the first among all
+pub found-name : (k : ComponentName) (ks : List ComponentName) → find (same_text k.name) (map (λ k. k.name) ks) ≡ option_map (λ k. k.name) (find (same_component_name k) (distinct_names ks))
+found-name k ks = find-name k.name ks ∙ ap (option_map (λ (k : ComponentName). k.name)) (sym (find-first_of_each same_component_name component_name_laws k ks))
+
+-- and so with the names of entries
+pub found-key : {V : Type 0} (n : NameView) (es : List (NameView × V)) → find (same_text n) (keys_of es) ≡ lookup_key (same_text n) (first_of_each (same_key same_text) es)
+found-key n es = sym (lookup_key-find (same_text n) (first_of_each (same_key same_text) es) ∙ ap (find (same_text n)) (keys_of-first_of_each same_text es) ∙ find-first_of_each same_text name_laws n (keys_of es))
+
+-- a name is found where some entry has it
+pub key-any : {V : Type 0} (n : NameView) (es : List (NameView × V)) → is_some (find (same_text n) (keys_of es)) ≡ list_any (λ e. same_text n e.0) es
+key-any n [] = refl
+key-any {V} n (e ∷ es) = by (same_text n e.0) (key-any n es)
+  where
+    by : (b : Bool) → is_some (find (same_text n) (keys_of es)) ≡ list_any (λ e. same_text n e.0) es
+        → is_some (cond b (Some e.0) (find (same_text n) (keys_of es))) ≡ (b || list_any (λ e. same_text n e.0) es)
+    by true rest = refl
+    by false rest = rest
+
+-- an entry whose name is found is not added
+pub entry-old : {V : Type 0} (es : List (NameView × V)) (n : NameView) (v : V) (kept : NameView)
+    → lookup_key (same_text n) (first_of_each (same_key same_text) es) ≡ Some kept
+    → first_of_each (same_key same_text) es ≡ first_of_each (same_key same_text) (es ++ (n, v) ∷ [])
+entry-old {V} es n v kept found =
+    sym (first_of_each-push_old (same_key {V = V} same_text) entry_laws es (n, v) (sym (key-any n es) ∙ ap is_some (found-key n es ∙ found)))
+
+-- an entry whose name is not found goes last
+pub entry-put : {V : Type 0} (es : List (NameView × V)) (n : NameView) (v : V)
+    → lookup_key (same_text n) (first_of_each (same_key same_text) es) ≡ None
+    → insert_entry same_text (first_of_each (same_key same_text) es) n v ≡ first_of_each (same_key same_text) (es ++ (n, v) ∷ [])
+entry-put {V} es n v none =
+    let absent : list_any (same_key {V = V} same_text (n, v)) es ≡ false = sym (key-any n es) ∙ ap is_some (found-key n es ∙ none) in
+    insert_entry-last same_text (first_of_each (same_key same_text) es) n v (list_any-first_of_each (same_key {V = V} same_text) entry_laws (n, v) es ∙ absent)
+    ∙ sym (first_of_each-push_new (same_key {V = V} same_text) entry_laws es (n, v) absent)
+
+-- one more component
+pub collisions-push : (c : Collection) (ty : NameView) (before : List NameView) (es : List Entry) (e : Entry)
+    → collisions c ty before (es ++ e ∷ []) ≡ collisions c ty before es ++ collision_at c ty (before ++ map (λ e. e.0) es) e
+collisions-push c ty before [] e = append-nil (collision_at c ty before e) ∙ ap (λ l. collision_at c ty l e) (sym (append-nil before))
+collisions-push c ty before (f ∷ es) e =
+    ap (λ l. collision_at c ty before f ++ l) (collisions-push c ty (before ++ f.0 ∷ []) es e ∙ ap (λ l. collisions c ty (before ++ f.0 ∷ []) es ++ collision_at c ty l e) (append_assoc before (f.0 ∷ []) (map (λ e. e.0) es)))
+    ∙ sym (append_assoc (collision_at c ty before f) (collisions c ty (before ++ f.0 ∷ []) es) (collision_at c ty (before ++ f.0 ∷ map (λ e. e.0) es) e))
+
+-- one more element of the front of a list
+pub map-turn : {X Y : Type 0} (f : X → Y) (done : List Y) (xs : List X) (i : ℕ) (x : X) → i < length xs → x ≡ get_or xs i x → done ++ map f (take (i + 1) xs) ≡ (done ++ map f (take i xs)) ++ f x ∷ []
+map-turn f done xs i x lt is = rw (take_more xs i x lt, sym is, map-append) (sym (append_assoc done (map f (take i xs)) (f x ∷ [])))
+
+-- the faults after one more component of a list
+pub collisions-turn : {X : Type 0} (c : Collection) (ty : NameView) (errors start : List Fault) (before all : List NameView) (entry : X → Entry)
+    → (xs : List X) (i : ℕ) (x : X) → i < length xs → x ≡ get_or xs i x
+    → all ≡ before ++ map (λ e. e.0) (map entry (take i xs))
+    → errors ≡ start ++ collisions c ty before (map entry (take i xs))
+    → errors ++ collision_at c ty all (entry x) ≡ start ++ collisions c ty before (map entry (take (i + 1) xs))
+collisions-turn c ty errors start before all entry xs i x lt is names was =
+    let so_far = map entry (take i xs) in
+    (λ k. was k ++ collision_at c ty (names k) (entry x))
+    ∙ append_assoc start (collisions c ty before so_far) (collision_at c ty (before ++ map (λ e. e.0) so_far) (entry x))
+    ∙ ap (λ l. start ++ l) (sym (collisions-push c ty before so_far (entry x)) ∙ ap (collisions c ty before) (sym (map-turn entry [] xs i x lt is)))
+
+-- the names of components with this origin are those of what they come from
+pub names-of-names : (o : ComponentOrigin) (ks : List ComponentName) (ns : List NameView)
+    → map (λ k. k.name) (ks ++ map (component_name o) ns) ≡ map (λ k. k.name) ks ++ map (λ e. e.0) (name_entries ns)
+names-of-names o ks ns = map-append (λ k. k.name) ks (map (component_name o) ns) ∙ ap (λ l. map (λ k. k.name) ks ++ l) (by ns)
+  where
+    by : (ns : List NameView) → map (λ k. k.name) (map (component_name o) ns) ≡ map (λ e. e.0) (name_entries ns)
+    by [] = refl
+    by (n ∷ ns) = ap (λ l. n ∷ l) (by ns)
+
+pub keys-of-nodes : {T : Type 0} (name : T → NameView) (o : ComponentOrigin) (es : List (NameView × Component T)) (ns : List (NodeView T))
+    → keys_of (es ++ map (λ n. (name n.value, component o n)) ns) ≡ keys_of es ++ map (λ (e : Entry). e.0) (map (λ n. (name n.value, n.location)) ns)
+keys-of-nodes {T} name o es ns = map-append (λ e. e.0) es (map (λ n. (name n.value, component o n)) ns) ∙ ap (λ l. keys_of es ++ l) (by ns)
+  where
+    by : (ns : List (NodeView T)) → keys_of (map (λ n. (name n.value, component o n)) ns) ≡ map (λ (e : Entry). e.0) (map (λ n. (name n.value, n.location)) ns)
+    by [] = refl
+    by (n ∷ ns) = ap (λ l. name n.value ∷ l) (by ns)

@@ -1,0 +1,13 @@
+pub mod CompletionLemmas
+pub mod EachLemmas
+pub mod FoldingLemmas
+pub mod FoundLemmas
+pub mod ItemLemmas
+pub mod KeptLemmas
+pub mod LongerLemmas
+pub mod OnceLemmas
+pub mod OrphanLemmas
+pub mod PartLemmas
+pub mod PlaceLemmas
+pub mod Texts
+pub mod TypeLemmas

@@ -1,0 +1,184 @@
+-- The type of a name with one more item.
+use Rattle.std.proofs.Common.{◌≡◌, ℕ, ◌+◌, Bool, true, false, cond, List, [], ◌∷◌, ◌++◌, length, map, Option, Some, None, filter, refl, sym, ap, subst, ◌∙◌, append_assoc}
+use Rattle.std.specs.List.{filter_map}
+use Rattle.std.specs.Option.{option_map, option_or}
+use Rattle.std.specs.Map.{lookup}
+use Rattle.std.proofs.lemmas.List.{append-nil, map-append}
+use Rattle.std.proofs.lemmas.List.Elements.{filter_map-append}
+use Rattle.graphql_nodes.specs.declared.type_kind.TypeKind.{TypeKind}
+use Rattle.apollo_component.specs.declared.extension.ComponentOrigin.TheVariants as origins
+use Rattle.apollo_meaning.specs.TypeParts.{TypePart, SchemaPart, TypeItem, Defined, Extended, SchemaDefined, SchemaExtended, Other, Folding, OfType, OfSchema, defined_part, extended_part, kind_of, key_of, same}
+use Rattle.apollo_meaning.specs.DefinitionList.{same_kind, named, definitions, first, extensions_of, of_kind}
+use Rattle.apollo_meaning.specs.Prefixes.{added_after, types_folded_at, schemas_folded_at, folded_at, folded}
+use Rattle.apollo_meaning.specs.TypeMeaning.{Sourced, type_from, extension_part, numbered, sourced, parts, type_of}
+use Rattle.apollo_meaning.proofs.Texts.{same-true, same-is}
+use Rattle.apollo_meaning.proofs.ItemLemmas.{first-push_definition, folded-push, sourced-append}
+
+-- each part has the name
+abbrev pub Own : List ℕ → List TypePart → Type 0
+Own n [] = Unit {0}
+Own n (p ∷ ps) = (same n (key_of p) ≡ true) × Own n ps
+
+-- no part has the name
+abbrev pub Apart : List ℕ → List TypePart → Type 0
+Apart n [] = Unit {0}
+Apart n (p ∷ ps) = (same n (key_of p) ≡ false) × Apart n ps
+
+-- the extensions of types among those that are folded
+abbrev pub type_folding : Folding → Option TypePart
+type_folding (OfType p) = Some p
+type_folding (OfSchema s) = None
+
+abbrev pub type_foldings : List Folding → List TypePart
+type_foldings fs = filter_map type_folding fs
+
+type_foldings-types : (ps : List TypePart) → type_foldings (map OfType ps) ≡ ps
+type_foldings-types [] = refl
+type_foldings-types (p ∷ ps) = ap (λ l. p ∷ l) (type_foldings-types ps)
+
+type_foldings-schemas : (ss : List SchemaPart) → type_foldings (map OfSchema ss) ≡ []
+type_foldings-schemas [] = refl
+type_foldings-schemas (s ∷ ss) = type_foldings-schemas ss
+
+type_foldings-at : (xs : List TypeItem) (x : TypeItem) → type_foldings (folded_at xs x) ≡ types_folded_at xs x
+type_foldings-at xs x =
+    filter_map-append type_folding (map OfType (types_folded_at xs x)) (map OfSchema (schemas_folded_at xs x))
+    ∙ (λ i. type_foldings-types (types_folded_at xs x) i ++ type_foldings-schemas (schemas_folded_at xs x) i)
+    ∙ append-nil (types_folded_at xs x)
+
+pub type_foldings-push : (xs : List TypeItem) (x : TypeItem) → type_foldings (folded (xs ++ x ∷ [])) ≡ type_foldings (folded xs) ++ types_folded_at xs x
+type_foldings-push xs x =
+    ap type_foldings (folded-push xs x) ∙ filter_map-append type_folding (folded xs) (folded_at xs x) ∙ ap (λ l. type_foldings (folded xs) ++ l) (type_foldings-at xs x)
+
+sourced-own : (n : List ℕ) (start : ℕ) (ps : List TypePart) → Own n ps → sourced n start (map OfType ps) ≡ map extension_part (numbered start ps)
+sourced-own n start [] own = refl
+sourced-own n start (p ∷ ps) own = rw own.0 (ap (λ l. extension_part (start, p) ∷ l) (sourced-own n (start + 1) ps own.1))
+
+sourced-apart : (n : List ℕ) (start : ℕ) (fs : List Folding) → Apart n (type_foldings fs) → sourced n start fs ≡ []
+sourced-apart n start [] apart = refl
+sourced-apart n start (OfType p ∷ fs) apart = rw apart.0 (sourced-apart n (start + 1) fs apart.1)
+sourced-apart n start (OfSchema s ∷ fs) apart = sourced-apart n (start + 1) fs apart
+
+-- what is folded at an item that concerns the name
+sourced-at : (n : List ℕ) (start : ℕ) (xs : List TypeItem) (x : TypeItem) → Own n (types_folded_at xs x) → sourced n start (folded_at xs x) ≡ map extension_part (numbered start (types_folded_at xs x))
+sourced-at n start xs x own =
+    let schemas = map OfSchema (schemas_folded_at xs x) in
+    let next = start + length (map OfType (types_folded_at xs x)) in
+    sourced-append n start (map OfType (types_folded_at xs x)) schemas
+    ∙ (λ i. sourced-own n start (types_folded_at xs x) own i ++ sourced-apart n next schemas (subst (Apart n) (sym (type_foldings-schemas (schemas_folded_at xs x))) tt) i)
+    ∙ append-nil (map extension_part (numbered start (types_folded_at xs x)))
+
+pub Own-named : (n : List ℕ) (ps : List TypePart) → Own n (filter (λ p. same n (key_of p)) ps)
+Own-named n [] = tt
+Own-named n (p ∷ ps) = by (same n (key_of p)) refl (Own-named n ps)
+  where
+    by : (b : Bool) → same n (key_of p) ≡ b → Own n (filter (λ q. same n (key_of q)) ps) → Own n (cond b (p ∷ filter (λ q. same n (key_of q)) ps) (filter (λ q. same n (key_of q)) ps))
+    by true e rest = (e, rest)
+    by false e rest = rest
+
+pub Own-of_kind : (n : List ℕ) (k : TypeKind) (ps : List TypePart) → Own n ps → Own n (of_kind k ps)
+Own-of_kind n k [] own = tt
+Own-of_kind n k (p ∷ ps) own = by (same_kind k (kind_of p)) (Own-of_kind n k ps own.1)
+  where
+    by : (b : Bool) → Own n (of_kind k ps) → Own n (cond b (p ∷ of_kind k ps) (of_kind k ps))
+    by true rest = (own.0, rest)
+    by false rest = rest
+
+pub Apart-own : (n m : List ℕ) (ps : List TypePart) → same n m ≡ false → Own m ps → Apart n ps
+Apart-own n m [] apart own = tt
+Apart-own n m (p ∷ ps) apart own = (subst (λ (q : List ℕ). same n q ≡ false) (same-true m (key_of p) own.0) apart, Apart-own n m ps apart own.1)
+
+pub Apart-append : (n : List ℕ) (ps qs : List TypePart) → Apart n ps → Apart n qs → Apart n (ps ++ qs)
+Apart-append n [] qs a b = b
+Apart-append n (p ∷ ps) qs a b = (a.0, Apart-append n ps qs a.1 b)
+
+-- a look-up that finds nothing finds nothing in a front
+lookup-front : {V : Type 0} (n : List ℕ) (es fs : List (List ℕ × V)) → lookup (same n) (es ++ fs) ≡ None → lookup (same n) es ≡ None
+lookup-front n [] fs none = refl
+lookup-front n (e ∷ es) fs none = by (same n e.0) refl (lookup-front n es fs)
+  where
+    by : (b : Bool) → same n e.0 ≡ b → (lookup (same n) (es ++ fs) ≡ None → lookup (same n) es ≡ None) → lookup (same n) (e ∷ es) ≡ None
+    by true p rest = let h = rw p at none in cc
+    by false p rest = let h = rw p at none in rw p (rest h)
+
+pub first-front : (n : List ℕ) (xs ys : List TypeItem) → first (xs ++ ys) n ≡ None → first xs n ≡ None
+first-front n xs ys none = lookup-front n (definitions xs) (definitions ys) (sym (ap (lookup (same n)) (ap named (filter_map-append defined_part xs ys) ∙ map-append (λ p. (key_of p, p)) (filter_map defined_part xs) (filter_map defined_part ys))) ∙ none)
+
+-- what is folded at the first definition of a name, at a later one, at an extension without definition and at one of a defined name
+module _ (xs : List TypeItem) (p : TypePart) where
+  pub types_folded_at-new : first xs (key_of p) ≡ None → types_folded_at xs (Defined p) ≡ of_kind (kind_of p) (extensions_of xs (key_of p))
+  types_folded_at-new none = rw none
+
+  pub types_folded_at-again : (d : TypePart) → first xs (key_of p) ≡ Some d → types_folded_at xs (Defined p) ≡ []
+  types_folded_at-again d some = rw some
+
+  pub types_folded_at-early : first xs (key_of p) ≡ None → types_folded_at xs (Extended p) ≡ []
+  types_folded_at-early none = rw none
+
+  pub types_folded_at-late : (d : TypePart) → first xs (key_of p) ≡ Some d → types_folded_at xs (Extended p) ≡ of_kind (kind_of d) (p ∷ [])
+  types_folded_at-late d some = rw some
+
+-- before the first definition of a name no extension of it is folded
+Apart-types : (n : List ℕ) (xs : List TypeItem) (x : TypeItem) → first (xs ++ x ∷ []) n ≡ None → Apart n (types_folded_at xs x)
+Apart-types n xs (Defined d) none = by (same n (key_of d)) refl (first xs (key_of d)) refl
+  where
+    by : (b : Bool) → same n (key_of d) ≡ b → (o : Option TypePart) → first xs (key_of d) ≡ o → Apart n (types_folded_at xs (Defined d))
+    by true e o f = let h = sym (first-push_definition xs d n) ∙ none in let g : option_or (first xs n) (Some d) ≡ None = rw e at h in absurd (no (first xs n) g)
+      where
+        no : (o : Option TypePart) → option_or o (Some d) ≡ None → ⊥
+        no None h = cc
+        no (Some y) h = cc
+    by false e None f = subst (Apart n) (sym (types_folded_at-new xs d f)) (Apart-own n (key_of d) (of_kind (kind_of d) (extensions_of xs (key_of d))) e (Own-of_kind (key_of d) (kind_of d) (extensions_of xs (key_of d)) (Own-named (key_of d) (filter_map extended_part xs))))
+    by false e (Some y) f = subst (Apart n) (sym (types_folded_at-again xs d y f)) tt
+Apart-types n xs (Extended p) none = by (same n (key_of p)) refl (first xs (key_of p)) refl
+  where
+    by : (b : Bool) → same n (key_of p) ≡ b → (o : Option TypePart) → first xs (key_of p) ≡ o → Apart n (types_folded_at xs (Extended p))
+    by b e None f = subst (Apart n) (sym (types_folded_at-early xs p f)) tt
+    by true e (Some y) f = absurd (let h : first xs (key_of p) ≡ None = subst (λ (q : List ℕ). first xs q ≡ None) (same-true n (key_of p) e) (first-front n xs (Extended p ∷ []) none) in let g = sym f ∙ h in cc)
+    by false e (Some y) f = subst (Apart n) (sym (types_folded_at-late xs p y f)) (Apart-own n (key_of p) (of_kind (kind_of y) (p ∷ [])) e (Own-of_kind (key_of p) (kind_of y) (p ∷ []) (same-is (key_of p) (key_of p) refl, tt)))
+Apart-types n xs (SchemaDefined s) none = tt
+Apart-types n xs (SchemaExtended s) none = tt
+Apart-types n xs (Other d) none = tt
+
+Apart-folded_after : (n : List ℕ) (before xs : List TypeItem) → first (before ++ xs) n ≡ None → Apart n (type_foldings (added_after folded_at before xs))
+Apart-folded_after n before [] none = tt
+Apart-folded_after n before (x ∷ xs) none =
+    let all : first ((before ++ x ∷ []) ++ xs) n ≡ None = ap (λ l. first l n) (append_assoc before (x ∷ []) xs) ∙ none in
+    let rest = added_after folded_at (before ++ x ∷ []) xs in
+    let split : type_foldings (folded_at before x ++ rest) ≡ types_folded_at before x ++ type_foldings rest =
+    filter_map-append type_folding (folded_at before x) rest ∙ ap (λ l. l ++ type_foldings rest) (type_foldings-at before x) in
+    subst (Apart n) (sym split)
+    (Apart-append n (types_folded_at before x) (type_foldings rest) (Apart-types n before x (first-front n (before ++ x ∷ []) xs all)) (Apart-folded_after n (before ++ x ∷ []) xs all))
+
+pub Apart-folded : (n : List ℕ) (xs : List TypeItem) → first xs n ≡ None → Apart n (type_foldings (folded xs))
+Apart-folded n xs none = Apart-folded_after n [] xs none
+
+module _ (start : ℕ) (xs : List TypeItem) (x : TypeItem) (n : List ℕ) where
+  sourced-push : sourced n start (folded (xs ++ x ∷ [])) ≡ sourced n start (folded xs) ++ sourced n (start + length (folded xs)) (folded_at xs x)
+  sourced-push = ap (sourced n start) (folded-push xs x) ∙ sourced-append n start (folded xs) (folded_at xs x)
+
+  -- an item that does not concern the name leaves its type
+  pub type_of-same : first (xs ++ x ∷ []) n ≡ first xs n → Apart n (types_folded_at xs x) → type_of start (folded (xs ++ x ∷ [])) (xs ++ x ∷ []) n ≡ type_of start (folded xs) xs n
+  type_of-same one apart =
+      let same : sourced n start (folded (xs ++ x ∷ [])) ≡ sourced n start (folded xs) =
+      sourced-push
+      ∙ ap (λ l. sourced n start (folded xs) ++ l) (sourced-apart n (start + length (folded xs)) (folded_at xs x) (subst (Apart n) (sym (type_foldings-at xs x)) apart))
+      ∙ append-nil (sourced n start (folded xs)) in
+      ap (λ (l : List Sourced). option_map (λ d. type_from d ((origins.Definition, d) ∷ l)) (first (xs ++ x ∷ []) n)) same
+      ∙ ap (option_map (λ d. type_from d (parts start (folded xs) n d))) one
+
+  -- and one that does adds what is folded there
+  pub type_of-more : (d : TypePart) → first (xs ++ x ∷ []) n ≡ Some d → Own n (types_folded_at xs x)
+      → type_of start (folded (xs ++ x ∷ [])) (xs ++ x ∷ []) n ≡ Some (type_from d (parts start (folded xs) n d ++ map extension_part (numbered (start + length (folded xs)) (types_folded_at xs x))))
+  type_of-more d one own =
+      let more : sourced n start (folded (xs ++ x ∷ [])) ≡ sourced n start (folded xs) ++ map extension_part (numbered (start + length (folded xs)) (types_folded_at xs x)) =
+      sourced-push ∙ ap (λ l. sourced n start (folded xs) ++ l) (sourced-at n (start + length (folded xs)) xs x own) in
+      ap (option_map (λ d. type_from d ((origins.Definition, d) ∷ sourced n start (folded (xs ++ x ∷ []))))) one
+      ∙ ap (λ (l : List Sourced). Some (type_from d ((origins.Definition, d) ∷ l))) more
+
+  -- at the first definition there is nothing before it
+  pub type_of-new : (d : TypePart) → first xs n ≡ None → first (xs ++ x ∷ []) n ≡ Some d → Own n (types_folded_at xs x)
+      → type_of start (folded (xs ++ x ∷ [])) (xs ++ x ∷ []) n ≡ Some (type_from d ((origins.Definition, d) ∷ map extension_part (numbered (start + length (folded xs)) (types_folded_at xs x))))
+  type_of-new d none one own =
+      type_of-more d one own
+      ∙ ap (λ (l : List Sourced). Some (type_from d ((origins.Definition, d) ∷ (l ++ map extension_part (numbered (start + length (folded xs)) (types_folded_at xs x)))))) (sourced-apart n start (folded xs) (Apart-folded n xs none))

@@ -1,0 +1,26 @@
+use Rattle.std.proofs.Common.{◌≡◌, ℕ, ◌+◌, Bool, true, false, List, [], ◌∷◌, map, filter, refl, ap, ◌∙◌}
+use Rattle.apollo_meaning.specs.TypeParts.{TypePart, Folding, OfType, OfSchema, key_of, same}
+use Rattle.apollo_meaning.specs.Places.{folding_order}
+use Rattle.apollo_meaning.specs.TypeMeaning.{Sourced, sourced}
+use Rattle.apollo_meaning.proofs.TypeLemmas.{type_foldings}
+use Rattle.apollo_meaning.proofs.PlaceLemmas.{folding_order-forget}
+use Rattle.apollo_meaning.proofs.PartLemmas.{of_name}
+use Rattle.apollo_meaning.proofs.laws.folded_extensions.Goals as goal
+
+abbrev parts_of : List Sourced → List TypePart
+parts_of = map (λ s. s.1)
+
+-- the folded extensions of a name, with their origins forgotten
+sourced-forget : (n : List ℕ) (start : ℕ) (fs : List Folding) → parts_of (sourced n start fs) ≡ filter (λ p. same n (key_of p)) (type_foldings fs)
+sourced-forget n start [] = refl
+sourced-forget n start (OfSchema s ∷ fs) = sourced-forget n (start + 1) fs
+sourced-forget n start (OfType p ∷ fs) = by (same n (key_of p)) refl (sourced-forget n (start + 1) fs)
+  where
+    by : (b : Bool) → same n (key_of p) ≡ b → parts_of (sourced n (start + 1) fs) ≡ filter (λ q. same n (key_of q)) (type_foldings fs)
+        → parts_of (sourced n start (OfType p ∷ fs)) ≡ filter (λ q. same n (key_of q)) (type_foldings (OfType p ∷ fs))
+    by true e rest = rw e (ap (λ l. p ∷ l) rest)
+    by false e rest = rw e rest
+
+pub returns : goal.returns
+returns c = λ start xs n d is.
+    sourced-forget n start (folding_order xs) ∙ ap (λ fs. filter (λ (p : TypePart). same n (key_of p)) (type_foldings fs)) (folding_order-forget xs) ∙ of_name xs n d is

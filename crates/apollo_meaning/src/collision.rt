@@ -1,0 +1,59 @@
+//! Components whose name is kept already.
+ghost use Rattle.std.specs.Prelude.{◌≡◌, IfOk};
+ghost use Rattle.apollo_meaning.specs.Collisions.{collision};
+
+use crate::build_error::BuildError;
+use graphql_nodes::name::Name;
+use std::alloc::AllocError;
+
+/// A collection of a type's components, in which the first of each name stays.
+#[derive(Clone, Copy)]
+pub enum Collection {
+    ObjectInterfaces,
+    InterfaceInterfaces,
+    ObjectFields,
+    InterfaceFields,
+    EnumValues,
+    UnionMembers,
+    InputFields,
+}
+
+impl Collection {
+    /// The fault of a component whose name is kept already, in a definition or extension of this type name.
+    pub fn collision(self, kept: &Name, type_name: &Name) -> Result<BuildError, AllocError>
+        ensures { IfOk result (λ error. error ≡ collision self kept.now type_name.now) }
+    {
+        let name_at_previous_location = kept.clone()?;
+        let type_name = type_name.clone()?;
+        Ok(match self {
+            Collection::ObjectInterfaces => BuildError::DuplicateImplementsInterfaceInObject {
+                name_at_previous_location,
+                type_name,
+            },
+            Collection::InterfaceInterfaces => BuildError::DuplicateImplementsInterfaceInInterface {
+                name_at_previous_location,
+                type_name,
+            },
+            Collection::ObjectFields => BuildError::ObjectFieldNameCollision {
+                name_at_previous_location,
+                type_name,
+            },
+            Collection::InterfaceFields => BuildError::InterfaceFieldNameCollision {
+                name_at_previous_location,
+                type_name,
+            },
+            Collection::EnumValues => BuildError::EnumValueNameCollision {
+                name_at_previous_location,
+                type_name,
+            },
+            Collection::UnionMembers => BuildError::UnionMemberNameCollision {
+                name_at_previous_location,
+                type_name,
+            },
+            Collection::InputFields => BuildError::InputFieldNameCollision {
+                name_at_previous_location,
+                type_name,
+            },
+        })
+    }
+}

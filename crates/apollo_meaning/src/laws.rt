@@ -1,0 +1,140 @@
+//! Laws of the definitions, for those who build on them.
+ghost use Rattle.std.specs.Prelude.{◌≡◌, ◌≤◌, ◌+◌, ℕ, Bool, List, [], ◌∷◌, ◌++◌, None, Some, true, false, length, codes, map, filter, filter_map, option_map, All};
+ghost use Rattle.std.specs.List.{range_with_len};
+ghost use Rattle.std.specs.Option.{option_map_or};
+ghost use Rattle.apollo_meaning.specs.TypeParts.{TypePart, TypeItem, Added, kind_of, key_of, added, added_items};
+ghost use Rattle.apollo_meaning.specs.DefinitionList.{first, extensions_of, of_kind};
+ghost use Rattle.apollo_meaning.specs.Places.{types, schemas, extension_places, first_place, is_met, folding_order};
+ghost use Rattle.apollo_meaning.specs.TypeMeaning.{sourced, type_of};
+ghost use Rattle.apollo_meaning.specs.WholeSchema.{whole, folds};
+ghost use Rattle.apollo_meaning.specs.WorkedRow.{line, folding_place, extensions_around, written_around, extensions_that_wait, extension_of_another_kind};
+ghost use Rattle.apollo_meaning.specs.declared.collision.Collection.{Collection};
+ghost use Rattle.apollo_meaning.specs.Collisions.{Entry, collisions};
+ghost use Rattle.apollo_meaning.specs.SchemaFaults.{faults_of};
+ghost use Rattle.apollo_meaning.specs.FaultRow.{faulty_list, its_faults};
+ghost use Rattle.apollo_meaning.specs.Adoption.{adopted, with_adopted};
+ghost use Rattle.apollo_meaning.specs.OrphanNames.{orphan_names};
+ghost use Rattle.apollo_meaning.specs.RootMeaning.{schema_of};
+ghost use Rattle.apollo_meaning.specs.RootRow.{type_name_of, extensions_alone, adopted_schema, adopted_faults, orphan_faults, query_type_alone, implied_query, schema_extensions_that_wait, waited_for_schema, dropped_root_fault, built_in_int, int_again, redefinition_fault};
+ghost use Rattle.apollo_built_in.specs.BuiltInTable.{built_in_definitions};
+ghost use Rattle.apollo_meaning.specs.BuiltInNames.{defined_names, component_names, Distinct};
+ghost use Rattle.apollo_meaning.specs.SpentIds.{SpendsIdsSoFar, SpendsIds};
+ghost use Rattle.apollo_types.specs.TypeWriteOut.{write_type};
+ghost use Rattle.apollo_component.specs.FirstOfEach.{first_of_each, same_key};
+ghost use Rattle.graphql_nodes.specs.NameView.{NameView};
+ghost use Rattle.graphql_nodes.specs.SameText.{same_text};
+
+/// The extensions that are folded for a name are those of its kind, in the order of the list, whatever stands between
+/// them: GraphQL specification of October 2021, section 3.4.3.
+pub fn folded_extensions()
+    ensures { (start : ℕ) (xs : List TypeItem) (n : List ℕ) (d : TypePart) → first xs n ≡ Some d
+        → map (λ s. s.1) (sourced n start (folding_order xs)) ≡ of_kind (kind_of d) (extensions_of xs n) }
+{}
+
+/// Each extension of a type whose name is defined is met at one moment of the list, and each other one at none; and so are
+/// those of the schema.
+pub fn each_extension_is_met_once()
+    ensures types { (xs : List TypeItem) → All (λ e. length (filter (λ i. is_met types xs i e) (range_with_len 0 (length xs))) ≡ option_map_or (λ _. 1) (first_place types xs (key_of e.1)) 0) (extension_places types xs) }
+    ensures schemas { (xs : List TypeItem) → All (λ e. length (filter (λ i. is_met schemas xs i e) (range_with_len 0 (length xs))) ≡ option_map_or (λ _. 1) (first_place schemas xs []) 0) (extension_places schemas xs) }
+{}
+
+/// A list folds no more extensions than a list that begins with it folds once that is completed. So where the numbers
+/// don't suffice for the first list, they don't for the second.
+pub fn a_longer_list_folds_no_less()
+    ensures folds { (adopts : Bool) (xs more : List Added) → length (folding_order (added_items xs)) ≤ folds adopts (xs ++ more) }
+    ensures spends { (start : ℕ) (adopts : Bool) (xs more : List Added) → SpendsIdsSoFar start xs → SpendsIds start adopts (xs ++ more) }
+{}
+
+/// Where extensions are adopted, none of a type is left without a definition.
+pub fn adoption_leaves_no_orphan_names()
+    ensures { (xs : List TypeItem) → orphan_names (with_adopted true xs) ≡ [] }
+{}
+
+/// The definitions on a list with an extension on either side of the definition: the places of the extensions in folding
+/// order, and the write-out of the type that the name means, computed.
+pub fn extensions_on_either_side()
+    ensures order { map folding_place (folding_order (whole false (added false extensions_around))) ≡ line 1 ∷ line 5 ∷ [] }
+    ensures writes { option_map write_type (type_of 0 (folding_order (whole false (added false extensions_around))) (whole false (added false extensions_around)) (codes "Q")) ≡ Some written_around }
+{}
+
+/// The definitions on a list whose extensions wait for their definitions: the places of the extensions in folding order,
+/// computed. One of a name that is never defined is not folded.
+pub fn extensions_that_wait()
+    ensures { map folding_place (folding_order (whole false (added false extensions_that_wait))) ≡ line 3 ∷ line 6 ∷ line 1 ∷ line 11 ∷ [] }
+{}
+
+/// The definitions on a list with an extension of another kind than its name's, computed: it is not folded.
+pub fn extension_of_another_kind()
+    ensures { folding_order (whole false (added false extension_of_another_kind)) ≡ [] }
+{}
+
+/// No two built-in definitions have one name, and no type of introspection has two fields or two values of one name,
+/// computed.
+#[tactic(auto, unfolding(apollo_built_in::specs::BuiltInTable::built_in_definitions))]
+pub fn built_in_names_are_distinct()
+    ensures definitions { Distinct (defined_names built_in_definitions) }
+    ensures components { All (λ definition. Distinct (component_names definition)) built_in_definitions }
+{}
+
+/// Of the components of a collection, as many are at fault as are not the first of their names, which are kept.
+pub fn each_component_is_kept_or_at_fault()
+    ensures { (c : Collection) (ty : NameView) (es : List Entry) → length (first_of_each (same_key same_text) es) + length (collisions c ty [] es) ≡ length es }
+{}
+
+/// The faults of a list, computed: they stand in the order in which they are found, and not in that of the list.
+pub fn faults_in_order_of_discovery()
+    ensures { faults_of false (added false faulty_list) ≡ its_faults }
+{}
+
+/// The built-in definitions are without fault, with adoption and without, computed.
+#[tactic(auto, unfolding(apollo_built_in::specs::BuiltInTable::built_in_definitions))]
+pub fn built_in_definitions_are_faultless()
+    ensures plain { faults_of false (added false built_in_definitions) ≡ [] }
+    ensures adopting { faults_of true (added false built_in_definitions) ≡ [] }
+{}
+
+/// A list of extensions alone where they are adopted, computed: each name that is extended gets a definition, in order of
+/// first extension, and at last the schema does. So the extensions of types are folded first, those of the schema last.
+/// The schema definition has the directive and the query root of the first of those; the query root of the second is
+/// dropped, and is the only fault. GraphQL specification of October 2021, sections 3.3.1, 3.3.2 and 3.4.3.
+pub fn extensions_alone_adopted()
+    ensures names { filter_map type_name_of (adopted (added_items (added false extensions_alone))) ≡ codes "B" ∷ codes "A" ∷ [] }
+    ensures order { map folding_place (folding_order (whole true (added false extensions_alone))) ≡ line 6 ∷ line 8 ∷ line 1 ∷ line 4 ∷ [] }
+    ensures definition { schema_of 0 (folding_order (whole true (added false extensions_alone))) (whole true (added false extensions_alone)) ≡ Some adopted_schema }
+    ensures faults { faults_of true (added false extensions_alone) ≡ adopted_faults }
+{}
+
+/// The same list where extensions are not adopted, computed: nothing is folded, there is no schema definition, and each
+/// extension is a fault, those of types first and those of the schema last. GraphQL specification of October 2021,
+/// sections 3.3.2 and 3.4.3.
+pub fn extensions_alone_orphaned()
+    ensures order { folding_order (whole false (added false extensions_alone)) ≡ [] }
+    ensures definition { schema_of 0 (folding_order (whole false (added false extensions_alone))) (whole false (added false extensions_alone)) ≡ None }
+    ensures faults { faults_of false (added false extensions_alone) ≡ orphan_faults }
+{}
+
+/// An object type `Query` alone, computed: it is the query root of a schema definition that nothing wrote, with adoption
+/// and without, and nothing is at fault. GraphQL specification of October 2021, section 3.3.1.
+pub fn query_type_implies_its_root()
+    ensures definition { schema_of 0 (folding_order (whole false (added false query_type_alone))) (whole false (added false query_type_alone)) ≡ Some implied_query }
+    ensures faults { faults_of false (added false query_type_alone) ≡ [] }
+    ensures adopting_definition { schema_of 0 (folding_order (whole true (added false query_type_alone))) (whole true (added false query_type_alone)) ≡ Some implied_query }
+    ensures adopting_faults { faults_of true (added false query_type_alone) ≡ [] }
+{}
+
+/// A list with extensions of the schema before its definition, computed: the definition's roots are taken first, then
+/// those of the extensions, and the root that is dropped is an extension's. GraphQL specification of October 2021,
+/// sections 3.3.1 and 3.3.2.
+pub fn schema_extensions_that_wait()
+    ensures order { map folding_place (folding_order (whole false (added false schema_extensions_that_wait))) ≡ line 1 ∷ line 3 ∷ [] }
+    ensures definition { schema_of 0 (folding_order (whole false (added false schema_extensions_that_wait))) (whole false (added false schema_extensions_that_wait)) ≡ Some waited_for_schema }
+    ensures faults { faults_of false (added false schema_extensions_that_wait) ≡ dropped_root_fault }
+{}
+
+/// A further definition of a built-in scalar type, computed: it is passed over without a fault where it was added with
+/// redefinitions of built-in types ignored, and is a fault where it was not. GraphQL specification of October 2021,
+/// section 3.5.
+pub fn built_in_scalar_redefined()
+    ensures ignored { faults_of false (added false built_in_int ++ added true int_again) ≡ [] }
+    ensures refused { faults_of false (added false built_in_int ++ added false int_again) ≡ redefinition_fault }
+{}

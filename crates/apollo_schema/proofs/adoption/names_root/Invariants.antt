@@ -1,6 +1,0 @@
-use Rattle.std.proofs.Common.{◌≡◌, ◌==◌, length, not, false, take}
-use Rattle.std.specs.List.{list_any}
-use Rattle.apollo_schema.proofs.adoption.names_root.Given as goal
-
-abbrev pub invariant-loop-extension : goal.invariant-loop-extension
-invariant-loop-extension l = list_any (λ e. not (length e.value.root_operations == 0)) (take l.extension-index l.extensions) ≡ false

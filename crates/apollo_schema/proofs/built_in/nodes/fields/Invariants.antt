@@ -1,6 +1,0 @@
-use Rattle.std.proofs.Common.{◌≡◌, map, take}
-use Rattle.apollo_schema.specs.BuiltInRows.{row_field}
-use Rattle.apollo_schema.proofs.built_in.nodes.fields.Given as goal
-
-abbrev pub invariant-loop-row : goal.invariant-loop-row
-invariant-loop-row l = l.fields ≡ map row_field (take l.row-index l.rows)

@@ -1,5 +1,0 @@
-use Rattle.apollo_schema.proofs.CompletionLemmas.{orphan_names-adopted}
-use Rattle.apollo_schema.proofs.laws.adoption_leaves_no_orphan_names.Goals as goal
-
-pub returns : goal.returns
-returns c = orphan_names-adopted

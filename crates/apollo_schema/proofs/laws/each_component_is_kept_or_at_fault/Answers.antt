@@ -1,5 +1,0 @@
-use Rattle.apollo_schema.proofs.OnceLemmas.{each-kept-or-fault}
-use Rattle.apollo_schema.proofs.laws.each_component_is_kept_or_at_fault.Goals as goal
-
-pub returns : goal.returns
-returns c = each-kept-or-fault

@@ -1,9 +1,0 @@
-use Rattle.apollo_schema.specs.Places.{types, schemas}
-use Rattle.apollo_schema.proofs.OnceLemmas.{each-met-once}
-use Rattle.apollo_schema.proofs.laws.each_extension_is_met_once.Goals as goal
-
-pub returns-clause-types : goal.returns-clause-types
-returns-clause-types c = each-met-once types
-
-pub returns-clause-schemas : goal.returns-clause-schemas
-returns-clause-schemas c = each-met-once schemas

@@ -1,8 +1,0 @@
-use Rattle.std.proofs.Common.{◌≡◌, ◌++◌, map}
-use Rattle.std.specs.List.{flat_map}
-use Rattle.apollo_schema.specs.TypeParts.{extended_parts}
-use Rattle.apollo_schema.specs.TypeFaults.{orphan}
-use Rattle.apollo_schema.proofs.orphans.note_orphans.Given as goal
-
-abbrev pub invariant-loop-extensions : goal.invariant-loop-extensions
-invariant-loop-extensions l = l.errors ≡ l.fn.errors ++ map orphan (flat_map extended_parts (map (λ t. t.now) l.yielded))

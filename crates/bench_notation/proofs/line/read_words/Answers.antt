@@ -1,0 +1,31 @@
+-- Where the rest of a header is refused, no other line begins with its word.
+use Rattle.std.proofs.Common.{List, ◌∷◌, subst, sym, ◌≡◌, codes, rules, ℕ}
+use Rattle.bench_notation.specs.Line.{texts_of}
+use Rattle.bench_notation.specs.Refusals.{SayNoLine}
+use Rattle.bench_notation.specs.declared.kind_words.Role.TheVariants as r
+use Rattle.bench_notation.proofs.LineWords.{no_directive_header, no_type_header, passes}
+use Rattle.bench_notation.proofs.line.read_words.Goals as goal
+
+pub returns-in_err-read_type_header-in-def-clause-refused : goal.returns-in_err-read_type_header-in-def-clause-refused
+returns-in_err-read_type_header-in-def-clause-refused c =
+    let rest : List (List ℕ) = texts_of c.in-Some.rest.now in
+    let words : texts_of c.args.words.now ≡ codes "def" ∷ rest = search rules in
+    passes c.from_residual-in_err-read_type_header-in-def.result c.in_err-read_type_header-in-def.field-0.0 c.from_residual-in_err-read_type_header-in-def.ensures.1
+    (λ none. subst (SayNoLine c.args.above c.args.place) (sym words) (no_type_header c.args.above c.args.place r.Definition rest none))
+    c.in_err-read_type_header-in-def.ensures.refused
+
+pub returns-in_err-read_type_header-in-ext-clause-refused : goal.returns-in_err-read_type_header-in-ext-clause-refused
+returns-in_err-read_type_header-in-ext-clause-refused c =
+    let rest : List (List ℕ) = texts_of c.in-Some.rest.now in
+    let words : texts_of c.args.words.now ≡ codes "ext" ∷ rest = search rules in
+    passes c.from_residual-in_err-read_type_header-in-ext.result c.in_err-read_type_header-in-ext.field-0.0 c.from_residual-in_err-read_type_header-in-ext.ensures.1
+    (λ none. subst (SayNoLine c.args.above c.args.place) (sym words) (no_type_header c.args.above c.args.place r.Extension rest none))
+    c.in_err-read_type_header-in-ext.ensures.refused
+
+pub returns-in_err-only_name-in-directive-clause-refused : goal.returns-in_err-only_name-in-directive-clause-refused
+returns-in_err-only_name-in-directive-clause-refused c =
+    let rest : List (List ℕ) = texts_of c.in-Some.rest.now in
+    let words : texts_of c.args.words.now ≡ codes "directive" ∷ rest = search rules in
+    passes c.from_residual-in_err-only_name-in-directive.result c.in_err-only_name-in-directive.field-0.0 c.from_residual-in_err-only_name-in-directive.ensures.1
+    (λ none. subst (SayNoLine c.args.above c.args.place) (sym words) (no_directive_header c.args.above c.args.place rest none))
+    c.in_err-only_name-in-directive.ensures.refused

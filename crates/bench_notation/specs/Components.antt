@@ -1,0 +1,135 @@
+-- What components add to the item that is being read.
+use Rattle.std.specs.Prelude.{[], ◌∷◌, ◌++◌, Bool, true, false, Option, None, Some, option_map}
+use Rattle.graphql_nodes.specs.NameView.{NameView}
+use Rattle.graphql_nodes.specs.NodeView.{NodeView}
+use Rattle.graphql_nodes.specs.declared.operation_type.OperationType.{OperationType}
+use Rattle.graphql_nodes.specs.declared.source.SourceSpan.{SourceSpan}
+use Rattle.graphql_nodes.specs.declared.type_kind.TypeKind.TheVariants as k
+use Rattle.graphql_ast.specs.declared.type_reference.Type.{«Type» as TypeReference}
+use Rattle.graphql_ast.specs.declared.directive.Directive.{Directive}
+use Rattle.graphql_ast.specs.declared.directive.DirectiveList.{DirectiveList}
+use Rattle.graphql_ast.specs.declared.type_system.EnumValueDefinition.{EnumValueDefinition}
+use Rattle.graphql_ast.specs.declared.type_system.FieldDefinition.{FieldDefinition}
+use Rattle.graphql_ast.specs.declared.type_system.InputValueDefinition.{InputValueDefinition}
+use Rattle.graphql_ast.specs.declared.definition.Definition.{Definition}
+use Rattle.bench_notation.specs.declared.above.Above.{Above}
+use Rattle.bench_notation.specs.declared.above.Above.TheVariants as a
+use Rattle.bench_notation.specs.declared.kind_words.Role.TheVariants as r
+use Rattle.bench_notation.specs.declared.line.Header.{Header}
+use Rattle.bench_notation.specs.declared.line.Header.TheVariants as h
+use Rattle.bench_notation.specs.declared.line.Component.{Component}
+use Rattle.bench_notation.specs.declared.line.Component.TheVariants as c
+use Rattle.bench_notation.specs.declared.item.OpenField.{OpenField}
+use Rattle.bench_notation.specs.declared.item.OpenItem.{OpenItem}
+use Rattle.bench_notation.specs.declared.whole_item.Parts.{Parts}
+use Rattle.bench_notation.specs.WholeItems.{node_at, no_parts, type_definition, type_extension, directive_definition, schema_definition, schema_extension}
+
+-- a directive without arguments
+abbrev pub applied_directive : NameView → SourceSpan → NodeView Directive
+applied_directive name place = node_at place record { name = name; arguments = [] }
+
+-- an argument's definition, or that of a field of an input object
+abbrev pub input_value : NameView → TypeReference → DirectiveList → SourceSpan → NodeView InputValueDefinition
+input_value name ty directives place = node_at place record {
+  description = None;
+  name = name;
+  ty = node_at place ty;
+  default_value = None;
+  directives = directives;
+}
+
+-- a value of an enum
+abbrev pub enum_value : NameView → SourceSpan → NodeView EnumValueDefinition
+enum_value name place = node_at place record { description = None; value = name; directives = record { 0 = [] } }
+
+-- a root of the schema
+abbrev pub root_operation : OperationType → NameView → SourceSpan → NodeView (OperationType × NameView)
+root_operation operation name place = node_at place (operation, name)
+
+-- a field alone
+abbrev pub field_alone : NameView → TypeReference → SourceSpan → OpenField
+field_alone name ty place = record { place = place; name = name; ty = ty; arguments = []; directives = record { 0 = [] } }
+
+-- a field with its arguments and directives
+abbrev pub field_node : OpenField → NodeView FieldDefinition
+field_node field = node_at field.place record {
+  description = None;
+  name = field.name;
+  arguments = field.arguments;
+  ty = field.ty;
+  directives = field.directives;
+}
+
+-- a field of an input object type with its directives
+abbrev pub input_field_node : OpenField → NodeView InputValueDefinition
+input_field_node field = input_value field.name field.ty field.directives field.place
+
+-- a header alone
+abbrev pub header_alone : Header → SourceSpan → OpenItem
+header_alone header place = record { place = place; header = header; parts = no_parts; last_field = None }
+
+-- what stands above the next line, below this header and this field, if there is one
+abbrev pub above_below : Header → Option OpenField → Above
+above_below (h.Type role kind name) None = a.Type kind
+above_below (h.Type role kind name) (Some field) = a.Field kind
+above_below (h.Directive name) field = a.Directive
+above_below (h.Schema role) field = a.Schema
+
+abbrev pub is_input_object : Header → Bool
+is_input_object (h.Type role k.InputObject name) = true
+is_input_object _ = false
+
+-- a field more, which is one of an input object type or of another
+abbrev pub with_field : Bool → OpenField → Parts → Parts
+with_field true field parts = record parts { inputs = parts.inputs ++ input_field_node field ∷ [] }
+with_field false field parts = record parts { fields = parts.fields ++ field_node field ∷ [] }
+
+-- a field more, if there is one
+abbrev pub with_last : Bool → Option OpenField → Parts → Parts
+with_last is_input None parts = parts
+with_last is_input (Some field) parts = with_field is_input field parts
+
+-- an item whose last field has all of its parts
+abbrev pub field_closed : OpenItem → OpenItem
+field_closed item = record item { parts = with_last (is_input_object item.header) item.last_field item.parts; last_field = None }
+
+-- an item and one directive more of its last field
+abbrev pub with_field_directive : NodeView Directive → OpenItem → OpenItem
+with_field_directive directive item = record item { last_field = option_map (λ (field : OpenField). record field { directives = record { 0 = field.directives.0 ++ directive ∷ [] } }) item.last_field }
+
+-- a field and one argument more
+abbrev pub with_field_argument : NodeView InputValueDefinition → OpenField → OpenField
+with_field_argument argument field = record field { arguments = field.arguments ++ argument ∷ [] }
+
+-- an argument more of the last field, or where there is none, of the item
+abbrev pub with_argument_below : NodeView InputValueDefinition → Option OpenField → OpenItem → OpenItem
+with_argument_below argument None item = record item { parts = record item.parts { inputs = item.parts.inputs ++ argument ∷ [] } }
+with_argument_below argument (Some field) item = record item { last_field = Some (with_field_argument argument field) }
+
+abbrev pub with_argument : NodeView InputValueDefinition → OpenItem → OpenItem
+with_argument argument item = with_argument_below argument item.last_field item
+
+-- an item and one component more
+abbrev pub with_component : Component → SourceSpan → OpenItem → OpenItem
+with_component (c.Directive name) place item = record item { parts = record item.parts { directives = record { 0 = item.parts.directives.0 ++ applied_directive name place ∷ [] } } }
+with_component (c.Implements name) place item = record item { parts = record item.parts { names = item.parts.names ++ name ∷ [] } }
+with_component (c.Field name ty) place item = record (field_closed item) { last_field = Some (field_alone name ty place) }
+with_component (c.FieldDirective name) place item = with_field_directive (applied_directive name place) item
+with_component (c.Argument name ty) place item = with_argument (input_value name ty (record { 0 = [] }) place) item
+with_component (c.Member name) place item = record item { parts = record item.parts { names = item.parts.names ++ name ∷ [] } }
+with_component (c.Value name) place item = record item { parts = record item.parts { values = item.parts.values ++ enum_value name place ∷ [] } }
+with_component (c.On location) place item = record item { parts = record item.parts { locations = item.parts.locations ++ location ∷ [] } }
+with_component c.Repeatable place item = record item { parts = record item.parts { is_repeatable = true } }
+with_component (c.Root operation name) place item = record item { parts = record item.parts { roots = item.parts.roots ++ root_operation operation name place ∷ [] } }
+
+-- the definition or extension of a header with these components
+abbrev pub definition_with : Header → Parts → SourceSpan → Definition
+definition_with (h.Type r.Definition kind name) parts place = type_definition kind name parts place
+definition_with (h.Type r.Extension kind name) parts place = type_extension kind name parts place
+definition_with (h.Directive name) parts place = directive_definition name parts place
+definition_with (h.Schema r.Definition) parts place = schema_definition parts place
+definition_with (h.Schema r.Extension) parts place = schema_extension parts place
+
+-- the definition or extension that an item says
+abbrev pub whole_item : OpenItem → Definition
+whole_item item = definition_with item.header (field_closed item).parts item.place

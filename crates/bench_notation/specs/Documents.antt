@@ -1,0 +1,99 @@
+-- What documents the lines of a text say.
+use Rattle.std.specs.Prelude.{ℕ, List, [], ◌∷◌, ◌≡◌, ◌++◌, ◌+◌, ◌<◌, All, get_or, length, take, Option, None, Some, option_map}
+use Rattle.graphql_nodes.specs.declared.source.SourceSpan.{SourceSpan}
+use Rattle.graphql_ast.specs.declared.definition.Definition.{Definition}
+use Rattle.graphql_ast.specs.declared.document.Document.{Document}
+use Rattle.bench_notation.specs.declared.above.Above.{Above}
+use Rattle.bench_notation.specs.declared.above.Above.TheVariants as a
+use Rattle.bench_notation.specs.declared.line.Line.{Line}
+use Rattle.bench_notation.specs.declared.line.Line.TheVariants as l
+use Rattle.bench_notation.specs.declared.item.OpenItem.{OpenItem}
+use Rattle.bench_notation.specs.declared.reading.DocumentReader.{DocumentReader}
+use Rattle.bench_notation.specs.Components.{above_below, header_alone, whole_item, with_component}
+use Rattle.bench_notation.specs.declared.refusal.RefusedLine.{RefusedLine}
+use Rattle.bench_notation.specs.declared.refusal.ReadError.{ReadError}
+use Rattle.bench_notation.specs.declared.refusal.ReadError.TheVariants as e
+use Rattle.bench_notation.specs.Line.{IsLine, Says, line_place, lines_of}
+use Rattle.bench_notation.specs.Places.{StandsBelow}
+use Rattle.bench_notation.specs.Refusals.{SaysNothing}
+
+-- definitions and, if there is one more, that
+abbrev pub with_item : List Definition → Option OpenItem → List Definition
+with_item definitions None = definitions
+with_item definitions (Some item) = definitions ++ whole_item item ∷ []
+
+abbrev pub no_definitions : Document
+no_definitions = record { sources = []; definitions = [] }
+
+-- before the first line
+abbrev pub nothing_read : DocumentReader
+nothing_read = record { documents = []; document = no_definitions; item = None }
+
+-- after the end of an item
+abbrev pub item_ended : DocumentReader → DocumentReader
+item_ended reader = record reader { document = record reader.document { definitions = with_item reader.document.definitions reader.item }; item = None }
+
+-- after the end of a document
+abbrev pub document_ended : DocumentReader → DocumentReader
+document_ended reader = record { documents = reader.documents ++ (item_ended reader).document ∷ []; document = no_definitions; item = None }
+
+-- after one line more
+abbrev pub line_added : Line → SourceSpan → DocumentReader → DocumentReader
+line_added l.Empty place reader = reader
+line_added l.Break place reader = document_ended reader
+line_added (l.Header header) place reader = record (item_ended reader) { item = Some (header_alone header place) }
+line_added (l.Component component) place reader = record reader { item = option_map (with_component component place) reader.item }
+
+-- what stands above the next line, where this item is being read, or none
+abbrev pub above_next : Option OpenItem → Above
+above_next None = a.Nothing
+above_next (Some item) = above_below item.header item.last_field
+
+-- a line may stand where it comes next
+abbrev pub MayStand : Line → DocumentReader → Type 0
+MayStand line reader = StandsBelow (above_next reader.item) line
+
+-- one line leads from a state of the reading to another
+pub record Takes (text : List ℕ) (place : SourceSpan) (old new : DocumentReader) : Type 0 where
+  pub line : Line
+  pub says : Says place text line
+  pub stands : MayStand line old
+  pub added : new ≡ line_added line place old
+
+-- these lines, of which the first has this number, lead from a state of the reading to these documents
+abbrev pub ReadTo : ℕ → List (List ℕ) → DocumentReader → List Document → Type 0
+ReadTo number [] reader documents = documents ≡ (document_ended reader).documents
+ReadTo number (text ∷ texts) reader documents = (next : DocumentReader) × (Takes text (line_place number) reader next × ReadTo (number + 1) texts next documents)
+
+-- the documents that a text says: its lines lead to them, counted from 1
+abbrev pub AreDocumentsOf : List ℕ → List Document → Type 0
+AreDocumentsOf text documents = ReadTo 1 (lines_of text) nothing_read documents
+
+-- these lines, of which the first has this number, lead from a state of the reading to another
+abbrev pub LeadTo : ℕ → List (List ℕ) → DocumentReader → DocumentReader → Type 0
+LeadTo number [] old new = old ≡ new
+LeadTo number (text ∷ texts) old new = (next : DocumentReader) × (Takes text (line_place number) old next × LeadTo (number + 1) texts next new)
+
+-- read from a state of the reading, the refused line is one of these lines; those before it say something, and where
+-- they lead, it says nothing that may stand there
+pub record IsFirstRefusedFrom (start : DocumentReader) (lines : List (List ℕ)) (refused : RefusedLine) : Type 0 where
+  pub before : ℕ
+  pub number : refused.number ≡ before + 1
+  pub within : before < length lines
+  pub read : All IsLine (take before lines)
+  pub reader : DocumentReader
+  pub leads : LeadTo 1 (take before lines) start reader
+  pub nothing : SaysNothing (above_next reader.item) (line_place refused.number) (get_or lines before [])
+
+-- read from the first on
+abbrev pub IsFirstRefused : List (List ℕ) → RefusedLine → Type 0
+IsFirstRefused = IsFirstRefusedFrom nothing_read
+
+-- an error of reading these lines from a state of the reading; want of memory says nothing
+abbrev pub IsReadErrorFrom : DocumentReader → List (List ℕ) → ReadError → Type 0
+IsReadErrorFrom start lines (e.Refused refused) = IsFirstRefusedFrom start lines refused
+IsReadErrorFrom start lines e.Memory = Unit {0}
+
+-- an error of reading these lines from the first on
+abbrev pub IsReadError : List (List ℕ) → ReadError → Type 0
+IsReadError = IsReadErrorFrom nothing_read

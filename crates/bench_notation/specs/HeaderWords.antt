@@ -1,0 +1,23 @@
+-- The words with which headers begin: docs/NOTATION.md.
+use Rattle.std.specs.Prelude.{ℕ, List, codes}
+use Rattle.graphql_nodes.specs.declared.type_kind.TypeKind.{TypeKind}
+use Rattle.graphql_nodes.specs.declared.type_kind.TypeKind.TheVariants as k
+use Rattle.bench_notation.specs.declared.kind_words.Role.{Role}
+use Rattle.bench_notation.specs.declared.kind_words.Role.TheVariants as r
+
+abbrev pub role_word : Role → List ℕ
+role_word r.Definition = codes "def"
+role_word r.Extension = codes "ext"
+
+-- the header of the schema's definition, and that of its extension
+abbrev pub schema_word : Role → List ℕ
+schema_word r.Definition = codes "schema"
+schema_word r.Extension = codes "ext-schema"
+
+abbrev pub kind_word : TypeKind → List ℕ
+kind_word k.Scalar = codes "scalar"
+kind_word k.Object = codes "object"
+kind_word k.Interface = codes "interface"
+kind_word k.Union = codes "union"
+kind_word k.Enum = codes "enum"
+kind_word k.InputObject = codes "input"

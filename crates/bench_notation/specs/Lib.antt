@@ -1,0 +1,8 @@
+pub mod Components
+pub mod Documents
+pub mod HeaderWords
+pub mod Line
+pub mod Places
+pub mod Refusals
+pub mod Text
+pub mod WholeItems

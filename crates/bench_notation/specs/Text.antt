@@ -1,0 +1,136 @@
+-- The text of types and definitions in the notation.
+use Rattle.std.specs.Prelude.{ℕ, List, [], ◌++◌, ◌+◌, Bool, true, false, codes}
+use Rattle.std.specs.List.{flat_map}
+use Rattle.graphql_nodes.specs.NameView.{NameView}
+use Rattle.graphql_nodes.specs.NodeView.{NodeView}
+use Rattle.graphql_nodes.specs.LocationTexts.{location_text}
+use Rattle.graphql_nodes.specs.OperationTexts.{operation_text}
+use Rattle.graphql_nodes.specs.declared.directive_location.DirectiveLocation.{DirectiveLocation}
+use Rattle.graphql_nodes.specs.declared.operation_type.OperationType.{OperationType}
+use Rattle.graphql_nodes.specs.declared.type_kind.TypeKind.{TypeKind}
+use Rattle.graphql_nodes.specs.declared.type_kind.TypeKind.TheVariants as k
+use Rattle.graphql_ast.specs.declared.type_reference.Type.{«Type» as TypeReference, fold-Type}
+use Rattle.graphql_ast.specs.declared.type_reference.Type.TheOpen.{Type-F}
+use Rattle.graphql_ast.specs.declared.directive.Directive.{Directive}
+use Rattle.graphql_ast.specs.declared.type_system.EnumValueDefinition.{EnumValueDefinition}
+use Rattle.graphql_ast.specs.declared.type_system.FieldDefinition.{FieldDefinition}
+use Rattle.graphql_ast.specs.declared.type_system.InputValueDefinition.{InputValueDefinition}
+use Rattle.graphql_ast.specs.declared.definition.Definition.{Definition}
+use Rattle.graphql_ast.specs.declared.definition.Definition.TheVariants as d
+use Rattle.bench_notation.specs.declared.kind_words.Role.{Role}
+use Rattle.bench_notation.specs.declared.kind_words.Role.TheVariants as r
+use Rattle.bench_notation.specs.HeaderWords.{role_word, schema_word, kind_word}
+
+-- the text at one level, where what is inside a list has given its own
+abbrev pub type_step : Type-F (List ℕ) → List ℕ
+type_step (Type-F.Named name) = name.text
+type_step (Type-F.NonNullNamed name) = name.text ++ codes "!"
+type_step (Type-F.List inner) = codes "[" ++ inner ++ codes "]"
+type_step (Type-F.NonNullList inner) = codes "[" ++ inner ++ codes "]!"
+
+-- a type, as `[[Int!]]!`
+abbrev pub type_text : TypeReference → List ℕ
+type_text = fold-Type (List ℕ) type_step
+
+abbrev pub brackets_step : Type-F ℕ → ℕ
+brackets_step (Type-F.Named name) = 0
+brackets_step (Type-F.NonNullNamed name) = 0
+brackets_step (Type-F.List inner) = inner + 1
+brackets_step (Type-F.NonNullList inner) = inner + 1
+
+-- how many brackets a type opens
+abbrev pub opened_brackets : TypeReference → ℕ
+opened_brackets = fold-Type ℕ brackets_step
+
+-- a word with its space, another word, and the end of the line
+abbrev pub word_line : List ℕ → List ℕ → List ℕ
+word_line first word = first ++ word ++ codes "\n"
+
+-- a word with its space, a name, and the end of the line
+abbrev pub named_line : List ℕ → NameView → List ℕ
+named_line word name = word_line word name.text
+
+-- a word with its space, a name, its type, and the end of the line
+abbrev pub typed_line : List ℕ → NameView → TypeReference → List ℕ
+typed_line word name ty = word ++ name.text ++ codes " " ++ type_text ty ++ codes "\n"
+
+-- each directive on a line of its own, after this word
+abbrev pub directives_text : List ℕ → List (NodeView Directive) → List ℕ
+directives_text word directives = flat_map (λ (directive : NodeView Directive). named_line word directive.value.name) directives
+
+-- each name on a line of its own, after this word
+abbrev pub names_text : List ℕ → List NameView → List ℕ
+names_text word names = flat_map (λ (name : NameView). named_line word name) names
+
+-- each argument on a line of its own
+abbrev pub arguments_text : List (NodeView InputValueDefinition) → List ℕ
+arguments_text arguments = flat_map (λ (argument : NodeView InputValueDefinition). typed_line (codes "arg ") argument.value.name argument.value.ty.value) arguments
+
+-- a field, then its directives
+abbrev pub field_line_text : NameView → TypeReference → List (NodeView Directive) → List ℕ
+field_line_text name ty directives = typed_line (codes "field ") name ty ++ directives_text (codes "field@ ") directives
+
+-- a field, then its directives, then its arguments
+abbrev pub field_text : NodeView FieldDefinition → List ℕ
+field_text field = field_line_text field.value.name field.value.ty field.value.directives.0 ++ arguments_text field.value.arguments
+
+-- a field of an input object, then its directives
+abbrev pub input_field_text : NodeView InputValueDefinition → List ℕ
+input_field_text field = field_line_text field.value.name field.value.ty.value field.value.directives.0
+
+-- each value of an enum on a line of its own
+abbrev pub values_text : List (NodeView EnumValueDefinition) → List ℕ
+values_text values = flat_map (λ (value : NodeView EnumValueDefinition). named_line (codes "value ") value.value.value) values
+
+-- the header of a type, then the directives of the type
+abbrev pub head_text : Role → TypeKind → NameView → List (NodeView Directive) → List ℕ
+head_text role kind name directives = role_word role ++ codes " " ++ named_line (kind_word kind ++ codes " ") name ++ directives_text (codes "@ ") directives
+
+-- interfaces, then fields
+abbrev pub fields_text : List NameView → List (NodeView FieldDefinition) → List ℕ
+fields_text interfaces fields = names_text (codes "implements ") interfaces ++ flat_map field_text fields
+
+-- the line that says that a directive may be repeated
+abbrev pub repeatable_text : Bool → List ℕ
+repeatable_text true = codes "repeatable\n"
+repeatable_text false = []
+
+-- each place of a directive on a line of its own
+abbrev pub locations_text : List DirectiveLocation → List ℕ
+locations_text locations = flat_map (λ (location : DirectiveLocation). word_line (codes "on ") (location_text location)) locations
+
+-- a root: the kind of its operations, and its name
+abbrev pub root_text : NodeView (OperationType × NameView) → List ℕ
+root_text root = codes "root " ++ operation_text root.value.0 ++ named_line (codes " ") root.value.1
+
+-- each root on a line of its own
+abbrev pub roots_text : List (NodeView (OperationType × NameView)) → List ℕ
+roots_text roots = flat_map root_text roots
+
+-- the header of the schema, then its directives, then its roots
+abbrev pub schema_text : Role → List (NodeView Directive) → List (NodeView (OperationType × NameView)) → List ℕ
+schema_text role directives roots = schema_word role ++ codes "\n" ++ directives_text (codes "@ ") directives ++ roots_text roots
+
+-- a definition or extension: its header, then the lines below it; nothing for those that the notation does not have
+abbrev pub definition_text : Definition → List ℕ
+definition_text (d.OperationDefinition n) = []
+definition_text (d.FragmentDefinition n) = []
+definition_text (d.DirectiveDefinition n) = named_line (codes "directive ") n.value.name ++ arguments_text n.value.arguments ++ repeatable_text n.value.repeatable ++ locations_text n.value.locations
+definition_text (d.SchemaDefinition n) = schema_text r.Definition n.value.directives.0 n.value.root_operations
+definition_text (d.ScalarTypeDefinition n) = head_text r.Definition k.Scalar n.value.name n.value.directives.0
+definition_text (d.ObjectTypeDefinition n) = head_text r.Definition k.Object n.value.name n.value.directives.0 ++ fields_text n.value.implements_interfaces n.value.fields
+definition_text (d.InterfaceTypeDefinition n) = head_text r.Definition k.Interface n.value.name n.value.directives.0 ++ fields_text n.value.implements_interfaces n.value.fields
+definition_text (d.UnionTypeDefinition n) = head_text r.Definition k.Union n.value.name n.value.directives.0 ++ names_text (codes "member ") n.value.members
+definition_text (d.EnumTypeDefinition n) = head_text r.Definition k.Enum n.value.name n.value.directives.0 ++ values_text n.value.values
+definition_text (d.InputObjectTypeDefinition n) = head_text r.Definition k.InputObject n.value.name n.value.directives.0 ++ flat_map input_field_text n.value.fields
+definition_text (d.SchemaExtension n) = schema_text r.Extension n.value.directives.0 n.value.root_operations
+definition_text (d.ScalarTypeExtension n) = head_text r.Extension k.Scalar n.value.name n.value.directives.0
+definition_text (d.ObjectTypeExtension n) = head_text r.Extension k.Object n.value.name n.value.directives.0 ++ fields_text n.value.implements_interfaces n.value.fields
+definition_text (d.InterfaceTypeExtension n) = head_text r.Extension k.Interface n.value.name n.value.directives.0 ++ fields_text n.value.implements_interfaces n.value.fields
+definition_text (d.UnionTypeExtension n) = head_text r.Extension k.Union n.value.name n.value.directives.0 ++ names_text (codes "member ") n.value.members
+definition_text (d.EnumTypeExtension n) = head_text r.Extension k.Enum n.value.name n.value.directives.0 ++ values_text n.value.values
+definition_text (d.InputObjectTypeExtension n) = head_text r.Extension k.InputObject n.value.name n.value.directives.0 ++ flat_map input_field_text n.value.fields
+
+-- definitions, in order
+abbrev pub definitions_text : List Definition → List ℕ
+definitions_text definitions = flat_map definition_text definitions

@@ -1,0 +1,70 @@
+//! The words with which headers begin.
+ghost use Rattle.std.specs.Prelude.{◌≡◌, ◌≢◌, MatchOption};
+ghost use Rattle.bench_notation.specs.HeaderWords.{role_word, schema_word, kind_word};
+
+use graphql_nodes::type_kind::TypeKind;
+
+/// Whether a header begins a definition or an extension.
+#[derive(Debug, Clone, Copy, PartialEq, Eq)]
+pub enum Role {
+    Definition,
+    Extension,
+}
+
+impl Role {
+    /// The first word of a type's header.
+    pub fn word(self) -> &'static str
+        ensures { result.now ≡ role_word self }
+    {
+        match self {
+            Role::Definition => "def",
+            Role::Extension => "ext",
+        }
+    }
+
+    /// The only word of the schema's header.
+    pub fn schema_word(self) -> &'static str
+        ensures { result.now ≡ schema_word self }
+    {
+        match self {
+            Role::Definition => "schema",
+            Role::Extension => "ext-schema",
+        }
+    }
+}
+
+/// The kinds of type, each of which has a word.
+const KINDS: [TypeKind; 6] = [
+    TypeKind::Scalar,
+    TypeKind::Object,
+    TypeKind::Interface,
+    TypeKind::Union,
+    TypeKind::Enum,
+    TypeKind::InputObject,
+];
+
+/// The word of a kind, as `input`.
+pub fn kind_word(kind: TypeKind) -> &'static str
+    ensures { result.now ≡ kind_word kind }
+{
+    match kind {
+        TypeKind::Scalar => "scalar",
+        TypeKind::Object => "object",
+        TypeKind::Interface => "interface",
+        TypeKind::Union => "union",
+        TypeKind::Enum => "enum",
+        TypeKind::InputObject => "input",
+    }
+}
+
+/// The kind of this word, and none for any other word.
+pub fn kind_of_word(word: &str) -> Option<TypeKind>
+    ensures { MatchOption result ((kind : TypeKind) → kind_word kind ≢ word.now) (λ kind. kind_word kind ≡ word.now) }
+{
+    for kind in KINDS {
+        if kind_word(kind) == word {
+            return Some(kind);
+        }
+    }
+    None
+}

@@ -1,0 +1,15 @@
+//! The bench notation: a line notation for GraphQL documents, which has no GraphQL text in it.
+//!
+//! [`read`](reading::read) makes documents of a text, and [`print`](printing::print) makes a text of definitions.
+#![tactic(auto)]
+
+pub mod above;
+mod item;
+pub mod kind_words;
+pub mod line;
+pub mod printing;
+pub mod reading;
+pub mod refusal;
+pub mod type_notation;
+mod whole_item;
+pub mod words;

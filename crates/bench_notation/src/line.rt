@@ -1,0 +1,311 @@
+//! One line of the notation.
+ghost use Rattle.std.specs.Prelude.{◌≡◌, ◌≢◌, [], ◌∷◌, codes, true, false, IfErr, IfOk, MatchOption};
+ghost use Rattle.graphql_nodes.specs.NameView.{NameView};
+ghost use Rattle.graphql_ast.specs.declared.type_reference.Type.{«Type» as TypeReference};
+ghost use Rattle.graphql_nodes.specs.LocationTexts.{location_text};
+ghost use Rattle.graphql_nodes.specs.OperationTexts.{operation_text};
+ghost use Rattle.bench_notation.specs.HeaderWords.{role_word};
+ghost use Rattle.bench_notation.specs.Line.{SayLine, Says, SaysHeader, SaysComponent, AreName, AreNameAndType, AreRoot, texts_of};
+ghost use Rattle.bench_notation.specs.Places.{stands, StandsBelow};
+ghost use Rattle.bench_notation.specs.Refusals.{SayNoComponent, SayNoLine, SaysNothing, WhenRefused};
+
+use crate::above::Above;
+use crate::kind_words::{Role, kind_of_word};
+use crate::refusal::{LineError, Reason};
+use crate::type_notation::{MOST_BRACKETS, read_type};
+use crate::words::{read_name, words_of};
+use graphql_ast::type_reference::Type;
+use graphql_nodes::directive_location::DirectiveLocation;
+use graphql_nodes::name::{Name, NamedType};
+use graphql_nodes::operation_type::OperationType;
+use graphql_nodes::source::SourceSpan;
+use graphql_nodes::type_kind::TypeKind;
+use std::alloc::Global;
+
+/// A header line, which begins a definition or an extension.
+#[derive(Drop)]
+pub enum Header {
+    /// `def KIND NAME` or `ext KIND NAME`
+    Type(Role, TypeKind, Name),
+    /// `directive NAME`
+    Directive(Name),
+    /// `schema` or `ext-schema`
+    Schema(Role),
+}
+
+/// A line that belongs to the header line above it, or to a field of that header.
+#[derive(Drop)]
+pub enum Component {
+    /// `@ NAME`
+    Directive(Name),
+    /// `implements NAME`
+    Implements(Name),
+    /// `field NAME TYPE`
+    Field(Name, Type),
+    /// `field@ NAME`
+    FieldDirective(Name),
+    /// `arg NAME TYPE`
+    Argument(Name, Type),
+    /// `member NAME`
+    Member(Name),
+    /// `value NAME`
+    Value(Name),
+    /// `on LOCATION`
+    On(DirectiveLocation),
+    /// `repeatable`
+    Repeatable,
+    /// `root OPERATION NAME`
+    Root(OperationType, NamedType),
+}
+
+/// What a line says.
+#[derive(Drop)]
+pub enum Line {
+    Empty,
+    /// `---`, which ends a document and begins the next
+    Break,
+    Header(Header),
+    Component(Component),
+}
+
+/// Reads a line. Its names get this place.
+pub fn read_line(
+    alloc: Global,
+    text: &str,
+    above: Above,
+    place: SourceSpan,
+) -> Result<Line, LineError>
+    ensures says { IfOk result (Says place text.now) }
+    ensures stands { IfOk result (StandsBelow above) }
+    ensures refused { IfErr result (WhenRefused (SaysNothing above place text.now)) }
+{
+    if text.is_empty() {
+        return Ok(Line::Empty);
+    }
+    let words = words_of(alloc, text)?;
+    read_words(alloc, words.as_slice(), above, place)
+}
+
+/// The words of a line that is not empty.
+fn read_words(
+    alloc: Global,
+    words: &[&str],
+    above: Above,
+    place: SourceSpan,
+) -> Result<Line, LineError>
+    ensures says { IfOk result (SayLine place (texts_of words.now)) }
+    ensures stands { IfOk result (StandsBelow above) }
+    ensures refused { IfErr result (WhenRefused (SayNoLine above place (texts_of words.now))) }
+{
+    let Some((first, rest)) = words.split_first() else {
+        return Err(LineError::Refused(Reason::UnknownLine));
+    };
+    match *first {
+        "---" => {
+            end_of_words(rest)?;
+            Ok(Line::Break)
+        }
+        "def" => Ok(Line::Header(read_type_header(alloc, Role::Definition, rest, place)?)),
+        "ext" => Ok(Line::Header(read_type_header(alloc, Role::Extension, rest, place)?)),
+        "directive" => Ok(Line::Header(Header::Directive(only_name(alloc, rest, place)?))),
+        "schema" => {
+            end_of_words(rest)?;
+            Ok(Line::Header(Header::Schema(Role::Definition)))
+        }
+        "ext-schema" => {
+            end_of_words(rest)?;
+            Ok(Line::Header(Header::Schema(Role::Extension)))
+        }
+        word => Ok(Line::Component(read_component(alloc, word, rest, above, place)?)),
+    }
+}
+
+/// A component line, by its first word and the rest of its words.
+fn read_component(
+    alloc: Global,
+    first: &str,
+    rest: &[&str],
+    above: Above,
+    place: SourceSpan,
+) -> Result<Component, LineError>
+    ensures says { IfOk result (SaysComponent place (first.now ∷ texts_of rest.now)) }
+    ensures stands { IfOk result (λ component. stands above component ≡ true) }
+    ensures refused { IfErr result (WhenRefused (SayNoComponent above place (first.now ∷ texts_of rest.now))) }
+{
+    match first {
+        "@" => {
+            let name = allowed_name(alloc, above.takes_directives(), rest, place)?;
+            Ok(Component::Directive(name))
+        }
+        "implements" => {
+            let name = allowed_name(alloc, above.is_object_or_interface(), rest, place)?;
+            Ok(Component::Implements(name))
+        }
+        "field" => {
+            let (name, ty) = name_and_type(alloc, above.has_fields(), rest, place)?;
+            Ok(Component::Field(name, ty))
+        }
+        "field@" => {
+            let name = allowed_name(alloc, above.is_field(), rest, place)?;
+            Ok(Component::FieldDirective(name))
+        }
+        "arg" => {
+            let (name, ty) = name_and_type(alloc, above.takes_arguments(), rest, place)?;
+            Ok(Component::Argument(name, ty))
+        }
+        "member" => {
+            let name = allowed_name(alloc, above.is_union(), rest, place)?;
+            Ok(Component::Member(name))
+        }
+        "value" => {
+            let name = allowed_name(alloc, above.is_enum(), rest, place)?;
+            Ok(Component::Value(name))
+        }
+        "on" => {
+            allow(above.is_directive())?;
+            Ok(Component::On(only_location(rest)?))
+        }
+        "repeatable" => {
+            allow(above.is_directive())?;
+            end_of_words(rest)?;
+            Ok(Component::Repeatable)
+        }
+        "root" => {
+            let (operation, name) = operation_and_name(alloc, above.is_schema(), rest, place)?;
+            Ok(Component::Root(operation, name))
+        }
+        _ => Err(LineError::Refused(Reason::UnknownLine)),
+    }
+}
+
+/// Refuses a line that may not stand where it does.
+fn allow(is_allowed: bool) -> Result<(), Reason>
+    ensures ok { IfOk result (λ _. is_allowed ≡ true) }
+    ensures err { IfErr result (λ _. is_allowed ≡ false) }
+{
+    if is_allowed {
+        Ok(())
+    } else {
+        Err(Reason::MisplacedLine)
+    }
+}
+
+fn end_of_words(words: &[&str]) -> Result<(), Reason>
+    ensures ok { IfOk result (λ _. texts_of words.now ≡ []) }
+    ensures err { IfErr result (λ _. ¬ (texts_of words.now ≡ [])) }
+{
+    match words {
+        [] => Ok(()),
+        _ => Err(Reason::WrongNumberOfWords),
+    }
+}
+
+/// The words that follow `def` or `ext`.
+fn read_type_header(
+    alloc: Global,
+    role: Role,
+    words: &[&str],
+    place: SourceSpan,
+) -> Result<Header, LineError>
+    ensures says { IfOk result (SaysHeader place (role_word role ∷ texts_of words.now)) }
+    ensures refused { IfErr result (WhenRefused ((header : Header) → ¬ SaysHeader place (role_word role ∷ texts_of words.now) header)) }
+{
+    let [kind, name] = words else {
+        return Err(LineError::Refused(Reason::WrongNumberOfWords));
+    };
+    let Some(kind) = kind_of_word(*kind) else {
+        return Err(LineError::Refused(Reason::BadWord));
+    };
+    Ok(Header::Type(role, kind, read_name(alloc, *name, place)?))
+}
+
+/// The only word that follows, a name, on a line that is allowed here or not.
+fn allowed_name(
+    alloc: Global,
+    is_allowed: bool,
+    words: &[&str],
+    place: SourceSpan,
+) -> Result<Name, LineError>
+    ensures allowed { IfOk result (λ _. is_allowed ≡ true) }
+    ensures says { IfOk result (AreName place (texts_of words.now)) }
+    ensures refused { IfErr result (WhenRefused ((name : NameView) → AreName place (texts_of words.now) name → ¬ (is_allowed ≡ true))) }
+{
+    allow(is_allowed)?;
+    only_name(alloc, words, place)
+}
+
+fn only_name(alloc: Global, words: &[&str], place: SourceSpan) -> Result<Name, LineError>
+    ensures says { IfOk result (AreName place (texts_of words.now)) }
+    ensures refused { IfErr result (WhenRefused ((name : NameView) → ¬ AreName place (texts_of words.now) name)) }
+{
+    let [name] = words else {
+        return Err(LineError::Refused(Reason::WrongNumberOfWords));
+    };
+    read_name(alloc, *name, place)
+}
+
+/// The two words that follow, a name and a type, on a line that is allowed here or not.
+fn name_and_type(
+    alloc: Global,
+    is_allowed: bool,
+    words: &[&str],
+    place: SourceSpan,
+) -> Result<(Name, Type), LineError>
+    ensures allowed { IfOk result (λ _. is_allowed ≡ true) }
+    ensures says { IfOk result (λ both. AreNameAndType place (texts_of words.now) both.0 both.1) }
+    ensures refused { IfErr result (WhenRefused ((name : NameView) (ty : TypeReference) → AreNameAndType place (texts_of words.now) name ty → ¬ (is_allowed ≡ true))) }
+{
+    allow(is_allowed)?;
+    let [name, ty] = words else {
+        return Err(LineError::Refused(Reason::WrongNumberOfWords));
+    };
+    let name = read_name(alloc, *name, place)?;
+    let ty = read_type(alloc, *ty, MOST_BRACKETS, place)?;
+    Ok((name, ty))
+}
+
+fn only_location(words: &[&str]) -> Result<DirectiveLocation, Reason>
+    ensures ok { IfOk result (λ location. texts_of words.now ≡ location_text location ∷ []) }
+    ensures err { IfErr result (λ _. (location : DirectiveLocation) → ¬ (texts_of words.now ≡ location_text location ∷ [])) }
+{
+    let [word] = words else {
+        return Err(Reason::WrongNumberOfWords);
+    };
+    match DirectiveLocation::from_name(*word) {
+        Some(location) => Ok(location),
+        None => Err(Reason::BadWord),
+    }
+}
+
+/// The two words that follow, a kind of operation and a name, on a line that is allowed here or not.
+fn operation_and_name(
+    alloc: Global,
+    is_allowed: bool,
+    words: &[&str],
+    place: SourceSpan,
+) -> Result<(OperationType, NamedType), LineError>
+    ensures allowed { IfOk result (λ _. is_allowed ≡ true) }
+    ensures says { IfOk result (λ both. AreRoot place (texts_of words.now) both.0 both.1) }
+    ensures refused { IfErr result (WhenRefused ((operation : OperationType) (name : NameView) → AreRoot place (texts_of words.now) operation name → ¬ (is_allowed ≡ true))) }
+{
+    allow(is_allowed)?;
+    let [operation, name] = words else {
+        return Err(LineError::Refused(Reason::WrongNumberOfWords));
+    };
+    let Some(operation) = operation_of_word(*operation) else {
+        return Err(LineError::Refused(Reason::BadWord));
+    };
+    Ok((operation, read_name(alloc, *name, place)?))
+}
+
+/// The kind of operation of this word, and none for any other word.
+fn operation_of_word(word: &str) -> Option<OperationType>
+    ensures { MatchOption result ((operation : OperationType) → operation_text operation ≢ word.now) (λ operation. operation_text operation ≡ word.now) }
+{
+    match word {
+        "query" => Some(OperationType::Query),
+        "mutation" => Some(OperationType::Mutation),
+        "subscription" => Some(OperationType::Subscription),
+        _ => None,
+    }
+}

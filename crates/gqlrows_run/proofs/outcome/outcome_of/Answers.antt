@@ -1,0 +1,38 @@
+-- What `run` ensures, by how the run ended.
+use Rattle.std.proofs.Common.{◌≡◌, ℕ, Bool, true, false, List, [], ◌++◌, Vec, Global, map, refl, sym, ap, subst, ◌∙◌}
+use Rattle.gqltool_run.specs.declared.status.Status.{Status}
+use Rattle.gqltool_run.specs.declared.status.Status.TheVariants as s
+use Rattle.gqltool_run.specs.Commands.{IsAnswerTo}
+use Rattle.gqlrows_run.specs.Runs.{IsOutcome}
+use Rattle.gqlrows_run.proofs.outcome.outcome_of.Goals as goal
+
+-- what is behind nothing is all that was written
+all_written : (old output text : List ℕ) → old ≡ [] → output ≡ old ++ text → text ≡ output
+all_written old output text none wrote = sym (wrote ∙ ap (λ o. o ++ text) none)
+
+is_outcome : (words : List (List ℕ)) (input : List ℕ) (status : Status) (old output : List ℕ) → old ≡ []
+    → (status ≡ s.Refused → output ≡ old)
+    → (status ≡ s.Exhausted → output ≡ old)
+    → (status ≡ s.Done → (text : List ℕ) × (IsAnswerTo words input text false × (output ≡ old ++ text)))
+    → (status ≡ s.Faults → (text : List ℕ) × (IsAnswerTo words input text true × (output ≡ old ++ text)))
+    → (status ≡ s.NotWritten → (text : List ℕ) × ((has_faults : Bool) × IsAnswerTo words input text has_faults))
+    → IsOutcome words input status output
+is_outcome words input s.Done old output none refused exhausted means faults not_written =
+    let is = means refl in subst (λ (o : List ℕ). IsAnswerTo words input o false) (all_written old output is.0 none is.1.1) is.1.0
+is_outcome words input s.Faults old output none refused exhausted means faults not_written =
+    let is = faults refl in subst (λ (o : List ℕ). IsAnswerTo words input o true) (all_written old output is.0 none is.1.1) is.1.0
+is_outcome words input s.Refused old output none refused exhausted means faults not_written = refused refl ∙ none
+is_outcome words input s.Exhausted old output none refused exhausted means faults not_written = exhausted refl ∙ none
+is_outcome words input s.NotWritten old output none refused exhausted means faults not_written = not_written refl
+
+pub returns : goal.returns
+returns c =
+    let words : List (List ℕ) = map (λ word. word.now) c.args.words.now in
+    let ran = c.run-status in
+    subst (λ (input : List ℕ). IsOutcome words input ran.result ran.new.output.items) c.as_bytes-reader.ensures.value
+    (is_outcome words c.as_bytes-reader.result.now ran.result c.new-output.result.items ran.new.output.items c.new-output.ensures.items
+    (λ e. ap (λ (v : Vec ℕ Global). v.items) (ran.ensures.refused e))
+    (λ e. ap (λ (v : Vec ℕ Global). v.items) (ran.ensures.exhausted e))
+    ran.ensures.means
+    ran.ensures.faults
+    ran.ensures.not_written)

@@ -1,0 +1,4 @@
+pub mod FileLines
+pub mod Report
+pub mod Rows
+pub mod Runs

@@ -1,0 +1,44 @@
+-- What comes of running a row.
+use Rattle.std.specs.Prelude.{◌≡◌, ℕ, Bool, true, false, List, [], All, map}
+use Rattle.gqltool_run.specs.declared.status.Status.{Status}
+use Rattle.gqltool_run.specs.declared.status.Status.TheVariants as s
+use Rattle.gqltool_run.specs.Commands.{IsAnswerTo}
+use Rattle.gqltool_run.specs.Status.{exit_code}
+use Rattle.gqlrows_run.specs.Rows.{RowView}
+
+-- this status and output may come of a run with these words and this input: the output is the answer to them, or there is
+-- none
+abbrev pub IsOutcome : List (List ℕ) → List ℕ → Status → List ℕ → Type 0
+IsOutcome words input s.Done output = IsAnswerTo words input output false
+IsOutcome words input s.Faults output = IsAnswerTo words input output true
+IsOutcome words input s.Refused output = output ≡ []
+IsOutcome words input s.Exhausted output = output ≡ []
+IsOutcome words input s.NotWritten output = (text : List ℕ) × ((has_faults : Bool) × IsAnswerTo words input text has_faults)
+
+-- a row, and what came of its run
+pub record Ran : Type 0 where
+  pub row : RowView
+  pub status : Status
+  pub output : List ℕ
+  pub errors : List ℕ
+
+-- what came may come of a run
+abbrev pub IsRun : Ran → Type 0
+IsRun ran = IsOutcome ran.row.words ran.row.input ran.status ran.output
+
+-- these are runs of these rows, one of each, in order
+pub record AreRunsOf (rows : List RowView) (runs : List Ran) : Type 0 where
+  pub rows_ran : map (λ ran. ran.row) runs ≡ rows
+  pub may_come : All IsRun runs
+
+-- what came is what the row expects
+pub record IsAsExpected (ran : Ran) : Type 0 where
+  pub status : exit_code ran.status ≡ ran.row.status
+  pub output : ran.output ≡ ran.row.output
+  pub errors : ran.errors ≡ ran.row.errors
+
+-- each of these rows runs as it expects
+pub record AllAgree (rows : List RowView) : Type 0 where
+  pub runs : List Ran
+  pub are : AreRunsOf rows runs
+  pub agree : All IsAsExpected runs

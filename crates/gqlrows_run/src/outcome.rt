@@ -1,0 +1,30 @@
+//! What comes of running a row.
+ghost use Rattle.std.specs.Prelude.{map};
+ghost use Rattle.gqlrows_run.specs.Runs.{IsOutcome};
+
+use gqltool_run::running::run;
+use gqltool_run::status::Status;
+use std::alloc::Global;
+
+/// What came of a run: its status, and what it wrote.
+#[derive(Drop)]
+pub struct Outcome {
+    pub status: Status,
+    pub output: Vec<u8>,
+    pub errors: Vec<u8>,
+}
+
+/// Runs the program in memory, with these words and this input.
+pub fn outcome_of(alloc: Global, words: &[&str], input: &str) -> Outcome
+    ensures { IsOutcome (map (λ word. word.now) words.now) input.now result.status result.output.items }
+{
+    let mut reader = input.as_bytes();
+    let mut output = Vec::new(alloc);
+    let mut errors = Vec::new(alloc);
+    let status = run(alloc, words, &mut reader, &mut output, &mut errors);
+    Outcome {
+        status,
+        output,
+        errors,
+    }
+}

@@ -1,0 +1,79 @@
+//! The whole run over a file of rows.
+ghost use Rattle.std.specs.Prelude.{◌≡◌, ◌<◌, ℕ, List, None, length, IfOk, IfSome, OnOk};
+ghost use Rattle.std.specs.Io.KnownBytes.{Appends};
+ghost use Rattle.gqltool_run.specs.Status.{Writes};
+ghost use Rattle.bench_notation.specs.Line.{lines_of};
+ghost use Rattle.gqlrows_run.specs.FileLines.{refused_of};
+ghost use Rattle.gqlrows_run.specs.Rows.{rows_of};
+ghost use Rattle.gqlrows_run.specs.Runs.{AllAgree};
+ghost use Rattle.gqlrows_run.specs.Report.{IsReportOn, count_text, ending_of};
+
+use crate::reading::read_rows;
+use crate::refusal::ReadError;
+use crate::report::{Report, run_all};
+use gqltool_run::input::read_all;
+use gqltool_run::status::Status;
+use std::alloc::Global;
+use std::io::{self, Read, Write};
+
+/// Reads a file of rows, runs each, and writes which differ from what they expect, and how many.
+///
+/// `Done` is the answer where none differs, `Faults` where one does, `Refused` where the file is refused, `Exhausted`
+/// where memory is wanting, and `NotWritten` where the report cannot be written. What is wrong with the file is said on
+/// `errors`, in one line; that it cannot be said there changes nothing.
+pub fn run_rows<R: Read, O: Write, E: Write>(
+    alloc: Global,
+    reader: &mut R,
+    output: &mut O,
+    errors: &mut E,
+) -> Status
+    ensures refused { result ≡ Status.Refused → output.new ≡ output.old }
+    ensures exhausted { result ≡ Status.Exhausted → output.new ≡ output.old }
+    ensures says { Writes result → IfSome (R.remaining reader.old) (λ input. refused_of (lines_of input) ≡ None) }
+    ensures agree { result ≡ Status.Done → IfSome (R.remaining reader.old) (λ input.
+        AllAgree (rows_of (lines_of input)) × Appends (O.contents output.old) (O.contents output.new) (count_text (length (rows_of (lines_of input))) 0)) }
+    ensures differ { result ≡ Status.Faults → IfSome (R.remaining reader.old) (λ input. (text : List ℕ) × ((differing : ℕ)
+        × (IsReportOn (lines_of input) text differing × ((0 < differing) × Appends (O.contents output.old) (O.contents output.new) text)))) }
+{
+    let report = match answer(alloc, reader) {
+        Ok(report) => report,
+        Err(error) => {
+            let _ = writeln!(errors, "{error}");
+            return status_of(error);
+        }
+    };
+    match write_out(output, report.text.as_slice()) {
+        Ok(()) if report.differing == 0 => Status::Done,
+        Ok(()) => Status::Faults,
+        Err(_) => {
+            let _ = writeln!(errors, "cannot write output");
+            Status::NotWritten
+        }
+    }
+}
+
+/// How the run ends where the rows are not read.
+fn status_of(error: ReadError) -> Status
+    ensures { result ≡ ending_of error }
+{
+    match error {
+        ReadError::Refused(_) | ReadError::CannotRead => Status::Refused,
+        ReadError::Memory => Status::Exhausted,
+    }
+}
+
+/// The report on the rows that the whole input says.
+fn answer<R: Read>(alloc: Global, reader: &mut R) -> Result<Report, ReadError>
+    ensures { IfOk result (λ report. IfSome (R.remaining reader.old) (λ input. IsReportOn (lines_of input) report.text.items report.differing)) }
+{
+    let text = read_all(alloc, reader)?;
+    let rows = read_rows(alloc, text.as_str())?;
+    Ok(run_all(alloc, rows.as_slice())?)
+}
+
+fn write_out<O: Write>(output: &mut O, text: &[u8]) -> io::Result<()>
+    ensures { OnOk result (Appends (O.contents output.old) (O.contents output.new) text.now) }
+{
+    output.write_all(text)?;
+    output.flush()
+}

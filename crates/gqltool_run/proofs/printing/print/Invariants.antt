@@ -1,7 +1,0 @@
--- The text is that of the definitions so far.
-use Rattle.std.proofs.Common.{◌≡◌, string_bytes, take}
-use Rattle.gqltool_run.specs.Text.{definitions_text}
-use Rattle.gqltool_run.proofs.printing.print.Given as goal
-
-abbrev pub invariant-loop-definition : goal.invariant-loop-definition
-invariant-loop-definition l = string_bytes l.text ≡ definitions_text (take l.definition-index l.definitions)

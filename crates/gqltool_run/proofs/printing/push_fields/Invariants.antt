@@ -1,8 +1,0 @@
--- What was added is the text of the fields so far.
-use Rattle.std.proofs.Common.{◌≡◌, ◌++◌, string_bytes, take}
-use Rattle.std.specs.List.{flat_map}
-use Rattle.gqltool_run.specs.Text.{field_text}
-use Rattle.gqltool_run.proofs.printing.push_fields.Given as goal
-
-abbrev pub invariant-loop-field : goal.invariant-loop-field
-invariant-loop-field l = string_bytes l.text ≡ string_bytes l.initial.text ++ flat_map field_text (take l.field-index l.fields)

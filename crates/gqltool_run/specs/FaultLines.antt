@@ -1,0 +1,18 @@
+-- The lines that tell faults.
+use Rattle.std.specs.Prelude.{◌≡◌, ℕ, List, [], ◌∷◌, ◌++◌, Option, None, Some, codes, decimal}
+use Rattle.graphql_nodes.specs.declared.source.SourceSpan.{SourceSpan}
+use Rattle.apollo_meaning.specs.Collisions.{Fault}
+
+-- the line where a fault stands, or that it stands nowhere
+abbrev pub place_text : Option SourceSpan → List ℕ
+place_text None = codes "-"
+place_text (Some span) = decimal span.start
+
+-- a fault's line, with what is said of it
+abbrev pub fault_line : Option SourceSpan → List ℕ → List ℕ
+fault_line place said = codes "fault " ++ place_text place ++ codes " " ++ said ++ codes "\n"
+
+-- the lines of faults, in order, each at its place, with something said of it
+abbrev pub AreFaultLines : List Fault → List ℕ → Type 0
+AreFaultLines [] lines = lines ≡ []
+AreFaultLines (fault ∷ faults) lines = (said : List ℕ) × ((rest : List ℕ) × ((lines ≡ fault_line fault.0 said ++ rest) × AreFaultLines faults rest))

@@ -1,0 +1,2 @@
+pub mod KeySetClones
+pub mod TableLemmas

@@ -1,0 +1,15 @@
+pub mod BuiltIn
+pub mod Clones
+pub mod KeySets
+pub mod KindTexts
+pub mod LocationTexts
+pub mod NameRefusal
+pub mod NameSyntax
+pub mod NameView
+pub mod NodeLending
+pub mod NodeView
+pub mod OperationTexts
+pub mod SameText
+pub mod TableLending
+pub mod Tables
+pub mod formers

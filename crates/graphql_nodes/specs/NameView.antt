@@ -1,0 +1,12 @@
+use Rattle.std.specs.Prelude.{ℕ, List, Option, refl}
+use Rattle.std.specs.Coded.{Coded, code_by, coded×, coded_option, coded_list, coded_ℕ}
+use Rattle.graphql_nodes.specs.declared.source.SourceSpan.{SourceSpan}
+use Rattle.graphql_nodes.specs.NodeView.{span_code}
+
+-- what a contract sees of a name: its bytes, and the place where it stands
+pub record NameView : Type 0 where
+  pub text : List ℕ
+  pub location : Option SourceSpan
+
+abbrev pub name_view_code : Coded NameView
+name_view_code = code_by (List ℕ × Option SourceSpan) (coded× (coded_list coded_ℕ) (coded_option span_code)) (λ n. (n.text, n.location)) (λ p. record { text = p.0; location = p.1 }) (λ _. refl)

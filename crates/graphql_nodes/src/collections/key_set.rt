@@ -1,0 +1,162 @@
+//! Sets in the order of insertion.
+ghost use Rattle.std.specs.Prelude.{◌≡◌, ◌==◌, ◌<◌, ◌^◌, [], length, slice_get, not, IfOk, IfErr, OnOk, OnErr, true, false};
+ghost use Rattle.std.specs.Cmp;
+ghost use Rattle.std.specs.Option.{option_copied};
+ghost use Rattle.std.specs.Map.Iter.{ShowsInOrder, deref};
+ghost use Rattle.std.specs.List.{find, list_any, IsDistinct};
+ghost use Rattle.graphql_nodes.specs.KeySets.{set_eq, set_eq_equiv, insert_key, remove_key, has_key, IsSetClone};
+
+use indexmap::IndexSet;
+use indexmap::set::Iter;
+use std::alloc::{AllocError, AllocFailed, Global};
+use std::hash::Hash;
+use std::marker::Model;
+
+/// A set in the order of insertion, which contracts see as the list of its keys.
+#[derive(Drop)]
+pub struct KeySet<T: Eq + Hash> {
+    set: IndexSet<T>,
+}
+
+impl<T: Eq + Hash> Model for KeySet<T> {
+    ghost use Rattle.std.specs.Prelude.{List};
+    ghost use Rattle.std.specs.Coded.{coded_list};
+
+    ghost Value = { List T };
+
+    ghost coded = { coded_list T.code };
+
+    ghost view = { λ s. s.set.keys };
+}
+
+impl<T: Eq + Hash> KeySet<T> {
+    /// No key.
+    pub fn new(alloc: Global) -> KeySet<T>
+        ensures { result ≡ [] }
+    {
+        KeySet {
+            set: IndexSet::new(alloc),
+        }
+    }
+
+    /// The keys of the set, in order. No two are equal.
+    pub fn from_index_set(set: IndexSet<T>) -> KeySet<T>
+        ensures keys { result ≡ set.keys }
+        ensures unique { IsDistinct T.eq result }
+    {
+        let _len = set.len();
+        KeySet { set }
+    }
+
+    /// The keys as an `IndexSet`.
+    pub fn into_index_set(self) -> IndexSet<T>
+        ensures { result.keys ≡ self }
+    {
+        let KeySet { set } = self;
+        set
+    }
+
+    /// How many keys there are.
+    pub fn len(&self) -> usize
+        ensures len { result ≡ length self.now }
+        ensures small { result < 2 ^ 63 }
+        ensures unique { IsDistinct T.eq self.now }
+    {
+        self.set.len()
+    }
+
+    /// Whether there is no key.
+    pub fn is_empty(&self) -> bool
+        ensures { result ≡ (length self.now == 0) }
+    {
+        self.set.is_empty()
+    }
+
+    /// The key at a place, if there is one.
+    pub fn get_index(&self, index: usize) -> Option<&T>
+        ensures { option_copied result ≡ slice_get self.now index }
+    {
+        self.as_slice().get(index)
+    }
+
+    /// The keys, in order.
+    pub fn as_slice(&self) -> &[T]
+        ensures keys { result.now ≡ self.now }
+        ensures unique { IsDistinct T.eq self.now }
+    {
+        self.set.as_slice()
+    }
+
+    /// The key that is there and equal to this one, if there is one.
+    pub fn get(&self, key: &T) -> Option<&T>
+        ensures { option_copied result ≡ find (T.eq key.now) self.now }
+    {
+        self.set.get(key)
+    }
+
+    /// Whether a key equal to this one is there.
+    pub fn contains(&self, key: &T) -> bool
+        ensures { result ≡ has_key (T.eq key.now) self.now }
+    {
+        self.set.contains(key)
+    }
+
+    /// The keys, one by one, in order.
+    pub fn iter(&self) -> Iter<'_, T>
+        ensures rest { result ≡ self.now }
+        ensures runs { ShowsInOrder (deref {X = T}) }
+        ensures unique { IsDistinct T.eq self.now }
+        ensures fits { length self.now < 2 ^ 63 }
+    {
+        self.set.iter()
+    }
+}
+
+impl<T: Eq + Hash + Drop> KeySet<T> {
+    /// Puts the key last, or leaves the equal one that is there. Answers whether there was none.
+    ///
+    /// After want of memory the set is as it was, and the error gives the key back.
+    pub fn insert(&mut self, key: T) -> Result<bool, AllocFailed<T>>
+        ensures added { IfOk result (λ added. added ≡ not (has_key (T.eq key) self.old)) }
+        ensures keys { OnOk result (self.new ≡ insert_key T.eq self.old key) }
+        ensures value_returned { IfErr result (λ y. y.value ≡ key) }
+        ensures err { OnErr result (self.new ≡ self.old) }
+        ensures absent { OnErr result (has_key (T.eq key) self.old ≡ false) }
+        ensures unique { IsDistinct T.eq self.new }
+    {
+        self.set.insert(key)
+    }
+
+    /// Takes out the key equal to this one. Those after it move up. Answers whether there was one.
+    pub fn shift_remove(&mut self, key: &T) -> bool
+        ensures found { result ≡ has_key (T.eq key.now) self.old }
+        ensures keys { self.new ≡ remove_key (T.eq key.now) self.old }
+        ensures unique { IsDistinct T.eq self.new }
+    {
+        self.set.shift_remove(key)
+    }
+}
+
+impl<T: Eq + Hash> PartialEq for KeySet<T> {
+    ghost eq = { set_eq T.eq };
+
+    ghost laws = { Cmp.partial_equiv_from_equiv (set_eq_equiv T.eq T.Eq.laws) };
+
+    fn eq(&self, other: &KeySet<T>) -> bool {
+        self.set == other.set
+    }
+}
+
+impl<T: Eq + Hash> Eq for KeySet<T> {
+    ghost laws = { set_eq_equiv T.eq T.Eq.laws };
+}
+
+impl<T: Eq + Hash + Clone + Drop> Clone for KeySet<T> {
+    ghost is_clone = { IsSetClone T.is_clone };
+
+    #[tactic(auto, using(crate::proofs::KeySetClones::exact_keys))]
+    fn clone(&self) -> Result<KeySet<T>, AllocError> {
+        let set = self.set.clone()?;
+        Ok(KeySet { set })
+    }
+}

@@ -1,0 +1,197 @@
+//! Maps in the order of insertion.
+ghost use Rattle.std.specs.Prelude.{◌≡◌, ◌==◌, ◌<◌, ◌+◌, ◌^◌, [], ◌∷◌, ◌++◌, length, Some, None, IsSome, IfSome, IfOk, IfErr, OnOk, OnErr, is_some, option_map, if◌then◌else◌};
+ghost use Rattle.std.specs.Borrow.{sem};
+ghost use Rattle.std.specs.Cmp;
+ghost use Rattle.std.specs.Cmp.{partial_equiv_from_equiv};
+ghost use Rattle.std.specs.HashMap.Eq.{hash_map_eq_symm, hash_map_eq_trans, hash_map_eq_refl};
+ghost use Rattle.std.specs.Map.Iter.{ShowsInOrder, ShowsValuesInOrder, deref, deref_pair};
+ghost use Rattle.std.specs.Option.{option_copied, option_copied_mut};
+ghost use Rattle.graphql_nodes.specs.Tables.{keys_of, values_of, lookup, lookup_key, set_value, remove_entry, insert_entry, as_map, table_eq, HasUniqueKeys, IsTableClone};
+
+use indexmap::IndexMap;
+use indexmap::map::{Iter, Keys, Values};
+use std::alloc::{AllocError, AllocFailed, Global};
+use std::hash::Hash;
+use std::marker::Model;
+
+/// A map in the order of insertion, which contracts see as the list of its entries.
+#[derive(Drop)]
+pub struct Table<K: Eq + Hash, V> {
+    map: IndexMap<K, V>,
+}
+
+impl<K: Eq + Hash, V> Model for Table<K, V> {
+    ghost use Rattle.std.specs.Prelude.{List};
+    ghost use Rattle.std.specs.Coded.{coded_list, coded×};
+
+    ghost Value = { List (K × V) };
+
+    ghost coded = { coded_list (coded× K.code V.code) };
+
+    ghost view = { λ t. t.map.entries };
+}
+
+impl<K: Eq + Hash, V> Table<K, V> {
+    ghost use Rattle.graphql_nodes.specs.TableLending.{LendsEntry};
+
+    /// No entry.
+    pub fn new(alloc: Global) -> Table<K, V>
+        ensures { result ≡ [] }
+    {
+        Table {
+            map: IndexMap::new(alloc),
+        }
+    }
+
+    /// The entries of the map, in order. No two keys are equal.
+    pub fn from_index_map(map: IndexMap<K, V>) -> Table<K, V>
+        ensures entries { result ≡ map.entries }
+        ensures unique { HasUniqueKeys K.eq result }
+    {
+        let _len = map.len();
+        Table { map }
+    }
+
+    /// The entries as an `IndexMap`.
+    pub fn into_index_map(self) -> IndexMap<K, V>
+        ensures { result.entries ≡ self }
+    {
+        let Table { map } = self;
+        map
+    }
+
+    /// The map of the entries.
+    pub fn as_index_map(&self) -> &IndexMap<K, V>
+        ensures { result.now.entries ≡ self.now }
+    {
+        &self.map
+    }
+
+    /// How many entries there are.
+    pub fn len(&self) -> usize
+        ensures len { result ≡ length self.now }
+        ensures small { result < 2 ^ 63 }
+        ensures unique { HasUniqueKeys K.eq self.now }
+    {
+        self.map.len()
+    }
+
+    /// Whether there is no entry.
+    pub fn is_empty(&self) -> bool
+        ensures { result ≡ (length self.now == 0) }
+    {
+        self.map.is_empty()
+    }
+
+    /// The value at the key, if there is one.
+    pub fn get(&self, key: &K) -> Option<&V>
+        ensures { option_copied result ≡ lookup (K.eq key.now) self.now }
+    {
+        self.map.get(key)
+    }
+
+    /// The key that is there, with its value, if there is an entry with the key.
+    pub fn get_key_value(&self, key: &K) -> Option<(&K, &V)>
+        ensures key { option_map (λ e. e.0.now) result ≡ lookup_key (K.eq key.now) self.now }
+        ensures value { option_map (λ e. e.1.now) result ≡ lookup (K.eq key.now) self.now }
+    {
+        self.map.get_key_value(key)
+    }
+
+    /// Whether there is an entry with the key.
+    pub fn contains_key(&self, key: &K) -> bool
+        ensures { result ≡ is_some (lookup (K.eq key.now) self.now) }
+    {
+        self.map.contains_key(key)
+    }
+
+    /// The value at the key, to write to, if there is one. The rest of the table stays.
+    #[tactic(auto, using(crate::proofs::TableLemmas::as_found))]
+    pub fn get_mut(&mut self, key: &K) -> Option<&mut V>
+        ensures* writes_back { sem 𝓛 (LendsEntry K.row V.row K.Hash self.entry (K.eq key.now) result) }
+        ensures value { option_copied_mut result ≡ lookup (K.eq key.now) self.old }
+        ensures as_found { IfSome result (λ x. set_value (K.eq key.now) self.old x.now ≡ self.old) }
+    {
+        self.map.get_mut(key)
+    }
+
+    /// The entries, one by one, in order.
+    pub fn iter(&self) -> Iter<'_, K, V>
+        ensures rest { result ≡ self.now }
+        ensures runs { ShowsInOrder (deref_pair {K = K} {X = V}) }
+        ensures values_run { ShowsValuesInOrder (deref_pair {K = K} {X = V}) }
+        ensures unique { HasUniqueKeys K.eq self.now }
+        ensures fits { length self.now < 2 ^ 63 }
+    {
+        self.map.iter()
+    }
+
+    /// The keys, one by one, in order.
+    pub fn keys(&self) -> Keys<'_, K, V>
+        ensures rest { result ≡ keys_of self.now }
+        ensures runs { ShowsInOrder (deref {X = K}) }
+        ensures unique { HasUniqueKeys K.eq self.now }
+        ensures fits { length self.now < 2 ^ 63 }
+    {
+        self.map.keys()
+    }
+
+    /// The values, one by one, in order.
+    pub fn values(&self) -> Values<'_, K, V>
+        ensures rest { result ≡ values_of self.now }
+        ensures runs { ShowsInOrder (deref {X = V}) }
+        ensures fits { length self.now < 2 ^ 63 }
+    {
+        self.map.values()
+    }
+}
+
+impl<K: Eq + Hash + Drop, V> Table<K, V> {
+    /// Puts the value at the key. A key that is there keeps its place, and a new one goes last. Answers the value
+    /// that stood there.
+    ///
+    /// After want of memory the table is as it was, and the error gives the key and value back.
+    pub fn insert(&mut self, key: K, value: V) -> Result<Option<V>, AllocFailed<(K, V)>>
+        ensures old { IfOk result (λ old. old ≡ lookup (K.eq key) self.old) }
+        ensures entries { OnOk result (self.new ≡ insert_entry K.eq self.old key value) }
+        ensures value_returned { IfErr result (λ y. y.value ≡ (key, value)) }
+        ensures err { OnErr result (self.new ≡ self.old) }
+        ensures absent { OnErr result (lookup (K.eq key) self.old ≡ None) }
+        ensures unique { HasUniqueKeys K.eq self.new }
+    {
+        self.map.insert(key, value)
+    }
+
+    /// Takes out the entry with the key. Those after it move up. Answers its value.
+    pub fn shift_remove(&mut self, key: &K) -> Option<V>
+        ensures value { result ≡ lookup (K.eq key.now) self.old }
+        ensures entries { self.new ≡ remove_entry (K.eq key.now) self.old }
+        ensures unique { HasUniqueKeys K.eq self.new }
+    {
+        self.map.shift_remove(key)
+    }
+}
+
+impl<K: Eq + Hash, V: PartialEq> PartialEq for Table<K, V> {
+    ghost eq = { table_eq K.eq V.eq };
+
+    ghost laws = { let v = V.laws in record { symm = λ a b. hash_map_eq_symm K.eq V.eq v.symm (as_map a) (as_map b); trans = λ a b c. hash_map_eq_trans K.eq V.eq K.Eq.laws v.trans (as_map a) (as_map b) (as_map c) } };
+
+    fn eq(&self, other: &Table<K, V>) -> bool {
+        self.map == other.map
+    }
+}
+
+impl<K: Eq + Hash, V: Eq> Eq for Table<K, V> {
+    ghost laws = { let v = V.Eq.laws in Cmp.equiv (record { symm = λ a b. hash_map_eq_symm K.eq V.eq v.symm (as_map a) (as_map b); trans = λ a b c. hash_map_eq_trans K.eq V.eq K.Eq.laws (partial_equiv_from_equiv v).trans (as_map a) (as_map b) (as_map c) }) (λ a. hash_map_eq_refl K.eq V.eq v.refl (as_map a)) };
+}
+
+impl<K: Eq + Hash + Clone + Drop, V: Clone + Drop> Clone for Table<K, V> {
+    ghost is_clone = { IsTableClone K.is_clone V.is_clone };
+
+    #[tactic(auto, using(crate::proofs::TableLemmas::exact_clones))]
+    fn clone(&self) -> Result<Table<K, V>, AllocError> {
+        let map = self.map.clone()?;
+        Ok(Table { map })
+    }
+}

@@ -1,0 +1,105 @@
+//! Shared texts: descriptions of definitions, GraphQL specification of October 2021, section 2.9.4 and 3.
+ghost use Rattle.std.specs.Prelude.{◌≡◌, IfOk, None, Some, nat_eq};
+ghost use Rattle.std.specs.Cmp.{on_equiv, on_per};
+ghost use Rattle.std.specs.Cmp.Rules.{hashing};
+ghost use Rattle.std.specs.Cmp.Lexicographic.{pointwise, nat_list_eq_equiv};
+ghost use Rattle.std.specs.Cmp;
+ghost use Rattle.std.specs.Hash as fed;
+ghost use Rattle.std.proofs.Common.{rules};
+
+use crate::source::SourceSpan;
+use std::alloc::{AllocError, Global};
+use std::hash::{Hash, Hasher};
+use std::marker::Model;
+use std::rc::RcStr;
+
+/// A text, and the place where it stands. Copies share the text.
+///
+/// Texts are equal and hashed without their places.
+#[derive(Drop)]
+pub struct NodeStr {
+    shared: RcStr,
+    place: Option<SourceSpan>,
+}
+
+impl Model for NodeStr {
+    ghost use Rattle.std.specs.Rc.{rc_str_bytes};
+    ghost use Rattle.graphql_nodes.specs.NameView.{NameView, name_view_code};
+
+    ghost Value = { NameView };
+
+    ghost coded = { name_view_code };
+
+    ghost view = { λ n. record { text = rc_str_bytes n.shared; location = n.place } };
+}
+
+impl NodeStr {
+    /// A copy of the text, with no location. The error is want of memory.
+    pub fn new(alloc: Global, text: &str) -> Result<NodeStr, AllocError>
+        ensures { IfOk result (λ n. n ≡ record { text = text.now; location = None }) }
+    {
+        Ok(NodeStr {
+            shared: RcStr::from_str(alloc, text)?,
+            place: None,
+        })
+    }
+
+    /// The same text at another place.
+    pub fn with_location(self, location: SourceSpan) -> NodeStr
+        ensures { result ≡ record self { location = Some location } }
+    {
+        NodeStr {
+            shared: self.shared,
+            place: Some(location),
+        }
+    }
+
+    /// The text.
+    pub fn as_str(&self) -> &str
+        ensures { result.now ≡ self.now.text }
+    {
+        self.shared.as_str()
+    }
+
+    /// The place where the text stands, if it is known.
+    pub fn location(&self) -> Option<SourceSpan>
+        ensures { result ≡ self.now.location }
+    {
+        self.place
+    }
+}
+
+impl Clone for NodeStr {
+    ghost is_clone = { λ a b. b ≡ a };
+
+    fn clone(&self) -> Result<NodeStr, AllocError> {
+        Ok(NodeStr {
+            shared: self.shared.clone()?,
+            place: self.place,
+        })
+    }
+}
+
+impl PartialEq for NodeStr {
+    ghost eq = { λ x y. pointwise nat_eq x.text y.text };
+
+    ghost laws = { on_per (λ x. x.text) (Cmp.partial_equiv_from_equiv nat_list_eq_equiv) };
+
+    fn eq(&self, other: &NodeStr) -> bool {
+        self.shared == other.shared
+    }
+}
+
+impl Eq for NodeStr {
+    ghost laws = { on_equiv (λ x. x.text) nat_list_eq_equiv };
+}
+
+impl Hash for NodeStr {
+    ghost hash_input = { λ n. fed.str n.text };
+
+    ghost respects_eq = { Prim.search (hashing, rules) };
+
+    fn hash<H: Hasher>(&self, state: &mut H) {
+        self.shared.hash(state)
+    }
+}

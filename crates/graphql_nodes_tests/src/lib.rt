@@ -1,0 +1,12 @@
+//! Tests of names, nodes, containers and enums of `graphql_nodes`, of what no clause says: printed texts, examples from
+//! the specification, and that calls succeed with memory.
+#![tactic(auto)]
+
+#[cfg(test)]
+mod containers;
+#[cfg(test)]
+mod names;
+#[cfg(test)]
+mod nodes;
+#[cfg(test)]
+mod texts;
