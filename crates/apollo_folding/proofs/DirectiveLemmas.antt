@@ -14,14 +14,13 @@ use Rattle.indexmap.specs.IndexMap.{insert_entry}
 use Rattle.graphql_nodes.specs.NameView.{NameView}
 use Rattle.graphql_nodes.specs.NodeView.{NodeView}
 use Rattle.graphql_nodes.specs.BuiltIn.{is_built_in}
-use Rattle.graphql_nodes.specs.SameText.{same_text}
+use Rattle.graphql_nodes.specs.SameText.{same_text, same, by_text}
 use Rattle.graphql_ast.specs.declared.type_system.DirectiveDefinition.{DirectiveDefinition}
 use Rattle.apollo_component.specs.FirstOfEach.{first_of_each}
 use Rattle.apollo_component.proofs.FirstOfEachLemmas.{list_any-first_of_each, first_of_each-push_new, first_of_each-push_old, is_some-lookup}
 use Rattle.apollo_meaning.specs.declared.build_error.BuildError.TheVariants as errors
-use Rattle.apollo_meaning.specs.TypeParts.{same}
-use Rattle.apollo_meaning.specs.SchemaMeaning.{by_text}
-use Rattle.apollo_meaning.specs.DirectiveMeaning.{Directives, has_text, is_handed_in, directive_of, directive_names, AreDirectivesOf, directive_faults}
+use Rattle.apollo_meaning.specs.Directives.{Directives, has_text, is_handed_in, directive_of, directive_names, AreDirectivesOf}
+use Rattle.apollo_meaning.specs.Faults.OtherFaults.{directive_faults}
 use Rattle.apollo_meaning.proofs.Texts.{same-true}
 use Rattle.apollo_folding.proofs.NameTables.{lookup-put, keys-put, lookup-write}
 

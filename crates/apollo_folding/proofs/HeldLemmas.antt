@@ -4,11 +4,9 @@ use Rattle.std.specs.Map.{lookup, set_value}
 use Rattle.std.proofs.lemmas.List.{map-append}
 use Rattle.indexmap.specs.IndexMap.{insert_entry}
 use Rattle.graphql_nodes.specs.NameView.{NameView}
-use Rattle.graphql_nodes.specs.SameText.{same_text}
+use Rattle.graphql_nodes.specs.SameText.{same_text, same, by_text}
 use Rattle.graphql_ast.specs.declared.definition.Definition.{Definition}
-use Rattle.apollo_meaning.specs.TypeParts.{item_of, items_of, same}
-use Rattle.apollo_meaning.specs.SchemaMeaning.{by_text}
-use Rattle.apollo_meaning.specs.HeldItems.{items_held}
+use Rattle.apollo_meaning.specs.Items.ListItems.{item_of, items_of, items_held}
 use Rattle.apollo_meaning.proofs.Texts.{same-true}
 use Rattle.apollo_folding.proofs.NameTables.{lookup-put, lookup-write}
 

@@ -13,12 +13,14 @@ use Rattle.graphql_ast.specs.Definitions.{kind_of as definition_kind}
 use Rattle.graphql_nodes.specs.declared.type_kind.TypeKind.{TypeKind}
 use Rattle.graphql_ast.specs.declared.definition.Definition.{Definition}
 use Rattle.apollo_types.specs.declared.extended_type.ExtendedType.{ExtendedType}
-use Rattle.apollo_meaning.specs.TypeParts.{TypePart, TypeItem, Defined, Extended, SchemaDefined, SchemaExtended, Other, item_of, extended_part, extended_parts, kind_of}
-use Rattle.apollo_meaning.specs.DefinitionList.{same_kind, of_kind}
-use Rattle.apollo_meaning.specs.TypeMeaning.{Sourced, extension_part, numbered}
-use Rattle.apollo_meaning.specs.Collisions.{Fault}
-use Rattle.apollo_meaning.specs.TypeFaults.{part_faults, kind_mismatch}
-use Rattle.apollo_meaning.specs.Joining.{mismatches, folding_faults, joining_faults}
+use Rattle.apollo_meaning.specs.Items.Parts.{TypePart, kind_of, same_kind}
+use Rattle.apollo_meaning.specs.Items.ListItems.{ListItem, Defined, Extended, SchemaDefined, SchemaExtended, Other, item_of, extended_part, extended_parts}
+use Rattle.apollo_meaning.specs.Items.Named.{of_kind}
+use Rattle.apollo_meaning.specs.Types.Components.{Sourced}
+use Rattle.apollo_meaning.specs.Types.Meaning.{extension_part, numbered}
+use Rattle.apollo_meaning.specs.Faults.Collisions.{Fault}
+use Rattle.apollo_meaning.specs.Faults.TypeFaults.{part_faults, kind_mismatch}
+use Rattle.apollo_meaning.specs.Steps.Joining.{mismatches, folding_faults, joining_faults}
 use Rattle.apollo_meaning.proofs.FoldingLemmas.{extended_parts-turn}
 use Rattle.apollo_folding.proofs.KindParts.{IsOf}
 
@@ -54,7 +56,7 @@ module _ (head : TypePart) where
       → mismatches head (extended_parts (x ∷ [])) ≡ fault ∷ []
   mismatch-one x name fault named apart says = by (item_of x) refl named
     where
-      by : (i : TypeItem) → item_of x ≡ i → option_map (λ p. p.name) (extended_part i) ≡ Some name → mismatches head (cons_option (extended_part i) []) ≡ fault ∷ []
+      by : (i : ListItem) → item_of x ≡ i → option_map (λ p. p.name) (extended_part i) ≡ Some name → mismatches head (cons_option (extended_part i) []) ≡ fault ∷ []
       by (Defined p) is named = cc
       by (Extended e) is named =
           let own : name ≡ e.name = cc in

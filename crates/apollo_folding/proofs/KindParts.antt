@@ -14,9 +14,10 @@ use Rattle.apollo_types.specs.declared.enum_type.EnumType.{EnumType}
 use Rattle.apollo_types.specs.declared.input_object_type.InputObjectType.{InputObjectType}
 use Rattle.apollo_types.specs.declared.extended_type.ExtendedType.{ExtendedType}
 use Rattle.apollo_types.specs.declared.extended_type.ExtendedType.TheVariants.{Scalar, Object, Interface, Union, Enum, InputObject}
-use Rattle.apollo_meaning.specs.TypeParts.{TypePart, TypeBody, ScalarBody, ObjectBody, InterfaceBody, UnionBody, EnumBody, InputObjectBody, body_kind, kind_of}
-use Rattle.apollo_meaning.specs.DefinitionList.{of_kind}
-use Rattle.apollo_meaning.specs.TypeMeaning.{Sourced, directives_of, interfaces_of, members_of, fields_of, values_of, input_fields_of, distinct_names, distinct_entries, scalar_of, object_of, interface_of, union_of, enum_of, input_object_of, type_at, type_from, extension_part, numbered}
+use Rattle.apollo_meaning.specs.Items.Parts.{TypePart, TypeBody, ScalarBody, ObjectBody, InterfaceBody, UnionBody, EnumBody, InputObjectBody, body_kind, kind_of}
+use Rattle.apollo_meaning.specs.Items.Named.{of_kind}
+use Rattle.apollo_meaning.specs.Types.Components.{Sourced, directives_of, interfaces_of, members_of, fields_of, values_of, input_fields_of, distinct_names, distinct_entries}
+use Rattle.apollo_meaning.specs.Types.Meaning.{scalar_of, object_of, interface_of, union_of, enum_of, input_object_of, type_at, type_from, extension_part, numbered}
 
 -- what parts and one more have, joined
 module _ {X : Type 0} (of : Sourced → List X) (done : List Sourced) (s : Sourced) where

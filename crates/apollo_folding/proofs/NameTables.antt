@@ -7,10 +7,8 @@ use Rattle.std.proofs.lemmas.Map.{lookup-set_value}
 use Rattle.std.proofs.lemmas.List.{map-append}
 use Rattle.indexmap.specs.IndexMap.{insert_entry}
 use Rattle.graphql_nodes.specs.NameView.{NameView}
-use Rattle.graphql_nodes.specs.SameText.{same_text}
+use Rattle.graphql_nodes.specs.SameText.{same_text, same, by_text}
 use Rattle.apollo_component.proofs.FirstOfEachLemmas.{is_some-lookup, insert_entry-last}
-use Rattle.apollo_meaning.specs.TypeParts.{same}
-use Rattle.apollo_meaning.specs.SchemaMeaning.{by_text}
 use Rattle.apollo_meaning.proofs.Texts.{same-true, same-is, same-flip}
 
 module _ {V : Type 0} where

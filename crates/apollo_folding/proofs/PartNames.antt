@@ -6,9 +6,9 @@ use Rattle.std.proofs.lemmas.List.{map-append, map-id}
 use Rattle.std.proofs.lemmas.Simd.{map-map}
 use Rattle.graphql_nodes.specs.NameView.{NameView}
 use Rattle.apollo_component.specs.declared.component.ComponentName.{ComponentName}
-use Rattle.apollo_meaning.specs.TypeParts.{TypePart}
-use Rattle.apollo_meaning.specs.TypeMeaning.{Sourced, component_name, body_interfaces, body_fields, body_members, body_values, body_input_fields, interfaces_of, members_of, fields_of, values_of, input_fields_of, field_entry, value_entry, input_field_entry}
-use Rattle.apollo_meaning.specs.TypeFaults.{interface_names, member_names, field_names, value_names, input_field_names}
+use Rattle.apollo_meaning.specs.Items.Parts.{TypePart}
+use Rattle.apollo_meaning.specs.Types.Components.{Sourced, component_name, body_interfaces, body_fields, body_members, body_values, body_input_fields, interfaces_of, members_of, fields_of, values_of, input_fields_of, field_entry, value_entry, input_field_entry}
+use Rattle.apollo_meaning.specs.Faults.TypeFaults.{interface_names, member_names, field_names, value_names, input_field_names}
 
 -- where the names of each part's components are those of the part, the names of all are those of the parts
 module _ {X : Type 0} (of : Sourced → List X) (name : X → NameView) (of_part : TypePart → List NameView) (one : (s : Sourced) → map name (of s) ≡ of_part s.1) where

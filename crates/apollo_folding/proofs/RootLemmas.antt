@@ -19,13 +19,15 @@ use Rattle.apollo_component.specs.declared.extension.ComponentOrigin.{ComponentO
 use Rattle.apollo_types.specs.SchemaDefinitionWriteOut.{root_of}
 use Rattle.apollo_types.specs.declared.schema_definition.SchemaDefinition.{SchemaDefinition}
 use Rattle.apollo_meaning.specs.declared.build_error.BuildError.TheVariants as errors
-use Rattle.apollo_meaning.specs.Collisions.{Fault}
-use Rattle.apollo_meaning.specs.TypeParts.{TypePart, SchemaPart, Defined, SchemaDefined, item_of, extended_part, extended_parts, schema_extension_part}
-use Rattle.apollo_meaning.specs.Adoption.{adopted_part, adopted_by, schema_of_roots, adopting_schema, rooted_schema, schema_for}
-use Rattle.apollo_meaning.specs.RootMeaning.{SourcedSchema, same_operation, schema_directives_of, roots_of, schema_definition_of}
-use Rattle.apollo_meaning.specs.RootFaults.{Root, root_fault, root_faults, roots_in, schema_faults}
+use Rattle.apollo_meaning.specs.Faults.Collisions.{Fault}
+use Rattle.apollo_meaning.specs.Items.Parts.{TypePart, SchemaPart, schema_extension_part, Root, roots_in}
+use Rattle.apollo_meaning.specs.Items.ListItems.{Defined, SchemaDefined, item_of, extended_part, extended_parts}
+use Rattle.apollo_meaning.specs.Completion.Adoption.{adopted_part, adopted_by}
+use Rattle.apollo_meaning.specs.Completion.ImpliedSchema.{schema_of_roots, adopting_schema, rooted_schema, schema_for}
+use Rattle.apollo_meaning.specs.Schema.Definition.{SourcedSchema, same_operation, schema_directives_of, roots_of, schema_definition_of}
+use Rattle.apollo_meaning.specs.Faults.RootFaults.{root_fault, root_faults, schema_faults}
 use Rattle.apollo_folding.specs.RootTables.{NamedRoot, named_root, first_named, with_roots, put_root, held_fault, held_faults}
-use Rattle.apollo_meaning.specs.Joining.{schema_numbered, schema_joining_faults}
+use Rattle.apollo_meaning.specs.Steps.Joining.{schema_numbered, schema_joining_faults}
 use Rattle.apollo_meaning.proofs.FoldingLemmas.{enumerate_from-append, extended_parts-append, extended_parts-turn}
 
 or-none : {X : Type 0} (o : Option X) → option_or o None ≡ o

@@ -7,9 +7,9 @@ use Rattle.graphql_nodes.specs.declared.operation_type.OperationType.{OperationT
 use Rattle.graphql_nodes.specs.declared.operation_type.OperationType.TheVariants.{Query, Mutation, Subscription}
 use Rattle.apollo_types.specs.SchemaDefinitionWriteOut.{is_some_object}
 use Rattle.apollo_types.specs.declared.extended_type.ExtendedType.{ExtendedType}
-use Rattle.apollo_meaning.specs.SchemaMeaning.{by_text}
-use Rattle.apollo_meaning.specs.RootFaults.{Root}
-use Rattle.apollo_meaning.specs.Adoption.{default_root}
+use Rattle.graphql_nodes.specs.SameText.{by_text}
+use Rattle.apollo_meaning.specs.Items.Parts.{Root}
+use Rattle.apollo_meaning.specs.Completion.ImpliedSchema.{default_root}
 
 abbrev pub Types : Type 0
 Types = List (NameView × ExtendedType)

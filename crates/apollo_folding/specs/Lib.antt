@@ -1,3 +1,4 @@
 pub mod HeldRoots
+pub mod Joins
 pub mod Refusals
 pub mod RootTables

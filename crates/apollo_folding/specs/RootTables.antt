@@ -9,10 +9,10 @@ use Rattle.apollo_component.specs.declared.component.ComponentName.{ComponentNam
 use Rattle.apollo_component.specs.declared.extension.ComponentOrigin.{ComponentOrigin}
 use Rattle.apollo_types.specs.declared.schema_definition.SchemaDefinition.{SchemaDefinition}
 use Rattle.apollo_meaning.specs.declared.build_error.BuildError.TheVariants as errors
-use Rattle.apollo_meaning.specs.Collisions.{Fault}
-use Rattle.apollo_meaning.specs.TypeMeaning.{component_name}
-use Rattle.apollo_meaning.specs.RootMeaning.{same_operation}
-use Rattle.apollo_meaning.specs.RootFaults.{Root}
+use Rattle.apollo_meaning.specs.Faults.Collisions.{Fault}
+use Rattle.apollo_meaning.specs.Types.Components.{component_name}
+use Rattle.apollo_meaning.specs.Schema.Definition.{same_operation}
+use Rattle.apollo_meaning.specs.Items.Parts.{Root}
 
 abbrev pub NamedRoot : Type 0
 NamedRoot = OperationType × ComponentName

@@ -1,14 +1,15 @@
 //! What a build completes a list with: types that are extended only, where they are adopted, and the definition of the
 //! schema that is implied. GraphQL specification of October 2021, sections 3.3.1 and 3.4.3.
-ghost use Rattle.std.specs.Prelude.{◌≡◌, ◌==◌, ◌&&◌, if◌then◌else◌, [], ◌∷◌, ◌++◌, length, map, not, option_map, IfOk, OnOk};
+ghost use Rattle.std.specs.Prelude.{◌≡◌, ◌==◌, ◌&&◌, if◌then◌else◌, [], ◌++◌, length, map, not, option_map, IfOk, OnOk};
 ghost use Rattle.std.specs.List.{flat_map, list_any};
-ghost use Rattle.std.specs.Option.{option_map_or, unwrap_or};
+ghost use Rattle.std.specs.Option.{unwrap_or};
 ghost use Rattle.graphql_nodes.specs.Tables.{values_of};
-ghost use Rattle.apollo_meaning.specs.TypeParts.{Defined, SchemaDefined, item_of, items_of, extended_part, extended_parts, schema_definition_part, schema_extension_part};
-ghost use Rattle.apollo_meaning.specs.Adoption.{adopted_part, adopted_by, schema_for};
-ghost use Rattle.apollo_meaning.specs.RootFaults.{roots_in};
+ghost use Rattle.apollo_meaning.specs.Items.ListItems.{schema_item, Defined, item_of, items_of, extended_part, extended_parts};
+ghost use Rattle.apollo_meaning.specs.Items.Parts.{schema_extension_part, roots_in};
+ghost use Rattle.apollo_meaning.specs.Completion.Adoption.{adopted_part, adopted_by};
+ghost use Rattle.apollo_meaning.specs.Completion.ImpliedSchema.{schema_for};
 ghost use Rattle.apollo_folding.specs.HeldRoots.{held_root, held_roots};
-ghost use Rattle.apollo_meaning.specs.WholeSchema.{no_schema};
+ghost use Rattle.apollo_meaning.specs.Schema.Definition.{no_schema};
 
 use apollo_types::extended_type::ExtendedType;
 use apollo_types::schema_definition::SchemaDefinition;
@@ -185,8 +186,7 @@ pub fn implied_definition(
     types: &Table<NamedType, ExtendedType>,
     adopts: bool,
 ) -> Result<Option<Node<ast::SchemaDefinition>>, AllocError>
-    ensures { IfOk result (λ implied. option_map_or (λ node. SchemaDefined (schema_definition_part node) ∷ []) implied []
-        ≡ schema_for adopts (roots_in (map schema_extension_part extensions.now)) (held_roots types.now)) }
+    ensures { IfOk result (λ implied. schema_item implied ≡ schema_for adopts (roots_in (map schema_extension_part extensions.now)) (held_roots types.now)) }
 {
     let root_operations = implied_roots(alloc, extensions, types, adopts)?;
     if !adopts && root_operations.is_empty() {

@@ -1,6 +1,7 @@
 //! Definitions of directives: GraphQL specification of October 2021, section 3.13.
 ghost use Rattle.std.specs.Prelude.{◌≡◌, [], ◌∷◌, ◌++◌, OnOk};
-ghost use Rattle.apollo_meaning.specs.DirectiveMeaning.{Directives, AreDirectivesOf, directive_faults};
+ghost use Rattle.apollo_meaning.specs.Directives.{Directives, AreDirectivesOf};
+ghost use Rattle.apollo_meaning.specs.Faults.OtherFaults.{directive_faults};
 
 use apollo_meaning::build_error::BuildError;
 use graphql_ast::type_system::DirectiveDefinition;

@@ -1,13 +1,16 @@
 //! Definitions and extensions as types.
-ghost use Rattle.std.specs.Prelude.{◌≡◌, Bool, ◌+◌, ◌^◌, ◌≤◌, List, [], ◌∷◌, ◌++◌, length, map, option_map, Some, IfOk, IfErr, OnOk};
+ghost use Rattle.apollo_folding.specs.Joins.{with_numbers, Joins, Finds};
+ghost use Rattle.std.specs.Prelude.{◌≡◌, Bool, ◌+◌, ◌^◌, ◌≤◌, List, [], ◌∷◌, ◌++◌, length, option_map, Some, IfOk, IfErr, OnOk};
 ghost use Rattle.std.specs.Option.{option_copied, option_map_or};
 ghost use Rattle.apollo_component.specs.Extensions.{next_number, source_at};
 ghost use Rattle.apollo_component.specs.declared.extension.ComponentOrigin.TheVariants as origins;
-ghost use Rattle.apollo_meaning.specs.TypeParts.{TypePart, Extended, item_of, defined_part, extended_part, definition_part, extended_parts, kind_of};
-ghost use Rattle.apollo_meaning.specs.DefinitionList.{of_kind};
-ghost use Rattle.apollo_meaning.specs.TypeMeaning.{Sourced, type_from, extension_part, numbered};
-ghost use Rattle.apollo_meaning.specs.TypeFaults.{part_faults, kind_mismatch};
-ghost use Rattle.apollo_meaning.specs.Joining.{mismatches, folding_faults, joining_faults};
+ghost use Rattle.apollo_meaning.specs.Items.Parts.{TypePart, kind_of};
+ghost use Rattle.apollo_meaning.specs.Items.ListItems.{Extended, item_of, defined_part, extended_part, definition_part, extended_parts};
+ghost use Rattle.apollo_meaning.specs.Items.Named.{of_kind};
+ghost use Rattle.apollo_meaning.specs.Types.Components.{Sourced};
+ghost use Rattle.apollo_meaning.specs.Types.Meaning.{type_from};
+ghost use Rattle.apollo_meaning.specs.Faults.TypeFaults.{part_faults, kind_mismatch};
+ghost use Rattle.apollo_meaning.specs.Steps.Joining.{type_begun, type_begun_faults, mismatches, folding_faults, joining_faults};
 ghost use Rattle.apollo_types.specs.TypeWriteOut.{type_kind};
 ghost use Rattle.apollo_folding.specs.Refusals.{RefusedAs};
 
@@ -118,8 +121,7 @@ fn note_mismatch(
     extension: &Definition,
     errors: &mut Items<Fault>,
 ) -> Result<(), AllocError>
-    ensures { OnOk result ((head : TypePart) (done : List Sourced) → ty.now ≡ type_from head done
-        → errors.new ≡ errors.old ++ mismatches head (extended_parts (extension.now ∷ []))) }
+    ensures { OnOk result (Finds type_from ty.now (λ head _. mismatches head (extended_parts (extension.now ∷ []))) errors.old errors.new) }
 {
     let Some(name) = extended_name(extension) else {
         return Ok(());
@@ -139,10 +141,8 @@ fn fold_extension(
     ids: &mut ExtensionSource,
     errors: &mut Items<Fault>,
 ) -> Result<(), BuilderError>
-    ensures folded { OnOk result ((head : TypePart) (done : List Sourced) → ty.old ≡ type_from head done
-        → ty.new ≡ type_from head (done ++ map extension_part (numbered (next_number ids.old) (of_kind (kind_of head) (extended_parts (extension.now ∷ [])))))) }
-    ensures faults { OnOk result ((head : TypePart) (done : List Sourced) → ty.old ≡ type_from head done
-        → errors.new ≡ errors.old ++ folding_faults head (map (λ s. s.1) done) (extended_parts (extension.now ∷ []))) }
+    ensures folded { OnOk result (Joins type_from ty.old (λ head. with_numbers ids.old (of_kind (kind_of head) (extended_parts (extension.now ∷ [])))) ty.new) }
+    ensures faults { OnOk result (Finds type_from ty.old (λ head parts. folding_faults head parts (extended_parts (extension.now ∷ []))) errors.old errors.new) }
     ensures kind { OnOk result (type_kind ty.new ≡ type_kind ty.old) }
     ensures next { OnOk result (ids.new ≡ source_at (next_number ids.old + length (of_kind (type_kind ty.old) (extended_parts (extension.now ∷ []))))) }
     ensures refused { IfErr result (λ error. RefusedAs error (2 ^ 64 ≤ next_number ids.old + length (of_kind (type_kind ty.old) (extended_parts (extension.now ∷ []))))) }
@@ -166,10 +166,8 @@ pub fn extend_type(
     ids: &mut ExtensionSource,
     errors: &mut Items<Fault>,
 ) -> Result<(), BuilderError>
-    ensures folded { OnOk result ((head : TypePart) (done : List Sourced) → ty.old ≡ type_from head done
-        → ty.new ≡ type_from head (done ++ map extension_part (numbered (next_number ids.old) (of_kind (kind_of head) (extended_parts (extension.now ∷ [])))))) }
-    ensures faults { OnOk result ((head : TypePart) (done : List Sourced) → ty.old ≡ type_from head done
-        → errors.new ≡ errors.old ++ joining_faults head (map (λ s. s.1) done) (extended_parts (extension.now ∷ []))) }
+    ensures folded { OnOk result (Joins type_from ty.old (λ head. with_numbers ids.old (of_kind (kind_of head) (extended_parts (extension.now ∷ [])))) ty.new) }
+    ensures faults { OnOk result (Finds type_from ty.old (λ head parts. joining_faults head parts (extended_parts (extension.now ∷ []))) errors.old errors.new) }
     ensures kind { OnOk result (type_kind ty.new ≡ type_kind ty.old) }
     ensures next { OnOk result (ids.new ≡ source_at (next_number ids.old + length (of_kind (type_kind ty.old) (extended_parts (extension.now ∷ []))))) }
     ensures refused { IfErr result (λ error. RefusedAs error (2 ^ 64 ≤ next_number ids.old + length (of_kind (type_kind ty.old) (extended_parts (extension.now ∷ []))))) }
@@ -186,10 +184,8 @@ pub fn extend_type_by_all(
     ids: &mut ExtensionSource,
     errors: &mut Items<Fault>,
 ) -> Result<(), BuilderError>
-    ensures folded { OnOk result ((head : TypePart) (done : List Sourced) → ty.old ≡ type_from head done
-        → ty.new ≡ type_from head (done ++ map extension_part (numbered (next_number ids.old) (of_kind (kind_of head) (extended_parts extensions.now))))) }
-    ensures faults { OnOk result ((head : TypePart) (done : List Sourced) → ty.old ≡ type_from head done
-        → errors.new ≡ errors.old ++ joining_faults head (map (λ s. s.1) done) (extended_parts extensions.now)) }
+    ensures folded { OnOk result (Joins type_from ty.old (λ head. with_numbers ids.old (of_kind (kind_of head) (extended_parts extensions.now))) ty.new) }
+    ensures faults { OnOk result (Finds type_from ty.old (λ head parts. joining_faults head parts (extended_parts extensions.now)) errors.old errors.new) }
     ensures next { OnOk result (ids.new ≡ source_at (next_number ids.old + length (of_kind (type_kind ty.old) (extended_parts extensions.now)))) }
     ensures refused { IfErr result (λ error. RefusedAs error (2 ^ 64 ≤ next_number ids.old + length (of_kind (type_kind ty.old) (extended_parts extensions.now)))) }
 {
@@ -207,10 +203,8 @@ pub fn begin_type(
     ids: &mut ExtensionSource,
     errors: &mut Items<Fault>,
 ) -> Result<Option<ExtendedType>, BuilderError>
-    ensures made { IfOk result (λ ty. (p : TypePart) (b : Bool) → definition_part definition.now ≡ Some p → let q = record p { ignorable = b } in
-        ty ≡ Some (type_from q ((origins.Definition, q) ∷ map extension_part (numbered (next_number ids.old) (of_kind (kind_of p) (extended_parts extensions.now)))))) }
-    ensures faults { OnOk result ((p : TypePart) (b : Bool) → definition_part definition.now ≡ Some p → let q = record p { ignorable = b } in
-        errors.new ≡ errors.old ++ (part_faults [] p ++ joining_faults q (q ∷ []) (extended_parts extensions.now))) }
+    ensures made { IfOk result (λ ty. (p : TypePart) (b : Bool) → definition_part definition.now ≡ Some p → ty ≡ Some (type_begun (next_number ids.old) (record p { ignorable = b }) (extended_parts extensions.now))) }
+    ensures faults { OnOk result ((p : TypePart) (b : Bool) → definition_part definition.now ≡ Some p → errors.new ≡ errors.old ++ type_begun_faults (record p { ignorable = b }) (extended_parts extensions.now)) }
     ensures next { OnOk result ((p : TypePart) → definition_part definition.now ≡ Some p
         → ids.new ≡ source_at (next_number ids.old + length (of_kind (kind_of p) (extended_parts extensions.now)))) }
     ensures refused { IfErr result (λ error. RefusedAs error ((p : TypePart) → definition_part definition.now ≡ Some p

@@ -2,9 +2,10 @@
 ghost use Rattle.std.specs.Prelude.{◌≡◌, ◌+◌, [], ◌∷◌, ◌++◌, map, OnOk, Some};
 ghost use Rattle.std.specs.List.{flat_map};
 ghost use Rattle.graphql_nodes.specs.Tables.{values_of};
-ghost use Rattle.apollo_meaning.specs.TypeParts.{extended_parts, schema_extension_part};
-ghost use Rattle.apollo_meaning.specs.TypeFaults.{orphan};
-ghost use Rattle.apollo_meaning.specs.RootFaults.{schema_orphan};
+ghost use Rattle.apollo_meaning.specs.Items.ListItems.{extended_parts};
+ghost use Rattle.apollo_meaning.specs.Items.Parts.{schema_extension_part};
+ghost use Rattle.apollo_meaning.specs.Faults.TypeFaults.{orphan};
+ghost use Rattle.apollo_meaning.specs.Faults.RootFaults.{schema_orphan};
 
 use crate::from_ast::extended_name;
 use apollo_meaning::build_error::{BuildError, Fault};

@@ -1,8 +1,10 @@
 //! The faults of further definitions of a name.
+ghost use Rattle.apollo_folding.specs.Joins.{ForFurther};
 ghost use Rattle.std.specs.Prelude.{◌≡◌, List, ◌++◌, OnOk, IfOk};
-ghost use Rattle.apollo_meaning.specs.TypeParts.{TypePart, Defined, item_of};
-ghost use Rattle.apollo_meaning.specs.TypeMeaning.{Sourced, type_from};
-ghost use Rattle.apollo_meaning.specs.TypeFaults.{redefinition, built_in_redefinition, further_definition};
+ghost use Rattle.apollo_meaning.specs.Items.Parts.{TypePart};
+ghost use Rattle.apollo_meaning.specs.Types.Components.{Sourced};
+ghost use Rattle.apollo_meaning.specs.Types.Meaning.{type_from};
+ghost use Rattle.apollo_meaning.specs.Faults.TypeFaults.{redefinition, built_in_redefinition, further_definition};
 
 use apollo_meaning::build_error::{BuildError, Fault};
 use apollo_types::extended_type::ExtendedType;
@@ -29,8 +31,7 @@ fn built_in_redefinition(
     name: &Name,
     definition: &Definition,
 ) -> Result<Fault, AllocError>
-    ensures { IfOk result (λ fault. (d p : TypePart) (done : List Sourced) → previous.now ≡ type_from d done → item_of definition.now ≡ Defined p → p.name ≡ name.now
-        → fault ≡ built_in_redefinition d p) }
+    ensures { IfOk result (λ fault. ForFurther previous.now name.now definition.now (λ d p. fault ≡ built_in_redefinition d p)) }
 {
     if definition.type_kind() == Some(TypeKind::Scalar) {
         let error = BuildError::BuiltInScalarTypeRedefinition;
@@ -48,8 +49,7 @@ pub fn note_redefinition(
     ignores: bool,
     errors: &mut Items<Fault>,
 ) -> Result<(), AllocError>
-    ensures { OnOk result ((d p : TypePart) (done : List Sourced) → previous.now ≡ type_from d done → item_of definition.now ≡ Defined p → p.name ≡ name.now
-        → errors.new ≡ errors.old ++ further_definition d (record p { ignorable = ignores })) }
+    ensures { OnOk result (ForFurther previous.now name.now definition.now (λ d p. errors.new ≡ errors.old ++ further_definition d (record p { ignorable = ignores }))) }
 {
     if !previous.is_built_in() {
         errors.push(redefinition(previous, name)?)?;

@@ -1,9 +1,8 @@
 //! Extensions that wait for the definition of their name.
 ghost use Rattle.std.specs.Prelude.{◌≡◌, None, ℕ, ◌+◌, List, [], ◌∷◌, ◌++◌, is_some, OnOk, IfErr, Some, if◌then◌else◌};
 ghost use Rattle.graphql_nodes.specs.Tables.{keys_of, lookup};
-ghost use Rattle.apollo_meaning.specs.TypeParts.{item_of, items_of, same};
-ghost use Rattle.apollo_meaning.specs.SchemaMeaning.{by_text};
-ghost use Rattle.apollo_meaning.specs.HeldItems.{items_held};
+ghost use Rattle.apollo_meaning.specs.Items.ListItems.{held_under, item_of, items_of, items_held};
+ghost use Rattle.graphql_nodes.specs.SameText.{same, by_text};
 
 use crate::builder_error::BuilderError;
 use graphql_ast::definition::Definition;
@@ -21,8 +20,7 @@ pub fn take_waiting(
 ) -> Items<Definition>
     ensures taken { items_of result ≡ items_held (lookup (by_text name.now.text) waiting.old) }
     ensures names { keys_of waiting.new ≡ keys_of waiting.old }
-    ensures left { (n : List ℕ) → items_held (lookup (by_text n) waiting.new)
-        ≡ (if same n name.now.text then [] else items_held (lookup (by_text n) waiting.old)) }
+    ensures left { (n : List ℕ) → held_under n waiting.new ≡ (if same n name.now.text then [] else held_under n waiting.old) }
 {
     match waiting.get_mut(name) {
         Some(extensions) => mem::replace(extensions, Items::new(alloc)),
@@ -37,10 +35,7 @@ pub fn wait(
     name: &Name,
     extension: &Definition,
 ) -> Result<(), BuilderError>
-    ensures waits { OnOk result ((n : List ℕ) → items_held (lookup (by_text n) waiting.new)
-        ≡ (if same n name.now.text
-        then items_held (lookup (by_text n) waiting.old) ++ item_of extension.now ∷ []
-        else items_held (lookup (by_text n) waiting.old))) }
+    ensures waits { OnOk result ((n : List ℕ) → held_under n waiting.new ≡ (if same n name.now.text then held_under n waiting.old ++ item_of extension.now ∷ [] else held_under n waiting.old)) }
     ensures names { OnOk result (keys_of waiting.new ≡ (if is_some (lookup (by_text name.now.text) waiting.old) then keys_of waiting.old else keys_of waiting.old ++ name.now ∷ [])) }
     ensures refused { IfErr result (λ error. error ≡ BuilderError.Memory) }
 {

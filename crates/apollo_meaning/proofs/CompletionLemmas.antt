@@ -8,21 +8,24 @@ use Rattle.std.proofs.lemmas.Bool.Decides.{nat_tests}
 use Rattle.std.proofs.lemmas.List.{append-nil, map-append}
 use Rattle.std.proofs.lemmas.List.Elements.{filter_map-append}
 use Rattle.apollo_component.proofs.FirstOfEachLemmas.{list_any-first_of_each}
-use Rattle.apollo_meaning.specs.TypeParts.{TypePart, TypeItem, defined_part, extended_part, key_of, same}
-use Rattle.apollo_meaning.specs.DefinitionList.{definitions, first, extensions_of}
-use Rattle.apollo_meaning.specs.Collisions.{Fault}
-use Rattle.apollo_meaning.specs.TypeFaults.{orphan}
-use Rattle.apollo_meaning.specs.RootFaults.{schema_orphan}
-use Rattle.apollo_meaning.specs.Adoption.{extended_names, orphans_of, schema_orphans, adopted_part, adopted_by, adopted, with_adopted, implied_schema, completed}
-use Rattle.apollo_meaning.specs.SchemaFaults.{found_from, faults_in}
-use Rattle.apollo_meaning.specs.OrphanNames.{first_name, orphan_names}
-use Rattle.apollo_meaning.specs.Prefixes.{added_after, found_at, found}
+use Rattle.apollo_meaning.specs.Items.Parts.{TypePart, key_of}
+use Rattle.apollo_meaning.specs.Items.ListItems.{ListItem, defined_part, extended_part}
+use Rattle.graphql_nodes.specs.SameText.{same}
+use Rattle.apollo_meaning.specs.Items.Named.{definitions, first, extensions_of}
+use Rattle.apollo_meaning.specs.Faults.Collisions.{Fault}
+use Rattle.apollo_meaning.specs.Faults.TypeFaults.{orphan}
+use Rattle.apollo_meaning.specs.Faults.RootFaults.{schema_orphan}
+use Rattle.apollo_meaning.specs.Completion.Adoption.{extended_names, orphans_of, schema_orphans, adopted_part, adopted_by, adopted, with_adopted}
+use Rattle.apollo_meaning.specs.Completion.ImpliedSchema.{implied_schema, completed}
+use Rattle.apollo_meaning.specs.Faults.ListFaults.{found_from, faults_in}
+use Rattle.apollo_meaning.specs.Completion.OrphanNames.{first_name, orphan_names}
+use Rattle.apollo_meaning.specs.Steps.Prefixes.{added_after, found_at, found}
 use Rattle.apollo_meaning.proofs.Texts.{same-true}
 use Rattle.apollo_meaning.proofs.FoundLemmas.{found_after-order, found_in-order}
 use Rattle.apollo_meaning.proofs.OrphanLemmas.{no_extension}
 
 -- a name is first defined in a front, or else in the rest
-first-append : (xs ys : List TypeItem) (n : List ℕ) → first (xs ++ ys) n ≡ option_or (first xs n) (first ys n)
+first-append : (xs ys : List ListItem) (n : List ℕ) → first (xs ++ ys) n ≡ option_or (first xs n) (first ys n)
 first-append xs ys n =
     ap (λ l. lookup (same n) (map (λ p. (key_of p, p)) l)) (filter_map-append defined_part xs ys)
     ∙ ap (lookup (same n)) (map-append (λ p. (key_of p, p)) (filter_map defined_part xs) (filter_map defined_part ys))
@@ -47,9 +50,9 @@ extensions_of-own n (p ∷ ps) = by (same n (key_of p)) refl (extensions_of-own 
     by true e rest = (e, rest)
     by false e rest = rest
 
-module _ (xs : List TypeItem) where
+module _ (xs : List ListItem) where
   -- what is adopted for these names
-  abbrev adopted_for : List (List ℕ) → List TypeItem
+  abbrev adopted_for : List (List ℕ) → List ListItem
   adopted_for = flat_map (λ n. adopted_by (orphans_of xs n))
 
   -- it extends nothing
@@ -130,14 +133,14 @@ module _ (xs : List TypeItem) where
       none (n ∷ ns) = ap (λ l. first_name l ++ flat_map (λ m. first_name (orphans_of (xs ++ adopted xs) m)) ns) (adopted-orphans_of n) ∙ none ns
 
 -- what is found in a list and at what completes it, with other faults after each
-found-completed : (ys zs : List TypeItem) (after_list after_all : List Fault)
+found-completed : (ys zs : List ListItem) (after_list after_all : List Fault)
     → found_from 0 (length ys) ys ++ (after_list ++ (found_from (length ys) (length zs) (ys ++ zs) ++ after_all)) ≡ found ys ++ (after_list ++ (added_after found_at ys zs ++ after_all))
 found-completed ys zs after_list after_all =
     ap (λ l. l ++ (after_list ++ (found_from (length ys) (length zs) (ys ++ zs) ++ after_all))) (found_in-order ys)
     ∙ ap (λ l. found ys ++ (after_list ++ (l ++ after_all))) (found_after-order ys zs)
 
 -- the faults of a list by prefixes
-pub faults-completed : (adopts : Bool) (xs : List TypeItem) → faults_in adopts xs
+pub faults-completed : (adopts : Bool) (xs : List ListItem) → faults_in adopts xs
     ≡ found (with_adopted adopts xs)
     ++ (map orphan (flat_map (orphans_of (with_adopted adopts xs)) (extended_names (with_adopted adopts xs)))
     ++ (added_after found_at (with_adopted adopts xs) (implied_schema adopts (with_adopted adopts xs)) ++ map schema_orphan (schema_orphans (completed adopts xs))))

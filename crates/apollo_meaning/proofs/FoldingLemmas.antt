@@ -6,9 +6,11 @@ use Rattle.std.proofs.lemmas.List.Elements.{filter-append, filter_map-append}
 use Rattle.graphql_nodes.specs.declared.type_kind.TypeKind.{TypeKind}
 use Rattle.apollo_component.specs.declared.extension.ComponentOrigin.TheVariants as origins
 use Rattle.graphql_ast.specs.declared.definition.Definition.{Definition}
-use Rattle.apollo_meaning.specs.TypeParts.{TypePart, TypeBody, ScalarBody, ObjectBody, InterfaceBody, UnionBody, EnumBody, InputObjectBody, item_of, items_of, extended_part, extended_parts, body_kind, kind_of}
-use Rattle.apollo_meaning.specs.DefinitionList.{same_kind, of_kind}
-use Rattle.apollo_meaning.specs.TypeMeaning.{Sourced, type_at, type_from, extension_part, numbered}
+use Rattle.apollo_meaning.specs.Items.Parts.{TypePart, TypeBody, ScalarBody, ObjectBody, InterfaceBody, UnionBody, EnumBody, InputObjectBody, body_kind, kind_of, same_kind}
+use Rattle.apollo_meaning.specs.Items.ListItems.{item_of, items_of, extended_part, extended_parts}
+use Rattle.apollo_meaning.specs.Items.Named.{of_kind}
+use Rattle.apollo_meaning.specs.Types.Components.{Sourced}
+use Rattle.apollo_meaning.specs.Types.Meaning.{type_at, type_from, extension_part, numbered}
 use Rattle.apollo_types.specs.TypeWriteOut.{type_kind, type_name, type_location}
 
 -- numbers go on

@@ -9,16 +9,19 @@ use Rattle.std.proofs.lemmas.Bool.Decides.{nat_tests}
 use Rattle.std.proofs.lemmas.Grind.{flat_map-append}
 use Rattle.std.proofs.lemmas.List.{append-nil, take-append-le}
 use Rattle.std.proofs.lemmas.List.Elements.{filter-append}
-use Rattle.apollo_meaning.specs.TypeParts.{TypePart, SchemaPart, TypeItem, Defined, Extended, SchemaDefined, SchemaExtended, Other, extended_part, extended_schema, key_of, same}
-use Rattle.apollo_meaning.specs.DefinitionList.{extensions_of, schema_extensions}
-use Rattle.apollo_meaning.specs.Places.{Family, types, schemas, Placed, extension_places, first_place, met_when}
-use Rattle.apollo_meaning.specs.Collisions.{Fault}
-use Rattle.apollo_meaning.specs.TypeFaults.{part_faults, extension_faults, further_definition}
-use Rattle.apollo_meaning.specs.RootFaults.{schema_faults, further_schema}
-use Rattle.apollo_meaning.specs.Joining.{schema_joining_faults, schema_begun_faults}
-use Rattle.apollo_meaning.specs.DirectiveMeaning.{directive_definitions}
-use Rattle.apollo_meaning.specs.SchemaFaults.{other_faults, own_faults, faults_of_extension, faults_of_schema_extension, found_when, found_from}
-use Rattle.apollo_meaning.specs.Prefixes.{added_after, faults_after, found_at, found}
+use Rattle.apollo_meaning.specs.Items.Parts.{TypePart, SchemaPart, key_of}
+use Rattle.apollo_meaning.specs.Items.ListItems.{ListItem, Defined, Extended, SchemaDefined, SchemaExtended, Other, extended_part, extended_schema}
+use Rattle.graphql_nodes.specs.SameText.{same}
+use Rattle.apollo_meaning.specs.Items.Named.{extensions_of, schema_extensions}
+use Rattle.apollo_meaning.specs.Order.Places.{Family, types, schemas, Placed, extension_places, first_place, met_when}
+use Rattle.apollo_meaning.specs.Faults.Collisions.{Fault}
+use Rattle.apollo_meaning.specs.Faults.TypeFaults.{part_faults, extension_faults, further_definition}
+use Rattle.apollo_meaning.specs.Faults.RootFaults.{schema_faults, further_schema}
+use Rattle.apollo_meaning.specs.Steps.Joining.{schema_joining_faults, schema_begun_faults}
+use Rattle.apollo_meaning.specs.Directives.{directive_definitions}
+use Rattle.apollo_meaning.specs.Faults.OtherFaults.{other_faults}
+use Rattle.apollo_meaning.specs.Faults.ListFaults.{own_faults, faults_of_extension, faults_of_schema_extension, found_when, found_from}
+use Rattle.apollo_meaning.specs.Steps.Prefixes.{added_after, faults_after, found_at, found}
 use Rattle.apollo_meaning.proofs.Texts.{same-true, same-is}
 use Rattle.apollo_meaning.proofs.EachLemmas.{each-filter, flat_map-each, moments-on}
 use Rattle.apollo_meaning.proofs.ItemLemmas.{snoc_ind, extensions_of-push_extension, extensions_of-push_unextended, schema_extensions-push_extension, schema_extensions-push_unextended, added_after-push}
@@ -35,7 +38,7 @@ slice_get-last (y ∷ ys) x = slice_get-last ys x
 
 module _ {P : Type 0} (f : Family P) where
   -- the definition at a place gives its key a first one
-  defined-there : (xs : List TypeItem) (i : ℕ) (y : TypeItem) (d : P) → slice_get xs i ≡ Some y → f.defined y ≡ Some d → is_some (lookup (same (f.key d)) (keyed f (filter_map f.defined xs))) ≡ true
+  defined-there : (xs : List ListItem) (i : ℕ) (y : ListItem) (d : P) → slice_get xs i ≡ Some y → f.defined y ≡ Some d → is_some (lookup (same (f.key d)) (keyed f (filter_map f.defined xs))) ≡ true
   defined-there [] i y d there is = absurd (let h : None ≡ Some y = there in cc)
   defined-there (x ∷ xs) zero y d there is =
       let alike : x ≡ y = ap (λ o. unwrap_or o x) there in
@@ -52,19 +55,19 @@ module _ {P : Type 0} (f : Family P) where
       by (Some p) e rest = rw e (among (same (f.key d) (f.key p)) p rest)
 
   -- the first definition of a key that has one is as before
-  same_place : (xs : List TypeItem) (x : TypeItem) (i : ℕ) (y : TypeItem) (d : P) → slice_get xs i ≡ Some y → f.defined y ≡ Some d → first_place f (xs ++ x ∷ []) (f.key d) ≡ first_place f xs (f.key d)
+  same_place : (xs : List ListItem) (x : ListItem) (i : ℕ) (y : ListItem) (d : P) → slice_get xs i ≡ Some y → f.defined y ≡ Some d → first_place f (xs ++ x ∷ []) (f.key d) ≡ first_place f xs (f.key d)
   same_place xs x i y d there is = by (first_place f xs (f.key d)) refl
     where
       by : (o : Option (Placed P)) → first_place f xs (f.key d) ≡ o → first_place f (xs ++ x ∷ []) (f.key d) ≡ first_place f xs (f.key d)
       by (Some z) e = first_place-stays f xs x (f.key d) z e ∙ sym e
       by None e = absurd (let h : false ≡ true = sym (ap is_some (sym (first-forget f xs (f.key d)) ∙ ap (option_map (λ (z : Placed P). z.1)) e)) ∙ defined-there xs i y d there is in cc)
 
-module _ (xs : List TypeItem) (x : TypeItem) where
+module _ (xs : List ListItem) (x : ListItem) where
   -- the items before a place are as before
   same_front : (i : ℕ) → i < length xs → take i (xs ++ x ∷ []) ≡ take i xs
   same_front i lt = take-append-le i xs (x ∷ []) (omega (arith, lt))
 
-  own_faults-push : (i : ℕ) → i < length xs → (y : TypeItem) → slice_get xs i ≡ Some y → own_faults (xs ++ x ∷ []) i y ≡ own_faults xs i y
+  own_faults-push : (i : ℕ) → i < length xs → (y : ListItem) → slice_get xs i ≡ Some y → own_faults (xs ++ x ∷ []) i y ≡ own_faults xs i y
   own_faults-push i lt (Extended p) there = refl
   own_faults-push i lt (SchemaExtended s) there = refl
   own_faults-push i lt (Other d) there = ap (λ l. other_faults (directive_definitions l) d) (same_front i lt)
@@ -86,7 +89,7 @@ module _ (xs : List TypeItem) (x : TypeItem) where
   own-push : (i : ℕ) → i < length xs → option_map_or (own_faults (xs ++ x ∷ []) i) (slice_get (xs ++ x ∷ []) i) [] ≡ option_map_or (own_faults xs i) (slice_get xs i) []
   own-push i lt = ap (λ o. option_map_or (own_faults (xs ++ x ∷ []) i) o []) (slice_get-front xs (x ∷ []) i lt) ∙ own (slice_get xs i) refl
     where
-      own : (o : Option TypeItem) → slice_get xs i ≡ o → option_map_or (own_faults (xs ++ x ∷ []) i) (slice_get xs i) [] ≡ option_map_or (own_faults xs i) (slice_get xs i) []
+      own : (o : Option ListItem) → slice_get xs i ≡ o → option_map_or (own_faults (xs ++ x ∷ []) i) (slice_get xs i) [] ≡ option_map_or (own_faults xs i) (slice_get xs i) []
       own None e = ap (λ o. option_map_or (own_faults (xs ++ x ∷ []) i) o []) e ∙ sym (ap (λ o. option_map_or (own_faults xs i) o []) e)
       own (Some y) e = ap (λ o. option_map_or (own_faults (xs ++ x ∷ []) i) o []) e ∙ own_faults-push i lt y e ∙ sym (ap (λ o. option_map_or (own_faults xs i) o []) e)
 
@@ -144,23 +147,23 @@ schema_joining_faults-push parts (y ∷ ys) e =
     ∙ sym (append_assoc (schema_faults parts y) (schema_joining_faults (parts ++ y ∷ []) ys) (schema_faults (parts ++ y ∷ ys) e))
 
 -- an extension of a name, with this first definition and the extensions before it
-abbrev faults_with : TypePart → List TypeItem → Placed TypePart → List Fault
+abbrev faults_with : TypePart → List ListItem → Placed TypePart → List Fault
 faults_with d xs e = extension_faults d (extensions_of (take e.0 xs) (key_of d)) e.1
 
 abbrev has_name : List ℕ → Placed TypePart → Bool
 has_name n e = same n (key_of e.1)
 
 -- the extensions of a name by places, and one after another, have the same faults
-faults_with-after : (d : TypePart) (xs : List TypeItem) → flat_map (faults_with d xs) (filter (has_name (key_of d)) (extension_places types xs)) ≡ faults_after d [] (extensions_of xs (key_of d))
+faults_with-after : (d : TypePart) (xs : List ListItem) → flat_map (faults_with d xs) (filter (has_name (key_of d)) (extension_places types xs)) ≡ faults_after d [] (extensions_of xs (key_of d))
 faults_with-after d = snoc_ind (λ xs. flat_map (faults_with d xs) (filter (has_name n) (extension_places types xs)) ≡ faults_after d [] (extensions_of xs n)) refl step
   where
     n : List ℕ
     n = key_of d
 
-    new : (xs : List TypeItem) → Option TypePart → List (Placed TypePart)
+    new : (xs : List ListItem) → Option TypePart → List (Placed TypePart)
     new xs o = at_place (length xs) o
 
-    parts : (xs : List TypeItem) (x : TypeItem) → flat_map (faults_with d xs) (filter (has_name n) (extension_places types xs)) ≡ faults_after d [] (extensions_of xs n)
+    parts : (xs : List ListItem) (x : ListItem) → flat_map (faults_with d xs) (filter (has_name n) (extension_places types xs)) ≡ faults_after d [] (extensions_of xs n)
         → flat_map (faults_with d (xs ++ x ∷ [])) (filter (has_name n) (extension_places types (xs ++ x ∷ []))) ≡ faults_after d [] (extensions_of xs n) ++ flat_map (faults_with d (xs ++ x ∷ [])) (filter (has_name n) (new xs (extended_part x)))
     parts xs x before =
         ap (λ l. flat_map (faults_with d (xs ++ x ∷ [])) (filter (has_name n) l)) (placed-push extended_part xs x)
@@ -170,13 +173,13 @@ faults_with-after d = snoc_ind (λ xs. flat_map (faults_with d xs) (filter (has_
         (flat_map-each (λ e. IsBelow (length xs) e × (has_name n e ≡ true)) (faults_with d (xs ++ x ∷ [])) (faults_with d xs) (λ e both. ap (λ l. extension_faults d (extensions_of l n) e.1) (same_front xs x e.0 both.0)) (filter (has_name n) (extension_places types xs)) (each-filter (IsBelow (length xs)) (has_name n) (extension_places types xs) (extensions-below types xs))
         ∙ before)
 
-    unextended : (xs : List TypeItem) (x : TypeItem) → extended_part x ≡ None → flat_map (faults_with d xs) (filter (has_name n) (extension_places types xs)) ≡ faults_after d [] (extensions_of xs n)
+    unextended : (xs : List ListItem) (x : ListItem) → extended_part x ≡ None → flat_map (faults_with d xs) (filter (has_name n) (extension_places types xs)) ≡ faults_after d [] (extensions_of xs n)
         → flat_map (faults_with d (xs ++ x ∷ [])) (filter (has_name n) (extension_places types (xs ++ x ∷ []))) ≡ faults_after d [] (extensions_of (xs ++ x ∷ []) n)
     unextended xs x none before =
         parts xs x before ∙ ap (λ o. faults_after d [] (extensions_of xs n) ++ flat_map (faults_with d (xs ++ x ∷ [])) (filter (has_name n) (new xs o))) none
         ∙ append-nil (faults_after d [] (extensions_of xs n)) ∙ ap (faults_after d []) (sym (extensions_of-push_unextended xs x none n))
 
-    step : (xs : List TypeItem) (x : TypeItem) → flat_map (faults_with d xs) (filter (has_name n) (extension_places types xs)) ≡ faults_after d [] (extensions_of xs n)
+    step : (xs : List ListItem) (x : ListItem) → flat_map (faults_with d xs) (filter (has_name n) (extension_places types xs)) ≡ faults_after d [] (extensions_of xs n)
         → flat_map (faults_with d (xs ++ x ∷ [])) (filter (has_name n) (extension_places types (xs ++ x ∷ []))) ≡ faults_after d [] (extensions_of (xs ++ x ∷ []) n)
     step xs (Defined p) before = unextended xs (Defined p) refl before
     step xs (SchemaDefined s) before = unextended xs (SchemaDefined s) refl before
@@ -191,14 +194,14 @@ faults_with-after d = snoc_ind (λ xs. flat_map (faults_with d xs) (filter (has_
             ∙ sym (faults_after-push d [] (extensions_of xs n) p)
 
 -- an extension of the schema, with this first definition and the extensions before it
-abbrev schema_faults_with : SchemaPart → List TypeItem → Placed SchemaPart → List Fault
+abbrev schema_faults_with : SchemaPart → List ListItem → Placed SchemaPart → List Fault
 schema_faults_with s xs e = schema_faults (s ∷ schema_extensions (take e.0 xs)) e.1
 
 -- the same for the extensions of the schema
-schema_faults_with-joining : (s : SchemaPart) (xs : List TypeItem) → flat_map (schema_faults_with s xs) (extension_places schemas xs) ≡ schema_joining_faults (s ∷ []) (schema_extensions xs)
+schema_faults_with-joining : (s : SchemaPart) (xs : List ListItem) → flat_map (schema_faults_with s xs) (extension_places schemas xs) ≡ schema_joining_faults (s ∷ []) (schema_extensions xs)
 schema_faults_with-joining s = snoc_ind (λ xs. flat_map (schema_faults_with s xs) (extension_places schemas xs) ≡ schema_joining_faults (s ∷ []) (schema_extensions xs)) refl step
   where
-    parts : (xs : List TypeItem) (x : TypeItem) (o : Option SchemaPart) → extended_schema x ≡ o → flat_map (schema_faults_with s xs) (extension_places schemas xs) ≡ schema_joining_faults (s ∷ []) (schema_extensions xs)
+    parts : (xs : List ListItem) (x : ListItem) (o : Option SchemaPart) → extended_schema x ≡ o → flat_map (schema_faults_with s xs) (extension_places schemas xs) ≡ schema_joining_faults (s ∷ []) (schema_extensions xs)
         → flat_map (schema_faults_with s (xs ++ x ∷ [])) (extension_places schemas (xs ++ x ∷ [])) ≡ schema_joining_faults (s ∷ []) (schema_extensions xs) ++ flat_map (schema_faults_with s (xs ++ x ∷ [])) (at_place (length xs) o)
     parts xs x o is before =
         ap (flat_map (schema_faults_with s (xs ++ x ∷ []))) (placed-push extended_schema xs x ∙ ap (λ o. extension_places schemas xs ++ at_place (length xs) o) is)
@@ -207,12 +210,12 @@ schema_faults_with-joining s = snoc_ind (λ xs. flat_map (schema_faults_with s x
         (flat_map-each (IsBelow (length xs)) (schema_faults_with s (xs ++ x ∷ [])) (schema_faults_with s xs) (λ e low. ap (λ l. schema_faults (s ∷ schema_extensions l) e.1) (same_front xs x e.0 low)) (extension_places schemas xs) (extensions-below schemas xs)
         ∙ before)
 
-    unextended : (xs : List TypeItem) (x : TypeItem) → extended_schema x ≡ None → flat_map (schema_faults_with s xs) (extension_places schemas xs) ≡ schema_joining_faults (s ∷ []) (schema_extensions xs)
+    unextended : (xs : List ListItem) (x : ListItem) → extended_schema x ≡ None → flat_map (schema_faults_with s xs) (extension_places schemas xs) ≡ schema_joining_faults (s ∷ []) (schema_extensions xs)
         → flat_map (schema_faults_with s (xs ++ x ∷ [])) (extension_places schemas (xs ++ x ∷ [])) ≡ schema_joining_faults (s ∷ []) (schema_extensions (xs ++ x ∷ []))
     unextended xs x none before =
         parts xs x None none before ∙ append-nil (schema_joining_faults (s ∷ []) (schema_extensions xs)) ∙ ap (schema_joining_faults (s ∷ [])) (sym (schema_extensions-push_unextended xs x none))
 
-    step : (xs : List TypeItem) (x : TypeItem) → flat_map (schema_faults_with s xs) (extension_places schemas xs) ≡ schema_joining_faults (s ∷ []) (schema_extensions xs)
+    step : (xs : List ListItem) (x : ListItem) → flat_map (schema_faults_with s xs) (extension_places schemas xs) ≡ schema_joining_faults (s ∷ []) (schema_extensions xs)
         → flat_map (schema_faults_with s (xs ++ x ∷ [])) (extension_places schemas (xs ++ x ∷ [])) ≡ schema_joining_faults (s ∷ []) (schema_extensions (xs ++ x ∷ []))
     step xs (Defined p) before = unextended xs (Defined p) refl before
     step xs (Extended p) before = unextended xs (Extended p) refl before
@@ -224,7 +227,7 @@ schema_faults_with-joining s = snoc_ind (λ xs. flat_map (schema_faults_with s x
         ∙ sym (schema_joining_faults-push (s ∷ []) (schema_extensions xs) e) ∙ ap (schema_joining_faults (s ∷ [])) (sym (schema_extensions-push_extension xs e))
 
 -- at its own moment an item finds what the code finds
-pub found_when-now : (xs : List TypeItem) (x : TypeItem) → found_when (xs ++ x ∷ []) (length xs) ≡ found_at xs x
+pub found_when-now : (xs : List ListItem) (x : ListItem) → found_when (xs ++ x ∷ []) (length xs) ≡ found_at xs x
 found_when-now xs (Other d) =
     found_when-type xs (Other d) (met_when-other schemas xs (Other d) refl refl) [] (ap (flat_map (faults_of_extension (xs ++ Other d ∷ []))) (met_when-other types xs (Other d) refl refl))
     ∙ append-nil (own_faults (xs ++ Other d ∷ []) (length xs) (Other d))
@@ -247,7 +250,7 @@ found_when-now xs (Defined d) =
     found_when-type xs (Defined d) (met_when-other schemas xs (Defined d) refl refl) (flat_map (faults_of_extension (xs ++ Defined d ∷ [])) (met_when types (xs ++ Defined d ∷ []) (length xs))) refl
     ∙ by (first_place types xs (key_of d)) refl
   where
-    ys : List TypeItem
+    ys : List ListItem
     ys = xs ++ Defined d ∷ []
 
     own : (z : Placed TypePart) (b : Bool) → first_place types ys (key_of d) ≡ Some z → (z.0 == length xs) ≡ b → own_faults ys (length xs) (Defined d) ≡ cond b (part_faults [] d) (further_definition z.1 d)
@@ -293,7 +296,7 @@ found_when-now xs (SchemaDefined s) =
     found_when-schema xs (SchemaDefined s) (met_when-other types xs (SchemaDefined s) refl refl) (flat_map (faults_of_schema_extension (xs ++ SchemaDefined s ∷ [])) (met_when schemas (xs ++ SchemaDefined s ∷ []) (length xs))) refl
     ∙ by (first_place schemas xs []) refl
   where
-    ys : List TypeItem
+    ys : List ListItem
     ys = xs ++ SchemaDefined s ∷ []
 
     own : (z : Placed SchemaPart) (b : Bool) → first_place schemas ys [] ≡ Some z → (z.0 == length xs) ≡ b → own_faults ys (length xs) (SchemaDefined s) ≡ cond b (schema_faults [] s) (further_schema z.1 s ∷ [])
@@ -321,12 +324,12 @@ found_when-now xs (SchemaDefined s) =
         ∙ sym (ap (λ o. option_map_or (λ f. further_schema f s ∷ []) o (schema_begun_faults s (schema_extensions xs))) (first_schema-none xs e))
 
 -- what is found by places from the end of a list on, moment by moment, is what is found item by item after it
-pub found_after-order : (before xs : List TypeItem) → found_from (length before) (length xs) (before ++ xs) ≡ added_after found_at before xs
+pub found_after-order : (before xs : List ListItem) → found_from (length before) (length xs) (before ++ xs) ≡ added_after found_at before xs
 found_after-order before = snoc_ind (λ xs. found_from (length before) (length xs) (before ++ xs) ≡ added_after found_at before xs) refl
     (λ xs x so_far. moments-on found_when before xs x (found_when-push (before ++ xs) x)
     ∙ ap (λ l. l ++ found_when ((before ++ xs) ++ x ∷ []) (length (before ++ xs))) so_far
     ∙ ap (λ l. added_after found_at before xs ++ l) (found_when-now (before ++ xs) x) ∙ sym (added_after-push found_at before xs x))
 
 -- and so is all that is found
-pub found_in-order : (xs : List TypeItem) → found_from 0 (length xs) xs ≡ found xs
+pub found_in-order : (xs : List ListItem) → found_from 0 (length xs) xs ≡ found xs
 found_in-order xs = found_after-order [] xs

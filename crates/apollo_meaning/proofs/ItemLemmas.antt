@@ -5,17 +5,19 @@ use Rattle.std.specs.Option.{option_or}
 use Rattle.std.specs.Map.{lookup}
 use Rattle.std.proofs.lemmas.List.{append-nil, map-append}
 use Rattle.std.proofs.lemmas.List.Elements.{filter-append, filter_map-append}
-use Rattle.apollo_meaning.specs.TypeParts.{TypePart, SchemaPart, TypeItem, Defined, Extended, SchemaDefined, SchemaExtended, Folding, defined_part, extended_part, defined_schema, extended_schema, key_of, same}
-use Rattle.apollo_meaning.specs.DefinitionList.{named, definitions, first, extensions_of, first_schema, schema_extensions}
-use Rattle.apollo_meaning.specs.Prefixes.{added_after, folded_at, folded, found_at, found, waited_at, waited}
-use Rattle.apollo_meaning.specs.TypeMeaning.{sourced}
+use Rattle.apollo_meaning.specs.Items.Parts.{TypePart, SchemaPart, key_of}
+use Rattle.apollo_meaning.specs.Items.ListItems.{ListItem, Defined, Extended, SchemaDefined, SchemaExtended, Folding, defined_part, extended_part, defined_schema, extended_schema}
+use Rattle.graphql_nodes.specs.SameText.{same}
+use Rattle.apollo_meaning.specs.Items.Named.{named, definitions, first, extensions_of, first_schema, schema_extensions}
+use Rattle.apollo_meaning.specs.Steps.Prefixes.{added_after, folded_at, folded, found_at, found, waited_at, waited}
+use Rattle.apollo_meaning.specs.Types.Meaning.{sourced}
 use Rattle.apollo_meaning.proofs.FoldingLemmas.{enumerate_from-append}
 
 -- what holds of the empty list, and of a list with one more item if it holds of the list, holds of each list
-pub snoc_ind : (P : List TypeItem → Type 0) → P [] → ((xs : List TypeItem) (x : TypeItem) → P xs → P (xs ++ x ∷ [])) → (xs : List TypeItem) → P xs
+pub snoc_ind : (P : List ListItem → Type 0) → P [] → ((xs : List ListItem) (x : ListItem) → P xs → P (xs ++ x ∷ [])) → (xs : List ListItem) → P xs
 snoc_ind P base step xs = go [] xs base
   where
-    go : (before ys : List TypeItem) → P before → P (before ++ ys)
+    go : (before ys : List ListItem) → P before → P (before ++ ys)
     go before [] h = subst P (sym (append-nil before)) h
     go before (y ∷ ys) h = subst P (append_assoc before (y ∷ []) ys) (go (before ++ y ∷ []) ys (step before y h))
 
@@ -34,7 +36,7 @@ lookup-push n m v (e ∷ es) = by (same n e.0) refl (lookup-push n m v es)
     by true p rest = rw p
     by false p rest = rw p rest
 
-module _ (xs : List TypeItem) (p : TypePart) where
+module _ (xs : List ListItem) (p : TypePart) where
   pub definitions-push_definition : definitions (xs ++ Defined p ∷ []) ≡ definitions xs ++ (key_of p, p) ∷ []
   definitions-push_definition = rw (filter_map-append, map-append)
 
@@ -45,11 +47,11 @@ module _ (xs : List TypeItem) (p : TypePart) where
   extensions_of-push_extension n = rw (filter_map-append, filter-append)
 
 -- what a filter leaves out adds nothing
-pub filter_map-push_none : {P : Type 0} (which : TypeItem → Option P) (xs : List TypeItem) (x : TypeItem) → which x ≡ None → filter_map which (xs ++ x ∷ []) ≡ filter_map which xs
+pub filter_map-push_none : {P : Type 0} (which : ListItem → Option P) (xs : List ListItem) (x : ListItem) → which x ≡ None → filter_map which (xs ++ x ∷ []) ≡ filter_map which xs
 filter_map-push_none which xs x none = filter_map-append which xs (x ∷ []) ∙ ap (λ o. filter_map which xs ++ cons_option o []) none ∙ append-nil (filter_map which xs)
 
 -- an item that defines no type, and one that extends none, changes no definition, and no extension
-module _ (xs : List TypeItem) (x : TypeItem) where
+module _ (xs : List ListItem) (x : ListItem) where
   pub definitions-push_undefined : defined_part x ≡ None → definitions (xs ++ x ∷ []) ≡ definitions xs
   definitions-push_undefined none = ap named (filter_map-push_none defined_part xs x none)
 
@@ -64,14 +66,14 @@ slice_get-push : {X : Type 0} (l : List X) (x : X) → slice_get (l ++ x ∷ [])
 slice_get-push [] x = refl
 slice_get-push (y ∷ l) x = refl
 
-module _ (xs : List TypeItem) (s : SchemaPart) where
+module _ (xs : List ListItem) (s : SchemaPart) where
   pub first_schema-push_definition : first_schema (xs ++ SchemaDefined s ∷ []) ≡ option_or (first_schema xs) (Some s)
   first_schema-push_definition = ap (λ l. slice_get l 0) (filter_map-append defined_schema xs (SchemaDefined s ∷ [])) ∙ slice_get-push (filter_map defined_schema xs) s
 
   pub schema_extensions-push_extension : schema_extensions (xs ++ SchemaExtended s ∷ []) ≡ schema_extensions xs ++ s ∷ []
   schema_extensions-push_extension = filter_map-append extended_schema xs (SchemaExtended s ∷ [])
 
-module _ (xs : List TypeItem) (x : TypeItem) where
+module _ (xs : List ListItem) (x : ListItem) where
   pub first_schema-push_undefined : defined_schema x ≡ None → first_schema (xs ++ x ∷ []) ≡ first_schema xs
   first_schema-push_undefined none = ap (λ l. slice_get l 0) (filter_map-push_none defined_schema xs x none)
 
@@ -79,13 +81,13 @@ module _ (xs : List TypeItem) (x : TypeItem) where
   schema_extensions-push_unextended none = filter_map-push_none extended_schema xs x none
 
 -- one more item adds its own, after the others
-pub added_after-push : {X : Type 0} (at : List TypeItem → TypeItem → List X) (before xs : List TypeItem) (x : TypeItem)
+pub added_after-push : {X : Type 0} (at : List ListItem → ListItem → List X) (before xs : List ListItem) (x : ListItem)
     → added_after at before (xs ++ x ∷ []) ≡ added_after at before xs ++ at (before ++ xs) x
 added_after-push at before [] x = rw (append-nil before) (append-nil (at before x))
 added_after-push at before (y ∷ ys) x =
     rw (added_after-push at (before ++ y ∷ []) ys x, append_assoc before (y ∷ []) ys) (sym (append_assoc (at before y) (added_after at (before ++ y ∷ []) ys) (at (before ++ y ∷ ys) x)))
 
-module _ (xs : List TypeItem) (x : TypeItem) where
+module _ (xs : List ListItem) (x : ListItem) where
   pub folded-push : folded (xs ++ x ∷ []) ≡ folded xs ++ folded_at xs x
   folded-push = added_after-push folded_at [] xs x
 
@@ -100,7 +102,7 @@ pub sourced-append : (n : List ℕ) (start : ℕ) (ps qs : List Folding) → sou
 sourced-append n start ps qs = rw (enumerate_from-append start ps qs, filter_map-append, filter-append, map-append)
 
 -- a longer list folds no less
-pub length-folded-front : (xs ys : List TypeItem) → length (folded xs) ≤ length (folded (xs ++ ys))
+pub length-folded-front : (xs ys : List ListItem) → length (folded xs) ≤ length (folded (xs ++ ys))
 length-folded-front xs [] = omega (arith, ap (λ l. length (folded l)) (append-nil xs))
 length-folded-front xs (y ∷ ys) =
     omega (arith, length-folded-front (xs ++ y ∷ []) ys, ap (λ l. length (folded l)) (append_assoc xs (y ∷ []) ys), ap length (folded-push xs y), length-append (folded xs) (folded_at xs y))

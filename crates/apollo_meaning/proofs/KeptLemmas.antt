@@ -16,9 +16,9 @@ use Rattle.apollo_component.specs.declared.component.Component.{Component}
 use Rattle.apollo_component.specs.declared.component.ComponentName.{ComponentName}
 use Rattle.apollo_component.proofs.FirstOfEachLemmas.{find-first_of_each, first_of_each-push_new, first_of_each-push_old, keys_of-first_of_each, lookup_key-find, list_any-first_of_each, insert_entry-last}
 use Rattle.apollo_meaning.specs.declared.collision.Collection.{Collection}
-use Rattle.apollo_meaning.specs.TypeMeaning.{component, component_name, same_component_name, distinct_names}
-use Rattle.apollo_meaning.specs.TypeFaults.{name_entries}
-use Rattle.apollo_meaning.specs.Collisions.{Fault, Entry, collision_at, collisions}
+use Rattle.apollo_meaning.specs.Types.Components.{component, component_name, same_component_name, distinct_names}
+use Rattle.apollo_meaning.specs.Faults.TypeFaults.{name_entries}
+use Rattle.apollo_meaning.specs.Faults.Collisions.{Fault, Entry, collision_at, collisions}
 
 pub name_laws : IsEquivalence same_text
 name_laws = on_equiv (λ n. n.text) nat_list_eq_equiv

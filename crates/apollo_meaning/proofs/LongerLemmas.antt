@@ -1,21 +1,22 @@
 -- What a list folds is no more than what a longer one does, once that is completed.
 use Rattle.std.proofs.Common.{◌≡◌, ℕ, ◌≤◌, Bool, true, false, List, ◌++◌, length, ap, arith}
 use Rattle.std.proofs.lemmas.List.{map-append}
-use Rattle.apollo_meaning.specs.TypeParts.{TypeItem, Added, added_item, added_items}
-use Rattle.apollo_meaning.specs.Places.{folding_order}
-use Rattle.apollo_meaning.specs.Adoption.{adopted, with_adopted, implied_schema, completed}
-use Rattle.apollo_meaning.specs.WholeSchema.{whole, folds}
-use Rattle.apollo_meaning.specs.SpentIds.{SpendsIdsSoFar, SpendsIds}
-use Rattle.apollo_meaning.specs.Prefixes.{folded}
+use Rattle.apollo_meaning.specs.Items.ListItems.{ListItem, Added, added_item, added_items}
+use Rattle.apollo_meaning.specs.Order.Places.{folding_order}
+use Rattle.apollo_meaning.specs.Completion.Adoption.{adopted, with_adopted}
+use Rattle.apollo_meaning.specs.Completion.ImpliedSchema.{implied_schema, completed}
+use Rattle.apollo_meaning.specs.Schema.Whole.{whole, folds}
+use Rattle.apollo_meaning.specs.Order.SpentIds.{SpendsIdsSoFar, SpendsIds}
+use Rattle.apollo_meaning.specs.Steps.Prefixes.{folded}
 use Rattle.apollo_meaning.proofs.PlaceLemmas.{folding_order-forget}
 use Rattle.apollo_meaning.proofs.ItemLemmas.{length-folded-front}
 
 -- what is adopted only adds to it
-folded-adopted : (adopts : Bool) (xs : List TypeItem) → length (folded xs) ≤ length (folded (with_adopted adopts xs))
+folded-adopted : (adopts : Bool) (xs : List ListItem) → length (folded xs) ≤ length (folded (with_adopted adopts xs))
 folded-adopted true xs = length-folded-front xs (adopted xs)
 folded-adopted false xs = omega arith
 
-folded-completed : (adopts : Bool) (xs : List TypeItem) → length (folded xs) ≤ length (folded (completed adopts xs))
+folded-completed : (adopts : Bool) (xs : List ListItem) → length (folded xs) ≤ length (folded (completed adopts xs))
 folded-completed adopts xs =
     omega (arith, folded-adopted adopts xs, length-folded-front (with_adopted adopts xs) (implied_schema adopts (with_adopted adopts xs)))
 

@@ -10,9 +10,9 @@ use Rattle.graphql_nodes.specs.SameText.{same_text}
 use Rattle.apollo_component.specs.FirstOfEach.{first_of_each, same_key}
 use Rattle.apollo_component.proofs.FirstOfEachLemmas.{first_of_each-push_new, first_of_each-push_old}
 use Rattle.apollo_meaning.specs.declared.collision.Collection.{Collection}
-use Rattle.apollo_meaning.specs.TypeParts.{TypeItem}
-use Rattle.apollo_meaning.specs.Collisions.{Entry, collision_at, collisions}
-use Rattle.apollo_meaning.specs.Places.{Family, Placed, extension_places, first_place, is_met}
+use Rattle.apollo_meaning.specs.Items.ListItems.{ListItem}
+use Rattle.apollo_meaning.specs.Faults.Collisions.{Entry, collision_at, collisions}
+use Rattle.apollo_meaning.specs.Order.Places.{Family, Placed, extension_places, first_place, is_met}
 use Rattle.apollo_meaning.proofs.EachLemmas.{each-weaken}
 use Rattle.apollo_meaning.proofs.KeptLemmas.{entry_laws, key-any}
 use Rattle.apollo_meaning.proofs.PlaceLemmas.{IsBelow, extensions-below, first_place-below}
@@ -74,10 +74,10 @@ none-pass [] = refl
 none-pass (n ∷ ns) = none-pass ns
 
 -- met at one moment, if the key is defined, and else at none
-abbrev IsMetOnce : {P : Type 0} → Family P → List TypeItem → Placed P → Type 0
+abbrev IsMetOnce : {P : Type 0} → Family P → List ListItem → Placed P → Type 0
 IsMetOnce f xs e = length (filter (λ i. is_met f xs i e) (range_with_len 0 (length xs))) ≡ option_map_or (λ _. 1) (first_place f xs (f.key e.1)) 0
 
-module _ {P : Type 0} (f : Family P) (xs : List TypeItem) where
+module _ {P : Type 0} (f : Family P) (xs : List ListItem) where
   met-once : (e : Placed P) → IsBelow (length xs) e → IsMetOnce f xs e
   met-once e low = by (first_place f xs (f.key e.1)) refl
     where

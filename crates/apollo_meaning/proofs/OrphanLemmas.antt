@@ -12,24 +12,23 @@ use Rattle.std.proofs.lemmas.List.Folds.{flat_map-map, list_any-append}
 use Rattle.std.proofs.lemmas.Map.Keys.{IsDistinct-head, IsDistinct-tail, IsDistinct-push}
 use Rattle.graphql_nodes.specs.NameView.{NameView}
 use Rattle.graphql_nodes.specs.Tables.{HasUniqueKeys}
-use Rattle.graphql_nodes.specs.SameText.{same_text}
+use Rattle.graphql_nodes.specs.SameText.{same_text, same, by_text}
 use Rattle.graphql_ast.specs.declared.definition.Definition.{Definition}
 use Rattle.apollo_component.specs.FirstOfEach.{first_of_each}
 use Rattle.apollo_component.proofs.FirstOfEachLemmas.{first_of_each-push_new, first_of_each-push_old, is_some-lookup, list_any-first_of_each}
-use Rattle.apollo_meaning.specs.TypeParts.{TypePart, TypeItem, Defined, Extended, SchemaDefined, SchemaExtended, Other, extended_part, items_of, extended_parts, key_of, same}
-use Rattle.apollo_meaning.specs.DefinitionList.{first, extensions_of}
-use Rattle.apollo_meaning.specs.SchemaMeaning.{by_text}
-use Rattle.apollo_meaning.specs.Places.{types, Placed, first_place}
-use Rattle.apollo_meaning.specs.Adoption.{extended_names, orphans_of, adopted_by, adopted}
-use Rattle.apollo_meaning.specs.Prefixes.{waited_at, waited}
-use Rattle.apollo_meaning.specs.HeldItems.{items_held}
+use Rattle.apollo_meaning.specs.Items.Parts.{TypePart, key_of}
+use Rattle.apollo_meaning.specs.Items.ListItems.{ListItem, Defined, Extended, SchemaDefined, SchemaExtended, Other, extended_part, items_of, extended_parts, items_held}
+use Rattle.apollo_meaning.specs.Items.Named.{first, extensions_of}
+use Rattle.apollo_meaning.specs.Order.Places.{types, Placed, first_place}
+use Rattle.apollo_meaning.specs.Completion.Adoption.{extended_names, orphans_of, adopted_by, adopted}
+use Rattle.apollo_meaning.specs.Steps.Prefixes.{waited_at, waited}
 use Rattle.apollo_meaning.proofs.Texts.{same-true, same-is, same-flip}
 use Rattle.apollo_meaning.proofs.EachLemmas.{flat_map-each}
 use Rattle.apollo_meaning.proofs.ItemLemmas.{parts-extended, snoc_ind, filter_map-push_none, first-push_undefined, waited-push}
 use Rattle.apollo_meaning.proofs.PlaceLemmas.{first-none, first-some, first_place-stays}
 
 -- the names of extensions, each as often as it is extended
-abbrev keys : List TypeItem → List (List ℕ)
+abbrev keys : List ListItem → List (List ℕ)
 keys xs = map key_of (filter_map extended_part xs)
 
 -- a name has an extension if it is among them
@@ -43,17 +42,17 @@ no_extension n (p ∷ ps) = by (same n (key_of p)) (no_extension n ps)
     by false rest = rest
 
 -- a further name that is extended
-abbrev names_at : List TypeItem → TypeItem → List (List ℕ)
+abbrev names_at : List ListItem → ListItem → List (List ℕ)
 names_at xs (Defined d) = []
 names_at xs (Extended p) = cond (list_any (same (key_of p)) (keys xs)) [] (key_of p ∷ [])
 names_at xs (SchemaDefined s) = []
 names_at xs (SchemaExtended s) = []
 names_at xs (Other d) = []
 
-extended_names-unextended : (xs : List TypeItem) (x : TypeItem) → extended_part x ≡ None → extended_names (xs ++ x ∷ []) ≡ extended_names xs ++ []
+extended_names-unextended : (xs : List ListItem) (x : ListItem) → extended_part x ≡ None → extended_names (xs ++ x ∷ []) ≡ extended_names xs ++ []
 extended_names-unextended xs x none = ap (λ l. first_of_each same (map key_of l)) (filter_map-push_none extended_part xs x none) ∙ sym (append-nil (extended_names xs))
 
-extended_names-push : (xs : List TypeItem) (x : TypeItem) → extended_names (xs ++ x ∷ []) ≡ extended_names xs ++ names_at xs x
+extended_names-push : (xs : List ListItem) (x : ListItem) → extended_names (xs ++ x ∷ []) ≡ extended_names xs ++ names_at xs x
 extended_names-push xs (Defined d) = extended_names-unextended xs (Defined d) refl
 extended_names-push xs (SchemaDefined s) = extended_names-unextended xs (SchemaDefined s) refl
 extended_names-push xs (SchemaExtended s) = extended_names-unextended xs (SchemaExtended s) refl
@@ -68,21 +67,21 @@ abbrev texts : List NameView → List (List ℕ)
 texts = map (λ k. k.text)
 
 -- names without a definition
-abbrev is_undefined : List TypeItem → List ℕ → Bool
+abbrev is_undefined : List ListItem → List ℕ → Bool
 is_undefined xs n = not (is_some (first xs n))
 
-abbrev undefined : List TypeItem → List (List ℕ) → List (List ℕ)
+abbrev undefined : List ListItem → List (List ℕ) → List (List ℕ)
 undefined xs = filter (is_undefined xs)
 
 -- a name without one in a longer list has none in a front
-undefined-before : (xs : List TypeItem) (x : TypeItem) (n : List ℕ) → is_undefined (xs ++ x ∷ []) n ≡ true → is_undefined xs n ≡ true
+undefined-before : (xs : List ListItem) (x : ListItem) (n : List ℕ) → is_undefined (xs ++ x ∷ []) n ≡ true → is_undefined xs n ≡ true
 undefined-before xs x n h = by (first_place types xs n) refl
   where
     by : (o : Option (Placed TypePart)) → first_place types xs n ≡ o → is_undefined xs n ≡ true
     by None e = ap (λ o. not (is_some o)) (first-none xs n e)
     by (Some z) e = absurd (let g : false ≡ true = sym (ap (λ o. not (is_some o)) (first-some (xs ++ x ∷ []) n z (first_place-stays types xs x n z e))) ∙ h in cc)
 
-undefined-twice : (xs : List TypeItem) (x : TypeItem) (ns : List (List ℕ)) → undefined (xs ++ x ∷ []) ns ≡ undefined (xs ++ x ∷ []) (undefined xs ns)
+undefined-twice : (xs : List ListItem) (x : ListItem) (ns : List (List ℕ)) → undefined (xs ++ x ∷ []) ns ≡ undefined (xs ++ x ∷ []) (undefined xs ns)
 undefined-twice xs x [] = refl
 undefined-twice xs x (n ∷ ns) = by (is_undefined (xs ++ x ∷ []) n) refl (is_undefined xs n) refl (undefined-twice xs x ns)
   where
@@ -100,7 +99,7 @@ undefined-twice xs x (n ∷ ns) = by (is_undefined (xs ++ x ∷ []) n) refl (is_
         ∙ sym (ap (λ b. undefined (xs ++ x ∷ []) (cond b (n ∷ undefined xs ns) (undefined xs ns))) f)
 
 -- where an extension waits, and where a name is first extended
-waited_at-extended : (xs : List TypeItem) (p : TypePart) (o : Option TypePart) → first xs (key_of p) ≡ o
+waited_at-extended : (xs : List ListItem) (p : TypePart) (o : Option TypePart) → first xs (key_of p) ≡ o
     → waited_at xs (Extended p) ≡ cond (is_some o) [] (cond (list_any (same (key_of p)) (keys xs)) [] (p.name ∷ []))
 waited_at-extended xs p (Some d) e = ap (λ o. option_map_or (λ _. []) o (cond (length (extensions_of xs (key_of p)) == 0) (p.name ∷ []) [])) e
 waited_at-extended xs p None e =
@@ -113,14 +112,14 @@ waited_at-extended xs p None e =
     swap false = refl
 
 -- names without a definition that an item adds to either list are the same
-same_at : (xs : List TypeItem) (x : TypeItem) → undefined (xs ++ x ∷ []) (texts (waited_at xs x)) ≡ undefined (xs ++ x ∷ []) (names_at xs x)
+same_at : (xs : List ListItem) (x : ListItem) → undefined (xs ++ x ∷ []) (texts (waited_at xs x)) ≡ undefined (xs ++ x ∷ []) (names_at xs x)
 same_at xs (Defined d) = refl
 same_at xs (SchemaDefined s) = refl
 same_at xs (SchemaExtended s) = refl
 same_at xs (Other d) = refl
 same_at xs (Extended p) = by (first xs (key_of p)) refl (list_any (same (key_of p)) (keys xs)) refl
   where
-    ys : List TypeItem
+    ys : List ListItem
     ys = xs ++ Extended p ∷ []
 
     by : (o : Option TypePart) → first xs (key_of p) ≡ o → (b : Bool) → list_any (same (key_of p)) (keys xs) ≡ b → undefined ys (texts (waited_at xs (Extended p))) ≡ undefined ys (cond (list_any (same (key_of p)) (keys xs)) [] (key_of p ∷ []))
@@ -132,13 +131,13 @@ same_at xs (Extended p) = by (first xs (key_of p)) refl (list_any (same (key_of 
         ap (λ l. undefined ys (texts l)) (waited_at-extended xs p (Some d) e) ∙ sym (ap (λ b. undefined ys (cond b [] (key_of p ∷ []))) f ∙ ap (λ b. cond b (key_of p ∷ []) []) known)
 
 -- the names without a definition are in both lists, in one order
-undefined-names : (xs : List TypeItem) → undefined xs (texts (waited xs)) ≡ undefined xs (extended_names xs)
+undefined-names : (xs : List ListItem) → undefined xs (texts (waited xs)) ≡ undefined xs (extended_names xs)
 undefined-names = snoc_ind (λ xs. undefined xs (texts (waited xs)) ≡ undefined xs (extended_names xs)) refl step
   where
-    split : (xs : List TypeItem) (x : TypeItem) (ns ms : List (List ℕ)) → undefined (xs ++ x ∷ []) (ns ++ ms) ≡ undefined (xs ++ x ∷ []) (undefined xs ns) ++ undefined (xs ++ x ∷ []) ms
+    split : (xs : List ListItem) (x : ListItem) (ns ms : List (List ℕ)) → undefined (xs ++ x ∷ []) (ns ++ ms) ≡ undefined (xs ++ x ∷ []) (undefined xs ns) ++ undefined (xs ++ x ∷ []) ms
     split xs x ns ms = filter-append (is_undefined (xs ++ x ∷ [])) ns ms ∙ ap (λ l. l ++ undefined (xs ++ x ∷ []) ms) (undefined-twice xs x ns)
 
-    step : (xs : List TypeItem) (x : TypeItem) → undefined xs (texts (waited xs)) ≡ undefined xs (extended_names xs) → undefined (xs ++ x ∷ []) (texts (waited (xs ++ x ∷ []))) ≡ undefined (xs ++ x ∷ []) (extended_names (xs ++ x ∷ []))
+    step : (xs : List ListItem) (x : ListItem) → undefined xs (texts (waited xs)) ≡ undefined xs (extended_names xs) → undefined (xs ++ x ∷ []) (texts (waited (xs ++ x ∷ []))) ≡ undefined (xs ++ x ∷ []) (extended_names (xs ++ x ∷ []))
     step xs x before =
         let ys = xs ++ x ∷ [] in
         ap (undefined ys) (ap texts (waited-push xs x) ∙ map-append (λ k. k.text) (waited xs) (waited_at xs x))
@@ -150,7 +149,7 @@ undefined-names = snoc_ind (λ xs. undefined xs (texts (waited xs)) ≡ undefine
 -- what the extensions without a definition give, by name
 module _ {X : Type 0} (give : List TypePart → List X) (nothing : give [] ≡ []) where
   -- a name with a definition has no orphans
-  orphans-undefined : (xs : List TypeItem) (ns : List (List ℕ)) → flat_map (λ n. give (orphans_of xs n)) ns ≡ flat_map (λ n. give (orphans_of xs n)) (undefined xs ns)
+  orphans-undefined : (xs : List ListItem) (ns : List (List ℕ)) → flat_map (λ n. give (orphans_of xs n)) ns ≡ flat_map (λ n. give (orphans_of xs n)) (undefined xs ns)
   orphans-undefined xs [] = refl
   orphans-undefined xs (n ∷ ns) = by (first xs n) refl (orphans-undefined xs ns)
     where
@@ -165,27 +164,27 @@ module _ {X : Type 0} (give : List TypePart → List X) (nothing : give [] ≡ [
           ∙ sym (ap (λ o. flat_map (λ n. give (orphans_of xs n)) (cond (not (is_some o)) (n ∷ undefined xs ns) (undefined xs ns))) e)
 
   -- what waits, by name, are the extensions without a definition
-  pub orphans-waited : (xs : List TypeItem) → flat_map (λ k. give (orphans_of xs k.text)) (waited xs) ≡ flat_map (λ n. give (orphans_of xs n)) (extended_names xs)
+  pub orphans-waited : (xs : List ListItem) → flat_map (λ k. give (orphans_of xs k.text)) (waited xs) ≡ flat_map (λ n. give (orphans_of xs n)) (extended_names xs)
   orphans-waited xs =
       sym (flat_map-map (λ n. give (orphans_of xs n)) (λ k. k.text) (waited xs)) ∙ orphans-undefined xs (texts (waited xs))
       ∙ ap (flat_map (λ n. give (orphans_of xs n))) (undefined-names xs) ∙ sym (orphans-undefined xs (extended_names xs))
 
 -- a name that waited is extended
-waited-extended : (xs : List TypeItem) (n : List ℕ) → list_any (same n) (keys xs) ≡ false → list_any (by_text n) (waited xs) ≡ false
+waited-extended : (xs : List ListItem) (n : List ℕ) → list_any (same n) (keys xs) ≡ false → list_any (by_text n) (waited xs) ≡ false
 waited-extended = snoc_ind (λ xs. (n : List ℕ) → list_any (same n) (keys xs) ≡ false → list_any (by_text n) (waited xs) ≡ false) (λ n none. refl) step
   where
     or-false : (a b : Bool) → (a || b) ≡ false → (a ≡ false) × (b ≡ false)
     or-false false b h = (refl, h)
     or-false true b h = absurd (let g : true ≡ false = h in cc)
 
-    step : (xs : List TypeItem) (x : TypeItem) → ((n : List ℕ) → list_any (same n) (keys xs) ≡ false → list_any (by_text n) (waited xs) ≡ false)
+    step : (xs : List ListItem) (x : ListItem) → ((n : List ℕ) → list_any (same n) (keys xs) ≡ false → list_any (by_text n) (waited xs) ≡ false)
         → (n : List ℕ) → list_any (same n) (keys (xs ++ x ∷ [])) ≡ false → list_any (by_text n) (waited (xs ++ x ∷ [])) ≡ false
     step xs x before n none = ap (list_any (by_text n)) (waited-push xs x) ∙ list_any-append (by_text n) (waited xs) (waited_at xs x) ∙ ap (λ b. b || list_any (by_text n) (waited_at xs x)) (before n both.0) ∙ own x both.1
       where
         both : (list_any (same n) (keys xs) ≡ false) × (list_any (same n) (keys (x ∷ [])) ≡ false)
         both = or-false (list_any (same n) (keys xs)) (list_any (same n) (keys (x ∷ []))) (sym (ap (list_any (same n)) (ap (map key_of) (filter_map-append extended_part xs (x ∷ [])) ∙ map-append key_of (filter_map extended_part xs) (filter_map extended_part (x ∷ []))) ∙ list_any-append (same n) (keys xs) (keys (x ∷ []))) ∙ none)
 
-        own : (y : TypeItem) → list_any (same n) (keys (y ∷ [])) ≡ false → list_any (by_text n) (waited_at xs y) ≡ false
+        own : (y : ListItem) → list_any (same n) (keys (y ∷ [])) ≡ false → list_any (by_text n) (waited_at xs y) ≡ false
         own (Defined d) h = refl
         own (SchemaDefined s) h = refl
         own (SchemaExtended s) h = refl
@@ -198,17 +197,17 @@ waited-extended = snoc_ind (λ xs. (n : List ℕ) → list_any (same n) (keys xs
             by None false = refl
 
 -- no two names that waited are one
-pub waited-distinct : (xs : List TypeItem) → IsDistinct same_text (waited xs)
+pub waited-distinct : (xs : List ListItem) → IsDistinct same_text (waited xs)
 unfolding IsDistinct
 waited-distinct = snoc_ind (λ xs. IsDistinct same_text (waited xs)) tt step
   where
-    step : (xs : List TypeItem) (x : TypeItem) → IsDistinct same_text (waited xs) → IsDistinct same_text (waited (xs ++ x ∷ []))
+    step : (xs : List ListItem) (x : ListItem) → IsDistinct same_text (waited xs) → IsDistinct same_text (waited (xs ++ x ∷ []))
     step xs x before = subst (IsDistinct same_text) (sym (waited-push xs x)) (own x)
       where
         still : IsDistinct same_text (waited xs ++ [])
         still = subst (IsDistinct same_text) (sym (append-nil (waited xs))) before
 
-        own : (y : TypeItem) → IsDistinct same_text (waited xs ++ waited_at xs y)
+        own : (y : ListItem) → IsDistinct same_text (waited xs ++ waited_at xs y)
         own (Defined d) = still
         own (SchemaDefined s) = still
         own (SchemaExtended s) = still
@@ -223,7 +222,7 @@ waited-distinct = snoc_ind (λ xs. IsDistinct same_text (waited xs)) tt step
                 (IsDistinct-push (on_equiv (λ (k : NameView). k.text) nat_list_eq_equiv) (waited xs) p.name before (waited-extended xs (key_of p) f))
 
 -- what a table gives, entry by entry, is what it gives under its names
-module _ {X : Type 0} (give : NameView → List TypeItem → List X) where
+module _ {X : Type 0} (give : NameView → List ListItem → List X) where
   held-by_name : (W : List (NameView × List Definition)) → HasUniqueKeys same_text W → flat_map (λ e. give e.0 (items_of e.1)) W ≡ flat_map (λ k. give k (items_held (lookup (by_text k.text) W))) (keys_of W)
   held-by_name [] unique = refl
   held-by_name (e ∷ es) unique =
@@ -233,7 +232,7 @@ module _ {X : Type 0} (give : NameView → List TypeItem → List X) where
       ∙ ap (λ b. give e.0 (items_held (cond b (Some e.1) (lookup (by_text e.0.text) es))) ++ flat_map (λ k. give k (items_held (lookup (by_text k.text) (e ∷ es)))) (keys_of es)) (sym (same-is e.0.text e.0.text refl))
 
   -- a table of what waits gives what it does under the names that waited
-  pub held-waited : (xs : List TypeItem) (W : List (NameView × List Definition)) → keys_of W ≡ waited xs → ((n : List ℕ) → items_held (lookup (by_text n) W) ≡ map Extended (orphans_of xs n))
+  pub held-waited : (xs : List ListItem) (W : List (NameView × List Definition)) → keys_of W ≡ waited xs → ((n : List ℕ) → items_held (lookup (by_text n) W) ≡ map Extended (orphans_of xs n))
       → flat_map (λ e. give e.0 (items_of e.1)) W ≡ flat_map (λ k. give k (map Extended (orphans_of xs k.text))) (waited xs)
   held-waited xs W names each =
       held-by_name W (subst (IsDistinct same_text) (sym names) (waited-distinct xs))
@@ -241,7 +240,7 @@ module _ {X : Type 0} (give : NameView → List TypeItem → List X) where
 
 -- a table of what waits gives what the extensions without a definition do, by name
 held-by : {X : Type 0} (give : List TypePart → List X) → give [] ≡ []
-    → (xs : List TypeItem) (W : List (NameView × List Definition)) → keys_of W ≡ waited xs → ((n : List ℕ) → items_held (lookup (by_text n) W) ≡ map Extended (orphans_of xs n))
+    → (xs : List ListItem) (W : List (NameView × List Definition)) → keys_of W ≡ waited xs → ((n : List ℕ) → items_held (lookup (by_text n) W) ≡ map Extended (orphans_of xs n))
     → flat_map (λ e. give (extended_parts e.1)) W ≡ flat_map (λ n. give (orphans_of xs n)) (extended_names xs)
 held-by give nothing xs W names each =
     held-waited (λ k items. give (filter_map extended_part items)) xs W names each
@@ -249,17 +248,17 @@ held-by give nothing xs W names each =
     ∙ orphans-waited give nothing xs
 
 -- it holds the extensions without a definition
-pub held-orphans : (xs : List TypeItem) (W : List (NameView × List Definition)) → keys_of W ≡ waited xs → ((n : List ℕ) → items_held (lookup (by_text n) W) ≡ map Extended (orphans_of xs n))
+pub held-orphans : (xs : List ListItem) (W : List (NameView × List Definition)) → keys_of W ≡ waited xs → ((n : List ℕ) → items_held (lookup (by_text n) W) ≡ map Extended (orphans_of xs n))
     → flat_map (λ e. extended_parts e.1) W ≡ flat_map (orphans_of xs) (extended_names xs)
 held-orphans xs W names each = held-by (λ ps. ps) refl xs W names each
 
 -- and what is adopted from it is what is adopted at the end of the list
-pub held-adopted : (xs : List TypeItem) (W : List (NameView × List Definition)) → keys_of W ≡ waited xs → ((n : List ℕ) → items_held (lookup (by_text n) W) ≡ map Extended (orphans_of xs n))
+pub held-adopted : (xs : List ListItem) (W : List (NameView × List Definition)) → keys_of W ≡ waited xs → ((n : List ℕ) → items_held (lookup (by_text n) W) ≡ map Extended (orphans_of xs n))
     → flat_map (λ held. adopted_by (extended_parts held)) (values_of W) ≡ adopted xs
 held-adopted xs W names each = flat_map-map (λ held. adopted_by (extended_parts held)) (λ e. e.1) W ∙ held-by adopted_by refl xs W names each
 
 -- a name without a definition waited exactly if it was extended
-waited-known : (xs : List TypeItem) (n : List ℕ) → first xs n ≡ None → list_any (by_text n) (waited xs) ≡ list_any (same n) (keys xs)
+waited-known : (xs : List ListItem) (n : List ℕ) → first xs n ≡ None → list_any (by_text n) (waited xs) ≡ list_any (same n) (keys xs)
 waited-known xs n none =
     by_texts (waited xs) ∙ sym (among (texts (waited xs))) ∙ ap (list_any (same n)) (undefined-names xs) ∙ among (extended_names xs)
     ∙ list_any-first_of_each same nat_list_eq_equiv n (keys xs)
@@ -279,7 +278,7 @@ waited-known xs n none =
         by true e false f rest = absurd (let g : true ≡ false = sym (ap (λ o. not (is_some o)) (ap (first xs) (sym (same-true n m e)) ∙ none)) ∙ f in cc)
 
 -- the names under which something waits after an extension without a definition
-pub waited-early : (xs : List TypeItem) (p : TypePart) (W : List (NameView × List Definition)) (ks : List NameView) → first xs (key_of p) ≡ None → keys_of W ≡ waited xs
+pub waited-early : (xs : List ListItem) (p : TypePart) (W : List (NameView × List Definition)) (ks : List NameView) → first xs (key_of p) ≡ None → keys_of W ≡ waited xs
     → ks ≡ cond (is_some (lookup (by_text (key_of p)) W)) (keys_of W) (keys_of W ++ p.name ∷ []) → ks ≡ waited (xs ++ Extended p ∷ [])
 waited-early xs p W ks none names is =
     let test : is_some (lookup (by_text (key_of p)) W) ≡ list_any (same (key_of p)) (keys xs) =
@@ -296,5 +295,5 @@ waited-early xs p W ks none names is =
     swap false = refl
 
 -- a definition or an extension of a defined name adds no name
-pub waited-late : (xs : List TypeItem) (p d : TypePart) → first xs (key_of p) ≡ Some d → waited_at xs (Extended p) ≡ []
+pub waited-late : (xs : List ListItem) (p d : TypePart) → first xs (key_of p) ≡ Some d → waited_at xs (Extended p) ≡ []
 waited-late xs p d some = waited_at-extended xs p (Some d) some

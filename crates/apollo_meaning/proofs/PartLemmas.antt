@@ -4,9 +4,11 @@ use Rattle.std.specs.List.{filter_map}
 use Rattle.std.specs.Option.{option_or, unwrap_or}
 use Rattle.std.proofs.lemmas.List.{append-nil}
 use Rattle.std.proofs.lemmas.List.Elements.{filter-append}
-use Rattle.apollo_meaning.specs.TypeParts.{TypePart, TypeItem, Defined, Extended, SchemaDefined, SchemaExtended, Other, defined_part, extended_part, kind_of, key_of, same}
-use Rattle.apollo_meaning.specs.DefinitionList.{same_kind, first, extensions_of, of_kind}
-use Rattle.apollo_meaning.specs.Prefixes.{types_folded_at, folded}
+use Rattle.apollo_meaning.specs.Items.Parts.{TypePart, kind_of, key_of, same_kind}
+use Rattle.apollo_meaning.specs.Items.ListItems.{ListItem, Defined, Extended, SchemaDefined, SchemaExtended, Other, defined_part, extended_part}
+use Rattle.graphql_nodes.specs.SameText.{same}
+use Rattle.apollo_meaning.specs.Items.Named.{first, extensions_of, of_kind}
+use Rattle.apollo_meaning.specs.Steps.Prefixes.{types_folded_at, folded}
 use Rattle.apollo_meaning.proofs.Texts.{same-true, same-is}
 use Rattle.apollo_meaning.proofs.ItemLemmas.{snoc_ind, first-push_definition, first-push_undefined, extensions_of-push_extension, extensions_of-push_unextended}
 use Rattle.apollo_meaning.proofs.TypeLemmas.{Own, Apart, type_foldings, type_foldings-push, Own-named, Own-of_kind, Apart-own, Apart-folded, types_folded_at-new, types_folded_at-again, types_folded_at-early, types_folded_at-late}
@@ -19,10 +21,10 @@ filter-apart : (n : List ℕ) (ps : List TypePart) → Apart n ps → filter (λ
 filter-apart n [] apart = refl
 filter-apart n (p ∷ ps) apart = rw apart.0 (filter-apart n ps apart.1)
 
-abbrev pub OfName : List TypeItem → Type 0
+abbrev pub OfName : List ListItem → Type 0
 OfName xs = (n : List ℕ) (d : TypePart) → first xs n ≡ Some d → filter (λ p. same n (key_of p)) (type_foldings (folded xs)) ≡ of_kind (kind_of d) (extensions_of xs n)
 
-step-extension : (xs : List TypeItem) (p : TypePart) → OfName xs → OfName (xs ++ Extended p ∷ [])
+step-extension : (xs : List ListItem) (p : TypePart) → OfName xs → OfName (xs ++ Extended p ∷ [])
 step-extension xs p before n d h =
     let some : first xs n ≡ Some d = sym (first-push_undefined xs (Extended p) refl n) ∙ h in
     ap (filter (λ q. same n (key_of q))) (type_foldings-push xs (Extended p)) ∙ filter-append (λ q. same n (key_of q)) (type_foldings (folded xs)) (types_folded_at xs (Extended p))
@@ -41,7 +43,7 @@ step-extension xs p before n d h =
         other None f = ap (filter (λ q. same n (key_of q))) (types_folded_at-early xs p f)
         other (Some y) f = ap (filter (λ q. same n (key_of q))) (types_folded_at-late xs p y f) ∙ filter-apart n (of_kind (kind_of y) (p ∷ [])) (Apart-own n (key_of p) (of_kind (kind_of y) (p ∷ [])) e (Own-of_kind (key_of p) (kind_of y) (p ∷ []) (same-is (key_of p) (key_of p) refl, tt)))
 
-step-definition : (xs : List TypeItem) (p : TypePart) → OfName xs → OfName (xs ++ Defined p ∷ [])
+step-definition : (xs : List ListItem) (p : TypePart) → OfName xs → OfName (xs ++ Defined p ∷ [])
 step-definition xs p before n d h =
     ap (filter (λ q. same n (key_of q))) (type_foldings-push xs (Defined p)) ∙ filter-append (λ q. same n (key_of q)) (type_foldings (folded xs)) (types_folded_at xs (Defined p))
     ∙ by (first xs n) refl (same n (key_of p)) refl (sym (first-push_definition xs p n) ∙ h) ∙ ap (of_kind (kind_of d)) (sym (extensions_of-push_unextended xs (Defined p) refl n))
@@ -67,15 +69,15 @@ step-definition xs p before n d h =
         ∙ types_folded_at-new xs p (ap (first xs) (sym name) ∙ f) ∙ ap (λ (q : TypePart). of_kind (kind_of q) (extensions_of xs (key_of p))) alike ∙ ap (λ (m : List ℕ). of_kind (kind_of d) (extensions_of xs m)) (sym name)
     by None f false e g = absurd (let is : None ≡ Some d = sym (ap (λ o. option_or o (cond (same n (key_of p)) (Some p) None)) f ∙ ap (λ b. cond b (Some p) None) e) ∙ g in cc)
 
-neither : (xs : List TypeItem) (x : TypeItem) → defined_part x ≡ None → extended_part x ≡ None → types_folded_at xs x ≡ [] → OfName xs → OfName (xs ++ x ∷ [])
+neither : (xs : List ListItem) (x : ListItem) → defined_part x ≡ None → extended_part x ≡ None → types_folded_at xs x ≡ [] → OfName xs → OfName (xs ++ x ∷ [])
 neither xs x undefined unextended none before = λ n d h.
     ap (filter (λ q. same n (key_of q))) (type_foldings-push xs x ∙ ap (λ l. type_foldings (folded xs) ++ l) none ∙ append-nil (type_foldings (folded xs)))
     ∙ before n d (sym (first-push_undefined xs x undefined n) ∙ h) ∙ ap (of_kind (kind_of d)) (sym (extensions_of-push_unextended xs x unextended n))
 
-pub of_name : (xs : List TypeItem) → OfName xs
+pub of_name : (xs : List ListItem) → OfName xs
 of_name = snoc_ind OfName (λ n d h. absurd (let g : None ≡ Some d = h in cc)) step
   where
-    step : (xs : List TypeItem) (x : TypeItem) → OfName xs → OfName (xs ++ x ∷ [])
+    step : (xs : List ListItem) (x : ListItem) → OfName xs → OfName (xs ++ x ∷ [])
     step xs (Defined p) before = step-definition xs p before
     step xs (Extended p) before = step-extension xs p before
     step xs (SchemaDefined s) before = neither xs (SchemaDefined s) refl refl refl before

@@ -7,10 +7,12 @@ use Rattle.std.proofs.lemmas.Bool.{eq-eqb}
 use Rattle.std.proofs.lemmas.Bool.Decides.{nat_tests}
 use Rattle.std.proofs.lemmas.List.{append-nil, map-append}
 use Rattle.std.proofs.lemmas.List.Elements.{filter-append, filter_map-append}
-use Rattle.apollo_meaning.specs.TypeParts.{TypePart, SchemaPart, TypeItem, Defined, Extended, SchemaDefined, SchemaExtended, Other, Folding, OfType, OfSchema, extended_part, defined_schema, extended_schema, kind_of, key_of, same}
-use Rattle.apollo_meaning.specs.DefinitionList.{same_kind, first, extensions_of, of_kind, first_schema, schema_extensions}
-use Rattle.apollo_meaning.specs.Prefixes.{types_folded_at, schemas_folded_at, folded_at, folded}
-use Rattle.apollo_meaning.specs.Places.{Family, types, schemas, Placed, placed_by, definition_places, extension_places, first_place, is_folded, is_met, met_when, folded_when, folding_order}
+use Rattle.apollo_meaning.specs.Items.Parts.{TypePart, SchemaPart, kind_of, key_of, same_kind}
+use Rattle.apollo_meaning.specs.Items.ListItems.{ListItem, Defined, Extended, SchemaDefined, SchemaExtended, Other, Folding, OfType, OfSchema, extended_part, defined_schema, extended_schema}
+use Rattle.graphql_nodes.specs.SameText.{same}
+use Rattle.apollo_meaning.specs.Items.Named.{first, extensions_of, of_kind, first_schema, schema_extensions}
+use Rattle.apollo_meaning.specs.Steps.Prefixes.{types_folded_at, schemas_folded_at, folded_at, folded}
+use Rattle.apollo_meaning.specs.Order.Places.{Family, types, schemas, Placed, placed_by, definition_places, extension_places, first_place, is_folded, is_met, met_when, folded_when, folding_order}
 use Rattle.apollo_meaning.proofs.Texts.{same-true, same-is, same-flip}
 use Rattle.apollo_meaning.proofs.EachLemmas.{each-append, each-weaken, each-filter, filter-each, filter-fails, moments-push}
 use Rattle.apollo_meaning.proofs.FoldingLemmas.{enumerate_from-append}
@@ -24,19 +26,19 @@ IsBelow n e = e.0 < n
 abbrev pub at_place : {P : Type 0} → ℕ → Option P → List (Placed P)
 at_place i o = option_map_or (λ p. (i, p) ∷ []) o []
 
-module _ {P : Type 0} (which : TypeItem → Option P) where
-  placed-one : (i : ℕ) (x : TypeItem) (o : Option P) → which x ≡ o → filter_map (placed_by which) ((i, x) ∷ []) ≡ at_place i o
+module _ {P : Type 0} (which : ListItem → Option P) where
+  placed-one : (i : ℕ) (x : ListItem) (o : Option P) → which x ≡ o → filter_map (placed_by which) ((i, x) ∷ []) ≡ at_place i o
   placed-one i x None e = rw e
   placed-one i x (Some p) e = rw e
 
-  pub placed-push : (xs : List TypeItem) (x : TypeItem)
+  pub placed-push : (xs : List ListItem) (x : ListItem)
       → filter_map (placed_by which) (enumerate_from 0 (xs ++ x ∷ [])) ≡ filter_map (placed_by which) (enumerate_from 0 xs) ++ at_place (length xs) (which x)
   placed-push xs x =
       ap (filter_map (placed_by which)) (enumerate_from-append 0 xs (x ∷ []) ∙ ap (λ (i : ℕ). enumerate_from 0 xs ++ (i, x) ∷ []) (omega arith))
       ∙ filter_map-append (placed_by which) (enumerate_from 0 xs) ((length xs, x) ∷ [])
       ∙ ap (λ l. filter_map (placed_by which) (enumerate_from 0 xs) ++ l) (placed-one (length xs) x (which x) refl)
 
-  placed-below : (xs : List TypeItem) → AllByRecursion (IsBelow (length xs)) (filter_map (placed_by which) (enumerate_from 0 xs))
+  placed-below : (xs : List ListItem) → AllByRecursion (IsBelow (length xs)) (filter_map (placed_by which) (enumerate_from 0 xs))
   placed-below = snoc_ind (λ xs. AllByRecursion (IsBelow (length xs)) (filter_map (placed_by which) (enumerate_from 0 xs))) tt
       (λ xs x b. let more : length (xs ++ x ∷ []) ≡ length xs + 1 = length-append xs (x ∷ []) in
       subst (λ (n : ℕ). AllByRecursion (IsBelow n) (filter_map (placed_by which) (enumerate_from 0 (xs ++ x ∷ [])))) (sym more)
@@ -48,7 +50,7 @@ module _ {P : Type 0} (which : TypeItem → Option P) where
       one n (Some p) = (omega arith, tt)
 
   -- places forgotten
-  pub forget-placed : (n : ℕ) (xs : List TypeItem) → map (λ e. e.1) (filter_map (placed_by which) (enumerate_from n xs)) ≡ filter_map which xs
+  pub forget-placed : (n : ℕ) (xs : List ListItem) → map (λ e. e.1) (filter_map (placed_by which) (enumerate_from n xs)) ≡ filter_map which xs
   forget-placed n [] = refl
   forget-placed n (x ∷ xs) = by (which x) refl (forget-placed (n + 1) xs)
     where
@@ -57,7 +59,7 @@ module _ {P : Type 0} (which : TypeItem → Option P) where
       by None e rest = rw e rest
       by (Some p) e rest = rw e (ap (λ l. p ∷ l) rest)
 
-pub extensions-below : {P : Type 0} (f : Family P) (xs : List TypeItem) → AllByRecursion (IsBelow (length xs)) (extension_places f xs)
+pub extensions-below : {P : Type 0} (f : Family P) (xs : List ListItem) → AllByRecursion (IsBelow (length xs)) (extension_places f xs)
 extensions-below f = placed-below f.extended
 
 -- parts, and parts with their places, under their keys
@@ -86,7 +88,7 @@ module _ {P : Type 0} (f : Family P) where
       by false rest = rest
 
   -- the first definition of a key, with its place and without
-  pub first-forget : (xs : List TypeItem) (n : List ℕ) → option_map (λ e. e.1) (first_place f xs n) ≡ lookup (same n) (keyed f (filter_map f.defined xs))
+  pub first-forget : (xs : List ListItem) (n : List ℕ) → option_map (λ e. e.1) (first_place f xs n) ≡ lookup (same n) (keyed f (filter_map f.defined xs))
   first-forget xs n = lookup-forget n (definition_places f xs) ∙ ap (λ l. lookup (same n) (keyed f l)) (forget-placed f.defined 0 xs)
 
   lookup-below : (m : ℕ) (n : List ℕ) (es : List (Placed P)) (z : Placed P) → AllByRecursion (IsBelow m) es → lookup (same n) (under f es) ≡ Some z → z.0 < m
@@ -101,10 +103,10 @@ module _ {P : Type 0} (f : Family P) where
           unwrap (Some y) = y
       by false g rest = rest g
 
-  pub first_place-below : (xs : List TypeItem) (n : List ℕ) (z : Placed P) → first_place f xs n ≡ Some z → z.0 < length xs
+  pub first_place-below : (xs : List ListItem) (n : List ℕ) (z : Placed P) → first_place f xs n ≡ Some z → z.0 < length xs
   first_place-below xs n z h = lookup-below (length xs) n (definition_places f xs) z (placed-below f.defined xs) h
 
-  first_place-push : (xs : List TypeItem) (x : TypeItem) (n : List ℕ) → first_place f (xs ++ x ∷ []) n ≡ option_or (first_place f xs n) (own_place f (length xs) (f.defined x) n)
+  first_place-push : (xs : List ListItem) (x : ListItem) (n : List ℕ) → first_place f (xs ++ x ∷ []) n ≡ option_or (first_place f xs n) (own_place f (length xs) (f.defined x) n)
   first_place-push xs x n = ap (λ l. lookup (same n) (under f l)) (placed-push f.defined xs x) ∙ by (f.defined x)
     where
       by : (o : Option P) → lookup (same n) (under f (definition_places f xs ++ at_place (length xs) o)) ≡ option_or (first_place f xs n) (own_place f (length xs) o n)
@@ -114,18 +116,18 @@ module _ {P : Type 0} (f : Family P) where
           ∙ lookup-push n (f.key d) (length xs, d) (under f (definition_places f xs))
 
   -- a first definition stays
-  pub first_place-stays : (xs : List TypeItem) (x : TypeItem) (n : List ℕ) (z : Placed P) → first_place f xs n ≡ Some z → first_place f (xs ++ x ∷ []) n ≡ Some z
+  pub first_place-stays : (xs : List ListItem) (x : ListItem) (n : List ℕ) (z : Placed P) → first_place f xs n ≡ Some z → first_place f (xs ++ x ∷ []) n ≡ Some z
   first_place-stays xs x n z e = first_place-push xs x n ∙ ap (λ o. option_or o (own_place f (length xs) (f.defined x) n)) e
 
   -- and where there was none a definition is the first
-  pub first_place-new : (xs : List TypeItem) (x : TypeItem) (d : P) → f.defined x ≡ Some d → first_place f xs (f.key d) ≡ None → first_place f (xs ++ x ∷ []) (f.key d) ≡ Some (length xs, d)
+  pub first_place-new : (xs : List ListItem) (x : ListItem) (d : P) → f.defined x ≡ Some d → first_place f xs (f.key d) ≡ None → first_place f (xs ++ x ∷ []) (f.key d) ≡ Some (length xs, d)
   first_place-new xs x d is e =
       first_place-push xs x (f.key d) ∙ ap (λ o. option_or o (own_place f (length xs) (f.defined x) (f.key d))) e
       ∙ ap (λ o. own_place f (length xs) o (f.key d)) is
       ∙ ap (λ b. cond b (Some (length xs, d)) None) (same-is (f.key d) (f.key d) refl)
 
 -- the first definition of a type's name
-module _ (xs : List TypeItem) (n : List ℕ) where
+module _ (xs : List ListItem) (n : List ℕ) where
   pub first-none : first_place types xs n ≡ None → first xs n ≡ None
   first-none e = sym (first-forget types xs n) ∙ ap (option_map (λ (z : Placed TypePart). z.1)) e
 
@@ -133,7 +135,7 @@ module _ (xs : List TypeItem) (n : List ℕ) where
   first-some z e = sym (first-forget types xs n) ∙ ap (option_map (λ (z : Placed TypePart). z.1)) e
 
 -- and of the schema, whose parts have one key
-module _ (xs : List TypeItem) where
+module _ (xs : List ListItem) where
   first_schema-forget : option_map (λ e. e.1) (first_place schemas xs []) ≡ first_schema xs
   first_schema-forget = first-forget schemas xs [] ∙ by (filter_map defined_schema xs)
     where
@@ -161,7 +163,7 @@ eqb-above m i lt = grind (arith, nat_tests)
 eqb-below : (m i : ℕ) → m < i → (m == i) ≡ false
 eqb-below m i lt = grind (arith, nat_tests)
 
-module _ {P : Type 0} (f : Family P) (xs : List TypeItem) (x : TypeItem) where
+module _ {P : Type 0} (f : Family P) (xs : List ListItem) (x : ListItem) where
   met-push : (i : ℕ) (a : Placed P) → is_met f (xs ++ x ∷ []) i a ≡ met_by i a (option_or (first_place f xs (f.key a.1)) (own_place f (length xs) (f.defined x) (f.key a.1)))
   met-push i a = ap (met_by i a) (first_place-push f xs x (f.key a.1))
 
@@ -222,10 +224,10 @@ module _ {P : Type 0} (f : Family P) (xs : List TypeItem) (x : TypeItem) where
       none (Some p) = ap (λ b. cond b ((length xs, p) ∷ []) []) (met-unborn i lt p)
 
 -- what is met has a definition
-abbrev pub IsDefined : {P : Type 0} → Family P → List TypeItem → Placed P → Type 0
+abbrev pub IsDefined : {P : Type 0} → Family P → List ListItem → Placed P → Type 0
 IsDefined {P} f xs e = (z : Placed P) × (first_place f xs (f.key e.1) ≡ Some z)
 
-pub met-defined : {P : Type 0} (f : Family P) (xs : List TypeItem) (i : ℕ) → AllByRecursion (λ e. IsBelow (length xs) e × IsDefined f xs e) (met_when f xs i)
+pub met-defined : {P : Type 0} (f : Family P) (xs : List ListItem) (i : ℕ) → AllByRecursion (λ e. IsBelow (length xs) e × IsDefined f xs e) (met_when f xs i)
 met-defined {P} f xs i =
     each-weaken (λ e. IsBelow (length xs) e × (is_met f xs i e ≡ true)) (λ e. IsBelow (length xs) e × IsDefined f xs e) (λ e both. (both.0, by e (first_place f xs (f.key e.1)) refl both.1)) (met_when f xs i)
     (each-filter (IsBelow (length xs)) (is_met f xs i) (extension_places f xs) (extensions-below f xs))
@@ -236,7 +238,7 @@ met-defined {P} f xs i =
 
 -- an item that defines something extends nothing
 abbrev pub KeepsApart : {P : Type 0} → Family P → Type 0
-KeepsApart {P} f = (x : TypeItem) (d : P) → f.defined x ≡ Some d → f.extended x ≡ None
+KeepsApart {P} f = (x : ListItem) (d : P) → f.defined x ≡ Some d → f.extended x ≡ None
 
 pub types-apart : KeepsApart types
 types-apart (Defined p) d is = refl
@@ -253,7 +255,7 @@ schemas-apart (SchemaExtended s) d is = absurd (let h : None ≡ Some d = is in 
 schemas-apart (Other o) d is = refl
 
 -- what is met at an item's own moment: nothing, where it neither defines nor extends
-pub met_when-other : {P : Type 0} (f : Family P) (xs : List TypeItem) (x : TypeItem) → f.defined x ≡ None → f.extended x ≡ None → met_when f (xs ++ x ∷ []) (length xs) ≡ []
+pub met_when-other : {P : Type 0} (f : Family P) (xs : List ListItem) (x : ListItem) → f.defined x ≡ None → f.extended x ≡ None → met_when f (xs ++ x ∷ []) (length xs) ≡ []
 met_when-other f xs x undefined unextended =
     met_when-parts f xs x (length xs)
     ∙ ap (λ o. filter (is_met f (xs ++ x ∷ []) (length xs)) (extension_places f xs) ++ filter (is_met f (xs ++ x ∷ []) (length xs)) (at_place (length xs) o)) unextended
@@ -261,7 +263,7 @@ met_when-other f xs x undefined unextended =
     ∙ filter-fails (IsBelow (length xs)) (is_met f (xs ++ x ∷ []) (length xs)) (met-undefined f xs x undefined) (extension_places f xs) (extensions-below f xs)
 
 -- at an extension it alone, if its key has a definition
-module _ {P : Type 0} (f : Family P) (apart : KeepsApart f) (xs : List TypeItem) (x : TypeItem) (p : P) (is : f.extended x ≡ Some p) where
+module _ {P : Type 0} (f : Family P) (apart : KeepsApart f) (xs : List ListItem) (x : ListItem) (p : P) (is : f.extended x ≡ Some p) where
   undefined-there : f.defined x ≡ None
   undefined-there = by (f.defined x) refl
     where
@@ -288,7 +290,7 @@ module _ {P : Type 0} (f : Family P) (apart : KeepsApart f) (xs : List TypeItem)
       met_when-extension (Some z) e ∙ ap (λ b. cond b ((length xs, p) ∷ []) []) (eq-eqb (max (length xs) z.0) (length xs) (omega (arith, low)))
 
 -- at a definition what waited for it, and at a further one nothing
-module _ {P : Type 0} (f : Family P) (apart : KeepsApart f) (xs : List TypeItem) (x : TypeItem) (d : P) (is : f.defined x ≡ Some d) where
+module _ {P : Type 0} (f : Family P) (apart : KeepsApart f) (xs : List ListItem) (x : ListItem) (d : P) (is : f.defined x ≡ Some d) where
   met_when-among : (q : Placed P → Bool) → ((a : Placed P) → a.0 < length xs → is_met f (xs ++ x ∷ []) (length xs) a ≡ q a) → met_when f (xs ++ x ∷ []) (length xs) ≡ filter q (extension_places f xs)
   met_when-among q agree =
       met_when-parts f xs x (length xs)
@@ -322,11 +324,11 @@ module _ {P : Type 0} (f : Family P) (apart : KeepsApart f) (xs : List TypeItem)
       by a low (Some y) e b g = met-past f xs x a low y e
 
 -- the extensions of types that are folded at a moment
-abbrev types_when : List TypeItem → ℕ → List (Placed TypePart)
+abbrev types_when : List ListItem → ℕ → List (Placed TypePart)
 types_when xs i = filter (is_folded xs) (met_when types xs i)
 
 -- a moment before the item folds as it did
-types_when-push : (xs : List TypeItem) (x : TypeItem) (i : ℕ) → i < length xs → types_when (xs ++ x ∷ []) i ≡ types_when xs i
+types_when-push : (xs : List ListItem) (x : ListItem) (i : ℕ) → i < length xs → types_when (xs ++ x ∷ []) i ≡ types_when xs i
 types_when-push xs x i lt =
     ap (filter (is_folded (xs ++ x ∷ []))) (met_when-push types xs x i lt)
     ∙ filter-each (λ e. IsBelow (length xs) e × IsDefined types xs e) (is_folded (xs ++ x ∷ [])) (is_folded xs) agree (met_when types xs i) (met-defined types xs i)
@@ -335,7 +337,7 @@ types_when-push xs x i lt =
     agree e both =
         ap (λ o. option_map_or (λ d. same_kind (kind_of d.1) (kind_of e.1)) o false) (first_place-stays types xs x (key_of e.1) both.1.0 both.1.1 ∙ sym both.1.1)
 
-folded_when-push : (xs : List TypeItem) (x : TypeItem) (i : ℕ) → i < length xs → folded_when (xs ++ x ∷ []) i ≡ folded_when xs i
+folded_when-push : (xs : List ListItem) (x : ListItem) (i : ℕ) → i < length xs → folded_when (xs ++ x ∷ []) i ≡ folded_when xs i
 folded_when-push xs x i lt =
     ap (λ l. map (λ (e : Placed TypePart). OfType e.1) l ++ map (λ e. OfSchema e.1) (met_when schemas (xs ++ x ∷ []) i)) (types_when-push xs x i lt)
     ∙ ap (λ l. map (λ e. OfType e.1) (types_when xs i) ++ map (λ (e : Placed SchemaPart). OfSchema e.1) l) (met_when-push schemas xs x i lt)
@@ -350,7 +352,7 @@ map-filter q (e ∷ es) = by (q e.1) (map-filter q es)
     by false rest = rest
 
 -- at its own moment an item folds what the code folds
-types_when-now : (xs : List TypeItem) (x : TypeItem) → map (λ e. e.1) (types_when (xs ++ x ∷ []) (length xs)) ≡ types_folded_at xs x
+types_when-now : (xs : List ListItem) (x : ListItem) → map (λ e. e.1) (types_when (xs ++ x ∷ []) (length xs)) ≡ types_folded_at xs x
 types_when-now xs (SchemaDefined s) = ap (λ l. map (λ e. e.1) (filter (is_folded (xs ++ SchemaDefined s ∷ [])) l)) (met_when-other types xs (SchemaDefined s) refl refl)
 types_when-now xs (SchemaExtended s) = ap (λ l. map (λ e. e.1) (filter (is_folded (xs ++ SchemaExtended s ∷ [])) l)) (met_when-other types xs (SchemaExtended s) refl refl)
 types_when-now xs (Other d) = ap (λ l. map (λ e. e.1) (filter (is_folded (xs ++ Other d ∷ [])) l)) (met_when-other types xs (Other d) refl refl)
@@ -386,7 +388,7 @@ types_when-now xs (Defined d) = by (first_place types xs (key_of d)) refl
         ∙ map-filter kind (filter own (extension_places types xs)) ∙ ap (filter kind) (map-filter (λ p. same (key_of d) (key_of p)) (extension_places types xs) ∙ ap (filter (λ p. same (key_of d) (key_of p))) (forget-placed extended_part 0 xs))
         ∙ sym (ap (λ o. option_map_or (λ _. []) o (of_kind (kind_of d) (extensions_of xs (key_of d)))) (first-none xs (key_of d) e))
 
-schemas_when-now : (xs : List TypeItem) (x : TypeItem) → map (λ e. e.1) (met_when schemas (xs ++ x ∷ []) (length xs)) ≡ schemas_folded_at xs x
+schemas_when-now : (xs : List ListItem) (x : ListItem) → map (λ e. e.1) (met_when schemas (xs ++ x ∷ []) (length xs)) ≡ schemas_folded_at xs x
 schemas_when-now xs (Defined p) = ap (map (λ (e : Placed SchemaPart). e.1)) (met_when-other schemas xs (Defined p) refl refl)
 schemas_when-now xs (Extended p) = ap (map (λ (e : Placed SchemaPart). e.1)) (met_when-other schemas xs (Extended p) refl refl)
 schemas_when-now xs (Other d) = ap (map (λ (e : Placed SchemaPart). e.1)) (met_when-other schemas xs (Other d) refl refl)
@@ -410,7 +412,7 @@ schemas_when-now xs (SchemaDefined s) = by (first_place schemas xs []) refl
         ∙ forget-placed extended_schema 0 xs
         ∙ sym (ap (λ o. option_map_or (λ _. []) o (schema_extensions xs)) (first_schema-none xs e))
 
-folded_when-now : (xs : List TypeItem) (x : TypeItem) → folded_when (xs ++ x ∷ []) (length xs) ≡ folded_at xs x
+folded_when-now : (xs : List ListItem) (x : ListItem) → folded_when (xs ++ x ∷ []) (length xs) ≡ folded_at xs x
 folded_when-now xs x =
     ap (λ l. l ++ map (λ e. OfSchema e.1) (met_when schemas (xs ++ x ∷ []) (length xs))) (forget OfType (types_when (xs ++ x ∷ []) (length xs)) ∙ ap (map OfType) (types_when-now xs x))
     ∙ ap (λ l. map OfType (types_folded_at xs x) ++ l) (forget OfSchema (met_when schemas (xs ++ x ∷ []) (length xs)) ∙ ap (map OfSchema) (schemas_when-now xs x))
@@ -420,7 +422,7 @@ folded_when-now xs x =
     forget of (e ∷ es) = ap (λ l. of e.1 ∷ l) (forget of es)
 
 -- the order of folding by places is that of the definitions by prefixes
-pub folding_order-forget : (xs : List TypeItem) → folding_order xs ≡ folded xs
+pub folding_order-forget : (xs : List ListItem) → folding_order xs ≡ folded xs
 folding_order-forget = snoc_ind (λ xs. folding_order xs ≡ folded xs) refl
     (λ xs x before. moments-push folded_when xs x (folded_when-push xs x)
     ∙ ap (λ l. l ++ folded_when (xs ++ x ∷ []) (length xs)) before ∙ ap (λ l. folded xs ++ l) (folded_when-now xs x) ∙ sym (folded-push xs x))

@@ -1,7 +1,7 @@
 -- Texts are compared by their bytes.
 use Rattle.std.proofs.Common.{◌≡◌, ℕ, Bool, true, false, ◌&&◌, nat_eq, List, [], ◌∷◌, refl, sym, ap, ◌∙◌, true≢false}
 use Rattle.std.proofs.lemmas.Bool.{eqb-true, eq-eqb}
-use Rattle.apollo_meaning.specs.TypeParts.{same}
+use Rattle.graphql_nodes.specs.SameText.{same}
 
 both : (p q : Bool) → p && q ≡ true → (p ≡ true) × (q ≡ true)
 both true q h = (refl, h)

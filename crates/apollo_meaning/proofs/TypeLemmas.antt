@@ -7,10 +7,13 @@ use Rattle.std.proofs.lemmas.List.{append-nil, map-append}
 use Rattle.std.proofs.lemmas.List.Elements.{filter_map-append}
 use Rattle.graphql_nodes.specs.declared.type_kind.TypeKind.{TypeKind}
 use Rattle.apollo_component.specs.declared.extension.ComponentOrigin.TheVariants as origins
-use Rattle.apollo_meaning.specs.TypeParts.{TypePart, SchemaPart, TypeItem, Defined, Extended, SchemaDefined, SchemaExtended, Other, Folding, OfType, OfSchema, defined_part, extended_part, kind_of, key_of, same}
-use Rattle.apollo_meaning.specs.DefinitionList.{same_kind, named, definitions, first, extensions_of, of_kind}
-use Rattle.apollo_meaning.specs.Prefixes.{added_after, types_folded_at, schemas_folded_at, folded_at, folded}
-use Rattle.apollo_meaning.specs.TypeMeaning.{Sourced, type_from, extension_part, numbered, sourced, parts, type_of}
+use Rattle.apollo_meaning.specs.Items.Parts.{TypePart, SchemaPart, kind_of, key_of, same_kind}
+use Rattle.apollo_meaning.specs.Items.ListItems.{ListItem, Defined, Extended, SchemaDefined, SchemaExtended, Other, Folding, OfType, OfSchema, defined_part, extended_part}
+use Rattle.graphql_nodes.specs.SameText.{same}
+use Rattle.apollo_meaning.specs.Items.Named.{named, definitions, first, extensions_of, of_kind}
+use Rattle.apollo_meaning.specs.Steps.Prefixes.{added_after, types_folded_at, schemas_folded_at, folded_at, folded}
+use Rattle.apollo_meaning.specs.Types.Components.{Sourced}
+use Rattle.apollo_meaning.specs.Types.Meaning.{type_from, extension_part, numbered, sourced, parts, type_of}
 use Rattle.apollo_meaning.proofs.Texts.{same-true, same-is}
 use Rattle.apollo_meaning.proofs.ItemLemmas.{first-push_definition, folded-push, sourced-append}
 
@@ -40,13 +43,13 @@ type_foldings-schemas : (ss : List SchemaPart) → type_foldings (map OfSchema s
 type_foldings-schemas [] = refl
 type_foldings-schemas (s ∷ ss) = type_foldings-schemas ss
 
-type_foldings-at : (xs : List TypeItem) (x : TypeItem) → type_foldings (folded_at xs x) ≡ types_folded_at xs x
+type_foldings-at : (xs : List ListItem) (x : ListItem) → type_foldings (folded_at xs x) ≡ types_folded_at xs x
 type_foldings-at xs x =
     filter_map-append type_folding (map OfType (types_folded_at xs x)) (map OfSchema (schemas_folded_at xs x))
     ∙ (λ i. type_foldings-types (types_folded_at xs x) i ++ type_foldings-schemas (schemas_folded_at xs x) i)
     ∙ append-nil (types_folded_at xs x)
 
-pub type_foldings-push : (xs : List TypeItem) (x : TypeItem) → type_foldings (folded (xs ++ x ∷ [])) ≡ type_foldings (folded xs) ++ types_folded_at xs x
+pub type_foldings-push : (xs : List ListItem) (x : ListItem) → type_foldings (folded (xs ++ x ∷ [])) ≡ type_foldings (folded xs) ++ types_folded_at xs x
 type_foldings-push xs x =
     ap type_foldings (folded-push xs x) ∙ filter_map-append type_folding (folded xs) (folded_at xs x) ∙ ap (λ l. type_foldings (folded xs) ++ l) (type_foldings-at xs x)
 
@@ -60,7 +63,7 @@ sourced-apart n start (OfType p ∷ fs) apart = rw apart.0 (sourced-apart n (sta
 sourced-apart n start (OfSchema s ∷ fs) apart = sourced-apart n (start + 1) fs apart
 
 -- what is folded at an item that concerns the name
-sourced-at : (n : List ℕ) (start : ℕ) (xs : List TypeItem) (x : TypeItem) → Own n (types_folded_at xs x) → sourced n start (folded_at xs x) ≡ map extension_part (numbered start (types_folded_at xs x))
+sourced-at : (n : List ℕ) (start : ℕ) (xs : List ListItem) (x : ListItem) → Own n (types_folded_at xs x) → sourced n start (folded_at xs x) ≡ map extension_part (numbered start (types_folded_at xs x))
 sourced-at n start xs x own =
     let schemas = map OfSchema (schemas_folded_at xs x) in
     let next = start + length (map OfType (types_folded_at xs x)) in
@@ -101,11 +104,11 @@ lookup-front n (e ∷ es) fs none = by (same n e.0) refl (lookup-front n es fs)
     by true p rest = let h = rw p at none in cc
     by false p rest = let h = rw p at none in rw p (rest h)
 
-pub first-front : (n : List ℕ) (xs ys : List TypeItem) → first (xs ++ ys) n ≡ None → first xs n ≡ None
+pub first-front : (n : List ℕ) (xs ys : List ListItem) → first (xs ++ ys) n ≡ None → first xs n ≡ None
 first-front n xs ys none = lookup-front n (definitions xs) (definitions ys) (sym (ap (lookup (same n)) (ap named (filter_map-append defined_part xs ys) ∙ map-append (λ p. (key_of p, p)) (filter_map defined_part xs) (filter_map defined_part ys))) ∙ none)
 
 -- what is folded at the first definition of a name, at a later one, at an extension without definition and at one of a defined name
-module _ (xs : List TypeItem) (p : TypePart) where
+module _ (xs : List ListItem) (p : TypePart) where
   pub types_folded_at-new : first xs (key_of p) ≡ None → types_folded_at xs (Defined p) ≡ of_kind (kind_of p) (extensions_of xs (key_of p))
   types_folded_at-new none = rw none
 
@@ -119,7 +122,7 @@ module _ (xs : List TypeItem) (p : TypePart) where
   types_folded_at-late d some = rw some
 
 -- before the first definition of a name no extension of it is folded
-Apart-types : (n : List ℕ) (xs : List TypeItem) (x : TypeItem) → first (xs ++ x ∷ []) n ≡ None → Apart n (types_folded_at xs x)
+Apart-types : (n : List ℕ) (xs : List ListItem) (x : ListItem) → first (xs ++ x ∷ []) n ≡ None → Apart n (types_folded_at xs x)
 Apart-types n xs (Defined d) none = by (same n (key_of d)) refl (first xs (key_of d)) refl
   where
     by : (b : Bool) → same n (key_of d) ≡ b → (o : Option TypePart) → first xs (key_of d) ≡ o → Apart n (types_folded_at xs (Defined d))
@@ -140,7 +143,7 @@ Apart-types n xs (SchemaDefined s) none = tt
 Apart-types n xs (SchemaExtended s) none = tt
 Apart-types n xs (Other d) none = tt
 
-Apart-folded_after : (n : List ℕ) (before xs : List TypeItem) → first (before ++ xs) n ≡ None → Apart n (type_foldings (added_after folded_at before xs))
+Apart-folded_after : (n : List ℕ) (before xs : List ListItem) → first (before ++ xs) n ≡ None → Apart n (type_foldings (added_after folded_at before xs))
 Apart-folded_after n before [] none = tt
 Apart-folded_after n before (x ∷ xs) none =
     let all : first ((before ++ x ∷ []) ++ xs) n ≡ None = ap (λ l. first l n) (append_assoc before (x ∷ []) xs) ∙ none in
@@ -150,10 +153,10 @@ Apart-folded_after n before (x ∷ xs) none =
     subst (Apart n) (sym split)
     (Apart-append n (types_folded_at before x) (type_foldings rest) (Apart-types n before x (first-front n (before ++ x ∷ []) xs all)) (Apart-folded_after n (before ++ x ∷ []) xs all))
 
-pub Apart-folded : (n : List ℕ) (xs : List TypeItem) → first xs n ≡ None → Apart n (type_foldings (folded xs))
+pub Apart-folded : (n : List ℕ) (xs : List ListItem) → first xs n ≡ None → Apart n (type_foldings (folded xs))
 Apart-folded n xs none = Apart-folded_after n [] xs none
 
-module _ (start : ℕ) (xs : List TypeItem) (x : TypeItem) (n : List ℕ) where
+module _ (start : ℕ) (xs : List ListItem) (x : ListItem) (n : List ℕ) where
   sourced-push : sourced n start (folded (xs ++ x ∷ [])) ≡ sourced n start (folded xs) ++ sourced n (start + length (folded xs)) (folded_at xs x)
   sourced-push = ap (sourced n start) (folded-push xs x) ∙ sourced-append n start (folded xs) (folded_at xs x)
 

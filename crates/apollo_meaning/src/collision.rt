@@ -1,6 +1,6 @@
 //! Components whose name is kept already.
 ghost use Rattle.std.specs.Prelude.{◌≡◌, IfOk};
-ghost use Rattle.apollo_meaning.specs.Collisions.{collision};
+ghost use Rattle.apollo_meaning.specs.Faults.Collisions.{collision};
 
 use crate::build_error::BuildError;
 use graphql_nodes::name::Name;

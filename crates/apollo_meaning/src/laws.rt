@@ -2,23 +2,24 @@
 ghost use Rattle.std.specs.Prelude.{◌≡◌, ◌≤◌, ◌+◌, ℕ, Bool, List, [], ◌∷◌, ◌++◌, None, Some, true, false, length, codes, map, filter, filter_map, option_map, All};
 ghost use Rattle.std.specs.List.{range_with_len};
 ghost use Rattle.std.specs.Option.{option_map_or};
-ghost use Rattle.apollo_meaning.specs.TypeParts.{TypePart, TypeItem, Added, kind_of, key_of, added, added_items};
-ghost use Rattle.apollo_meaning.specs.DefinitionList.{first, extensions_of, of_kind};
-ghost use Rattle.apollo_meaning.specs.Places.{types, schemas, extension_places, first_place, is_met, folding_order};
-ghost use Rattle.apollo_meaning.specs.TypeMeaning.{sourced, type_of};
-ghost use Rattle.apollo_meaning.specs.WholeSchema.{whole, folds};
-ghost use Rattle.apollo_meaning.specs.WorkedRow.{line, folding_place, extensions_around, written_around, extensions_that_wait, extension_of_another_kind};
+ghost use Rattle.apollo_meaning.specs.Items.Parts.{TypePart, kind_of, key_of};
+ghost use Rattle.apollo_meaning.specs.Items.ListItems.{ListItem, Added, added, added_items};
+ghost use Rattle.apollo_meaning.specs.Items.Named.{first, extensions_of, of_kind};
+ghost use Rattle.apollo_meaning.specs.Order.Places.{types, schemas, extension_places, first_place, is_met, folding_order};
+ghost use Rattle.apollo_meaning.specs.Types.Meaning.{sourced, type_of};
+ghost use Rattle.apollo_meaning.specs.Schema.Whole.{whole, folds};
+ghost use Rattle.apollo_meaning.specs.Rows.TypeRows.{line, folding_place, extensions_around, written_around, extensions_that_wait, extension_of_another_kind};
 ghost use Rattle.apollo_meaning.specs.declared.collision.Collection.{Collection};
-ghost use Rattle.apollo_meaning.specs.Collisions.{Entry, collisions};
-ghost use Rattle.apollo_meaning.specs.SchemaFaults.{faults_of};
-ghost use Rattle.apollo_meaning.specs.FaultRow.{faulty_list, its_faults};
-ghost use Rattle.apollo_meaning.specs.Adoption.{adopted, with_adopted};
-ghost use Rattle.apollo_meaning.specs.OrphanNames.{orphan_names};
-ghost use Rattle.apollo_meaning.specs.RootMeaning.{schema_of};
-ghost use Rattle.apollo_meaning.specs.RootRow.{type_name_of, extensions_alone, adopted_schema, adopted_faults, orphan_faults, query_type_alone, implied_query, schema_extensions_that_wait, waited_for_schema, dropped_root_fault, built_in_int, int_again, redefinition_fault};
+ghost use Rattle.apollo_meaning.specs.Faults.Collisions.{Entry, collisions};
+ghost use Rattle.apollo_meaning.specs.Faults.ListFaults.{faults_of};
+ghost use Rattle.apollo_meaning.specs.Rows.FaultRows.{faulty_list, its_faults};
+ghost use Rattle.apollo_meaning.specs.Completion.Adoption.{adopted, with_adopted};
+ghost use Rattle.apollo_meaning.specs.Completion.OrphanNames.{orphan_names};
+ghost use Rattle.apollo_meaning.specs.Schema.Definition.{schema_of};
+ghost use Rattle.apollo_meaning.specs.Rows.SchemaRows.{type_name_of, extensions_alone, adopted_schema, adopted_faults, orphan_faults, query_type_alone, implied_query, schema_extensions_that_wait, waited_for_schema, dropped_root_fault, built_in_int, int_again, redefinition_fault};
 ghost use Rattle.apollo_built_in.specs.BuiltInTable.{built_in_definitions};
-ghost use Rattle.apollo_meaning.specs.BuiltInNames.{defined_names, component_names, Distinct};
-ghost use Rattle.apollo_meaning.specs.SpentIds.{SpendsIdsSoFar, SpendsIds};
+ghost use Rattle.apollo_meaning.specs.Rows.BuiltInNames.{defined_names, component_names, Distinct};
+ghost use Rattle.apollo_meaning.specs.Order.SpentIds.{SpendsIdsSoFar, SpendsIds};
 ghost use Rattle.apollo_types.specs.TypeWriteOut.{write_type};
 ghost use Rattle.apollo_component.specs.FirstOfEach.{first_of_each, same_key};
 ghost use Rattle.graphql_nodes.specs.NameView.{NameView};
@@ -27,15 +28,15 @@ ghost use Rattle.graphql_nodes.specs.SameText.{same_text};
 /// The extensions that are folded for a name are those of its kind, in the order of the list, whatever stands between
 /// them: GraphQL specification of October 2021, section 3.4.3.
 pub fn folded_extensions()
-    ensures { (start : ℕ) (xs : List TypeItem) (n : List ℕ) (d : TypePart) → first xs n ≡ Some d
+    ensures { (start : ℕ) (xs : List ListItem) (n : List ℕ) (d : TypePart) → first xs n ≡ Some d
         → map (λ s. s.1) (sourced n start (folding_order xs)) ≡ of_kind (kind_of d) (extensions_of xs n) }
 {}
 
 /// Each extension of a type whose name is defined is met at one moment of the list, and each other one at none; and so are
 /// those of the schema.
 pub fn each_extension_is_met_once()
-    ensures types { (xs : List TypeItem) → All (λ e. length (filter (λ i. is_met types xs i e) (range_with_len 0 (length xs))) ≡ option_map_or (λ _. 1) (first_place types xs (key_of e.1)) 0) (extension_places types xs) }
-    ensures schemas { (xs : List TypeItem) → All (λ e. length (filter (λ i. is_met schemas xs i e) (range_with_len 0 (length xs))) ≡ option_map_or (λ _. 1) (first_place schemas xs []) 0) (extension_places schemas xs) }
+    ensures types { (xs : List ListItem) → All (λ e. length (filter (λ i. is_met types xs i e) (range_with_len 0 (length xs))) ≡ option_map_or (λ _. 1) (first_place types xs (key_of e.1)) 0) (extension_places types xs) }
+    ensures schemas { (xs : List ListItem) → All (λ e. length (filter (λ i. is_met schemas xs i e) (range_with_len 0 (length xs))) ≡ option_map_or (λ _. 1) (first_place schemas xs []) 0) (extension_places schemas xs) }
 {}
 
 /// A list folds no more extensions than a list that begins with it folds once that is completed. So where the numbers
@@ -47,7 +48,7 @@ pub fn a_longer_list_folds_no_less()
 
 /// Where extensions are adopted, none of a type is left without a definition.
 pub fn adoption_leaves_no_orphan_names()
-    ensures { (xs : List TypeItem) → orphan_names (with_adopted true xs) ≡ [] }
+    ensures { (xs : List ListItem) → orphan_names (with_adopted true xs) ≡ [] }
 {}
 
 /// The definitions on a list with an extension on either side of the definition: the places of the extensions in folding

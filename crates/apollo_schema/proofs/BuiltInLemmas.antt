@@ -6,15 +6,15 @@ use Rattle.apollo_schema.specs.declared.build_failure.BuildFailure.TheVariants a
 use Rattle.apollo_schema.specs.declared.schema_builder.SchemaBuilder.{SchemaBuilder}
 use Rattle.apollo_schema.specs.declared.state.State.{State}
 use Rattle.apollo_schema.specs.declared.state.State.TheVariants.{Open, Failed}
-use Rattle.apollo_meaning.specs.TypeParts.{TypeItem, Added, added, added_items}
+use Rattle.apollo_meaning.specs.Items.ListItems.{ListItem, Added, added, added_items}
 use Rattle.apollo_built_in.specs.BuiltInTable.{built_in_definitions}
-use Rattle.apollo_meaning.specs.SchemaFaults.{faults_of}
+use Rattle.apollo_meaning.specs.Faults.ListFaults.{faults_of}
 use Rattle.apollo_schema.specs.BuildAnswers.{IfFaults}
 use Rattle.apollo_schema.specs.MeantSchema.{MeansSchema}
-use Rattle.apollo_meaning.specs.WholeSchema.{folds}
+use Rattle.apollo_meaning.specs.Schema.Whole.{folds}
 use Rattle.apollo_schema.specs.Stands.{StateStands, StateFailed}
 use Rattle.apollo_schema.specs.BuilderStands.{StandsFor, HasFailed, sources_of, adopts}
-use Rattle.apollo_meaning.specs.SpentIds.{SpendsIds}
+use Rattle.apollo_meaning.specs.Order.SpentIds.{SpendsIds}
 
 -- they have no faults
 faultless : faults_of false (added false built_in_definitions) ≡ []
@@ -27,7 +27,7 @@ unfolding built_in_definitions
 nothing-folded = refl
 
 -- what stands for a list has not failed
-standing : (s : State) (xs : List TypeItem) → StateStands 0 xs s → StateFailed s → ⊥
+standing : (s : State) (xs : List ListItem) → StateStands 0 xs s → StateFailed s → ⊥
 standing (Open tables) xs stood failed = failed
 standing (Failed source) xs stood failed = stood
 

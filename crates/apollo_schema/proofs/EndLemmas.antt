@@ -16,18 +16,21 @@ use Rattle.apollo_component.specs.Extensions.{next_number, source_at}
 use Rattle.apollo_types.specs.SchemaDefinitionWriteOut.{is_some_object}
 use Rattle.apollo_types.specs.declared.schema_definition.SchemaDefinition.{SchemaDefinition}
 use Rattle.apollo_schema.specs.declared.tables.Tables.{Tables}
-use Rattle.apollo_meaning.specs.TypeParts.{TypePart, SchemaPart, TypeItem, SchemaDefined, TypeBody, ScalarBody, ObjectBody, InterfaceBody, UnionBody, EnumBody, InputObjectBody, extended_parts, schema_extension_part, kind_of, body_kind}
-use Rattle.apollo_meaning.specs.DefinitionList.{same_kind, first, first_schema, schema_extensions}
-use Rattle.apollo_meaning.specs.TypeMeaning.{Sourced, type_at, type_from, parts}
-use Rattle.apollo_meaning.specs.TypeFaults.{orphan}
-use Rattle.apollo_meaning.specs.RootFaults.{roots_in, schema_orphan, further_schema}
-use Rattle.apollo_meaning.specs.Adoption.{extended_names, orphans_of, schema_orphans, is_object_name, default_root, implicit_root, implicit_roots, schema_for, implied_schema}
+use Rattle.apollo_meaning.specs.Items.Parts.{TypePart, SchemaPart, TypeBody, ScalarBody, ObjectBody, InterfaceBody, UnionBody, EnumBody, InputObjectBody, schema_extension_part, kind_of, body_kind, same_kind, roots_in}
+use Rattle.apollo_meaning.specs.Items.ListItems.{ListItem, SchemaDefined, extended_parts}
+use Rattle.apollo_meaning.specs.Items.Named.{first, first_schema, schema_extensions}
+use Rattle.apollo_meaning.specs.Types.Components.{Sourced}
+use Rattle.apollo_meaning.specs.Types.Meaning.{type_at, type_from, parts, AreTypesOf}
+use Rattle.apollo_meaning.specs.Faults.TypeFaults.{orphan}
+use Rattle.apollo_meaning.specs.Faults.RootFaults.{schema_orphan, further_schema}
+use Rattle.apollo_meaning.specs.Completion.Adoption.{extended_names, orphans_of, schema_orphans}
+use Rattle.apollo_meaning.specs.Completion.ImpliedSchema.{is_object_name, default_root, implicit_root, implicit_roots, schema_for, implied_schema}
 use Rattle.apollo_folding.specs.HeldRoots.{held_root, held_roots}
-use Rattle.apollo_meaning.specs.Joining.{schema_begun, schema_begun_faults}
-use Rattle.apollo_meaning.specs.SchemaMeaning.{by_text, AreTypesOf}
-use Rattle.apollo_meaning.specs.RootMeaning.{schema_of}
-use Rattle.apollo_meaning.specs.DirectiveMeaning.{directive_definitions, AreDirectivesOf}
-use Rattle.apollo_meaning.specs.Prefixes.{folded, found_at, found}
+use Rattle.apollo_meaning.specs.Steps.Joining.{schema_begun, schema_begun_faults}
+use Rattle.graphql_nodes.specs.SameText.{by_text}
+use Rattle.apollo_meaning.specs.Schema.Definition.{schema_of}
+use Rattle.apollo_meaning.specs.Directives.{directive_definitions, AreDirectivesOf}
+use Rattle.apollo_meaning.specs.Steps.Prefixes.{folded, found_at, found}
 use Rattle.apollo_schema.specs.Stands.{Stands, Ends}
 use Rattle.apollo_meaning.proofs.ItemLemmas.{first_schema-push_definition}
 use Rattle.apollo_meaning.proofs.OrphanLemmas.{held-orphans}
@@ -48,7 +51,7 @@ is_object-from d ps = by d.body
     by (EnumBody values) = refl
     by (InputObjectBody fields) = refl
 
-module _ {start : ℕ} {xs : List TypeItem} {t : Tables} (was : Stands start xs t) where
+module _ {start : ℕ} {xs : List ListItem} {t : Tables} (was : Stands start xs t) where
   held-object : (n : List ℕ) → is_some_object (lookup (by_text n) t.types) ≡ is_object_name xs n
   held-object n = ap is_some_object (was.types.each n) ∙ by (first xs n)
     where
@@ -88,7 +91,7 @@ module _ {start : ℕ} {xs : List TypeItem} {t : Tables} (was : Stands start xs 
       by None e h = absurd (true≢false (sym h))
 
   -- where one is implied none stands
-  pub implied-absent : (adopts : Bool) (x : TypeItem) → implied_schema adopts xs ≡ x ∷ [] → t.schema_definition ≡ None
+  pub implied-absent : (adopts : Bool) (x : ListItem) → implied_schema adopts xs ≡ x ∷ [] → t.schema_definition ≡ None
   implied-absent adopts x some = by t.schema_definition refl
     where
       by : (o : Option (NodeView SchemaDefinition)) → t.schema_definition ≡ o → t.schema_definition ≡ None

@@ -4,12 +4,15 @@ use Rattle.std.specs.List.{enumerate_from, filter_map}
 use Rattle.std.specs.Option.{option_map_or}
 use Rattle.std.proofs.lemmas.List.{append-nil}
 use Rattle.std.proofs.lemmas.List.Elements.{filter-append}
-use Rattle.apollo_meaning.specs.TypeParts.{TypePart, TypeItem, Defined, Extended, Folding, OfType, OfSchema, kind_of, key_of, same}
-use Rattle.apollo_meaning.specs.DefinitionList.{same_kind, first, extensions_of, of_kind}
-use Rattle.apollo_meaning.specs.TypeMeaning.{Sourced, extension_part, of_type, sourced, parts}
-use Rattle.apollo_meaning.specs.TypeFaults.{part_faults, extension_faults, further_definition}
-use Rattle.apollo_meaning.specs.Joining.{joining_faults}
-use Rattle.apollo_meaning.specs.Prefixes.{faults_after, found_at, folded}
+use Rattle.apollo_meaning.specs.Items.Parts.{TypePart, kind_of, key_of, same_kind}
+use Rattle.apollo_meaning.specs.Items.ListItems.{ListItem, Defined, Extended, Folding, OfType, OfSchema}
+use Rattle.graphql_nodes.specs.SameText.{same}
+use Rattle.apollo_meaning.specs.Items.Named.{first, extensions_of, of_kind}
+use Rattle.apollo_meaning.specs.Types.Components.{Sourced}
+use Rattle.apollo_meaning.specs.Types.Meaning.{extension_part, of_type, sourced, parts}
+use Rattle.apollo_meaning.specs.Faults.TypeFaults.{part_faults, extension_faults, further_definition}
+use Rattle.apollo_meaning.specs.Steps.Joining.{joining_faults}
+use Rattle.apollo_meaning.specs.Steps.Prefixes.{faults_after, found_at, folded}
 use Rattle.apollo_meaning.proofs.TypeLemmas.{type_foldings}
 use Rattle.apollo_meaning.proofs.PartLemmas.{of_name}
 
@@ -35,11 +38,11 @@ sourced-parts n start (OfType p ∷ fs) = by (same n (key_of p)) (sourced-parts 
     by false rest = rest
 
 -- the parts of a name are its definition and the extensions of its kind
-pub parts-forget : (start : ℕ) (xs : List TypeItem) (n : List ℕ) (d : TypePart) → first xs n ≡ Some d
+pub parts-forget : (start : ℕ) (xs : List ListItem) (n : List ℕ) (d : TypePart) → first xs n ≡ Some d
     → map (λ (s : Sourced). s.1) (parts start (folded xs) n d) ≡ d ∷ of_kind (kind_of d) (extensions_of xs n)
 parts-forget start xs n d some = ap (λ l. d ∷ l) (sourced-parts n start (folded xs) ∙ of_name xs n d some)
 
-module _ (xs : List TypeItem) (p : TypePart) where
+module _ (xs : List ListItem) (p : TypePart) where
   pub found_at-new : first xs (key_of p) ≡ None → found_at xs (Defined p) ≡ part_faults [] p ++ joining_faults p (p ∷ []) (extensions_of xs (key_of p))
   found_at-new none =
       ap (λ o. option_map_or (λ f. further_definition f p) o (part_faults [] p ++ faults_after p [] (extensions_of xs (key_of p)))) none

@@ -8,15 +8,15 @@ use Rattle.std.proofs.lemmas.List.Elements.{filter-append, filter_map-append, Al
 use Rattle.graphql_nodes.specs.NameView.{NameView}
 use Rattle.graphql_ast.specs.declared.definition.Definition.{Definition}
 use Rattle.apollo_schema.specs.declared.tables.Tables.{Tables}
-use Rattle.apollo_meaning.specs.TypeParts.{TypePart, TypeItem, Defined, Extended, SchemaDefined, SchemaExtended, Other, item_of, extended_part, key_of, same}
-use Rattle.apollo_meaning.specs.DefinitionList.{first, extensions_of}
-use Rattle.apollo_meaning.specs.SchemaMeaning.{by_text}
-use Rattle.apollo_meaning.specs.TypeMeaning.{type_from, parts}
-use Rattle.apollo_meaning.specs.Adoption.{extended_names, orphans_of}
-use Rattle.apollo_meaning.specs.Prefixes.{folded, waited_at, waited}
+use Rattle.apollo_meaning.specs.Items.Parts.{TypePart, key_of}
+use Rattle.apollo_meaning.specs.Items.ListItems.{ListItem, Defined, Extended, SchemaDefined, SchemaExtended, Other, item_of, extended_part, items_held}
+use Rattle.graphql_nodes.specs.SameText.{same, by_text}
+use Rattle.apollo_meaning.specs.Items.Named.{first, extensions_of}
+use Rattle.apollo_meaning.specs.Types.Meaning.{type_from, parts}
+use Rattle.apollo_meaning.specs.Completion.Adoption.{extended_names, orphans_of}
+use Rattle.apollo_meaning.specs.Steps.Prefixes.{folded, waited_at, waited}
 use Rattle.apollo_schema.specs.Stands.{Stands}
-use Rattle.apollo_meaning.specs.HeldItems.{items_held}
-use Rattle.apollo_meaning.specs.OrphanNames.{first_name, orphan_names}
+use Rattle.apollo_meaning.specs.Completion.OrphanNames.{first_name, orphan_names}
 use Rattle.apollo_schema.specs.NamesLeft.{name_if_any, names_held, IsExtendedUnder}
 use Rattle.apollo_meaning.proofs.Texts.{same-true, same-is}
 use Rattle.apollo_meaning.proofs.EachLemmas.{each-append, each-weaken, flat_map-each}
@@ -30,7 +30,7 @@ neither : {X : Type 0} (o m : Option X) → option_or o m ≡ None → o ≡ Non
 neither None m h = refl
 neither (Some x) m h = let g : Some x ≡ None = h in absurd (cc)
 
-undefined-before : (xs : List TypeItem) (x : TypeItem) (n : List ℕ) → first (xs ++ x ∷ []) n ≡ None → first xs n ≡ None
+undefined-before : (xs : List ListItem) (x : ListItem) (n : List ℕ) → first (xs ++ x ∷ []) n ≡ None → first xs n ≡ None
 undefined-before xs (Defined p) n none = neither (first xs n) (cond (same n (key_of p)) (Some p) None) (sym (first-push_definition xs p n) ∙ none)
 undefined-before xs (Extended p) n none = sym (first-push_undefined xs (Extended p) refl n) ∙ none
 undefined-before xs (SchemaDefined s) n none = sym (first-push_undefined xs (SchemaDefined s) refl n) ∙ none
@@ -46,13 +46,13 @@ some_length : (p : TypePart) (ps : List TypePart) → (length (p ∷ ps) == 0) �
 some_length p ps = grind (arith, nat_tests)
 
 -- a name that waited and has no definition is the name of its first extension
-abbrev IsFirst : List TypeItem → NameView → Type 0
+abbrev IsFirst : List ListItem → NameView → Type 0
 IsFirst xs k = first xs k.text ≡ None → first_name (extensions_of xs k.text) ≡ k ∷ []
 
-waited-first : (xs : List TypeItem) → AllByRecursion (IsFirst xs) (waited xs)
+waited-first : (xs : List ListItem) → AllByRecursion (IsFirst xs) (waited xs)
 waited-first = snoc_ind (λ xs. AllByRecursion (IsFirst xs) (waited xs)) tt step
   where
-    step : (xs : List TypeItem) (x : TypeItem) → AllByRecursion (IsFirst xs) (waited xs) → AllByRecursion (IsFirst (xs ++ x ∷ [])) (waited (xs ++ x ∷ []))
+    step : (xs : List ListItem) (x : ListItem) → AllByRecursion (IsFirst xs) (waited xs) → AllByRecursion (IsFirst (xs ++ x ∷ [])) (waited (xs ++ x ∷ []))
     step xs x before =
         subst (AllByRecursion (IsFirst (xs ++ x ∷ []))) (sym (waited-push xs x))
         (each-append (IsFirst (xs ++ x ∷ [])) (waited xs) (waited_at xs x) (each-weaken (IsFirst xs) (IsFirst (xs ++ x ∷ [])) stays (waited xs) before) (own x))
@@ -64,7 +64,7 @@ waited-first = snoc_ind (λ xs. AllByRecursion (IsFirst xs) (waited xs)) tt step
             ∙ filter-append (λ p. same k.text (key_of p)) (filter_map extended_part xs) (filter_map extended_part (x ∷ [])) in
             ap first_name more ∙ first_name-more (extensions_of xs k.text) (extensions_of (x ∷ []) k.text) k (was (undefined-before xs x k.text none))
 
-        own : (y : TypeItem) → AllByRecursion (IsFirst (xs ++ y ∷ [])) (waited_at xs y)
+        own : (y : ListItem) → AllByRecursion (IsFirst (xs ++ y ∷ [])) (waited_at xs y)
         own (Defined d) = tt
         own (SchemaDefined s) = tt
         own (SchemaExtended s) = tt
@@ -86,7 +86,7 @@ name_if_any-map f k [] = refl
 name_if_any-map f k (x ∷ xs) = refl
 
 -- what waits under a name has that name
-waiting-name : (xs : List TypeItem) (k : NameView) → IsFirst xs k → name_if_any k (map Extended (orphans_of xs k.text)) ≡ first_name (orphans_of xs k.text)
+waiting-name : (xs : List ListItem) (k : NameView) → IsFirst xs k → name_if_any k (map Extended (orphans_of xs k.text)) ≡ first_name (orphans_of xs k.text)
 waiting-name xs k is = name_if_any-map Extended k (orphans_of xs k.text) ∙ by (first xs k.text) refl
   where
     named : (ps : List TypePart) → first_name ps ≡ k ∷ [] → name_if_any k ps ≡ first_name ps
@@ -98,7 +98,7 @@ waiting-name xs k is = name_if_any-map Extended k (orphans_of xs k.text) ∙ by 
     by None e = named (orphans_of xs k.text) (ap first_name (orphans_of-undefined xs k.text e) ∙ is e)
 
 -- a table of what waits holds something under the names that are extended and not defined
-held-names : (xs : List TypeItem) (W : List (NameView × List Definition)) → keys_of W ≡ waited xs → ((n : List ℕ) → items_held (lookup (by_text n) W) ≡ map Extended (orphans_of xs n))
+held-names : (xs : List ListItem) (W : List (NameView × List Definition)) → keys_of W ≡ waited xs → ((n : List ℕ) → items_held (lookup (by_text n) W) ≡ map Extended (orphans_of xs n))
     → names_held W ≡ orphan_names xs
 held-names xs W names each =
     sym (λ i. flat_map (λ (e : NameView × List Definition). name_if_any-map item_of e.0 e.1 i) W)
@@ -107,7 +107,7 @@ held-names xs W names each =
     ∙ orphans-waited first_name refl xs
 
 -- what holds of the name of each first extension without a definition holds of each of those names
-module _ (xs : List TypeItem) (P : NameView → Type 0) (holds : (e : TypePart) (es : List TypePart) → first xs (key_of e) ≡ None → orphans_of xs (key_of e) ≡ e ∷ es → P e.name) where
+module _ (xs : List ListItem) (P : NameView → Type 0) (holds : (e : TypePart) (es : List TypePart) → first xs (key_of e) ≡ None → orphans_of xs (key_of e) ≡ e ∷ es → P e.name) where
   of_text : (n : List ℕ) → AllByRecursion P (first_name (orphans_of xs n))
   of_text n = by (orphans_of xs n) refl (first xs n) refl
     where
@@ -126,7 +126,7 @@ module _ (xs : List TypeItem) (P : NameView → Type 0) (holds : (e : TypePart) 
   orphan_names-each : All P (orphan_names xs)
   orphan_names-each = All-from_recursion P (orphan_names xs) (of_texts (extended_names xs))
 
-module _ {start : ℕ} {xs : List TypeItem} {t : Tables} (was : Stands start xs t) where
+module _ {start : ℕ} {xs : List ListItem} {t : Tables} (was : Stands start xs t) where
   pub names_held-Stands : names_held t.waiting ≡ orphan_names xs
   names_held-Stands = held-names xs t.waiting was.names was.waiting
 

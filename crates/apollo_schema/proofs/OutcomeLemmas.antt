@@ -5,9 +5,8 @@ use Rattle.apollo_component.specs.Extensions.{next_number, source_at}
 use Rattle.apollo_schema.specs.declared.schema.Schema.{Schema}
 use Rattle.apollo_schema.specs.declared.build_failure.BuildFailure.{BuildFailure}
 use Rattle.apollo_schema.specs.declared.build_failure.BuildFailure.TheVariants as failures
-use Rattle.apollo_meaning.specs.Collisions.{Fault}
-use Rattle.apollo_schema.specs.BuildAnswers.{IfFaults}
-use Rattle.apollo_schema.specs.BuildAnswers.{HasBuilt, WasRefused}
+use Rattle.apollo_meaning.specs.Faults.Collisions.{Fault}
+use Rattle.apollo_schema.specs.BuildAnswers.{IfFaults, HasBuilt, WasRefused}
 
 -- what holds of an answer holds in a weaker form
 pub if_ok : {A B : Type 0} {P Q : A → Type 0} (r : Result A B) → ((x : A) → P x → Q x) → IfOk r P → IfOk r Q

@@ -8,20 +8,21 @@ use Rattle.graphql_ast.specs.DefinitionTexts.{definition_text}
 use Rattle.graphql_ast.specs.declared.operation.OperationDefinition.{OperationDefinition}
 use Rattle.graphql_ast.specs.declared.operation.FragmentDefinition.{FragmentDefinition}
 use Rattle.apollo_meaning.specs.declared.build_error.BuildError.TheVariants as errors
-use Rattle.apollo_meaning.specs.DirectiveMeaning.{Directives, directive_definitions}
-use Rattle.apollo_meaning.specs.SchemaFaults.{other_faults}
+use Rattle.apollo_meaning.specs.Directives.{Directives, directive_definitions}
+use Rattle.apollo_meaning.specs.Faults.OtherFaults.{other_faults}
 use Rattle.graphql_ast.specs.declared.definition.Definition.{Definition}
 use Rattle.graphql_ast.specs.declared.definition.Definition.TheVariants as ast
-use Rattle.apollo_meaning.specs.TypeParts.{TypePart, TypeItem, Defined, Extended, SchemaDefined, SchemaExtended, Other, item_of, items_of, ignorable_if, added, added_items, defined_part, extended_part}
+use Rattle.apollo_meaning.specs.Items.Parts.{TypePart}
+use Rattle.apollo_meaning.specs.Items.ListItems.{ListItem, Defined, Extended, SchemaDefined, SchemaExtended, Other, item_of, items_of, ignorable_if, added, added_items, defined_part, extended_part}
 
-pub defined-item : (x : TypeItem) (n : NameView) → option_map (λ p. p.name) (defined_part x) ≡ Some n → (p : TypePart) × ((x ≡ Defined p) × (p.name ≡ n))
+pub defined-item : (x : ListItem) (n : NameView) → option_map (λ p. p.name) (defined_part x) ≡ Some n → (p : TypePart) × ((x ≡ Defined p) × (p.name ≡ n))
 defined-item (Defined p) n h = (p, (refl, ap (λ o. unwrap_or o n) h))
 defined-item (Extended p) n h = absurd (cc)
 defined-item (SchemaDefined s) n h = absurd (cc)
 defined-item (SchemaExtended s) n h = absurd (cc)
 defined-item (Other d) n h = absurd (cc)
 
-pub extended-item : (x : TypeItem) (n : NameView) → option_map (λ p. p.name) (extended_part x) ≡ Some n → (p : TypePart) × ((x ≡ Extended p) × (p.name ≡ n))
+pub extended-item : (x : ListItem) (n : NameView) → option_map (λ p. p.name) (extended_part x) ≡ Some n → (p : TypePart) × ((x ≡ Extended p) × (p.name ≡ n))
 extended-item (Defined p) n h = absurd (cc)
 extended-item (Extended p) n h = (p, (refl, ap (λ o. unwrap_or o n) h))
 extended-item (SchemaDefined s) n h = absurd (cc)

@@ -4,11 +4,12 @@ use Rattle.std.specs.Option.{option_map, option_map_or, option_or}
 use Rattle.std.proofs.lemmas.List.{append-nil, map-append}
 use Rattle.std.proofs.lemmas.List.Elements.{filter_map-append}
 use Rattle.apollo_component.specs.declared.extension.ComponentOrigin.TheVariants as origins
-use Rattle.apollo_meaning.specs.TypeParts.{TypePart, SchemaPart, TypeItem, Defined, Extended, SchemaDefined, SchemaExtended, Other, Folding, OfType, OfSchema, extended_schema}
-use Rattle.apollo_meaning.specs.DefinitionList.{first_schema, schema_extensions}
-use Rattle.apollo_meaning.specs.RootMeaning.{SourcedSchema, schema_extension_source, schema_sourced, schema_from, schema_parts, schema_of}
-use Rattle.apollo_meaning.specs.Joining.{schema_numbered}
-use Rattle.apollo_meaning.specs.Prefixes.{types_folded_at, schemas_folded_at, folded}
+use Rattle.apollo_meaning.specs.Items.Parts.{TypePart, SchemaPart}
+use Rattle.apollo_meaning.specs.Items.ListItems.{ListItem, Defined, Extended, SchemaDefined, SchemaExtended, Other, Folding, OfType, OfSchema, extended_schema}
+use Rattle.apollo_meaning.specs.Items.Named.{first_schema, schema_extensions}
+use Rattle.apollo_meaning.specs.Schema.Definition.{SourcedSchema, schema_extension_source, schema_sourced, schema_from, schema_parts, schema_of}
+use Rattle.apollo_meaning.specs.Steps.Joining.{schema_numbered}
+use Rattle.apollo_meaning.specs.Steps.Prefixes.{types_folded_at, schemas_folded_at, folded}
 use Rattle.apollo_meaning.proofs.FoldingLemmas.{enumerate_from-append}
 use Rattle.apollo_meaning.proofs.ItemLemmas.{snoc_ind, first_schema-push_definition, first_schema-push_undefined, schema_extensions-push_extension, schema_extensions-push_unextended, folded-push}
 
@@ -23,7 +24,7 @@ of-schemas : (start : ℕ) (ss : List SchemaPart) → schema_sourced start (map 
 of-schemas start [] = refl
 of-schemas start (s ∷ ss) = ap (λ l. schema_extension_source (start, s) ∷ l) (of-schemas (start + 1) ss)
 
-module _ (start : ℕ) (xs : List TypeItem) (x : TypeItem) where
+module _ (start : ℕ) (xs : List ListItem) (x : ListItem) where
   -- an item that folds nothing into the schema
   sourced-none : schemas_folded_at xs x ≡ [] → schema_sourced start (folded (xs ++ x ∷ [])) ≡ schema_sourced start (folded xs)
   sourced-none none =
@@ -52,20 +53,20 @@ module _ (start : ℕ) (xs : List TypeItem) (x : TypeItem) where
       ∙ ap (λ (l : List SourcedSchema). Some (schema_from s ((origins.Definition, s) ∷ l))) (sourced-more none)
 
 -- before the first definition of the schema none of its extensions is folded
-abbrev Unfolded : List TypeItem → Type 0
+abbrev Unfolded : List ListItem → Type 0
 Unfolded xs = (start : ℕ) → first_schema xs ≡ None → schema_sourced start (folded xs) ≡ []
 
 or-some : {X : Type 0} (o : Option X) (x : X) → option_or o (Some x) ≡ None → ⊥
 or-some None x h = cc
 or-some (Some y) x h = cc
 
-pub schema-unfolded : (xs : List TypeItem) → Unfolded xs
+pub schema-unfolded : (xs : List ListItem) → Unfolded xs
 schema-unfolded = snoc_ind Unfolded (λ start none. refl) step
   where
-    plain : (xs : List TypeItem) (x : TypeItem) → first_schema (xs ++ x ∷ []) ≡ first_schema xs → (first_schema xs ≡ None → schemas_folded_at xs x ≡ []) → Unfolded xs → Unfolded (xs ++ x ∷ [])
+    plain : (xs : List ListItem) (x : ListItem) → first_schema (xs ++ x ∷ []) ≡ first_schema xs → (first_schema xs ≡ None → schemas_folded_at xs x ≡ []) → Unfolded xs → Unfolded (xs ++ x ∷ [])
     plain xs x one none before = λ start h. let was : first_schema xs ≡ None = sym one ∙ h in sourced-none start xs x (none was) ∙ before start was
 
-    step : (xs : List TypeItem) (x : TypeItem) → Unfolded xs → Unfolded (xs ++ x ∷ [])
+    step : (xs : List ListItem) (x : ListItem) → Unfolded xs → Unfolded (xs ++ x ∷ [])
     step xs (SchemaDefined s) before = λ start h. absurd (or-some (first_schema xs) s (sym (first_schema-push_definition xs s) ∙ h))
     step xs (SchemaExtended s) before = plain xs (SchemaExtended s) (first_schema-push_undefined xs (SchemaExtended s) refl) (λ was. ap (λ o. option_map_or (λ _. s ∷ []) o []) was) before
     step xs (Defined p) before = plain xs (Defined p) (first_schema-push_undefined xs (Defined p) refl) (λ was. refl) before
@@ -73,28 +74,28 @@ schema-unfolded = snoc_ind Unfolded (λ start none. refl) step
     step xs (Other d) before = plain xs (Other d) (first_schema-push_undefined xs (Other d) refl) (λ was. refl) before
 
 -- the folded extensions of the schema, their origins forgotten, are all its extensions once it has a definition
-abbrev Forgets : List TypeItem → Type 0
+abbrev Forgets : List ListItem → Type 0
 Forgets xs = (start : ℕ) (s : SchemaPart) → first_schema xs ≡ Some s → map (λ (e : SourcedSchema). e.1) (schema_sourced start (folded xs)) ≡ schema_extensions xs
 
 numbered-parts : (start : ℕ) (ss : List SchemaPart) → map (λ (e : SourcedSchema). e.1) (schema_numbered start ss) ≡ ss
 numbered-parts start [] = refl
 numbered-parts start (s ∷ ss) = ap (λ l. s ∷ l) (numbered-parts (start + 1) ss)
 
-pub schema_sourced-parts : (start : ℕ) (xs : List TypeItem) (s : SchemaPart) → first_schema xs ≡ Some s → map (λ (e : SourcedSchema). e.1) (schema_sourced start (folded xs)) ≡ schema_extensions xs
+pub schema_sourced-parts : (start : ℕ) (xs : List ListItem) (s : SchemaPart) → first_schema xs ≡ Some s → map (λ (e : SourcedSchema). e.1) (schema_sourced start (folded xs)) ≡ schema_extensions xs
 schema_sourced-parts start xs s some = snoc_ind Forgets (λ start s h. absurd (let g : None ≡ Some s = h in cc)) step xs start s some
   where
-    plain : (xs : List TypeItem) (x : TypeItem) → first_schema (xs ++ x ∷ []) ≡ first_schema xs → extended_schema x ≡ None → schemas_folded_at xs x ≡ [] → Forgets xs → Forgets (xs ++ x ∷ [])
+    plain : (xs : List ListItem) (x : ListItem) → first_schema (xs ++ x ∷ []) ≡ first_schema xs → extended_schema x ≡ None → schemas_folded_at xs x ≡ [] → Forgets xs → Forgets (xs ++ x ∷ [])
     plain xs x one unextended none before = λ start s h.
         ap (map (λ (e : SourcedSchema). e.1)) (sourced-none start xs x none) ∙ before start s (sym one ∙ h) ∙ sym (schema_extensions-push_unextended xs x unextended)
 
-    more : (xs : List TypeItem) (x : TypeItem) (start : ℕ) → types_folded_at xs x ≡ []
+    more : (xs : List ListItem) (x : ListItem) (start : ℕ) → types_folded_at xs x ≡ []
         → map (λ (e : SourcedSchema). e.1) (schema_sourced start (folded (xs ++ x ∷ []))) ≡ map (λ (e : SourcedSchema). e.1) (schema_sourced start (folded xs)) ++ schemas_folded_at xs x
     more xs x start none =
         ap (map (λ (e : SourcedSchema). e.1)) (sourced-more start xs x none)
         ∙ map-append (λ (e : SourcedSchema). e.1) (schema_sourced start (folded xs)) (schema_numbered (start + length (folded xs)) (schemas_folded_at xs x))
         ∙ ap (λ l. map (λ (e : SourcedSchema). e.1) (schema_sourced start (folded xs)) ++ l) (numbered-parts (start + length (folded xs)) (schemas_folded_at xs x))
 
-    step : (xs : List TypeItem) (x : TypeItem) → Forgets xs → Forgets (xs ++ x ∷ [])
+    step : (xs : List ListItem) (x : ListItem) → Forgets xs → Forgets (xs ++ x ∷ [])
     step xs (Defined p) before = plain xs (Defined p) (first_schema-push_undefined xs (Defined p) refl) refl refl before
     step xs (Extended p) before = plain xs (Extended p) (first_schema-push_undefined xs (Extended p) refl) refl refl before
     step xs (Other d) before = plain xs (Other d) (first_schema-push_undefined xs (Other d) refl) refl refl before

@@ -12,19 +12,20 @@ use Rattle.apollo_component.specs.declared.extension.ComponentOrigin.TheVariants
 use Rattle.apollo_types.specs.declared.schema_definition.SchemaDefinition.{SchemaDefinition}
 use Rattle.apollo_meaning.specs.declared.build_error.BuildError.TheVariants as errors
 use Rattle.apollo_schema.specs.declared.tables.Tables.{Tables}
-use Rattle.apollo_meaning.specs.TypeParts.{SchemaPart, TypeItem, SchemaDefined, SchemaExtended, schema_extension_part}
-use Rattle.apollo_meaning.specs.DefinitionList.{first_schema, schema_extensions}
-use Rattle.apollo_meaning.specs.RootMeaning.{SourcedSchema, schema_from, schema_parts}
-use Rattle.apollo_meaning.specs.RootFaults.{schema_faults, further_schema}
-use Rattle.apollo_meaning.specs.DirectiveMeaning.{directive_part, directive_definitions, AreDirectivesOf}
-use Rattle.apollo_meaning.specs.Joining.{schema_numbered, schema_begun, schema_begun_faults}
-use Rattle.apollo_meaning.specs.Prefixes.{schemas_folded_at, folded}
+use Rattle.apollo_meaning.specs.Items.Parts.{SchemaPart, schema_extension_part}
+use Rattle.apollo_meaning.specs.Items.ListItems.{ListItem, SchemaDefined, SchemaExtended}
+use Rattle.apollo_meaning.specs.Items.Named.{first_schema, schema_extensions}
+use Rattle.apollo_meaning.specs.Schema.Definition.{SourcedSchema, schema_from, schema_parts}
+use Rattle.apollo_meaning.specs.Faults.RootFaults.{schema_faults, further_schema}
+use Rattle.apollo_meaning.specs.Directives.{directive_part, directive_definitions, AreDirectivesOf}
+use Rattle.apollo_meaning.specs.Steps.Joining.{schema_numbered, schema_begun, schema_begun_faults}
+use Rattle.apollo_meaning.specs.Steps.Prefixes.{schemas_folded_at, folded}
 use Rattle.apollo_schema.specs.Stands.{Stands}
 use Rattle.apollo_meaning.proofs.ItemLemmas.{filter_map-push_none, first_schema-push_definition, first_schema-push_undefined, schema_extensions-push_extension, schema_extensions-push_unextended}
 use Rattle.apollo_schema.proofs.SchemaLemmas.{schema_of-same, schema_of-more, schema-unfolded, schema_sourced-parts}
 use Rattle.apollo_schema.proofs.StandsLemmas.{counted, length-map, at, same_types, same_waiting, same_names, same_directives, more_faults}
 
-module _ {start : ℕ} {xs : List TypeItem} {t : Tables} (was : Stands start xs t) where
+module _ {start : ℕ} {xs : List ListItem} {t : Tables} (was : Stands start xs t) where
   -- the schema has a definition exactly if the list has one
   pub schema_known : (held : NodeView SchemaDefinition) → t.schema_definition ≡ Some held
       → (s : SchemaPart) × ((first_schema xs ≡ Some s) × (held ≡ schema_from s (schema_parts start (folded xs) s)))
@@ -44,11 +45,11 @@ module _ {start : ℕ} {xs : List TypeItem} {t : Tables} (was : Stands start xs 
       by (Some s) e = let g : None ≡ Some (schema_from s (schema_parts start (folded xs) s)) = sym absent ∙ was.definition ∙ ap (option_map (λ s. schema_from s (schema_parts start (folded xs) s))) e in absurd (cc)
 
   -- the schema's items concern no type and no directive
-  abbrev OnlySchema : TypeItem → Tables → Type 0
+  abbrev OnlySchema : ListItem → Tables → Type 0
   OnlySchema x u =
       (u.types ≡ t.types) × ((u.directive_definitions ≡ t.directive_definitions) × (u.waiting ≡ t.waiting))
 
-  no-directives : (x : TypeItem) (u : Tables) → u.directive_definitions ≡ t.directive_definitions → directive_part x ≡ None → AreDirectivesOf (directive_definitions (xs ++ x ∷ [])) u.directive_definitions
+  no-directives : (x : ListItem) (u : Tables) → u.directive_definitions ≡ t.directive_definitions → directive_part x ≡ None → AreDirectivesOf (directive_definitions (xs ++ x ∷ [])) u.directive_definitions
   no-directives x u same none = same_directives was x u same (filter_map-push_none directive_part xs x none)
 
   -- a further definition of the schema changes nothing, and is at fault

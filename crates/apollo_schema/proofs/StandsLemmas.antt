@@ -1,5 +1,5 @@
 -- Tables that stand for a list stand for it with one more item, once the code has taken the item.
-use Rattle.std.proofs.Common.{◌≡◌, ℕ, suc, ◌+◌, ◌^◌, ◌≤◌, Bool, true, false, cond, List, [], ◌∷◌, ◌++◌, length, map, Option, Some, None, is_some, refl, sym, ap, subst, ◌∙◌, append_assoc, arith, length-append}
+use Rattle.std.proofs.Common.{◌≡◌, ℕ, suc, ◌+◌, ◌^◌, ◌≤◌, Bool, true, false, cond, List, [], ◌∷◌, ◌++◌, length, map, Option, Some, None, is_some, refl, sym, ap, subst, ◌∙◌, arith, length-append}
 use Rattle.std.specs.List.{filter_map}
 use Rattle.std.specs.Option.{option_map, option_map_or, unwrap_or}
 use Rattle.std.specs.Map.{lookup, keys_of, set_value}
@@ -7,27 +7,27 @@ use Rattle.std.proofs.lemmas.List.{append-nil, map-append}
 use Rattle.std.proofs.lemmas.List.Elements.{filter_map-append}
 use Rattle.std.proofs.lemmas.Map.{keys-set_value}
 use Rattle.indexmap.specs.IndexMap.{insert_entry}
-use Rattle.graphql_nodes.specs.SameText.{same_text}
+use Rattle.graphql_nodes.specs.SameText.{same_text, same, by_text}
 use Rattle.graphql_ast.specs.declared.definition.Definition.{Definition}
 use Rattle.apollo_component.specs.Extensions.{next_number, source_at}
 use Rattle.apollo_component.specs.declared.extension.ComponentOrigin.TheVariants as origins
 use Rattle.apollo_types.specs.declared.extended_type.ExtendedType.{ExtendedType}
 use Rattle.apollo_schema.specs.declared.tables.Tables.{Tables}
-use Rattle.apollo_meaning.specs.TypeParts.{TypePart, SchemaPart, TypeItem, Defined, Extended, Other, OfType, OfSchema, defined_part, extended_part, defined_schema, extended_schema, schema_extension_part, kind_of, key_of, same}
-use Rattle.apollo_meaning.specs.DefinitionList.{first, extensions_of, of_kind}
-use Rattle.apollo_meaning.specs.TypeMeaning.{Sourced, type_from, extension_part, numbered, parts, type_of}
+use Rattle.apollo_meaning.specs.Items.Parts.{TypePart, SchemaPart, schema_extension_part, kind_of, key_of}
+use Rattle.apollo_meaning.specs.Items.ListItems.{ListItem, Defined, Extended, Other, OfType, OfSchema, defined_part, extended_part, defined_schema, extended_schema, items_held}
+use Rattle.apollo_meaning.specs.Items.Named.{first, extensions_of, of_kind}
+use Rattle.apollo_meaning.specs.Types.Components.{Sourced}
+use Rattle.apollo_meaning.specs.Types.Meaning.{type_from, extension_part, numbered, parts, type_of, AreTypesOf}
 use Rattle.apollo_types.specs.TypeWriteOut.{type_kind}
-use Rattle.apollo_meaning.specs.SchemaMeaning.{by_text, AreTypesOf}
-use Rattle.apollo_meaning.specs.DirectiveMeaning.{directive_part, directive_definitions, AreDirectivesOf}
-use Rattle.apollo_meaning.specs.Collisions.{Fault}
-use Rattle.apollo_meaning.specs.TypeFaults.{part_faults, further_definition}
-use Rattle.apollo_meaning.specs.SchemaFaults.{other_faults}
-use Rattle.apollo_meaning.specs.RootMeaning.{schema_of}
-use Rattle.apollo_meaning.specs.Adoption.{schema_orphans, orphans_of}
-use Rattle.apollo_meaning.specs.Joining.{joining_faults}
-use Rattle.apollo_meaning.specs.Prefixes.{types_folded_at, schemas_folded_at, folded_at, folded, found_at, found, waited_at, waited}
+use Rattle.apollo_meaning.specs.Directives.{directive_part, directive_definitions, AreDirectivesOf}
+use Rattle.apollo_meaning.specs.Faults.Collisions.{Fault}
+use Rattle.apollo_meaning.specs.Faults.TypeFaults.{part_faults, further_definition}
+use Rattle.apollo_meaning.specs.Faults.OtherFaults.{other_faults}
+use Rattle.apollo_meaning.specs.Schema.Definition.{schema_of}
+use Rattle.apollo_meaning.specs.Completion.Adoption.{schema_orphans, orphans_of}
+use Rattle.apollo_meaning.specs.Steps.Joining.{joining_faults}
+use Rattle.apollo_meaning.specs.Steps.Prefixes.{types_folded_at, schemas_folded_at, folded_at, folded, found_at, found, waited_at, waited}
 use Rattle.apollo_schema.specs.Stands.{Stands}
-use Rattle.apollo_meaning.specs.HeldItems.{items_held}
 use Rattle.apollo_meaning.proofs.Texts.{same-true, same-is}
 use Rattle.apollo_folding.proofs.NameTables.{lookup-put, keys-put, lookup-write}
 use Rattle.apollo_meaning.proofs.ItemLemmas.{parts-extended, first-push_undefined, first_schema-push_undefined, schema_extensions-push_unextended, folded-push, found-push, waited-push}
@@ -43,7 +43,7 @@ length-map f [] = refl
 length-map f (x ∷ xs) = ap (λ n. suc n) (length-map f xs)
 
 -- a list with an item that folds these folds that many more
-pub counted : (start : ℕ) (xs : List TypeItem) (x : TypeItem) (ps : List TypePart) (ss : List SchemaPart) (before : ℕ)
+pub counted : (start : ℕ) (xs : List ListItem) (x : ListItem) (ps : List TypePart) (ss : List SchemaPart) (before : ℕ)
     → before ≡ start + length (folded xs) → types_folded_at xs x ≡ ps → schemas_folded_at xs x ≡ ss
     → before + (length ps + length ss) ≡ start + length (folded (xs ++ x ∷ []))
 counted start xs x ps ss before was types schemas =
@@ -67,7 +67,7 @@ one_more_if : (b : Bool) (p : TypePart) (ps : List TypePart) → cond b (map Ext
 one_more_if true p ps = sym (map-append Extended ps (p ∷ []))
 one_more_if false p ps = refl
 
-module _ {start : ℕ} {xs : List TypeItem} {t : Tables} (was : Stands start xs t) where
+module _ {start : ℕ} {xs : List ListItem} {t : Tables} (was : Stands start xs t) where
   pub at : next_number t.ids ≡ start + length (folded xs)
   at = ap next_number was.next
 
@@ -127,38 +127,38 @@ module _ {start : ℕ} {xs : List TypeItem} {t : Tables} (was : Stands start xs 
       omega (arith, counted start xs (Extended p) (of_kind (type_kind ty) (p ∷ [])) [] (next_number t.ids) at (late-folded p ty there) refl)
 
   -- the directive definitions after an item that is none
-  pub same_directives : (x : TypeItem) (u : Tables) → u.directive_definitions ≡ t.directive_definitions → directive_definitions (xs ++ x ∷ []) ≡ directive_definitions xs
+  pub same_directives : (x : ListItem) (u : Tables) → u.directive_definitions ≡ t.directive_definitions → directive_definitions (xs ++ x ∷ []) ≡ directive_definitions xs
       → AreDirectivesOf (directive_definitions (xs ++ x ∷ [])) u.directive_definitions
   same_directives x u same none = subst (λ ds. AreDirectivesOf ds u.directive_definitions) (sym none) (subst (AreDirectivesOf (directive_definitions xs)) (sym same) was.directives)
 
   -- the schema definition, and what waits for it, after an item that concerns neither
-  same_definition : (x : TypeItem) (u : Tables) → u.schema_definition ≡ t.schema_definition → defined_schema x ≡ None → schemas_folded_at xs x ≡ []
+  same_definition : (x : ListItem) (u : Tables) → u.schema_definition ≡ t.schema_definition → defined_schema x ≡ None → schemas_folded_at xs x ≡ []
       → u.schema_definition ≡ schema_of start (folded (xs ++ x ∷ [])) (xs ++ x ∷ [])
   same_definition x u same undefined none = same ∙ was.definition ∙ sym (schema_of-same start xs x (first_schema-push_undefined xs x undefined) none)
 
-  same_orphans : (x : TypeItem) (u : Tables) → u.schema_extensions ≡ t.schema_extensions → defined_schema x ≡ None → extended_schema x ≡ None
+  same_orphans : (x : ListItem) (u : Tables) → u.schema_extensions ≡ t.schema_extensions → defined_schema x ≡ None → extended_schema x ≡ None
       → map schema_extension_part u.schema_extensions ≡ schema_orphans (xs ++ x ∷ [])
   same_orphans x u same undefined unextended =
       ap (map schema_extension_part) same ∙ was.orphans
       ∙ sym (λ i. option_map_or (λ _. []) (first_schema-push_undefined xs x undefined i) (schema_extensions-push_unextended xs x unextended i))
 
   -- the types after an item that concerns none
-  pub same_types : (x : TypeItem) (u : Tables) → u.types ≡ t.types → defined_part x ≡ None → types_folded_at xs x ≡ [] → AreTypesOf start (folded (xs ++ x ∷ [])) (xs ++ x ∷ []) u.types
+  pub same_types : (x : ListItem) (u : Tables) → u.types ≡ t.types → defined_part x ≡ None → types_folded_at xs x ≡ [] → AreTypesOf start (folded (xs ++ x ∷ [])) (xs ++ x ∷ []) u.types
   same_types x u same undefined none = record {
     names = ap keys_of same ∙ was.types.names ∙ sym (type_names-undefined xs x undefined);
     each = λ n. ap (lookup (by_text n)) same ∙ was.types.each n ∙ sym (type_of-same start xs x n (first-push_undefined xs x undefined n) (subst (Apart n) (sym none) tt));
   }
 
   -- what waits under names after an item that neither defines nor extends a type
-  pub same_waiting : (x : TypeItem) (u : Tables) → u.waiting ≡ t.waiting → defined_part x ≡ None → extended_part x ≡ None → (n : List ℕ) → items_held (lookup (by_text n) u.waiting) ≡ map Extended (orphans_of (xs ++ x ∷ []) n)
+  pub same_waiting : (x : ListItem) (u : Tables) → u.waiting ≡ t.waiting → defined_part x ≡ None → extended_part x ≡ None → (n : List ℕ) → items_held (lookup (by_text n) u.waiting) ≡ map Extended (orphans_of (xs ++ x ∷ []) n)
   same_waiting x u same undefined unextended n = ap (λ l. items_held (lookup (by_text n) l)) same ∙ was.waiting n ∙ sym (ap (map Extended) (orphans_of-neither xs x undefined unextended n))
 
   -- the names under which something waits after an item that adds none
-  pub same_names : (x : TypeItem) (u : Tables) → keys_of u.waiting ≡ keys_of t.waiting → waited_at xs x ≡ [] → keys_of u.waiting ≡ waited (xs ++ x ∷ [])
+  pub same_names : (x : ListItem) (u : Tables) → keys_of u.waiting ≡ keys_of t.waiting → waited_at xs x ≡ [] → keys_of u.waiting ≡ waited (xs ++ x ∷ [])
   same_names x u same none = same ∙ was.names ∙ sym (waited-push xs x ∙ ap (λ l. waited xs ++ l) none ∙ append-nil (waited xs))
 
   -- the faults after an item at which these are found
-  pub more_faults : (x : TypeItem) (u : Tables) (es : List Fault) → u.errors ≡ t.errors ++ es → found_at xs x ≡ es → u.errors ≡ found (xs ++ x ∷ [])
+  pub more_faults : (x : ListItem) (u : Tables) (es : List Fault) → u.errors ≡ t.errors ++ es → found_at xs x ≡ es → u.errors ≡ found (xs ++ x ∷ [])
   more_faults x u es more is = more ∙ ap (λ l. l ++ es) was.faults ∙ ap (λ l. found xs ++ l) (sym is) ∙ sym (found-push xs x)
 
   -- a further definition of a name changes nothing, and is at fault

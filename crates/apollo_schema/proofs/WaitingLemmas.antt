@@ -6,10 +6,12 @@ use Rattle.std.specs.Cmp.Lexicographic.{nat_list_eq_equiv}
 use Rattle.std.proofs.lemmas.List.{append-nil, map-append}
 use Rattle.apollo_component.specs.FirstOfEach.{first_of_each, same_key}
 use Rattle.apollo_component.proofs.FirstOfEachLemmas.{is_some-lookup, first_of_each-push_new, first_of_each-push_old}
-use Rattle.apollo_meaning.specs.TypeParts.{TypePart, TypeItem, Defined, Extended, defined_part, extended_part, key_of, same}
-use Rattle.apollo_meaning.specs.DefinitionList.{definitions, first, extensions_of}
-use Rattle.apollo_meaning.specs.SchemaMeaning.{type_names}
-use Rattle.apollo_meaning.specs.Adoption.{orphans_of}
+use Rattle.apollo_meaning.specs.Items.Parts.{TypePart, key_of}
+use Rattle.apollo_meaning.specs.Items.ListItems.{ListItem, Defined, Extended, defined_part, extended_part}
+use Rattle.graphql_nodes.specs.SameText.{same}
+use Rattle.apollo_meaning.specs.Items.Named.{definitions, first, extensions_of}
+use Rattle.apollo_meaning.specs.Types.Meaning.{type_names}
+use Rattle.apollo_meaning.specs.Completion.Adoption.{orphans_of}
 use Rattle.apollo_meaning.proofs.Texts.{same-true, same-is}
 use Rattle.apollo_meaning.proofs.ItemLemmas.{definitions-push_definition, definitions-push_undefined, first-push_definition, first-push_undefined, extensions_of-push_extension, extensions_of-push_unextended}
 
@@ -20,7 +22,7 @@ or-none : {X : Type 0} (o : Option X) → option_or o None ≡ o
 or-none None = refl
 or-none (Some x) = refl
 
-module _ (xs : List TypeItem) (p : TypePart) where
+module _ (xs : List ListItem) (p : TypePart) where
   pub type_names-new : is_some (first xs (key_of p)) ≡ false → type_names (xs ++ Defined p ∷ []) ≡ type_names xs ++ p.name ∷ []
   type_names-new none =
       ap (λ l. map (λ e. e.1.name) (first_of_each (same_key same) l)) (definitions-push_definition xs p)
@@ -48,16 +50,16 @@ module _ (xs : List TypeItem) (p : TypePart) where
   first-own none = first-push_definition xs p (key_of p) ∙ ap (λ o. option_or o (cond (same (key_of p) (key_of p)) (Some p) None)) none ∙ ap (λ b. cond b (Some p) None) (same-is (key_of p) (key_of p) refl)
 
 -- waiting extensions depend on the first definition and on the extensions
-orphans_of-same : (xs ys : List TypeItem) (n : List ℕ) → first ys n ≡ first xs n → extensions_of ys n ≡ extensions_of xs n → orphans_of ys n ≡ orphans_of xs n
+orphans_of-same : (xs ys : List ListItem) (n : List ℕ) → first ys n ≡ first xs n → extensions_of ys n ≡ extensions_of xs n → orphans_of ys n ≡ orphans_of xs n
 orphans_of-same xs ys n f e = rw (f, e)
 
-pub orphans_of-defined : (xs : List TypeItem) (n : List ℕ) (d : TypePart) → first xs n ≡ Some d → orphans_of xs n ≡ []
+pub orphans_of-defined : (xs : List ListItem) (n : List ℕ) (d : TypePart) → first xs n ≡ Some d → orphans_of xs n ≡ []
 orphans_of-defined xs n d f = rw f
 
-pub orphans_of-undefined : (xs : List TypeItem) (n : List ℕ) → first xs n ≡ None → orphans_of xs n ≡ extensions_of xs n
+pub orphans_of-undefined : (xs : List ListItem) (n : List ℕ) → first xs n ≡ None → orphans_of xs n ≡ extensions_of xs n
 orphans_of-undefined xs n f = rw f
 
-module _ (xs : List TypeItem) (p : TypePart) where
+module _ (xs : List ListItem) (p : TypePart) where
   pub orphans_of-new : (n : List ℕ) → first xs (key_of p) ≡ None → orphans_of (xs ++ Defined p ∷ []) n ≡ cond (same n (key_of p)) [] (orphans_of xs n)
   orphans_of-new n none = by (same n (key_of p)) refl
     where
@@ -93,7 +95,7 @@ module _ (xs : List TypeItem) (p : TypePart) where
       by false e = orphans_of-same xs (xs ++ Extended p ∷ []) n (first-push_undefined xs (Extended p) refl n) (extensions_of-other n e)
 
 -- an item that defines no type leaves names, and one that extends none either leaves what waits
-module _ (xs : List TypeItem) (x : TypeItem) (none : defined_part x ≡ None) where
+module _ (xs : List ListItem) (x : ListItem) (none : defined_part x ≡ None) where
   pub type_names-undefined : type_names (xs ++ x ∷ []) ≡ type_names xs
   type_names-undefined = ap (λ l. map (λ e. e.1.name) (first_of_each (same_key same) l)) (definitions-push_undefined xs x none)
 

@@ -5,7 +5,7 @@ use Rattle.apollo_folding.specs.declared.builder_error.BuilderError.{BuilderErro
 use Rattle.apollo_folding.specs.declared.builder_error.BuilderError.TheVariants as refusals
 use Rattle.apollo_schema.specs.declared.build_failure.BuildFailure.{BuildFailure}
 use Rattle.apollo_schema.specs.declared.build_failure.BuildFailure.TheVariants as failures
-use Rattle.apollo_meaning.specs.Collisions.{Fault}
+use Rattle.apollo_meaning.specs.Faults.Collisions.{Fault}
 
 -- the refusal of a step, as that of a build
 abbrev pub failure_of : BuilderError → BuildFailure

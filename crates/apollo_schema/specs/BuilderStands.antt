@@ -5,7 +5,7 @@ use Rattle.apollo_schema.specs.declared.schema_builder.SchemaBuilder.{SchemaBuil
 use Rattle.apollo_schema.specs.declared.state.State.{State}
 use Rattle.apollo_schema.specs.declared.state.State.TheVariants.{Open, Failed}
 use Rattle.apollo_schema.specs.Sources.{Files}
-use Rattle.apollo_meaning.specs.TypeParts.{Added, added_items}
+use Rattle.apollo_meaning.specs.Items.ListItems.{Added, added_items}
 use Rattle.apollo_schema.specs.Stands.{StateStands, StateFailed}
 
 -- the number of its first extension

@@ -1,8 +1,11 @@
 pub mod BuildAnswers
 pub mod BuilderHolds
 pub mod BuilderStands
+pub mod Built
 pub mod MeantSchema
 pub mod NamesLeft
 pub mod SchemaWriteOut
 pub mod Sources
 pub mod Stands
+pub mod Takes
+pub mod TakesType

@@ -6,9 +6,9 @@ use Rattle.graphql_nodes.specs.NameView.{NameView}
 use Rattle.graphql_nodes.specs.Tables.{lookup}
 use Rattle.graphql_ast.specs.declared.definition.Definition.{Definition}
 use Rattle.apollo_schema.specs.declared.orphan_names.OrphanNames.{OrphanNames}
-use Rattle.apollo_meaning.specs.TypeParts.{TypePart, Extended}
-use Rattle.apollo_meaning.specs.SchemaMeaning.{by_text}
-use Rattle.apollo_meaning.specs.HeldItems.{items_held}
+use Rattle.apollo_meaning.specs.Items.Parts.{TypePart}
+use Rattle.apollo_meaning.specs.Items.ListItems.{Extended, items_held}
+use Rattle.graphql_nodes.specs.SameText.{by_text}
 
 -- the name, if anything is held under it
 abbrev pub name_if_any : {X : Type 0} → NameView → List X → List NameView

@@ -13,7 +13,7 @@ use Rattle.apollo_types.specs.TypeWriteOut.{type_location, write_type}
 use Rattle.apollo_types.specs.declared.object_type.ObjectType.{ObjectType}
 use Rattle.apollo_types.specs.declared.extended_type.ExtendedType.{ExtendedType}
 use Rattle.apollo_types.specs.declared.extended_type.ExtendedType.TheVariants.{Object}
-use Rattle.apollo_meaning.specs.DirectiveMeaning.{is_handed_in}
+use Rattle.apollo_meaning.specs.Directives.{is_handed_in}
 use Rattle.apollo_schema.specs.declared.schema.Schema.{Schema}
 
 -- the directive definitions that are handed in, in order

@@ -6,19 +6,21 @@ use Rattle.apollo_component.specs.Extensions.{next_number, source_at}
 use Rattle.apollo_schema.specs.declared.tables.Tables.{Tables}
 use Rattle.apollo_schema.specs.declared.state.State.{State}
 use Rattle.apollo_schema.specs.declared.state.State.TheVariants.{Open, Failed}
-use Rattle.apollo_meaning.specs.TypeParts.{TypeItem, Extended, Added, added_items, schema_extension_part}
-use Rattle.apollo_meaning.specs.SchemaMeaning.{by_text, AreTypesOf}
-use Rattle.apollo_meaning.specs.HeldItems.{items_held}
-use Rattle.apollo_meaning.specs.DirectiveMeaning.{directive_definitions, AreDirectivesOf}
-use Rattle.apollo_meaning.specs.RootMeaning.{schema_of}
-use Rattle.apollo_meaning.specs.Adoption.{extended_names, orphans_of, schema_orphans, completed}
-use Rattle.apollo_meaning.specs.TypeFaults.{orphan}
-use Rattle.apollo_meaning.specs.RootFaults.{schema_orphan}
-use Rattle.apollo_meaning.specs.SchemaFaults.{faults_in}
-use Rattle.apollo_meaning.specs.Prefixes.{added_after, folded, found_at, found, waited}
+use Rattle.apollo_meaning.specs.Items.ListItems.{ListItem, Extended, Added, added_items, items_held}
+use Rattle.apollo_meaning.specs.Items.Parts.{schema_extension_part}
+use Rattle.graphql_nodes.specs.SameText.{by_text}
+use Rattle.apollo_meaning.specs.Types.Meaning.{AreTypesOf}
+use Rattle.apollo_meaning.specs.Directives.{directive_definitions, AreDirectivesOf}
+use Rattle.apollo_meaning.specs.Schema.Definition.{schema_of}
+use Rattle.apollo_meaning.specs.Completion.Adoption.{extended_names, orphans_of, schema_orphans}
+use Rattle.apollo_meaning.specs.Completion.ImpliedSchema.{completed}
+use Rattle.apollo_meaning.specs.Faults.TypeFaults.{orphan}
+use Rattle.apollo_meaning.specs.Faults.RootFaults.{schema_orphan}
+use Rattle.apollo_meaning.specs.Faults.ListFaults.{faults_in}
+use Rattle.apollo_meaning.specs.Steps.Prefixes.{added_after, folded, found_at, found, waited}
 
 -- these tables are those of the list, with its extensions numbered from `start`
-pub record Stands (start : ℕ) (xs : List TypeItem) (t : Tables) : Type 0 where
+pub record Stands (start : ℕ) (xs : List ListItem) (t : Tables) : Type 0 where
   pub definition : t.schema_definition ≡ schema_of start (folded xs) xs
   pub orphans : map schema_extension_part t.schema_extensions ≡ schema_orphans xs
   pub types : AreTypesOf start (folded xs) xs t.types
@@ -30,7 +32,7 @@ pub record Stands (start : ℕ) (xs : List TypeItem) (t : Tables) : Type 0 where
 
 -- these tables are those of a list that ends with these items, which are implied, and hold what was found and what is
 -- left without a definition
-pub record Ends (start : ℕ) (implied xs : List TypeItem) (t : Tables) : Type 0 where
+pub record Ends (start : ℕ) (implied xs : List ListItem) (t : Tables) : Type 0 where
   pub definition : t.schema_definition ≡ schema_of start (folded (xs ++ implied)) (xs ++ implied)
   pub types : AreTypesOf start (folded (xs ++ implied)) (xs ++ implied) t.types
   pub directives : AreDirectivesOf (directive_definitions (xs ++ implied)) t.directive_definitions
@@ -39,14 +41,14 @@ pub record Ends (start : ℕ) (implied xs : List TypeItem) (t : Tables) : Type 0
   pub next : t.ids ≡ source_at (start + length (folded (xs ++ implied)))
 
 -- these tables are those of all that the list means, and hold all its faults
-pub record Completes (start : ℕ) (adopts : Bool) (xs : List TypeItem) (t : Tables) : Type 0 where
+pub record Completes (start : ℕ) (adopts : Bool) (xs : List ListItem) (t : Tables) : Type 0 where
   pub definition : t.schema_definition ≡ schema_of start (folded (completed adopts xs)) (completed adopts xs)
   pub types : AreTypesOf start (folded (completed adopts xs)) (completed adopts xs) t.types
   pub directives : AreDirectivesOf (directive_definitions (completed adopts xs)) t.directive_definitions
   pub faults : t.errors ≡ faults_in adopts xs
   pub next : t.ids ≡ source_at (start + length (folded (completed adopts xs)))
 
-abbrev pub StateStands : ℕ → List TypeItem → State → Type 0
+abbrev pub StateStands : ℕ → List ListItem → State → Type 0
 StateStands start xs (Open tables) = Stands start xs tables
 StateStands start xs (Failed source) = ⊥
 

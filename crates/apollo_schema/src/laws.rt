@@ -1,6 +1,6 @@
 //! Laws of the definitions, for those who build on them.
 ghost use Rattle.std.specs.Prelude.{◌⊎◌, List};
-ghost use Rattle.apollo_meaning.specs.TypeParts.{Added};
+ghost use Rattle.apollo_meaning.specs.Items.ListItems.{Added};
 ghost use Rattle.apollo_schema.specs.BuilderStands.{StandsFor, HasFailed, first_number};
 ghost use Rattle.graphql_nodes.specs.Clones.{IsExact};
 

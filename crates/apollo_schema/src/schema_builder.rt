@@ -1,10 +1,9 @@
 //! The schema builder: documents go in, in any number and order of definitions, and a schema comes out.
-ghost use Rattle.std.specs.Prelude.{◌≡◌, false, true, ◌≢◌, ℕ, ◌+◌, ◌≤◌, List, [], ◌++◌, All, is_some, Err, OnOk, OnErr, IfOk, IfErr, ◌↔◌};
+ghost use Rattle.std.specs.Prelude.{◌≡◌, false, true, ℕ, ◌+◌, ◌≤◌, List, [], ◌++◌, All, is_some, Err, OnOk, OnErr, IfOk, IfErr, ◌↔◌};
 ghost use Rattle.apollo_component.specs.Extensions.{next_number, source_at};
-ghost use Rattle.apollo_meaning.specs.TypeParts.{Added, added};
+ghost use Rattle.apollo_meaning.specs.Items.ListItems.{Added, added};
 ghost use Rattle.apollo_schema.specs.MeantSchema.{MeansSchema};
-ghost use Rattle.apollo_meaning.specs.WholeSchema.{folds};
-ghost use Rattle.apollo_meaning.specs.SchemaFaults.{faults_of};
+ghost use Rattle.apollo_meaning.specs.Schema.Whole.{folds};
 ghost use Rattle.apollo_schema.specs.BuildAnswers.{IfFaults};
 ghost use Rattle.apollo_built_in.specs.BuiltInTable.{built_in_definitions};
 ghost use Rattle.apollo_schema.specs.Sources.{merged};
@@ -40,14 +39,15 @@ pub struct SchemaBuilder {
 
 impl SchemaBuilder {
     ghost use Rattle.graphql_nodes.specs.Tables.{lookup};
-    ghost use Rattle.apollo_meaning.specs.TypeParts.{added_items};
-    ghost use Rattle.apollo_meaning.specs.SchemaMeaning.{by_text};
-    ghost use Rattle.apollo_meaning.specs.OrphanNames.{orphan_names};
+    ghost use Rattle.apollo_meaning.specs.Items.ListItems.{added_items};
+    ghost use Rattle.graphql_nodes.specs.SameText.{by_text};
+    ghost use Rattle.apollo_meaning.specs.Completion.OrphanNames.{orphan_names};
     ghost use Rattle.apollo_schema.specs.NamesLeft.{names_left, IsExtendedUnder};
     ghost use Rattle.apollo_schema.specs.BuilderHolds.{types_held, waiting_held};
     ghost use Rattle.apollo_schema.specs.BuilderStands.{StandsFor, HasFailed, IsLeftWith, first_number, sources_of, adopts, ignores};
     ghost use Rattle.apollo_schema.specs.BuildAnswers.{HasBuilt, WasRefused};
-    ghost use Rattle.apollo_meaning.specs.SpentIds.{SpendsIds, SpendsIdsSoFar, folds_so_far};
+    ghost use Rattle.apollo_schema.specs.Built.{IsMeant, IsFaultless, IsFoundIn};
+    ghost use Rattle.apollo_meaning.specs.Order.SpentIds.{SpendsIds, SpendsIdsSoFar, folds_so_far};
 
     /// A builder of the built-in definitions alone, without either option, whose first extension has the number 0. The
     /// error is want of memory.
@@ -135,10 +135,9 @@ impl SchemaBuilder {
     /// is want of memory; `ExtensionIds` comes only where the extensions folded pass the largest number, and a schema, with
     /// faults or without, only where they don't; `Failed` comes exactly after a refusal.
     pub fn build(self) -> Result<Schema, BuildFailure>
-        ensures built { IfOk result (λ schema. (start : ℕ) (xs : List Added) → StandsFor start xs self → MeansSchema start (adopts self) xs schema) }
-        ensures faultless { OnOk result ((start : ℕ) (xs : List Added) → StandsFor start xs self → faults_of (adopts self) xs ≡ []) }
-        ensures faults { IfErr result (λ failure. IfFaults failure (λ partial faults. (start : ℕ) (xs : List Added) → StandsFor start xs self
-            → MeansSchema start (adopts self) xs partial × ((faults ≡ faults_of (adopts self) xs × faults ≢ []) × partial.sources ≡ sources_of self))) }
+        ensures built { IfOk result (IsMeant self) }
+        ensures faultless { OnOk result (IsFaultless self) }
+        ensures faults { IfErr result (λ failure. IfFaults failure (IsFoundIn self)) }
         ensures sources { IfOk result (λ schema. schema.sources ≡ sources_of self) }
         ensures failed { HasFailed self ↔ (result ≡ Err BuildFailure.Failed) }
         ensures spent { result ≡ Err BuildFailure.ExtensionIds → (start : ℕ) (xs : List Added) → StandsFor start xs self → SpendsIds start (adopts self) xs }
@@ -152,10 +151,9 @@ impl SchemaBuilder {
     /// after a schema, or faults, it is at that number plus the extensions that were folded; after `Memory` or
     /// `ExtensionIds` it stands where it stood before the call; with `Failed` it is the one that was left.
     pub fn build_with_source(self) -> (Result<Schema, BuildFailure>, ExtensionSource)
-        ensures built { IfOk result.0 (λ schema. (start : ℕ) (xs : List Added) → StandsFor start xs self → MeansSchema start (adopts self) xs schema) }
-        ensures faultless { OnOk result.0 ((start : ℕ) (xs : List Added) → StandsFor start xs self → faults_of (adopts self) xs ≡ []) }
-        ensures faults { IfErr result.0 (λ failure. IfFaults failure (λ partial faults. (start : ℕ) (xs : List Added) → StandsFor start xs self
-            → MeansSchema start (adopts self) xs partial × ((faults ≡ faults_of (adopts self) xs × faults ≢ []) × partial.sources ≡ sources_of self))) }
+        ensures built { IfOk result.0 (IsMeant self) }
+        ensures faultless { OnOk result.0 (IsFaultless self) }
+        ensures faults { IfErr result.0 (λ failure. IfFaults failure (IsFoundIn self)) }
         ensures sources { IfOk result.0 (λ schema. schema.sources ≡ sources_of self) }
         ensures failed { HasFailed self ↔ (result.0 ≡ Err BuildFailure.Failed) }
         ensures spent { result.0 ≡ Err BuildFailure.ExtensionIds → (start : ℕ) (xs : List Added) → StandsFor start xs self → SpendsIds start (adopts self) xs }
@@ -206,7 +204,7 @@ impl Clone for SchemaBuilder {
 }
 
 impl Schema {
-    ghost use Rattle.apollo_schema.specs.BuilderStands.{StandsFor, sources_of, adopts, ignores};
+    ghost use Rattle.apollo_schema.specs.BuilderStands.{StandsFor, adopts, ignores, sources_of};
 
     /// A builder of schemas. See [`SchemaBuilder::new`].
     pub fn builder(alloc: Global) -> Result<SchemaBuilder, AllocError>

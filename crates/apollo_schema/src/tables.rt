@@ -1,15 +1,16 @@
 //! What a builder holds.
-ghost use Rattle.std.specs.Prelude.{◌≡◌, false, None, ℕ, ◌+◌, ◌^◌, ◌≤◌, List, [], ◌∷◌, ◌++◌, length, map, is_some, OnOk, IfOk, IfErr, Some};
+ghost use Rattle.std.specs.Prelude.{◌≡◌, false, None, ◌+◌, ◌^◌, ◌≤◌, [], ◌∷◌, length, OnOk, IfOk, IfErr, Some};
 ghost use Rattle.graphql_nodes.specs.Tables.{insert_entry};
 ghost use Rattle.graphql_nodes.specs.SameText.{same_text};
-ghost use Rattle.apollo_component.specs.Extensions.{next_number, source_at};
+ghost use Rattle.apollo_component.specs.Extensions.{next_number};
 ghost use Rattle.apollo_component.specs.declared.extension.ComponentOrigin.TheVariants as origins;
-ghost use Rattle.apollo_meaning.specs.TypeParts.{TypePart, TypeItem, Defined, Extended, SchemaDefined, SchemaExtended, added, added_item, added_items, item_of, defined_part, extended_part, schema_definition_part, schema_extension_part};
-ghost use Rattle.apollo_meaning.specs.Joining.{schema_begun, schema_begun_faults};
+ghost use Rattle.apollo_meaning.specs.Items.Parts.{schema_definition_part, schema_extension_part};
+ghost use Rattle.apollo_meaning.specs.Items.ListItems.{SchemaDefined, SchemaExtended, added, added_item, added_items, item_of};
 ghost use Rattle.apollo_built_in.specs.BuiltInTable.{built_in_definitions};
-ghost use Rattle.apollo_meaning.specs.Prefixes.{folded};
 ghost use Rattle.apollo_folding.specs.Refusals.{RefusedAs};
 ghost use Rattle.apollo_schema.specs.Stands.{Stands};
+ghost use Rattle.apollo_schema.specs.Takes.{Takes, SpentBy, with_schema};
+ghost use Rattle.apollo_schema.specs.TakesType.{TakesDefinition, SpentByDefinition, TakesExtension, SpentByExtension, TakesOther};
 ghost use Rattle.apollo_schema.specs.Sources.{merged};
 
 mod completion;
@@ -116,10 +117,8 @@ impl Tables {
         definition: &Definition,
         ignores: bool,
     ) -> Result<(), BuilderError>
-        ensures stands { OnOk result ((start : ℕ) (xs : List TypeItem) (p : TypePart) → item_of definition.now ≡ Defined p → p.name ≡ name.now
-            → Stands start xs self.old → Stands start (xs ++ Defined (record p { ignorable = ignores }) ∷ []) self.new) }
-        ensures refused { IfErr result (λ error. RefusedAs error ((start : ℕ) (xs : List TypeItem) (p : TypePart) → item_of definition.now ≡ Defined p → p.name ≡ name.now
-            → Stands start xs self.old → 2 ^ 64 ≤ start + length (folded (xs ++ Defined (record p { ignorable = ignores }) ∷ [])))) }
+        ensures stands { OnOk result (TakesDefinition self.old name.now definition.now ignores self.new) }
+        ensures refused { IfErr result (λ error. RefusedAs error (SpentByDefinition self.old name.now definition.now ignores)) }
         ensures sources { self.new.sources ≡ self.old.sources }
     {
         if let Some(previous) = self.types.get(name) {
@@ -143,10 +142,8 @@ impl Tables {
 
     /// Takes an extension of a type.
     fn extend(&mut self, name: &Name, extension: &Definition) -> Result<(), BuilderError>
-        ensures stands { OnOk result ((start : ℕ) (xs : List TypeItem) (p : TypePart) → item_of extension.now ≡ Extended p → p.name ≡ name.now
-            → Stands start xs self.old → Stands start (xs ++ Extended p ∷ []) self.new) }
-        ensures refused { IfErr result (λ error. RefusedAs error ((start : ℕ) (xs : List TypeItem) (p : TypePart) → item_of extension.now ≡ Extended p → p.name ≡ name.now
-            → Stands start xs self.old → 2 ^ 64 ≤ start + length (folded (xs ++ Extended p ∷ [])))) }
+        ensures stands { OnOk result (TakesExtension self.old name.now extension.now self.new) }
+        ensures refused { IfErr result (λ error. RefusedAs error (SpentByExtension self.old name.now extension.now)) }
         ensures sources { self.new.sources ≡ self.old.sources }
     {
         let Some(ty) = self.types.get_mut(name) else {
@@ -159,12 +156,7 @@ impl Tables {
 
     /// Puts a definition of the schema, with the extensions that wait for it folded in.
     fn put_schema(&mut self, node: &Node<ast::SchemaDefinition>) -> Result<(), BuilderError>
-        ensures put { OnOk result (self.new ≡ record self.old {
-          schema_definition = Some (schema_begun (next_number self.old.ids) (schema_definition_part node.now) (map schema_extension_part self.old.schema_extensions));
-          schema_extensions = [];
-          ids = source_at (next_number self.old.ids + length self.old.schema_extensions);
-          errors = self.old.errors ++ schema_begun_faults (schema_definition_part node.now) (map schema_extension_part self.old.schema_extensions);
-        }) }
+        ensures put { OnOk result (self.new ≡ with_schema self.old (schema_definition_part node.now)) }
         ensures refused { IfErr result (λ error. RefusedAs error (2 ^ 64 ≤ next_number self.old.ids + length self.old.schema_extensions)) }
         ensures sources { self.new.sources ≡ self.old.sources }
     {
@@ -182,8 +174,8 @@ impl Tables {
 
     /// Takes a definition of the schema.
     fn define_schema(&mut self, node: &Node<ast::SchemaDefinition>) -> Result<(), BuilderError>
-        ensures stands { OnOk result ((start : ℕ) (xs : List TypeItem) → Stands start xs self.old → Stands start (xs ++ SchemaDefined (schema_definition_part node.now) ∷ []) self.new) }
-        ensures refused { IfErr result (λ error. RefusedAs error ((start : ℕ) (xs : List TypeItem) → Stands start xs self.old → 2 ^ 64 ≤ start + length (folded (xs ++ SchemaDefined (schema_definition_part node.now) ∷ [])))) }
+        ensures stands { OnOk result (Takes self.old (SchemaDefined (schema_definition_part node.now) ∷ []) self.new) }
+        ensures refused { IfErr result (λ error. RefusedAs error (SpentBy self.old (SchemaDefined (schema_definition_part node.now) ∷ []))) }
         ensures sources { self.new.sources ≡ self.old.sources }
     {
         if let Some(previous) = &self.schema_definition {
@@ -199,8 +191,8 @@ impl Tables {
 
     /// Takes an extension of the schema.
     fn extend_schema(&mut self, node: &Node<SchemaExtension>) -> Result<(), BuilderError>
-        ensures stands { OnOk result ((start : ℕ) (xs : List TypeItem) → Stands start xs self.old → Stands start (xs ++ SchemaExtended (schema_extension_part node.now) ∷ []) self.new) }
-        ensures refused { IfErr result (λ error. RefusedAs error ((start : ℕ) (xs : List TypeItem) → Stands start xs self.old → 2 ^ 64 ≤ start + length (folded (xs ++ SchemaExtended (schema_extension_part node.now) ∷ [])))) }
+        ensures stands { OnOk result (Takes self.old (SchemaExtended (schema_extension_part node.now) ∷ []) self.new) }
+        ensures refused { IfErr result (λ error. RefusedAs error (SpentBy self.old (SchemaExtended (schema_extension_part node.now) ∷ []))) }
         ensures sources { self.new.sources ≡ self.old.sources }
     {
         let Some(definition) = &mut self.schema_definition else {
@@ -213,9 +205,8 @@ impl Tables {
 
     /// Takes what neither defines nor extends a type.
     fn take_other(&mut self, definition: &Definition) -> Result<(), BuilderError>
-        ensures stands { OnOk result ((start : ℕ) (xs : List TypeItem) → is_some (defined_part (item_of definition.now)) ≡ false → is_some (extended_part (item_of definition.now)) ≡ false
-            → Stands start xs self.old → Stands start (xs ++ item_of definition.now ∷ []) self.new) }
-        ensures refused { IfErr result (λ error. RefusedAs error ((start : ℕ) (xs : List TypeItem) → Stands start xs self.old → 2 ^ 64 ≤ start + length (folded (xs ++ item_of definition.now ∷ [])))) }
+        ensures stands { OnOk result (TakesOther self.old definition.now self.new) }
+        ensures refused { IfErr result (λ error. RefusedAs error (SpentBy self.old (item_of definition.now ∷ []))) }
         ensures sources { self.new.sources ≡ self.old.sources }
     {
         match definition {
@@ -237,8 +228,8 @@ impl Tables {
 
     /// Takes a definition, under this setting of whether redefinitions of built-in types are ignored.
     fn take_one(&mut self, definition: &Definition, ignores: bool) -> Result<(), BuilderError>
-        ensures stands { OnOk result ((start : ℕ) (xs : List TypeItem) → Stands start xs self.old → Stands start (xs ++ added_item (ignores, definition.now) ∷ []) self.new) }
-        ensures refused { IfErr result (λ error. RefusedAs error ((start : ℕ) (xs : List TypeItem) → Stands start xs self.old → 2 ^ 64 ≤ start + length (folded (xs ++ added_item (ignores, definition.now) ∷ [])))) }
+        ensures stands { OnOk result (Takes self.old (added_item (ignores, definition.now) ∷ []) self.new) }
+        ensures refused { IfErr result (λ error. RefusedAs error (SpentBy self.old (added_item (ignores, definition.now) ∷ []))) }
         ensures sources { self.new.sources ≡ self.old.sources }
     {
         if let Some(name) = defined_name(definition) {
@@ -253,8 +244,8 @@ impl Tables {
 
     /// Takes definitions in order, under this setting of whether redefinitions of built-in types are ignored.
     fn take(&mut self, definitions: &[Definition], ignores: bool) -> Result<(), BuilderError>
-        ensures stands { OnOk result ((start : ℕ) (xs : List TypeItem) → Stands start xs self.old → Stands start (xs ++ added_items (added ignores definitions.now)) self.new) }
-        ensures refused { IfErr result (λ error. RefusedAs error ((start : ℕ) (xs : List TypeItem) → Stands start xs self.old → 2 ^ 64 ≤ start + length (folded (xs ++ added_items (added ignores definitions.now))))) }
+        ensures stands { OnOk result (Takes self.old (added_items (added ignores definitions.now)) self.new) }
+        ensures refused { IfErr result (λ error. RefusedAs error (SpentBy self.old (added_items (added ignores definitions.now)))) }
         ensures sources { self.new.sources ≡ self.old.sources }
     {
         for definition in definitions {
@@ -276,8 +267,8 @@ impl Tables {
 
     /// Takes a document: its definitions, and then its sources.
     pub fn take_document(&mut self, document: &Document, ignores: bool) -> Result<(), BuilderError>
-        ensures stands { OnOk result ((start : ℕ) (xs : List TypeItem) → Stands start xs self.old → Stands start (xs ++ added_items (added ignores document.now.definitions)) self.new) }
-        ensures refused { IfErr result (λ error. RefusedAs error ((start : ℕ) (xs : List TypeItem) → Stands start xs self.old → 2 ^ 64 ≤ start + length (folded (xs ++ added_items (added ignores document.now.definitions))))) }
+        ensures stands { OnOk result (Takes self.old (added_items (added ignores document.now.definitions)) self.new) }
+        ensures refused { IfErr result (λ error. RefusedAs error (SpentBy self.old (added_items (added ignores document.now.definitions)))) }
         ensures sources { OnOk result (self.new.sources ≡ merged self.old.sources document.now.sources) }
     {
         self.take(document.definitions.as_slice(), ignores)?;

@@ -11,7 +11,8 @@ use Rattle.gqltool_run.specs.Status.{exit_code}
 use Rattle.gqlrows_run.specs.declared.row.Row.{Row}
 use Rattle.gqlrows_run.specs.Rows.{RowView, row_view, rows_of}
 use Rattle.gqlrows_run.specs.Runs.{Ran, IsRun, AreRunsOf, IsAsExpected, AllAgree}
-use Rattle.gqlrows_run.specs.Report.{differs, report_on, count_text, report_text, IsReportOn, same}
+use Rattle.graphql_nodes.specs.SameText.{same}
+use Rattle.gqlrows_run.specs.Report.{differs, report_on, count_text, report_text, IsReportOn}
 
 pub one_more_run : (rows : List Row) (i : ℕ) (row : Row) (runs : List Ran) (ran : Ran) → i < length rows → row ≡ get_or rows i row → AreRunsOf (map row_view (take i rows)) runs → ran.row ≡ row_view row → IsRun ran
     → AreRunsOf (map row_view (take (i + 1) rows)) (runs ++ ran ∷ [])

@@ -1,6 +1,9 @@
 -- The report on rows that ran.
-use Rattle.std.specs.Prelude.{◌≡◌, ℕ, Bool, true, false, not, None, List, [], ◌∷◌, ◌++◌, ◌==◌, ◌&&◌, if◌then◌else◌, codes, decimal, length}
+use Rattle.std.specs.Prelude.{◌≡◌, ◌<◌, ℕ, Bool, true, false, not, None, List, [], ◌∷◌, ◌++◌, ◌==◌, ◌&&◌, if◌then◌else◌, codes, decimal, length}
 use Rattle.std.specs.List.{flat_map, count_by}
+use Rattle.std.specs.Io.KnownBytes.{Appends}
+use Rattle.graphql_nodes.specs.SameText.{same}
+use Rattle.bench_notation.specs.Line.{lines_of}
 use Rattle.gqltool_run.specs.Status.{exit_code}
 use Rattle.gqltool_run.specs.declared.status.Status.{Status}
 use Rattle.gqltool_run.specs.declared.status.Status.TheVariants as s
@@ -8,12 +11,7 @@ use Rattle.gqlrows_run.specs.declared.refusal.ReadError.{ReadError}
 use Rattle.gqlrows_run.specs.declared.refusal.ReadError.TheVariants as e
 use Rattle.gqlrows_run.specs.FileLines.{refused_of}
 use Rattle.gqlrows_run.specs.Rows.{rows_of}
-use Rattle.gqlrows_run.specs.Runs.{Ran, AreRunsOf}
-use lib.Pointwise.{pointwise}
-
--- two texts are the same
-abbrev pub same : List ℕ → List ℕ → Bool
-same a b = pointwise (λ x y. x == y) a b
+use Rattle.gqlrows_run.specs.Runs.{Ran, AreRunsOf, AllAgree}
 
 -- a text as lines behind this mark, from the start of a line or within one; the last ends by a line feed even where the
 -- text has none
@@ -54,6 +52,13 @@ pub record IsReportOn (lines : List (List ℕ)) (text : List ℕ) (differing : �
   pub are : AreRunsOf (rows_of lines) runs
   pub tells : text ≡ report_text runs
   pub counts : differing ≡ count_by differs runs
+
+-- a report that rows differ is put at the end of the output, and a count where none does
+abbrev pub TellsDifferences : List ℕ → List ℕ → List ℕ → Type 0
+TellsDifferences input old new = (text : List ℕ) × ((differing : ℕ) × (IsReportOn (lines_of input) text differing × ((0 < differing) × Appends old new text)))
+
+abbrev pub TellsNone : List ℕ → List ℕ → List ℕ → Type 0
+TellsNone input old new = AllAgree (rows_of (lines_of input)) × Appends old new (count_text (length (rows_of (lines_of input))) 0)
 
 -- how a run ends whose rows are not read
 abbrev pub ending_of : ReadError → Status

@@ -3,7 +3,8 @@ ghost use Rattle.std.specs.Prelude.{◌≡◌, ◌++◌, List, decimal, map, tru
 ghost use Rattle.std.specs.List.{count_by};
 ghost use Rattle.gqlrows_run.specs.Rows.{row_view};
 ghost use Rattle.gqlrows_run.specs.Runs.{Ran, AreRunsOf};
-ghost use Rattle.gqlrows_run.specs.Report.{same, shown, text_difference, status_difference, differs, report_on, count_text, report_text};
+ghost use Rattle.graphql_nodes.specs.SameText.{same};
+ghost use Rattle.gqlrows_run.specs.Report.{shown, text_difference, status_difference, differs, report_on, count_text, report_text};
 
 use crate::outcome::{Outcome, outcome_of};
 use crate::row::Row;

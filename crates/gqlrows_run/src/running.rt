@@ -1,12 +1,10 @@
 //! The whole run over a file of rows.
-ghost use Rattle.std.specs.Prelude.{◌≡◌, ◌<◌, ℕ, List, None, length, IfOk, IfSome, OnOk};
+ghost use Rattle.std.specs.Prelude.{◌≡◌, ◌<◌, None, IfOk, IfSome, OnOk};
 ghost use Rattle.std.specs.Io.KnownBytes.{Appends};
 ghost use Rattle.gqltool_run.specs.Status.{Writes};
 ghost use Rattle.bench_notation.specs.Line.{lines_of};
 ghost use Rattle.gqlrows_run.specs.FileLines.{refused_of};
-ghost use Rattle.gqlrows_run.specs.Rows.{rows_of};
-ghost use Rattle.gqlrows_run.specs.Runs.{AllAgree};
-ghost use Rattle.gqlrows_run.specs.Report.{IsReportOn, count_text, ending_of};
+ghost use Rattle.gqlrows_run.specs.Report.{IsReportOn, TellsDifferences, TellsNone, ending_of};
 
 use crate::reading::read_rows;
 use crate::refusal::ReadError;
@@ -30,10 +28,8 @@ pub fn run_rows<R: Read, O: Write, E: Write>(
     ensures refused { result ≡ Status.Refused → output.new ≡ output.old }
     ensures exhausted { result ≡ Status.Exhausted → output.new ≡ output.old }
     ensures says { Writes result → IfSome (R.remaining reader.old) (λ input. refused_of (lines_of input) ≡ None) }
-    ensures agree { result ≡ Status.Done → IfSome (R.remaining reader.old) (λ input.
-        AllAgree (rows_of (lines_of input)) × Appends (O.contents output.old) (O.contents output.new) (count_text (length (rows_of (lines_of input))) 0)) }
-    ensures differ { result ≡ Status.Faults → IfSome (R.remaining reader.old) (λ input. (text : List ℕ) × ((differing : ℕ)
-        × (IsReportOn (lines_of input) text differing × ((0 < differing) × Appends (O.contents output.old) (O.contents output.new) text)))) }
+    ensures agree { result ≡ Status.Done → IfSome (R.remaining reader.old) (λ input. TellsNone input (O.contents output.old) (O.contents output.new)) }
+    ensures differ { result ≡ Status.Faults → IfSome (R.remaining reader.old) (λ input. TellsDifferences input (O.contents output.old) (O.contents output.new)) }
 {
     let report = match answer(alloc, reader) {
         Ok(report) => report,

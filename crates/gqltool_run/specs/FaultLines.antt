@@ -1,7 +1,7 @@
 -- The lines that tell faults.
 use Rattle.std.specs.Prelude.{◌≡◌, ℕ, List, [], ◌∷◌, ◌++◌, Option, None, Some, codes, decimal}
 use Rattle.graphql_nodes.specs.declared.source.SourceSpan.{SourceSpan}
-use Rattle.apollo_meaning.specs.Collisions.{Fault}
+use Rattle.apollo_meaning.specs.Faults.Collisions.{Fault}
 
 -- the line where a fault stands, or that it stands nowhere
 abbrev pub place_text : Option SourceSpan → List ℕ

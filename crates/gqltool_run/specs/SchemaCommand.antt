@@ -5,9 +5,9 @@ use Rattle.graphql_ast.specs.declared.definition.Definition.{Definition}
 use Rattle.graphql_ast.specs.declared.document.Document.{Document}
 use Rattle.apollo_schema.specs.declared.schema.Schema.{Schema}
 use Rattle.apollo_built_in.specs.BuiltInTable.{built_in_definitions}
-use Rattle.apollo_meaning.specs.TypeParts.{Added, added}
-use Rattle.apollo_meaning.specs.SpentIds.{SpendsIds}
-use Rattle.apollo_meaning.specs.SchemaFaults.{faults_of}
+use Rattle.apollo_meaning.specs.Items.ListItems.{Added, added}
+use Rattle.apollo_meaning.specs.Order.SpentIds.{SpendsIds}
+use Rattle.apollo_meaning.specs.Faults.ListFaults.{faults_of}
 use Rattle.apollo_schema.specs.MeantSchema.{MeansSchema}
 use Rattle.apollo_schema.specs.SchemaWriteOut.{write_schema}
 use Rattle.gqltool_run.specs.declared.schema_options.SchemaOptions.{SchemaOptions}

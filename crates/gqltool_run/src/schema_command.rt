@@ -3,10 +3,10 @@ ghost use Rattle.std.specs.Prelude.{◌≡◌, ℕ, All, List, [], true, false, 
 ghost use Rattle.graphql_ast.specs.declared.definition.Definition.{Definition};
 ghost use Rattle.bench_notation.specs.Line.{IsLine, lines_of};
 ghost use Rattle.bench_notation.specs.Text.{definitions_text};
-ghost use Rattle.apollo_meaning.specs.TypeParts.{Added};
+ghost use Rattle.apollo_meaning.specs.Items.ListItems.{Added};
 ghost use Rattle.apollo_schema.specs.BuilderStands.{StandsFor, adopts, ignores};
-ghost use Rattle.apollo_meaning.specs.SpentIds.{SpendsIds};
-ghost use Rattle.apollo_meaning.specs.SchemaFaults.{faults_of};
+ghost use Rattle.apollo_meaning.specs.Order.SpentIds.{SpendsIds};
+ghost use Rattle.apollo_meaning.specs.Faults.ListFaults.{faults_of};
 ghost use Rattle.apollo_schema.specs.MeantSchema.{MeansSchema};
 ghost use Rattle.gqltool_run.specs.SchemaCommand.{IsAnswer, IsCause, list_of};
 ghost use Rattle.gqltool_run.specs.Status.{status_of};

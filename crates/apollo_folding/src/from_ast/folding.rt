@@ -1,12 +1,10 @@
 //! Components folded into the collections of a type.
-ghost use Rattle.std.specs.Prelude.{◌≡◌, List, [], ◌∷◌, ◌++◌, map, OnOk};
-ghost use Rattle.graphql_nodes.specs.NameView.{NameView};
+ghost use Rattle.apollo_folding.specs.Joins.{Lengthens, FindsIn};
+ghost use Rattle.std.specs.Prelude.{◌≡◌, [], ◌∷◌, ◌++◌, map, OnOk};
 ghost use Rattle.graphql_nodes.specs.Tables.{keys_of};
-ghost use Rattle.apollo_component.specs.declared.component.Component.{Component as AnyComponent};
-ghost use Rattle.apollo_component.specs.declared.component.ComponentName.{ComponentName as AnyName};
-ghost use Rattle.apollo_meaning.specs.TypeMeaning.{component, component_name, distinct_names, distinct_entries};
-ghost use Rattle.apollo_meaning.specs.TypeFaults.{name_entries};
-ghost use Rattle.apollo_meaning.specs.Collisions.{collision_at, collisions};
+ghost use Rattle.apollo_meaning.specs.Types.Components.{component, component_name, distinct_names, distinct_entries};
+ghost use Rattle.apollo_meaning.specs.Faults.TypeFaults.{name_entries};
+ghost use Rattle.apollo_meaning.specs.Faults.Collisions.{collision_at, collisions};
 
 use apollo_component::component::{Component, ComponentName};
 use apollo_component::directive_list::DirectiveList;
@@ -45,10 +43,8 @@ fn fold_name(
     type_name: &Name,
     errors: &mut Items<Fault>,
 ) -> Result<(), AllocError>
-    ensures added { OnOk result ((ks : List AnyName) → set.old ≡ distinct_names ks
-        → set.new ≡ distinct_names (ks ++ component_name origin name.now ∷ [])) }
-    ensures faults { OnOk result ((ks : List AnyName) → set.old ≡ distinct_names ks
-        → errors.new ≡ errors.old ++ collision_at collection type_name.now (map (λ k. k.name) ks) (name.now, name.now.location)) }
+    ensures added { OnOk result (Lengthens distinct_names set.old (component_name origin name.now ∷ []) set.new) }
+    ensures faults { OnOk result (FindsIn distinct_names set.old (λ ks. collision_at collection type_name.now (map (λ k. k.name) ks) (name.now, name.now.location)) errors.old errors.new) }
 {
     let component = ComponentName::with_origin(name.clone()?, origin);
     match set.get(&component) {
@@ -72,10 +68,8 @@ pub fn fold_names(
     type_name: &Name,
     errors: &mut Items<Fault>,
 ) -> Result<(), AllocError>
-    ensures added { OnOk result ((ks : List AnyName) → set.old ≡ distinct_names ks
-        → set.new ≡ distinct_names (ks ++ map (component_name origin) names.now)) }
-    ensures faults { OnOk result ((ks : List AnyName) → set.old ≡ distinct_names ks
-        → errors.new ≡ errors.old ++ collisions collection type_name.now (map (λ k. k.name) ks) (name_entries names.now)) }
+    ensures added { OnOk result (Lengthens distinct_names set.old (map (component_name origin) names.now) set.new) }
+    ensures faults { OnOk result (FindsIn distinct_names set.old (λ ks. collisions collection type_name.now (map (λ k. k.name) ks) (name_entries names.now)) errors.old errors.new) }
 {
     for name in names {
         fold_name(set, name, origin, collection, type_name, errors)?;
@@ -92,10 +86,8 @@ fn fold_entry<T: Named + Drop>(
     type_name: &Name,
     errors: &mut Items<Fault>,
 ) -> Result<(), AllocError>
-    ensures added { OnOk result ((es : List (NameView × AnyComponent T)) → table.old ≡ distinct_entries es
-        → table.new ≡ distinct_entries (es ++ (T.name_of node.now.value, component origin node.now) ∷ [])) }
-    ensures faults { OnOk result ((es : List (NameView × AnyComponent T)) → table.old ≡ distinct_entries es
-        → errors.new ≡ errors.old ++ collision_at collection type_name.now (keys_of es) (T.name_of node.now.value, node.now.location)) }
+    ensures added { OnOk result (Lengthens distinct_entries table.old ((T.name_of node.now.value, component origin node.now) ∷ []) table.new) }
+    ensures faults { OnOk result (FindsIn distinct_entries table.old (λ es. collision_at collection type_name.now (keys_of es) (T.name_of node.now.value, node.now.location)) errors.old errors.new) }
 {
     match table.get_key_value(node.name()) {
         Some((kept, _)) => {
@@ -119,10 +111,8 @@ pub fn fold_named<T: Named + Drop>(
     type_name: &Name,
     errors: &mut Items<Fault>,
 ) -> Result<(), AllocError>
-    ensures added { OnOk result ((es : List (NameView × AnyComponent T)) → table.old ≡ distinct_entries es
-        → table.new ≡ distinct_entries (es ++ map (λ n. (T.name_of n.value, component origin n)) nodes.now)) }
-    ensures faults { OnOk result ((es : List (NameView × AnyComponent T)) → table.old ≡ distinct_entries es
-        → errors.new ≡ errors.old ++ collisions collection type_name.now (keys_of es) (map (λ n. (T.name_of n.value, n.location)) nodes.now)) }
+    ensures added { OnOk result (Lengthens distinct_entries table.old (map (λ n. (T.name_of n.value, component origin n)) nodes.now) table.new) }
+    ensures faults { OnOk result (FindsIn distinct_entries table.old (λ es. collisions collection type_name.now (keys_of es) (map (λ n. (T.name_of n.value, n.location)) nodes.now)) errors.old errors.new) }
 {
     for node in nodes {
         fold_entry(table, node, origin, collection, type_name, errors)?;

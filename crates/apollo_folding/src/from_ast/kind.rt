@@ -1,15 +1,17 @@
 //! Kinds of types, from definitions and extensions.
-ghost use Rattle.std.specs.Prelude.{◌≡◌, ◌+◌, ◌^◌, ◌≤◌, List, [], ◌∷◌, ◌++◌, length, map, IfOk, IfErr, OnOk};
+ghost use Rattle.apollo_folding.specs.Joins.{with_numbers, Joins, Finds};
+ghost use Rattle.std.specs.Prelude.{◌≡◌, ◌+◌, ◌^◌, ◌≤◌, List, [], ◌∷◌, ◌++◌, length, IfOk, IfErr, OnOk};
 ghost use Rattle.std.specs.List.{flat_map};
 ghost use Rattle.std.specs.Option.{option_copied, option_map_or};
 ghost use Rattle.graphql_nodes.specs.NodeView.{NodeView};
 ghost use Rattle.graphql_nodes.specs.declared.type_kind.TypeKind.{TypeKind};
 ghost use Rattle.apollo_component.specs.Extensions.{next_number, source_at};
 ghost use Rattle.apollo_component.specs.declared.extension.ComponentOrigin.TheVariants as origins;
-ghost use Rattle.apollo_meaning.specs.TypeParts.{TypePart, extended_parts};
-ghost use Rattle.apollo_meaning.specs.DefinitionList.{of_kind};
-ghost use Rattle.apollo_meaning.specs.TypeMeaning.{Sourced, extension_part, numbered};
-ghost use Rattle.apollo_meaning.specs.TypeFaults.{part_faults};
+ghost use Rattle.apollo_meaning.specs.Items.Parts.{TypePart};
+ghost use Rattle.apollo_meaning.specs.Items.ListItems.{extended_parts};
+ghost use Rattle.apollo_meaning.specs.Items.Named.{of_kind};
+ghost use Rattle.apollo_meaning.specs.Types.Components.{Sourced};
+ghost use Rattle.apollo_meaning.specs.Faults.TypeFaults.{part_faults};
 ghost use Rattle.apollo_folding.specs.Refusals.{RefusedAs};
 
 use crate::builder_error::BuilderError;
@@ -54,10 +56,8 @@ pub trait Kind: Clone + Drop {
         node: &Node<Self::Definition>,
         errors: &mut Items<Fault>,
     ) -> Result<(), AllocError>
-        ensures folded { OnOk result ((head : TypePart) (done : List Sourced) → self.old ≡ made head done
-            → self.new ≡ made head (done ++ (origins.Definition, of_definition node.now) ∷ [])) }
-        ensures faults { OnOk result ((head : TypePart) (done : List Sourced) → self.old ≡ made head done
-            → errors.new ≡ errors.old ++ part_faults (map (λ s. s.1) done) (of_definition node.now)) };
+        ensures folded { OnOk result (Joins made self.old (λ _. (origins.Definition, of_definition node.now) ∷ []) self.new) }
+        ensures faults { OnOk result (Finds made self.old (λ _ parts. part_faults parts (of_definition node.now)) errors.old errors.new) };
 
     /// Folds the components of an extension in under an origin, in the same way.
     fn fold_extension(
@@ -66,10 +66,8 @@ pub trait Kind: Clone + Drop {
         origin: ComponentOrigin,
         errors: &mut Items<Fault>,
     ) -> Result<(), AllocError>
-        ensures folded { OnOk result ((head : TypePart) (done : List Sourced) → self.old ≡ made head done
-            → self.new ≡ made head (done ++ (origin, of_extension node.now) ∷ [])) }
-        ensures faults { OnOk result ((head : TypePart) (done : List Sourced) → self.old ≡ made head done
-            → errors.new ≡ errors.old ++ part_faults (map (λ s. s.1) done) (of_extension node.now)) };
+        ensures folded { OnOk result (Joins made self.old (λ _. (origin, of_extension node.now) ∷ []) self.new) }
+        ensures faults { OnOk result (Finds made self.old (λ _ parts. part_faults parts (of_extension node.now)) errors.old errors.new) };
 
     /// A copy is the same type.
     ghost copies: { (x y : Self) → Self.is_clone x y → y ≡ x };
@@ -102,10 +100,8 @@ pub fn extend_by<K: Kind>(
     ids: &mut ExtensionSource,
     errors: &mut Items<Fault>,
 ) -> Result<(), BuilderError>
-    ensures folded { OnOk result ((head : TypePart) (done : List Sourced) → node.old.value ≡ K.made head done
-        → node.new.value ≡ K.made head (done ++ map extension_part (numbered (next_number ids.old) (of_kind K.kind (extended_parts (extension.now ∷ [])))))) }
-    ensures faults { OnOk result ((head : TypePart) (done : List Sourced) → node.old.value ≡ K.made head done
-        → errors.new ≡ errors.old ++ flat_map (part_faults (map (λ s. s.1) done)) (of_kind K.kind (extended_parts (extension.now ∷ [])))) }
+    ensures folded { OnOk result (Joins K.made node.old.value (λ head. with_numbers ids.old (of_kind K.kind (extended_parts (extension.now ∷ [])))) node.new.value) }
+    ensures faults { OnOk result (Finds K.made node.old.value (λ _ parts. flat_map (part_faults parts) (of_kind K.kind (extended_parts (extension.now ∷ [])))) errors.old errors.new) }
     ensures place { OnOk result (node.new.location ≡ node.old.location) }
     ensures next { OnOk result (ids.new ≡ source_at (next_number ids.old + length (of_kind K.kind (extended_parts (extension.now ∷ []))))) }
     ensures refused { IfErr result (λ error. RefusedAs error (2 ^ 64 ≤ next_number ids.old + length (of_kind K.kind (extended_parts (extension.now ∷ []))))) }

@@ -1,8 +1,9 @@
 //! Scalar types from definitions and extensions.
-ghost use Rattle.std.specs.Prelude.{◌≡◌, List, [], ◌∷◌, ◌++◌, refl, OnOk};
+ghost use Rattle.apollo_folding.specs.Joins.{JoinsPart};
+ghost use Rattle.std.specs.Prelude.{refl, OnOk};
 ghost use Rattle.graphql_nodes.specs.declared.type_kind.TypeKind.TheVariants as kinds;
-ghost use Rattle.apollo_meaning.specs.TypeParts.{TypePart, ScalarBody, scalar_definition_part, scalar_extension_part};
-ghost use Rattle.apollo_meaning.specs.TypeMeaning.{Sourced, scalar_of};
+ghost use Rattle.apollo_meaning.specs.Items.Parts.{ScalarBody, scalar_definition_part, scalar_extension_part};
+ghost use Rattle.apollo_meaning.specs.Types.Meaning.{scalar_of};
 
 use crate::from_ast::folding::fold_directives;
 use crate::from_ast::kind::Kind;
@@ -23,9 +24,7 @@ fn fold(
     directives: &[Node<Directive>],
     origin: ComponentOrigin,
 ) -> Result<(), AllocError>
-    ensures { OnOk result ((head part : TypePart) (done : List Sourced)
-        → part.directives ≡ directives.now → part.body ≡ ScalarBody → ty.old ≡ scalar_of head done
-        → ty.new ≡ scalar_of head (done ++ (origin, part) ∷ [])) }
+    ensures { OnOk result (JoinsPart scalar_of ty.old origin directives.now ScalarBody ty.new) }
 {
     fold_directives(&mut ty.directives, directives, origin)?;
     Ok(())

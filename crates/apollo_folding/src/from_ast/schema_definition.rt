@@ -1,16 +1,17 @@
 //! The definition of the schema from its definitions and extensions.
+ghost use Rattle.apollo_folding.specs.Joins.{JoinsSchemaPart, FindsRoots, Joins, Finds};
 ghost use Rattle.std.specs.Prelude.{◌≡◌, ◌+◌, ◌^◌, ◌≤◌, List, [], ◌∷◌, ◌++◌, length, map, None, Some, IfOk, IfErr, OnOk};
 ghost use Rattle.std.specs.Option.{option_or};
 ghost use Rattle.apollo_component.specs.Extensions.{next_number, source_at};
 ghost use Rattle.apollo_component.specs.declared.extension.ComponentOrigin.TheVariants as origins;
 ghost use Rattle.apollo_types.specs.SchemaDefinitionWriteOut.{root_of};
 ghost use Rattle.apollo_types.specs.declared.schema_definition.SchemaDefinition.{SchemaDefinition as AnyDefinition};
-ghost use Rattle.apollo_meaning.specs.TypeParts.{SchemaPart, schema_definition_part, schema_extension_part};
-ghost use Rattle.apollo_meaning.specs.TypeMeaning.{component_name};
-ghost use Rattle.apollo_meaning.specs.RootMeaning.{SourcedSchema, schema_from, schema_definition_of};
-ghost use Rattle.apollo_meaning.specs.RootFaults.{schema_faults};
+ghost use Rattle.apollo_meaning.specs.Items.Parts.{schema_definition_part, schema_extension_part};
+ghost use Rattle.apollo_meaning.specs.Types.Components.{component_name};
+ghost use Rattle.apollo_meaning.specs.Schema.Definition.{schema_from};
+ghost use Rattle.apollo_meaning.specs.Faults.RootFaults.{schema_faults};
 ghost use Rattle.apollo_folding.specs.RootTables.{NamedRoot, named_root, with_roots, put_root, dropped_root, held_fault, held_faults};
-ghost use Rattle.apollo_meaning.specs.Joining.{schema_numbered, schema_begun, schema_begun_faults, schema_joining_faults};
+ghost use Rattle.apollo_meaning.specs.Steps.Joining.{schema_numbered, schema_begun, schema_begun_faults, schema_joining_faults};
 ghost use Rattle.apollo_folding.specs.Refusals.{RefusedAs};
 
 use crate::builder_error::BuilderError;
@@ -107,12 +108,8 @@ fn fold(
     origin: ComponentOrigin,
     errors: &mut Items<Fault>,
 ) -> Result<(), AllocError>
-    ensures folded { OnOk result ((head part : SchemaPart) (done : List SourcedSchema)
-        → part.directives ≡ directives.now → part.roots ≡ roots.now → definition.old ≡ schema_definition_of head done
-        → definition.new ≡ schema_definition_of head (done ++ (origin, part) ∷ [])) }
-    ensures faults { OnOk result ((head part : SchemaPart) (done : List SourcedSchema)
-        → part.roots ≡ roots.now → definition.old ≡ schema_definition_of head done
-        → errors.new ≡ errors.old ++ schema_faults (map (λ s. s.1) done) part) }
+    ensures folded { OnOk result (JoinsSchemaPart definition.old origin directives.now roots.now definition.new) }
+    ensures faults { OnOk result (FindsRoots definition.old roots.now errors.old errors.new) }
 {
     fold_directives(&mut definition.directives, directives, origin)?;
     fold_roots(definition, roots, origin, errors)?;
@@ -157,10 +154,8 @@ pub fn extend_schema(
     ids: &mut ExtensionSource,
     errors: &mut Items<Fault>,
 ) -> Result<(), BuilderError>
-    ensures folded { OnOk result ((head : SchemaPart) (done : List SourcedSchema) → node.old ≡ schema_from head done
-        → node.new ≡ schema_from head (done ++ schema_numbered (next_number ids.old) (schema_extension_part extension.now ∷ []))) }
-    ensures faults { OnOk result ((head : SchemaPart) (done : List SourcedSchema) → node.old ≡ schema_from head done
-        → errors.new ≡ errors.old ++ schema_faults (map (λ s. s.1) done) (schema_extension_part extension.now)) }
+    ensures folded { OnOk result (Joins schema_from node.old (λ _. schema_numbered (next_number ids.old) (schema_extension_part extension.now ∷ [])) node.new) }
+    ensures faults { OnOk result (Finds schema_from node.old (λ _ parts. schema_faults parts (schema_extension_part extension.now)) errors.old errors.new) }
     ensures next { OnOk result (ids.new ≡ source_at (next_number ids.old + 1)) }
     ensures grows { next_number ids.old ≤ next_number ids.new }
     ensures refused { IfErr result (λ error. RefusedAs error (2 ^ 64 ≤ next_number ids.old + 1)) }
@@ -183,10 +178,8 @@ fn extend_schema_by_all(
     ids: &mut ExtensionSource,
     errors: &mut Items<Fault>,
 ) -> Result<(), BuilderError>
-    ensures folded { OnOk result ((head : SchemaPart) (done : List SourcedSchema) → node.old ≡ schema_from head done
-        → node.new ≡ schema_from head (done ++ schema_numbered (next_number ids.old) (map schema_extension_part extensions.now))) }
-    ensures faults { OnOk result ((head : SchemaPart) (done : List SourcedSchema) → node.old ≡ schema_from head done
-        → errors.new ≡ errors.old ++ schema_joining_faults (map (λ s. s.1) done) (map schema_extension_part extensions.now)) }
+    ensures folded { OnOk result (Joins schema_from node.old (λ _. schema_numbered (next_number ids.old) (map schema_extension_part extensions.now)) node.new) }
+    ensures faults { OnOk result (Finds schema_from node.old (λ _ parts. schema_joining_faults parts (map schema_extension_part extensions.now)) errors.old errors.new) }
     ensures next { OnOk result (ids.new ≡ source_at (next_number ids.old + length extensions.now)) }
     ensures grows { next_number ids.old ≤ next_number ids.new }
     ensures refused { IfErr result (λ error. RefusedAs error (2 ^ 64 ≤ next_number ids.old + length extensions.now)) }

@@ -1,9 +1,10 @@
 //! Union types from definitions and extensions.
-ghost use Rattle.std.specs.Prelude.{◌≡◌, List, [], ◌∷◌, ◌++◌, map, refl, OnOk};
+ghost use Rattle.apollo_folding.specs.Joins.{JoinsPart, Finds};
+ghost use Rattle.std.specs.Prelude.{refl, OnOk};
 ghost use Rattle.graphql_nodes.specs.declared.type_kind.TypeKind.TheVariants as kinds;
-ghost use Rattle.apollo_meaning.specs.TypeParts.{TypePart, UnionBody, union_definition_part, union_extension_part};
-ghost use Rattle.apollo_meaning.specs.TypeMeaning.{Sourced, union_of};
-ghost use Rattle.apollo_meaning.specs.TypeFaults.{body_faults};
+ghost use Rattle.apollo_meaning.specs.Items.Parts.{UnionBody, union_definition_part, union_extension_part};
+ghost use Rattle.apollo_meaning.specs.Types.Meaning.{union_of};
+ghost use Rattle.apollo_meaning.specs.Faults.TypeFaults.{body_faults};
 
 use crate::from_ast::folding::{fold_directives, fold_names};
 use crate::from_ast::kind::Kind;
@@ -30,11 +31,8 @@ fn fold(
     type_name: &Name,
     errors: &mut Items<Fault>,
 ) -> Result<(), AllocError>
-    ensures folded { OnOk result ((head part : TypePart) (done : List Sourced)
-        → part.directives ≡ directives.now → part.body ≡ UnionBody members.now → ty.old ≡ union_of head done
-        → ty.new ≡ union_of head (done ++ (origin, part) ∷ [])) }
-    ensures faults { OnOk result ((head : TypePart) (done : List Sourced) → ty.old ≡ union_of head done
-        → errors.new ≡ errors.old ++ body_faults (UnionBody members.now) type_name.now (map (λ s. s.1) done)) }
+    ensures folded { OnOk result (JoinsPart union_of ty.old origin directives.now (UnionBody members.now) ty.new) }
+    ensures faults { OnOk result (Finds union_of ty.old (λ _. body_faults (UnionBody members.now) type_name.now) errors.old errors.new) }
 {
     fold_directives(&mut ty.directives, directives, origin)?;
     fold_names(

@@ -1,17 +1,17 @@
 //! The end of a list: what it leaves to adopt, to imply and to refuse, and the schema.
-ghost use Rattle.std.specs.Prelude.{◌≡◌, Bool, ◌≢◌, ℕ, ◌+◌, ◌^◌, ◌≤◌, List, [], ◌∷◌, ◌++◌, length, Err, OnOk, IfOk, IfErr};
-ghost use Rattle.std.specs.Option.{option_map_or};
+ghost use Rattle.std.specs.Prelude.{◌≡◌, ◌≢◌, ℕ, ◌+◌, ◌≤◌, List, [], ◌++◌, Err, OnOk, IfOk, IfErr};
 ghost use Rattle.apollo_component.specs.Extensions.{next_number, source_at};
-ghost use Rattle.apollo_meaning.specs.TypeParts.{TypeItem, SchemaDefined, Added, added_items, schema_definition_part};
-ghost use Rattle.apollo_meaning.specs.Adoption.{with_adopted, implied_schema, completed};
-ghost use Rattle.apollo_schema.specs.MeantSchema.{MeansSchema};
-ghost use Rattle.apollo_meaning.specs.WholeSchema.{folds};
-ghost use Rattle.apollo_meaning.specs.SchemaFaults.{faults_of};
+ghost use Rattle.apollo_meaning.specs.Items.ListItems.{schema_item, ListItem};
+ghost use Rattle.apollo_meaning.specs.Completion.Adoption.{with_adopted};
+ghost use Rattle.apollo_meaning.specs.Completion.ImpliedSchema.{implied_schema, completed};
+ghost use Rattle.apollo_schema.specs.MeantSchema.{MeansSchema, IsPartOf};
+ghost use Rattle.apollo_schema.specs.Takes.{Becomes, SpentOn, ForLists, ForCompleted};
+ghost use Rattle.apollo_meaning.specs.Schema.Whole.{folds};
+ghost use Rattle.apollo_meaning.specs.Faults.ListFaults.{faults_of};
 ghost use Rattle.apollo_schema.specs.BuildAnswers.{IfFaults, failure_of, HasBuilt, WasRefused};
-ghost use Rattle.apollo_meaning.specs.Prefixes.{folded};
 ghost use Rattle.apollo_folding.specs.Refusals.{RefusedAs};
 ghost use Rattle.apollo_schema.specs.Stands.{Stands, Ends, Completes};
-ghost use Rattle.apollo_meaning.specs.SpentIds.{SpendsIds};
+ghost use Rattle.apollo_meaning.specs.Order.SpentIds.{SpendsIds};
 
 use crate::build_failure::{BuildFailure, WithErrors};
 use crate::schema::Schema;
@@ -27,8 +27,8 @@ use std::alloc::AllocError;
 impl Tables {
     /// Takes an empty definition for each name that is extended only, where such names are adopted.
     fn adopt(&mut self, adopts: bool) -> Result<(), BuilderError>
-        ensures stands { OnOk result ((start : ℕ) (xs : List TypeItem) → Stands start xs self.old → Stands start (with_adopted adopts xs) self.new) }
-        ensures refused { IfErr result (λ error. RefusedAs error ((start : ℕ) (xs : List TypeItem) → Stands start xs self.old → 2 ^ 64 ≤ start + length (folded (with_adopted adopts xs)))) }
+        ensures stands { OnOk result (Becomes self.old (with_adopted adopts) self.new) }
+        ensures refused { IfErr result (λ error. RefusedAs error (SpentOn self.old (with_adopted adopts))) }
         ensures sources { self.new.sources ≡ self.old.sources }
     {
         if !adopts {
@@ -44,8 +44,7 @@ impl Tables {
         &self,
         adopts: bool,
     ) -> Result<Option<Node<ast::SchemaDefinition>>, AllocError>
-        ensures { IfOk result (λ implied. (start : ℕ) (xs : List TypeItem) → Stands start xs self.now
-            → option_map_or (λ node. SchemaDefined (schema_definition_part node) ∷ []) implied [] ≡ implied_schema adopts xs) }
+        ensures { IfOk result (λ implied. (start : ℕ) (xs : List ListItem) → Stands start xs self.now → schema_item implied ≡ implied_schema adopts xs) }
     {
         if self.schema_definition.is_some() {
             return Ok(None);
@@ -61,8 +60,8 @@ impl Tables {
 
     /// Ends a list: what still waits is at fault, and a schema definition may be implied.
     fn end(&mut self, adopts: bool) -> Result<(), BuilderError>
-        ensures ends { OnOk result ((start : ℕ) (xs : List TypeItem) → Stands start xs self.old → Ends start (implied_schema adopts xs) xs self.new) }
-        ensures refused { IfErr result (λ error. RefusedAs error ((start : ℕ) (xs : List TypeItem) → Stands start xs self.old → 2 ^ 64 ≤ start + length (folded (xs ++ implied_schema adopts xs)))) }
+        ensures ends { OnOk result ((start : ℕ) (xs : List ListItem) → Stands start xs self.old → Ends start (implied_schema adopts xs) xs self.new) }
+        ensures refused { IfErr result (λ error. RefusedAs error (SpentOn self.old (λ xs. xs ++ implied_schema adopts xs))) }
         ensures sources { self.new.sources ≡ self.old.sources }
     {
         let implied = self.implied_schema(adopts)?;
@@ -77,8 +76,8 @@ impl Tables {
 
     /// Completes a list: types are adopted, and it ends.
     fn complete(&mut self, adopts: bool) -> Result<(), BuilderError>
-        ensures completes { OnOk result ((start : ℕ) (xs : List TypeItem) → Stands start xs self.old → Completes start adopts xs self.new) }
-        ensures refused { IfErr result (λ error. RefusedAs error ((start : ℕ) (xs : List TypeItem) → Stands start xs self.old → 2 ^ 64 ≤ start + length (folded (completed adopts xs)))) }
+        ensures completes { OnOk result ((start : ℕ) (xs : List ListItem) → Stands start xs self.old → Completes start adopts xs self.new) }
+        ensures refused { IfErr result (λ error. RefusedAs error (SpentOn self.old (completed adopts))) }
         ensures sources { self.new.sources ≡ self.old.sources }
     {
         self.adopt(adopts)?;
@@ -102,10 +101,9 @@ impl Tables {
     /// What was built, and the source: the schema where nothing was found, or else what could be built beside the faults.
     /// The error is want of memory, and puts the source back at this number.
     fn into_schema(self, before: u64) -> (Result<Schema, BuildFailure>, ExtensionSource)
-        ensures built { IfOk result.0 (λ schema. (start : ℕ) (adopts : Bool) (xs : List Added) → Completes start adopts (added_items xs) self → MeansSchema start adopts xs schema) }
-        ensures faultless { OnOk result.0 ((start : ℕ) (adopts : Bool) (xs : List Added) → Completes start adopts (added_items xs) self → faults_of adopts xs ≡ []) }
-        ensures faults { IfErr result.0 (λ failure. IfFaults failure (λ partial faults. (start : ℕ) (adopts : Bool) (xs : List Added) → Completes start adopts (added_items xs) self
-            → MeansSchema start adopts xs partial × ((faults ≡ faults_of adopts xs × faults ≢ []) × partial.sources ≡ self.sources))) }
+        ensures built { IfOk result.0 (λ schema. ForCompleted self (λ start adopts xs. MeansSchema start adopts xs schema)) }
+        ensures faultless { OnOk result.0 (ForCompleted self (λ start adopts xs. faults_of adopts xs ≡ [])) }
+        ensures faults { IfErr result.0 (λ failure. IfFaults failure (λ partial faults. ForCompleted self (λ start adopts xs. IsPartOf start adopts xs self.sources partial faults))) }
         ensures sources { IfOk result.0 (λ schema. schema.sources ≡ self.sources) }
         ensures failed { result.0 ≢ Err BuildFailure.Failed }
         ensures unspent { result.0 ≢ Err BuildFailure.ExtensionIds }
@@ -147,16 +145,15 @@ impl Tables {
     /// Completes the list, and answers what was built, and the source. After a refusal that is the one from before the
     /// call.
     pub fn finish(self, adopts: bool) -> (Result<Schema, BuildFailure>, ExtensionSource)
-        ensures built { IfOk result.0 (λ schema. (start : ℕ) (xs : List Added) → Stands start (added_items xs) self → MeansSchema start adopts xs schema) }
-        ensures faultless { OnOk result.0 ((start : ℕ) (xs : List Added) → Stands start (added_items xs) self → faults_of adopts xs ≡ []) }
-        ensures faults { IfErr result.0 (λ failure. IfFaults failure (λ partial faults. (start : ℕ) (xs : List Added) → Stands start (added_items xs) self
-            → MeansSchema start adopts xs partial × ((faults ≡ faults_of adopts xs × faults ≢ []) × partial.sources ≡ self.sources))) }
+        ensures built { IfOk result.0 (λ schema. ForLists self (λ start xs. MeansSchema start adopts xs schema)) }
+        ensures faultless { OnOk result.0 (ForLists self (λ start xs. faults_of adopts xs ≡ [])) }
+        ensures faults { IfErr result.0 (λ failure. IfFaults failure (λ partial faults. ForLists self (λ start xs. IsPartOf start adopts xs self.sources partial faults))) }
         ensures sources { IfOk result.0 (λ schema. schema.sources ≡ self.sources) }
         ensures failed { result.0 ≢ Err BuildFailure.Failed }
-        ensures spent { result.0 ≡ Err BuildFailure.ExtensionIds → (start : ℕ) (xs : List Added) → Stands start (added_items xs) self → SpendsIds start adopts xs }
-        ensures source { HasBuilt result.0 → (start : ℕ) (xs : List Added) → Stands start (added_items xs) self → result.1 ≡ source_at (start + folds adopts xs) }
+        ensures spent { result.0 ≡ Err BuildFailure.ExtensionIds → ForLists self (λ start xs. SpendsIds start adopts xs) }
+        ensures source { HasBuilt result.0 → ForLists self (λ start xs. result.1 ≡ source_at (start + folds adopts xs)) }
         ensures rolled_back { WasRefused result.0 → result.1 ≡ self.ids }
-        ensures not_below { (start : ℕ) (xs : List Added) → Stands start (added_items xs) self → start ≤ next_number result.1 }
+        ensures not_below { ForLists self (λ start xs. start ≤ next_number result.1) }
     {
         let before = self.next_number();
         let mut tables = self;

@@ -1,8 +1,8 @@
 use Rattle.std.proofs.Common.{◌≡◌, Some, None, [], ◌∷◌, ◌++◌, sym, ap, ◌∙◌, arith}
 use Rattle.std.specs.Option.{option_map}
 use Rattle.std.proofs.lemmas.List.{map-append}
-use Rattle.apollo_meaning.specs.TypeParts.{Defined, item_of, items_of, extended_part}
-use Rattle.apollo_meaning.specs.Adoption.{adopted_part}
+use Rattle.apollo_meaning.specs.Items.ListItems.{Defined, item_of, items_of, extended_part}
+use Rattle.apollo_meaning.specs.Completion.Adoption.{adopted_part}
 use Rattle.apollo_folding.proofs.RootLemmas.{adopted-first, adopted-none}
 use Rattle.apollo_folding.proofs.adoption.adopt_first.Goals as goal
 

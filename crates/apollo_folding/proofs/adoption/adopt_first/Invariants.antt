@@ -1,5 +1,5 @@
 use Rattle.std.proofs.Common.{◌≡◌, [], take}
-use Rattle.apollo_meaning.specs.TypeParts.{extended_parts}
+use Rattle.apollo_meaning.specs.Items.ListItems.{extended_parts}
 use Rattle.apollo_folding.proofs.adoption.adopt_first.Given as goal
 
 abbrev pub invariant-loop-extension : goal.invariant-loop-extension

@@ -1,6 +1,7 @@
 use Rattle.std.proofs.Common.{◌≡◌, ◌==◌, true, false, None, [], ◌∷◌, length, sym, ap, ◌∙◌, rules}
-use Rattle.apollo_meaning.specs.TypeParts.{SchemaPart, SchemaDefined, schema_definition_part}
-use Rattle.apollo_meaning.specs.Adoption.{schema_of_roots}
+use Rattle.apollo_meaning.specs.Items.Parts.{SchemaPart, schema_definition_part}
+use Rattle.apollo_meaning.specs.Items.ListItems.{SchemaDefined}
+use Rattle.apollo_meaning.specs.Completion.ImpliedSchema.{schema_of_roots}
 use Rattle.apollo_folding.specs.HeldRoots.{held_roots}
 use Rattle.apollo_folding.proofs.RootLemmas.{implied-adopting, implied-some}
 use Rattle.apollo_folding.proofs.adoption.implied_definition.Goals.{else-not-adopts-via-then-not-adopts+else-is_empty, else-not-adopts-via-else-not-adopts}

@@ -1,10 +1,11 @@
 use Rattle.std.proofs.Common.{◌≡◌, [], ◌∷◌, ◌++◌, Some, sym, ap, ◌∙◌, append_assoc}
 use Rattle.std.specs.Option.{option_map, option_map_or, unwrap_or}
 use Rattle.apollo_component.specs.declared.extension.ComponentOrigin.TheVariants as origins
-use Rattle.apollo_meaning.specs.TypeParts.{TypePart, extended_parts}
-use Rattle.apollo_meaning.specs.TypeMeaning.{type_from}
-use Rattle.apollo_meaning.specs.TypeFaults.{part_faults}
-use Rattle.apollo_meaning.specs.Joining.{joining_faults}
+use Rattle.apollo_meaning.specs.Items.Parts.{TypePart}
+use Rattle.apollo_meaning.specs.Items.ListItems.{extended_parts}
+use Rattle.apollo_meaning.specs.Types.Meaning.{type_from}
+use Rattle.apollo_meaning.specs.Faults.TypeFaults.{part_faults}
+use Rattle.apollo_meaning.specs.Steps.Joining.{joining_faults}
 use Rattle.apollo_meaning.proofs.FoldingLemmas.{type_from-ignorable}
 use Rattle.apollo_folding.proofs.from_ast.begin_type.Goals as goal
 

@@ -1,6 +1,6 @@
 use Rattle.std.proofs.Common.{[], ◌∷◌, ◌++◌, map, ap, ◌∙◌, append_assoc}
-use Rattle.apollo_meaning.specs.TypeParts.{extended_parts}
-use Rattle.apollo_meaning.specs.Joining.{mismatches, folding_faults}
+use Rattle.apollo_meaning.specs.Items.ListItems.{extended_parts}
+use Rattle.apollo_meaning.specs.Steps.Joining.{mismatches, folding_faults}
 use Rattle.apollo_folding.proofs.JoiningLemmas.{joining-one}
 use Rattle.apollo_folding.proofs.from_ast.extend_type.Goals as goal
 

@@ -2,10 +2,11 @@ use Rattle.std.proofs.Common.{◌≡◌, ℕ, ◌+◌, [], ◌∷◌, ◌++◌, 
 use Rattle.std.proofs.lemmas.Result.{err_from_is_err_and}
 use Rattle.graphql_nodes.specs.declared.type_kind.TypeKind.{TypeKind}
 use Rattle.apollo_component.specs.Extensions.{next_number, source_at}
-use Rattle.apollo_meaning.specs.TypeParts.{extended_parts, kind_of}
-use Rattle.apollo_meaning.specs.DefinitionList.{of_kind}
-use Rattle.apollo_meaning.specs.TypeMeaning.{type_from, extension_part, numbered}
-use Rattle.apollo_meaning.specs.Joining.{joining_faults}
+use Rattle.apollo_meaning.specs.Items.ListItems.{extended_parts}
+use Rattle.apollo_meaning.specs.Items.Parts.{kind_of}
+use Rattle.apollo_meaning.specs.Items.Named.{of_kind}
+use Rattle.apollo_meaning.specs.Types.Meaning.{type_from, extension_part, numbered}
+use Rattle.apollo_meaning.specs.Steps.Joining.{joining_faults}
 use Rattle.apollo_types.specs.TypeWriteOut.{type_kind}
 use Rattle.apollo_meaning.proofs.FoldingLemmas.{numbered-more, of_kind-turn, of_kind-past, type_kind-from}
 use Rattle.apollo_folding.proofs.JoiningLemmas.{parts-numbered, joining-turn}

@@ -1,9 +1,11 @@
 use Rattle.std.proofs.Common.{◌≡◌, ◌+◌, List, ◌++◌, map, length, take}
 use Rattle.apollo_component.specs.Extensions.{next_number, source_at}
-use Rattle.apollo_meaning.specs.TypeParts.{TypePart, extended_parts, kind_of}
-use Rattle.apollo_meaning.specs.DefinitionList.{of_kind}
-use Rattle.apollo_meaning.specs.TypeMeaning.{Sourced, type_from, extension_part, numbered}
-use Rattle.apollo_meaning.specs.Joining.{joining_faults}
+use Rattle.apollo_meaning.specs.Items.Parts.{TypePart, kind_of}
+use Rattle.apollo_meaning.specs.Items.ListItems.{extended_parts}
+use Rattle.apollo_meaning.specs.Items.Named.{of_kind}
+use Rattle.apollo_meaning.specs.Types.Components.{Sourced}
+use Rattle.apollo_meaning.specs.Types.Meaning.{type_from, extension_part, numbered}
+use Rattle.apollo_meaning.specs.Steps.Joining.{joining_faults}
 use Rattle.apollo_types.specs.TypeWriteOut.{type_kind}
 use Rattle.apollo_folding.proofs.from_ast.extend_type_by_all.Given as goal
 

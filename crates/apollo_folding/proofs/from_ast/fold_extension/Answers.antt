@@ -1,6 +1,6 @@
 use Rattle.std.proofs.Common.{[], ◌∷◌, sym, ◌∙◌}
 use Rattle.apollo_component.specs.Extensions.{next_number}
-use Rattle.apollo_meaning.specs.TypeParts.{extended_parts}
+use Rattle.apollo_meaning.specs.Items.ListItems.{extended_parts}
 use Rattle.apollo_folding.proofs.JoiningLemmas.{IsOf-faults}
 use Rattle.apollo_folding.proofs.KindParts.{IsOf-grown, is_scalar, is_object, is_interface, is_union, is_enum, is_input_object}
 use Rattle.apollo_folding.proofs.from_ast.fold_extension.Goals as goal

@@ -4,7 +4,7 @@ use denote.Enum.Bare.{sameb, same_false}
 use Rattle.graphql_ast.specs.Definitions.{kind_of as definition_kind}
 use Rattle.graphql_nodes.specs.contracts.type_kind.TypeKind.{the_type}
 use Rattle.apollo_types.specs.TypeWriteOut.{type_kind}
-use Rattle.apollo_meaning.specs.TypeParts.{kind_of}
+use Rattle.apollo_meaning.specs.Items.Parts.{kind_of}
 use Rattle.apollo_meaning.proofs.FoldingLemmas.{type_kind-from}
 use Rattle.apollo_folding.proofs.JoiningLemmas.{mismatch-one}
 use Rattle.apollo_folding.proofs.from_ast.note_mismatch.Goals as goal

@@ -5,9 +5,8 @@ use denote.Enum.Bare.{sameb, same_false}
 use Rattle.graphql_nodes.specs.contracts.type_kind.TypeKind.{the_type}
 use Rattle.graphql_nodes.specs.declared.type_kind.TypeKind.TheVariants as kinds
 use Rattle.apollo_meaning.specs.declared.build_error.BuildError.TheVariants as errors
-use Rattle.apollo_meaning.specs.TypeParts.{kind_of}
-use Rattle.apollo_meaning.specs.DefinitionList.{same_kind}
-use Rattle.apollo_meaning.specs.TypeFaults.{redefinition}
+use Rattle.apollo_meaning.specs.Items.Parts.{kind_of, same_kind}
+use Rattle.apollo_meaning.specs.Faults.TypeFaults.{redefinition}
 use Rattle.apollo_folding.proofs.JoiningLemmas.{same_kind-true, definition_kind-is}
 use Rattle.apollo_folding.proofs.redefinition.built_in_redefinition.Goals as goal
 

@@ -1,4 +1,4 @@
-use Rattle.apollo_meaning.specs.Places.{types, schemas}
+use Rattle.apollo_meaning.specs.Order.Places.{types, schemas}
 use Rattle.apollo_meaning.proofs.OnceLemmas.{each-met-once}
 use Rattle.apollo_meaning.proofs.laws.each_extension_is_met_once.Goals as goal
 

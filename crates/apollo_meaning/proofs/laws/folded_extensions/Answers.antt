@@ -1,7 +1,10 @@
 use Rattle.std.proofs.Common.{◌≡◌, ℕ, ◌+◌, Bool, true, false, List, [], ◌∷◌, map, filter, refl, ap, ◌∙◌}
-use Rattle.apollo_meaning.specs.TypeParts.{TypePart, Folding, OfType, OfSchema, key_of, same}
-use Rattle.apollo_meaning.specs.Places.{folding_order}
-use Rattle.apollo_meaning.specs.TypeMeaning.{Sourced, sourced}
+use Rattle.apollo_meaning.specs.Items.Parts.{TypePart, key_of}
+use Rattle.apollo_meaning.specs.Items.ListItems.{Folding, OfType, OfSchema}
+use Rattle.graphql_nodes.specs.SameText.{same}
+use Rattle.apollo_meaning.specs.Order.Places.{folding_order}
+use Rattle.apollo_meaning.specs.Types.Components.{Sourced}
+use Rattle.apollo_meaning.specs.Types.Meaning.{sourced}
 use Rattle.apollo_meaning.proofs.TypeLemmas.{type_foldings}
 use Rattle.apollo_meaning.proofs.PlaceLemmas.{folding_order-forget}
 use Rattle.apollo_meaning.proofs.PartLemmas.{of_name}

@@ -1,6 +1,6 @@
 use Rattle.std.proofs.Common.{◌≡◌, ℕ, ◌+◌, List, [], ◌∷◌, ◌++◌, take, string_bytes, refl, sym, ap, subst, ◌∙◌, append_assoc, arith}
 use Rattle.std.proofs.lemmas.List.{append-nil, take_more}
-use Rattle.apollo_meaning.specs.Collisions.{Fault}
+use Rattle.apollo_meaning.specs.Faults.Collisions.{Fault}
 use Rattle.gqltool_run.specs.FaultLines.{AreFaultLines, fault_line}
 use Rattle.gqltool_run.proofs.fault_printing.push_faults.Goals as goal
 

@@ -1,7 +1,7 @@
 use Rattle.std.proofs.Common.{◌≡◌, Bool, true, false, cond, List, [], refl, sym, ap, subst, ◌∙◌}
 use Rattle.std.proofs.lemmas.List.{append-nil}
 use Rattle.apollo_built_in.specs.BuiltInTable.{built_in_definitions}
-use Rattle.apollo_meaning.specs.TypeParts.{Added, added}
+use Rattle.apollo_meaning.specs.Items.ListItems.{Added, added}
 use Rattle.apollo_schema.specs.BuilderStands.{StandsFor}
 use Rattle.gqltool_run.specs.SchemaCommand.{list_of}
 use Rattle.gqltool_run.proofs.schema_command.begun.Goals as goal

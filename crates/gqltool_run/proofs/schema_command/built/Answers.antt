@@ -3,12 +3,12 @@ use Rattle.std.proofs.lemmas.List.{append-nil, map-append, take_more, take-appen
 use Rattle.std.proofs.lemmas.Grind.{flat_map-append}
 use Rattle.graphql_ast.specs.declared.document.Document.{Document}
 use Rattle.apollo_built_in.specs.BuiltInTable.{built_in_definitions}
-use Rattle.apollo_meaning.specs.TypeParts.{Added, added}
+use Rattle.apollo_meaning.specs.Items.ListItems.{Added, added}
 use Rattle.apollo_folding.specs.declared.builder_error.BuilderError.TheVariants as refusals
 use Rattle.apollo_schema.specs.declared.build_failure.BuildFailure.TheVariants as builds
 use Rattle.apollo_schema.specs.BuilderStands.{StandsFor}
-use Rattle.apollo_meaning.specs.SpentIds.{SpendsIdsSoFar, SpendsIds}
-use Rattle.apollo_meaning.specs.SchemaFaults.{faults_of}
+use Rattle.apollo_meaning.specs.Order.SpentIds.{SpendsIdsSoFar, SpendsIds}
+use Rattle.apollo_meaning.specs.Faults.ListFaults.{faults_of}
 use Rattle.apollo_schema.specs.MeantSchema.{MeansSchema}
 use Rattle.apollo_meaning.proofs.LongerLemmas.{spends-longer}
 use Rattle.gqltool_run.specs.SchemaCommand.{all_definitions, list_of}

@@ -3,8 +3,8 @@ use Rattle.std.proofs.lemmas.Bool.Decides.{nat_tests}
 use Rattle.std.proofs.lemmas.List.{append-nil}
 use Rattle.std.proofs.lemmas.Result.{err_from_is_err_and}
 use Rattle.graphql_ast.specs.declared.document.Document.{Document}
-use Rattle.apollo_meaning.specs.Collisions.{Fault}
-use Rattle.apollo_meaning.specs.SchemaFaults.{faults_of}
+use Rattle.apollo_meaning.specs.Faults.Collisions.{Fault}
+use Rattle.apollo_meaning.specs.Faults.ListFaults.{faults_of}
 use Rattle.apollo_schema.specs.SchemaWriteOut.{write_schema}
 use Rattle.apollo_schema.specs.MeantSchema.{MeansSchema}
 use Rattle.gqltool_run.specs.FaultLines.{AreFaultLines}

@@ -2,9 +2,9 @@ use Rattle.std.proofs.Common.{◌++◌, map, sym, ap, ◌∙◌}
 use Rattle.std.specs.List.{flat_map}
 use Rattle.apollo_types.specs.declared.enum_type.EnumType.{EnumType}
 use Rattle.apollo_meaning.specs.declared.collision.Collection.TheVariants as collections
-use Rattle.apollo_meaning.specs.Collisions.{collisions}
-use Rattle.apollo_meaning.specs.TypeMeaning.{component, value_entry, body_values, directives_of, values_of, distinct_entries}
-use Rattle.apollo_meaning.specs.TypeFaults.{value_entries}
+use Rattle.apollo_meaning.specs.Faults.Collisions.{collisions}
+use Rattle.apollo_meaning.specs.Types.Components.{component, value_entry, body_values, directives_of, values_of, distinct_entries}
+use Rattle.apollo_meaning.specs.Faults.TypeFaults.{value_entries}
 use Rattle.apollo_folding.proofs.KindParts.{enum_of-push}
 use Rattle.apollo_folding.proofs.PartNames.{values-joined}
 use Rattle.apollo_folding.proofs.from_ast.enum_type.fold.Goals as goal

@@ -5,8 +5,8 @@ use Rattle.std.specs.Option.{option_map, option_map_or}
 use Rattle.std.proofs.lemmas.List.{append-nil}
 use Rattle.graphql_nodes.specs.SameText.{same_text}
 use Rattle.indexmap.specs.IndexMap.{insert_entry}
-use Rattle.apollo_meaning.specs.TypeMeaning.{component, distinct_entries}
-use Rattle.apollo_meaning.specs.Collisions.{collision}
+use Rattle.apollo_meaning.specs.Types.Components.{component, distinct_entries}
+use Rattle.apollo_meaning.specs.Faults.Collisions.{collision}
 use Rattle.apollo_meaning.proofs.KeptLemmas.{entry-old, entry-put, found-key}
 use Rattle.apollo_folding.proofs.from_ast.folding.fold_entry.Goals as goal
 

@@ -4,8 +4,8 @@ use Rattle.std.proofs.lemmas.List.{append-nil}
 use Rattle.std.specs.Option.{option_map, option_map_or, option_copied}
 use Rattle.graphql_nodes.specs.SameText.{same_text}
 use Rattle.apollo_component.specs.declared.component.ComponentName.{ComponentName}
-use Rattle.apollo_meaning.specs.TypeMeaning.{component_name, same_component_name, distinct_names}
-use Rattle.apollo_meaning.specs.Collisions.{collision}
+use Rattle.apollo_meaning.specs.Types.Components.{component_name, same_component_name, distinct_names}
+use Rattle.apollo_meaning.specs.Faults.Collisions.{collision}
 use Rattle.apollo_meaning.proofs.KeptLemmas.{component_name_laws, kept-old, kept-put, found-name}
 use Rattle.apollo_folding.proofs.from_ast.folding.fold_name.Goals as goal
 

@@ -2,9 +2,9 @@ use Rattle.std.proofs.Common.{◌++◌, map, sym, ap, ◌∙◌}
 use Rattle.std.specs.List.{flat_map}
 use Rattle.apollo_types.specs.declared.input_object_type.InputObjectType.{InputObjectType}
 use Rattle.apollo_meaning.specs.declared.collision.Collection.TheVariants as collections
-use Rattle.apollo_meaning.specs.Collisions.{collisions}
-use Rattle.apollo_meaning.specs.TypeMeaning.{component, input_field_entry, body_input_fields, directives_of, input_fields_of, distinct_entries}
-use Rattle.apollo_meaning.specs.TypeFaults.{input_field_entries}
+use Rattle.apollo_meaning.specs.Faults.Collisions.{collisions}
+use Rattle.apollo_meaning.specs.Types.Components.{component, input_field_entry, body_input_fields, directives_of, input_fields_of, distinct_entries}
+use Rattle.apollo_meaning.specs.Faults.TypeFaults.{input_field_entries}
 use Rattle.apollo_folding.proofs.KindParts.{input_object_of-push}
 use Rattle.apollo_folding.proofs.PartNames.{input_fields-joined}
 use Rattle.apollo_folding.proofs.from_ast.input_object_type.fold.Goals as goal

@@ -3,9 +3,9 @@ use Rattle.std.specs.List.{flat_map}
 use Rattle.apollo_types.specs.declared.interface_type.InterfaceType.{InterfaceType}
 use Rattle.graphql_nodes.specs.NameView.{NameView}
 use Rattle.apollo_meaning.specs.declared.collision.Collection.TheVariants as collections
-use Rattle.apollo_meaning.specs.Collisions.{collisions}
-use Rattle.apollo_meaning.specs.TypeMeaning.{component, component_name, field_entry, body_interfaces, body_fields, directives_of, interfaces_of, fields_of, distinct_names, distinct_entries}
-use Rattle.apollo_meaning.specs.TypeFaults.{interface_names, field_names, name_entries, field_entries}
+use Rattle.apollo_meaning.specs.Faults.Collisions.{collisions}
+use Rattle.apollo_meaning.specs.Types.Components.{component, component_name, field_entry, body_interfaces, body_fields, directives_of, interfaces_of, fields_of, distinct_names, distinct_entries}
+use Rattle.apollo_meaning.specs.Faults.TypeFaults.{interface_names, field_names, name_entries, field_entries}
 use Rattle.apollo_folding.proofs.KindParts.{interface_of-push}
 use Rattle.apollo_folding.proofs.PartNames.{interfaces-joined, fields-joined}
 use Rattle.apollo_folding.proofs.from_ast.interface_type.fold.Goals as goal

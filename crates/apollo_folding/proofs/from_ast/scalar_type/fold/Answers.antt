@@ -1,7 +1,7 @@
 use Rattle.std.proofs.Common.{◌++◌, map, sym, ap, ◌∙◌}
 use Rattle.std.specs.List.{flat_map}
 use Rattle.apollo_types.specs.declared.scalar_type.ScalarType.{ScalarType}
-use Rattle.apollo_meaning.specs.TypeMeaning.{component, directives_of}
+use Rattle.apollo_meaning.specs.Types.Components.{component, directives_of}
 use Rattle.apollo_folding.proofs.KindParts.{scalar_of-push}
 use Rattle.apollo_folding.proofs.from_ast.scalar_type.fold.Goals as goal
 

@@ -2,10 +2,10 @@ use Rattle.std.proofs.Common.{◌≡◌, ℕ, ◌+◌, [], ◌∷◌, ◌++◌, 
 use Rattle.std.proofs.lemmas.List.{length-map, length-take-le, take_all}
 use Rattle.std.proofs.lemmas.Result.{err_from_is_err_and}
 use Rattle.apollo_component.specs.Extensions.{next_number, source_at}
-use Rattle.apollo_meaning.specs.TypeParts.{schema_extension_part}
-use Rattle.apollo_meaning.specs.RootMeaning.{schema_from}
-use Rattle.apollo_meaning.specs.RootFaults.{schema_faults}
-use Rattle.apollo_meaning.specs.Joining.{schema_numbered, schema_joining_faults}
+use Rattle.apollo_meaning.specs.Items.Parts.{schema_extension_part}
+use Rattle.apollo_meaning.specs.Schema.Definition.{schema_from}
+use Rattle.apollo_meaning.specs.Faults.RootFaults.{schema_faults}
+use Rattle.apollo_meaning.specs.Steps.Joining.{schema_numbered, schema_joining_faults}
 use Rattle.apollo_meaning.proofs.KeptLemmas.{map-turn}
 use Rattle.apollo_folding.proofs.RootLemmas.{schema_numbered-more, schema_parts-numbered, schema_joining-push}
 use Rattle.apollo_folding.proofs.RefusalLemmas.{RefusedAs-weaker}

@@ -2,9 +2,9 @@ use Rattle.std.proofs.Common.{◌++◌, map, sym, ap, ◌∙◌}
 use Rattle.std.specs.List.{flat_map}
 use Rattle.apollo_types.specs.declared.union_type.UnionType.{UnionType}
 use Rattle.apollo_meaning.specs.declared.collision.Collection.TheVariants as collections
-use Rattle.apollo_meaning.specs.Collisions.{collisions}
-use Rattle.apollo_meaning.specs.TypeMeaning.{component, component_name, body_members, directives_of, members_of, distinct_names}
-use Rattle.apollo_meaning.specs.TypeFaults.{name_entries}
+use Rattle.apollo_meaning.specs.Faults.Collisions.{collisions}
+use Rattle.apollo_meaning.specs.Types.Components.{component, component_name, body_members, directives_of, members_of, distinct_names}
+use Rattle.apollo_meaning.specs.Faults.TypeFaults.{name_entries}
 use Rattle.apollo_folding.proofs.KindParts.{union_of-push}
 use Rattle.apollo_folding.proofs.PartNames.{members-joined}
 use Rattle.apollo_folding.proofs.from_ast.union_type.fold.Goals as goal

@@ -4,9 +4,9 @@ use Rattle.std.proofs.Math.Logic.{∥∥₁_map}
 use Rattle.apollo_component.specs.Extensions.{source_at}
 use Rattle.apollo_folding.specs.declared.builder_error.BuilderError.{BuilderError}
 use Rattle.apollo_folding.specs.declared.builder_error.BuilderError.TheVariants.{ExtensionIds}
-use Rattle.apollo_meaning.specs.TypeParts.{TypeItem, Folding, added, added_item, added_items}
-use Rattle.apollo_meaning.specs.Places.{folding_order}
-use Rattle.apollo_meaning.specs.Prefixes.{folded}
+use Rattle.apollo_meaning.specs.Items.ListItems.{ListItem, Folding, added, added_item, added_items}
+use Rattle.apollo_meaning.specs.Order.Places.{folding_order}
+use Rattle.apollo_meaning.specs.Steps.Prefixes.{folded}
 use Rattle.apollo_folding.specs.Refusals.{RefusedAs}
 use Rattle.apollo_schema.specs.declared.state.State.TheVariants.{Failed}
 use Rattle.apollo_schema.specs.Stands.{Stands, HasStood, StateStands}
@@ -21,7 +21,7 @@ invariant_of-self-in_default-take_document c =
     record {
       standing = ∥∥₁_map (subst (λ s. ∥ HasStood first s ∥₁) c.in-Open.is c.args.self.now.standing) (λ h. (
         h.0 ++ more,
-        subst (λ (l : List TypeItem). Stands first l c.take_document.new.self) (sym (map-append added_item h.0 more))
+        subst (λ (l : List ListItem). Stands first l c.take_document.new.self) (sym (map-append added_item h.0 more))
             (c.in_default-take_document.ensures.stands first (added_items h.0) h.1),
       ));
     }
@@ -38,7 +38,7 @@ pub returns-clause-stands : goal.returns-clause-stands
 returns-clause-stands c = λ start xs was.
     let more = added c.args.self.now.ignore_builtin_redefinitions c.args.document.now.definitions in (
       was.0,
-      subst (λ (l : List TypeItem). Stands start l c.take_document.new.self) (sym (map-append added_item xs more))
+      subst (λ (l : List ListItem). Stands start l c.take_document.new.self) (sym (map-append added_item xs more))
           (c.in_default-take_document.ensures.stands start (added_items xs) (subst (StateStands start (added_items xs)) c.in-Open.is was.1)),
     )
 
@@ -52,7 +52,7 @@ pub returns-in-Err-clause-spent : goal.returns-in-Err-clause-spent
 returns-in-Err-clause-spent c = λ spent start xs was.
     let more = added c.args.self.now.ignore_builtin_redefinitions c.args.document.now.definitions in
     let is : c.in-Err.error ≡ ExtensionIds = cc in
-    let reason = subst (λ (e : BuilderError). RefusedAs e ((start : ℕ) (xs : List TypeItem) → Stands start xs c.in-Open.tables → 2 ^ 64 ≤ start + length (folded (xs ++ added_items more)))) is c.in-Err.ensures.refused in
+    let reason = subst (λ (e : BuilderError). RefusedAs e ((start : ℕ) (xs : List ListItem) → Stands start xs c.in-Open.tables → 2 ^ 64 ≤ start + length (folded (xs ++ added_items more)))) is c.in-Err.ensures.refused in
     let full = reason start (added_items xs) (subst (StateStands start (added_items xs)) c.in-Open.is was.1) in
     let whole : folded (added_items xs ++ added_items more) ≡ folding_order (added_items (xs ++ more)) =
     ap folded (sym (map-append added_item xs more)) ∙ sym (folding_order-forget (added_items (xs ++ more))) in

@@ -4,8 +4,8 @@ use Rattle.std.proofs.Math.Logic.{∥∥₁_map, ∥∥₁_elim}
 use Rattle.graphql_nodes.specs.Tables.{lookup}
 use Rattle.graphql_nodes.specs.NameView.{NameView}
 use Rattle.apollo_schema.specs.declared.state.State.{State}
-use Rattle.apollo_meaning.specs.TypeParts.{added_items}
-use Rattle.apollo_meaning.specs.SchemaMeaning.{by_text}
+use Rattle.apollo_meaning.specs.Items.ListItems.{added_items}
+use Rattle.graphql_nodes.specs.SameText.{by_text}
 use Rattle.apollo_schema.specs.Stands.{HasStood, StateStands}
 use Rattle.apollo_schema.specs.NamesLeft.{names_left, IsExtendedUnder}
 use Rattle.apollo_schema.specs.BuilderHolds.{state_types, state_waiting}

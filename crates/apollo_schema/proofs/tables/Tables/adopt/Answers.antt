@@ -1,8 +1,8 @@
 use Rattle.std.proofs.Common.{◌≡◌, ◌+◌, ◌^◌, ◌≤◌, false, List, ◌++◌, length, sym, ap, subst, ◌∙◌}
 use Rattle.std.proofs.lemmas.Result.{err_from_is_err_and}
-use Rattle.apollo_meaning.specs.TypeParts.{TypeItem, added, added_items, items_of}
-use Rattle.apollo_meaning.specs.Adoption.{adopted, with_adopted}
-use Rattle.apollo_meaning.specs.Prefixes.{folded}
+use Rattle.apollo_meaning.specs.Items.ListItems.{ListItem, added, added_items, items_of}
+use Rattle.apollo_meaning.specs.Completion.Adoption.{adopted, with_adopted}
+use Rattle.apollo_meaning.specs.Steps.Prefixes.{folded}
 use Rattle.apollo_schema.specs.Stands.{Stands}
 use Rattle.apollo_meaning.proofs.OrphanLemmas.{held-adopted}
 use Rattle.apollo_folding.proofs.RefusalLemmas.{RefusedAs-weaker}
@@ -19,11 +19,11 @@ returns-in_err-take-clause-refused c =
     let these : added_items (added false c.as_slice.result.now) ≡ adopted xs =
     unset-items c.as_slice.result.now ∙ ap items_of c.as_slice.ensures ∙ c.in_ok-definitions.ensures ∙ held-adopted xs c.args.self.now.waiting was.names was.waiting in
     subst (λ b. 2 ^ 64 ≤ start + length (folded (with_adopted b xs))) (sym c.if-not-adopts.false)
-    (subst (λ (l : List TypeItem). 2 ^ 64 ≤ start + length (folded (xs ++ l))) these (full start xs was))) c.in_err-take.ensures.refused)
+    (subst (λ (l : List ListItem). 2 ^ 64 ≤ start + length (folded (xs ++ l))) these (full start xs was))) c.in_err-take.ensures.refused)
 
 pub returns-clause-stands : goal.returns-clause-stands
 returns-clause-stands c = λ start xs was.
     let these : added_items (added false c.as_slice.result.now) ≡ adopted xs =
     unset-items c.as_slice.result.now ∙ ap items_of c.as_slice.ensures ∙ c.in_ok-definitions.ensures ∙ held-adopted xs c.args.self.now.waiting was.names was.waiting in
     subst (λ b. Stands start (with_adopted b xs) c.take.new.self) (sym c.if-not-adopts.false)
-    (subst (λ (l : List TypeItem). Stands start (xs ++ l) c.take.new.self) these (c.in_ok-take.ensures.stands start xs was))
+    (subst (λ (l : List ListItem). Stands start (xs ++ l) c.take.new.self) these (c.in_ok-take.ensures.stands start xs was))

@@ -1,6 +1,7 @@
 use Rattle.std.proofs.Common.{sym, ◌∙◌, arith}
 use Rattle.std.proofs.lemmas.Result.{err_from_is_err_and}
-use Rattle.apollo_meaning.specs.Adoption.{with_adopted, implied_schema}
+use Rattle.apollo_meaning.specs.Completion.Adoption.{with_adopted}
+use Rattle.apollo_meaning.specs.Completion.ImpliedSchema.{implied_schema}
 use Rattle.apollo_meaning.proofs.CompletionLemmas.{faults-completed}
 use Rattle.apollo_folding.proofs.RefusalLemmas.{RefusedAs-weaker}
 use Rattle.apollo_meaning.proofs.ItemLemmas.{length-folded-front}

@@ -5,14 +5,13 @@ use Rattle.std.specs.Option.{unwrap_or, option_copied}
 use Rattle.std.proofs.lemmas.Result.{err_from_is_err_and}
 use Rattle.indexmap.specs.IndexMap.{insert_entry}
 use Rattle.graphql_nodes.specs.NameView.{NameView}
-use Rattle.graphql_nodes.specs.SameText.{same_text}
+use Rattle.graphql_nodes.specs.SameText.{same_text, same, by_text}
 use Rattle.apollo_component.specs.declared.extension.ComponentOrigin.TheVariants as origins
 use Rattle.apollo_component.specs.Extensions.{next_number}
-use Rattle.apollo_meaning.specs.TypeParts.{TypePart, defined_part, extended_part, extended_parts, items_of, kind_of, same}
-use Rattle.apollo_meaning.specs.DefinitionList.{of_kind}
-use Rattle.apollo_meaning.specs.TypeMeaning.{type_from, extension_part, numbered}
-use Rattle.apollo_meaning.specs.SchemaMeaning.{by_text}
-use Rattle.apollo_meaning.specs.HeldItems.{items_held}
+use Rattle.apollo_meaning.specs.Items.Parts.{TypePart, kind_of}
+use Rattle.apollo_meaning.specs.Items.ListItems.{defined_part, extended_part, extended_parts, items_of, items_held}
+use Rattle.apollo_meaning.specs.Items.Named.{of_kind}
+use Rattle.apollo_meaning.specs.Types.Meaning.{type_from, extension_part, numbered}
 use Rattle.apollo_schema.proofs.StandsLemmas.{Stands-again, Stands-new, new-spent}
 use Rattle.apollo_folding.proofs.RefusalLemmas.{RefusedAs-weaker}
 use Rattle.apollo_schema.proofs.tables.Tables.define.Goals as goal

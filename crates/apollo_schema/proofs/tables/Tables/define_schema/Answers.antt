@@ -3,8 +3,9 @@ use Rattle.std.proofs.lemmas.Result.{err_from_is_err_and}
 use Rattle.apollo_component.specs.Extensions.{next_number, source_at}
 use Rattle.apollo_meaning.specs.declared.build_error.BuildError.TheVariants as errors
 use Rattle.apollo_schema.specs.declared.tables.Tables.{Tables}
-use Rattle.apollo_meaning.specs.TypeParts.{SchemaDefined, schema_definition_part, schema_extension_part}
-use Rattle.apollo_meaning.specs.Joining.{schema_begun, schema_begun_faults}
+use Rattle.apollo_meaning.specs.Items.ListItems.{SchemaDefined}
+use Rattle.apollo_meaning.specs.Items.Parts.{schema_definition_part, schema_extension_part}
+use Rattle.apollo_meaning.specs.Steps.Joining.{schema_begun, schema_begun_faults}
 use Rattle.apollo_schema.specs.Stands.{Stands}
 use Rattle.apollo_folding.proofs.RefusalLemmas.{RefusedAs-weaker}
 use Rattle.apollo_schema.proofs.SchemaStandsLemmas.{Stands-schema_again, Stands-schema_new, schema_new-spent}

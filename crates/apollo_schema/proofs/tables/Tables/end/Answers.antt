@@ -5,10 +5,11 @@ use Rattle.graphql_nodes.specs.NodeView.{NodeView}
 use Rattle.graphql_ast.specs.declared.type_system.SchemaDefinition.{SchemaDefinition}
 use Rattle.apollo_component.specs.Extensions.{next_number, source_at}
 use Rattle.apollo_schema.specs.declared.tables.Tables.{Tables}
-use Rattle.apollo_meaning.specs.TypeParts.{SchemaDefined, schema_definition_part, schema_extension_part}
-use Rattle.apollo_meaning.specs.RootFaults.{schema_orphan}
-use Rattle.apollo_meaning.specs.Joining.{schema_begun, schema_begun_faults}
-use Rattle.apollo_meaning.specs.Adoption.{implied_schema}
+use Rattle.apollo_meaning.specs.Items.ListItems.{SchemaDefined}
+use Rattle.apollo_meaning.specs.Items.Parts.{schema_definition_part, schema_extension_part}
+use Rattle.apollo_meaning.specs.Faults.RootFaults.{schema_orphan}
+use Rattle.apollo_meaning.specs.Steps.Joining.{schema_begun, schema_begun_faults}
+use Rattle.apollo_meaning.specs.Completion.ImpliedSchema.{implied_schema}
 use Rattle.apollo_schema.specs.Stands.{Ends}
 use Rattle.apollo_folding.proofs.RefusalLemmas.{RefusedAs-weaker}
 use Rattle.apollo_schema.proofs.EndLemmas.{Ends-none, Ends-some, implied-absent, implied-spent}

@@ -6,13 +6,14 @@ use Rattle.std.proofs.lemmas.Result.{err_from_is_err_and}
 use Rattle.graphql_nodes.specs.NameView.{NameView}
 use Rattle.graphql_ast.specs.declared.definition.Definition.{Definition}
 use Rattle.apollo_component.specs.Extensions.{next_number, source_at}
-use Rattle.apollo_meaning.specs.TypeParts.{TypePart, Extended, item_of, extended_part, extended_parts, kind_of, key_of, same}
-use Rattle.apollo_meaning.specs.DefinitionList.{of_kind}
-use Rattle.apollo_meaning.specs.TypeMeaning.{Sourced, type_from, extension_part, numbered}
+use Rattle.apollo_meaning.specs.Items.Parts.{TypePart, kind_of, key_of}
+use Rattle.apollo_meaning.specs.Items.ListItems.{Extended, item_of, extended_part, extended_parts, items_held}
+use Rattle.graphql_nodes.specs.SameText.{same, by_text}
+use Rattle.apollo_meaning.specs.Items.Named.{of_kind}
+use Rattle.apollo_meaning.specs.Types.Components.{Sourced}
+use Rattle.apollo_meaning.specs.Types.Meaning.{type_from, extension_part, numbered}
 use Rattle.apollo_types.specs.TypeWriteOut.{type_kind}
-use Rattle.apollo_meaning.specs.Joining.{joining_faults}
-use Rattle.apollo_meaning.specs.SchemaMeaning.{by_text}
-use Rattle.apollo_meaning.specs.HeldItems.{items_held}
+use Rattle.apollo_meaning.specs.Steps.Joining.{joining_faults}
 use Rattle.apollo_schema.proofs.StandsLemmas.{Stands-early, Stands-late, late-spent}
 use Rattle.apollo_folding.proofs.RefusalLemmas.{RefusedAs-weaker}
 use Rattle.apollo_schema.proofs.tables.Tables.extend.Goals as goal

@@ -3,12 +3,12 @@ use Rattle.apollo_component.specs.Extensions.{source_at}
 use Rattle.apollo_schema.specs.declared.build_failure.BuildFailure.TheVariants as failures
 use Rattle.apollo_folding.specs.declared.builder_error.BuilderError.{BuilderError}
 use Rattle.apollo_folding.specs.declared.builder_error.BuilderError.TheVariants as refusals
-use Rattle.apollo_meaning.specs.TypeParts.{TypeItem, Folding, added_items}
-use Rattle.apollo_meaning.specs.WholeSchema.{whole}
+use Rattle.apollo_meaning.specs.Items.ListItems.{ListItem, Folding, added_items}
+use Rattle.apollo_meaning.specs.Schema.Whole.{whole}
 use Rattle.apollo_folding.specs.Refusals.{RefusedAs}
 use Rattle.apollo_schema.specs.BuildAnswers.{failure_of}
-use Rattle.apollo_meaning.specs.Adoption.{completed}
-use Rattle.apollo_meaning.specs.Prefixes.{folded}
+use Rattle.apollo_meaning.specs.Completion.ImpliedSchema.{completed}
+use Rattle.apollo_meaning.specs.Steps.Prefixes.{folded}
 use Rattle.apollo_schema.specs.Stands.{Stands}
 use Rattle.apollo_schema.proofs.OutcomeLemmas.{if_ok, on_ok, if_err, past, past-either}
 use Rattle.apollo_meaning.proofs.PlaceLemmas.{folding_order-forget}
@@ -51,7 +51,7 @@ pub returns-in-Err-clause-spent : goal.returns-in-Err-clause-spent
 returns-in-Err-clause-spent c = λ spent start xs was.
     let adopts = c.args.adopts in
     let is : c.refusal.result ≡ failures.ExtensionIds = cc in
-    let full = refused_for ((start : ℕ) (xs : List TypeItem) → Stands start xs c.args.self → 2 ^ 64 ≤ start + length (folded (completed adopts xs))) c.in-Err.error c.in-Err.ensures.refused (sym c.refusal.ensures ∙ is)
+    let full = refused_for ((start : ℕ) (xs : List ListItem) → Stands start xs c.args.self → 2 ^ 64 ≤ start + length (folded (completed adopts xs))) c.in-Err.error c.in-Err.ensures.refused (sym c.refusal.ensures ∙ is)
     start (added_items xs) was in
     subst (λ (l : List Folding). 2 ^ 64 ≤ start + length l) (sym (folding_order-forget (whole adopts xs))) full
 

@@ -1,7 +1,6 @@
 use Rattle.std.proofs.Common.{map, sym, ap, ◌∙◌}
-use Rattle.apollo_meaning.specs.TypeParts.{schema_extension_part}
-use Rattle.apollo_meaning.specs.RootFaults.{roots_in}
-use Rattle.apollo_meaning.specs.Adoption.{schema_for}
+use Rattle.apollo_meaning.specs.Items.Parts.{schema_extension_part, roots_in}
+use Rattle.apollo_meaning.specs.Completion.ImpliedSchema.{schema_for}
 use Rattle.apollo_folding.specs.HeldRoots.{held_roots}
 use Rattle.apollo_schema.proofs.EndLemmas.{implied-standing, implied-held, none-of}
 use Rattle.apollo_schema.proofs.tables.Tables.implied_schema.Goals as goal

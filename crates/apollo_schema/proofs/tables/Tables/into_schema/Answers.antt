@@ -3,12 +3,13 @@ use Rattle.std.specs.Option.{unwrap_or}
 use Rattle.std.proofs.lemmas.Bool.Decides.{nat_tests}
 use Rattle.apollo_schema.specs.declared.schema.Schema.{Schema}
 use Rattle.apollo_schema.specs.declared.tables.Tables.{Tables}
-use Rattle.apollo_meaning.specs.TypeParts.{Folding, Added, added_items}
-use Rattle.apollo_meaning.specs.SchemaMeaning.{AreTypesOf}
-use Rattle.apollo_meaning.specs.DirectiveMeaning.{directive_definitions, AreDirectivesOf}
-use Rattle.apollo_meaning.specs.Prefixes.{folded}
+use Rattle.apollo_meaning.specs.Items.ListItems.{Folding, Added, added_items}
+use Rattle.apollo_meaning.specs.Types.Meaning.{AreTypesOf}
+use Rattle.apollo_meaning.specs.Directives.{directive_definitions, AreDirectivesOf}
+use Rattle.apollo_meaning.specs.Steps.Prefixes.{folded}
 use Rattle.apollo_schema.specs.MeantSchema.{AreOf, MeansSchema}
-use Rattle.apollo_meaning.specs.WholeSchema.{whole, no_schema}
+use Rattle.apollo_meaning.specs.Schema.Whole.{whole}
+use Rattle.apollo_meaning.specs.Schema.Definition.{no_schema}
 use Rattle.apollo_schema.specs.Stands.{Completes}
 use Rattle.apollo_meaning.proofs.PlaceLemmas.{folding_order-forget}
 use Rattle.apollo_schema.proofs.tables.Tables.into_schema.Goals as goal

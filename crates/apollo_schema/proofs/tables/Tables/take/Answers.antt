@@ -2,8 +2,8 @@ use Rattle.std.proofs.Common.{◌≡◌, ℕ, ◌+◌, ◌<◌, Bool, get_or, ta
 use Rattle.std.proofs.lemmas.List.{map-append, take_more, take-append-drop, take_all}
 use Rattle.std.proofs.lemmas.Result.{err_from_is_err_and}
 use Rattle.graphql_ast.specs.declared.definition.Definition.{Definition}
-use Rattle.apollo_meaning.specs.TypeParts.{TypeItem, added, added_item, added_items}
-use Rattle.apollo_meaning.specs.Prefixes.{folded}
+use Rattle.apollo_meaning.specs.Items.ListItems.{ListItem, added, added_item, added_items}
+use Rattle.apollo_meaning.specs.Steps.Prefixes.{folded}
 use Rattle.apollo_schema.specs.Stands.{Stands}
 use Rattle.apollo_meaning.proofs.ItemLemmas.{length-folded-front}
 use Rattle.apollo_folding.proofs.RefusalLemmas.{RefusedAs-weaker}
@@ -13,7 +13,7 @@ taken-append : (b : Bool) (ds es : List Definition) → added_items (added b (ds
 taken-append b ds es = ap (map added_item) (map-append (λ d. (b, d)) ds es) ∙ map-append added_item (added b ds) (added b es)
 
 -- what a list says after one more definition
-items-turn : (b : Bool) (xs : List TypeItem) (ds : List Definition) (i : ℕ) (d : Definition) → i < length ds → d ≡ get_or ds i d
+items-turn : (b : Bool) (xs : List ListItem) (ds : List Definition) (i : ℕ) (d : Definition) → i < length ds → d ≡ get_or ds i d
     → xs ++ added_items (added b (take (i + 1) ds)) ≡ (xs ++ added_items (added b (take i ds))) ++ added_item (b, d) ∷ []
 items-turn b xs ds i d lt is =
     ap (λ l. xs ++ added_items (added b l)) (take_more ds i d lt ∙ ap (λ e. take i ds ++ e ∷ []) (sym is))
@@ -27,7 +27,7 @@ loop-definition-preserved c =
     let i = c.loop-definition.definition-index in
     let d = c.definition-item.result in
     record {
-      stands = λ start xs was. subst (λ (l : List TypeItem). Stands start l c.take_one.new.self) (sym (items-turn b xs ds i d (omega arith) c.definition-item.is))
+      stands = λ start xs was. subst (λ (l : List ListItem). Stands start l c.take_one.new.self) (sym (items-turn b xs ds i d (omega arith) c.definition-item.is))
           (c.in_ok-take_one.ensures.stands start (xs ++ added_items (added b (take i ds))) (c.loop-definition.invariant.stands start xs was));
       sources = c.in_ok-take_one.ensures.sources ∙ c.loop-definition.invariant.sources;
     }

@@ -1,11 +1,11 @@
 use Rattle.std.proofs.Common.{◌≡◌, ℕ, List, ◌++◌, take}
-use Rattle.apollo_meaning.specs.TypeParts.{TypeItem, added, added_items}
+use Rattle.apollo_meaning.specs.Items.ListItems.{ListItem, added, added_items}
 use Rattle.apollo_schema.specs.Stands.{Stands}
 use Rattle.apollo_schema.proofs.tables.Tables.take.Given as goal
 
 abbrev pub invariant-loop-definition : goal.invariant-loop-definition
 invariant-loop-definition l =
     record {
-      stands : (start : ℕ) (xs : List TypeItem) → Stands start xs l.fn.self → Stands start (xs ++ added_items (added l.ignores (take l.definition-index l.definitions))) l.self;
+      stands : (start : ℕ) (xs : List ListItem) → Stands start xs l.fn.self → Stands start (xs ++ added_items (added l.ignores (take l.definition-index l.definitions))) l.self;
       sources : l.self.sources ≡ l.fn.self.sources;
     }

@@ -1,6 +1,6 @@
 use Rattle.std.proofs.Common.{◌≡◌, ◌++◌, map, ◌∙◌}
-use Rattle.apollo_meaning.specs.TypeParts.{EnumBody, enum_definition_part}
-use Rattle.apollo_meaning.specs.TypeFaults.{body_faults}
+use Rattle.apollo_meaning.specs.Items.Parts.{EnumBody, enum_definition_part}
+use Rattle.apollo_meaning.specs.Faults.TypeFaults.{body_faults}
 use Rattle.apollo_folding.proofs.from_ast.enum_type.EnumTypeKind.fold_definition.Goals as goal
 
 pub returns-clause-folded : goal.returns-clause-folded

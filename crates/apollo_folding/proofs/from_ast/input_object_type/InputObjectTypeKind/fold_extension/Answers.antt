@@ -1,6 +1,6 @@
 use Rattle.std.proofs.Common.{◌≡◌, ◌++◌, map, ◌∙◌}
-use Rattle.apollo_meaning.specs.TypeParts.{InputObjectBody, input_object_extension_part}
-use Rattle.apollo_meaning.specs.TypeFaults.{body_faults}
+use Rattle.apollo_meaning.specs.Items.Parts.{InputObjectBody, input_object_extension_part}
+use Rattle.apollo_meaning.specs.Faults.TypeFaults.{body_faults}
 use Rattle.apollo_folding.proofs.from_ast.input_object_type.InputObjectTypeKind.fold_extension.Goals as goal
 
 pub returns-clause-folded : goal.returns-clause-folded

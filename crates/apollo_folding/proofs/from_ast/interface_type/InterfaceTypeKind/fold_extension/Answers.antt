@@ -1,6 +1,6 @@
 use Rattle.std.proofs.Common.{◌≡◌, ◌++◌, map, ◌∙◌}
-use Rattle.apollo_meaning.specs.TypeParts.{InterfaceBody, interface_extension_part}
-use Rattle.apollo_meaning.specs.TypeFaults.{body_faults}
+use Rattle.apollo_meaning.specs.Items.Parts.{InterfaceBody, interface_extension_part}
+use Rattle.apollo_meaning.specs.Faults.TypeFaults.{body_faults}
 use Rattle.apollo_folding.proofs.from_ast.interface_type.InterfaceTypeKind.fold_extension.Goals as goal
 
 pub returns-clause-folded : goal.returns-clause-folded

@@ -1,6 +1,6 @@
 use Rattle.std.proofs.Common.{◌≡◌, ◌++◌, map, ◌∙◌}
-use Rattle.apollo_meaning.specs.TypeParts.{ObjectBody, object_definition_part}
-use Rattle.apollo_meaning.specs.TypeFaults.{body_faults}
+use Rattle.apollo_meaning.specs.Items.Parts.{ObjectBody, object_definition_part}
+use Rattle.apollo_meaning.specs.Faults.TypeFaults.{body_faults}
 use Rattle.apollo_folding.proofs.from_ast.object_type.ObjectTypeKind.fold_definition.Goals as goal
 
 pub returns-clause-folded : goal.returns-clause-folded

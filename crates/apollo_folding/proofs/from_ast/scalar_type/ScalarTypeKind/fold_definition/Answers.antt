@@ -1,5 +1,5 @@
 use Rattle.std.proofs.Common.{◌≡◌, refl}
-use Rattle.apollo_meaning.specs.TypeParts.{scalar_definition_part}
+use Rattle.apollo_meaning.specs.Items.Parts.{scalar_definition_part}
 use Rattle.apollo_folding.proofs.from_ast.scalar_type.ScalarTypeKind.fold_definition.Goals as goal
 
 pub returns-clause-folded : goal.returns-clause-folded

@@ -1,5 +1,5 @@
 use Rattle.std.proofs.Common.{◌≡◌, refl}
-use Rattle.apollo_meaning.specs.TypeParts.{scalar_extension_part}
+use Rattle.apollo_meaning.specs.Items.Parts.{scalar_extension_part}
 use Rattle.apollo_folding.proofs.from_ast.scalar_type.ScalarTypeKind.fold_extension.Goals as goal
 
 pub returns-clause-folded : goal.returns-clause-folded

@@ -1,0 +1,60 @@
+-- What a step does to what was made of parts, and to the faults: each word speaks of all parts that it may be made of.
+use Rattle.std.specs.Prelude.{◌≡◌, List, [], ◌∷◌, ◌++◌, map}
+use Rattle.graphql_nodes.specs.NameView.{NameView}
+use Rattle.graphql_nodes.specs.NodeView.{NodeView}
+use Rattle.graphql_ast.specs.declared.definition.Definition.{Definition}
+use Rattle.graphql_ast.specs.declared.directive.Directive.{Directive}
+use Rattle.apollo_component.specs.Extensions.{next_number}
+use Rattle.apollo_component.specs.declared.extension.ComponentOrigin.{ComponentOrigin}
+use Rattle.apollo_component.specs.declared.extension.ExtensionSource.{ExtensionSource}
+use Rattle.apollo_types.specs.declared.extended_type.ExtendedType.{ExtendedType}
+use Rattle.apollo_types.specs.declared.schema_definition.SchemaDefinition.{SchemaDefinition}
+use Rattle.apollo_meaning.specs.Items.Parts.{TypeBody, TypePart, SchemaPart, Root}
+use Rattle.apollo_meaning.specs.Items.ListItems.{Defined, item_of}
+use Rattle.apollo_meaning.specs.Types.Components.{Sourced}
+use Rattle.apollo_meaning.specs.Types.Meaning.{extension_part, numbered, type_from}
+use Rattle.apollo_meaning.specs.Schema.Definition.{SourcedSchema, schema_definition_of}
+use Rattle.apollo_meaning.specs.Faults.Collisions.{Fault}
+use Rattle.apollo_meaning.specs.Faults.RootFaults.{schema_faults}
+
+-- extensions, with the numbers of a source from its next one on
+abbrev pub with_numbers : ExtensionSource → List TypePart → List Sourced
+with_numbers ids es = map extension_part (numbered (next_number ids) es)
+
+-- what was made of some parts is made of these as well
+abbrev pub Joins : {P T : Type 0} → (P → List (ComponentOrigin × P) → T) → T → (P → List (ComponentOrigin × P)) → T → Type 0
+Joins {P} made old more new = (head : P) (done : List (ComponentOrigin × P)) → old ≡ made head done → new ≡ made head (done ++ more head)
+
+-- what was made of some parts is made of one as well that has these directives and this body
+abbrev pub JoinsPart : {T : Type 0} → (TypePart → List Sourced → T) → T → ComponentOrigin → List (NodeView Directive) → TypeBody → T → Type 0
+JoinsPart made old origin directives body new = (head part : TypePart) (done : List Sourced)
+    → part.directives ≡ directives → part.body ≡ body → old ≡ made head done → new ≡ made head (done ++ (origin, part) ∷ [])
+
+-- the same of the schema definition, and of a part that has these directives and these roots
+abbrev pub JoinsSchemaPart : SchemaDefinition → ComponentOrigin → List (NodeView Directive) → List Root → SchemaDefinition → Type 0
+JoinsSchemaPart old origin directives roots new = (head part : SchemaPart) (done : List SourcedSchema)
+    → part.directives ≡ directives → part.roots ≡ roots
+    → old ≡ schema_definition_of head done → new ≡ schema_definition_of head (done ++ (origin, part) ∷ [])
+
+-- to the faults are added those of a part that has these roots, found with the parts of the schema definition
+abbrev pub FindsRoots : SchemaDefinition → List Root → List Fault → List Fault → Type 0
+FindsRoots old roots before after = (head part : SchemaPart) (done : List SourcedSchema)
+    → part.roots ≡ roots → old ≡ schema_definition_of head done → after ≡ before ++ schema_faults (map (λ s. s.1) done) part
+
+-- to the faults are added those that are found with the parts that something was made of
+abbrev pub Finds : {P T : Type 0} → (P → List (ComponentOrigin × P) → T) → T → (P → List P → List Fault) → List Fault → List Fault → Type 0
+Finds {P} made old faults before after = (head : P) (done : List (ComponentOrigin × P))
+    → old ≡ made head done → after ≡ before ++ faults head (map (λ s. s.1) done)
+
+-- what was made of a list is made of it with these at its end
+abbrev pub Lengthens : {X T : Type 0} → (List X → T) → T → List X → T → Type 0
+Lengthens {X} made old more new = (xs : List X) → old ≡ made xs → new ≡ made (xs ++ more)
+
+-- to the faults are added those that are found with the list that something was made of
+abbrev pub FindsIn : {X T : Type 0} → (List X → T) → T → (List X → List Fault) → List Fault → List Fault → Type 0
+FindsIn {X} made old faults before after = (xs : List X) → old ≡ made xs → after ≡ before ++ faults xs
+
+-- P of the first definition of a name and of a further one, where this type was made by the first
+abbrev pub ForFurther : ExtendedType → NameView → Definition → (TypePart → TypePart → Type 0) → Type 0
+ForFurther ty name definition P = (d p : TypePart) (done : List Sourced)
+    → ty ≡ type_from d done → item_of definition ≡ Defined p → p.name ≡ name → P d p

@@ -1,0 +1,3 @@
+pub mod Adoption
+pub mod ImpliedSchema
+pub mod OrphanNames

@@ -1,0 +1,51 @@
+-- The definitions of types that a list is completed with where those that are extended only are adopted: GraphQL
+-- specification of October 2021, section 3.4.3.
+use Rattle.std.specs.Prelude.{ℕ, Bool, false, List, [], ◌∷◌, ◌++◌, None, map, if◌then◌else◌}
+use Rattle.std.specs.List.{filter_map, flat_map}
+use Rattle.std.specs.Option.{option_map_or}
+use Rattle.graphql_nodes.specs.SameText.{same}
+use Rattle.apollo_component.specs.FirstOfEach.{first_of_each}
+use Rattle.apollo_meaning.specs.Items.Parts.{TypePart, SchemaPart, TypeBody, ScalarBody, ObjectBody, InterfaceBody, UnionBody, EnumBody, InputObjectBody, key_of}
+use Rattle.apollo_meaning.specs.Items.ListItems.{ListItem, Defined, extended_part}
+use Rattle.apollo_meaning.specs.Items.Named.{first, extensions_of, first_schema, schema_extensions}
+
+-- the names that are extended, in order of first extension
+abbrev pub extended_names : List ListItem → List (List ℕ)
+extended_names xs = first_of_each same (map key_of (filter_map extended_part xs))
+
+-- the extensions of a name, if it has no definition, and those of the schema, if that has none
+abbrev pub orphans_of : List ListItem → List ℕ → List TypePart
+orphans_of xs n = option_map_or (λ _. []) (first xs n) (extensions_of xs n)
+
+abbrev pub schema_orphans : List ListItem → List SchemaPart
+schema_orphans xs = option_map_or (λ _. []) (first_schema xs) (schema_extensions xs)
+
+abbrev pub empty_body : TypeBody → TypeBody
+empty_body ScalarBody = ScalarBody
+empty_body (ObjectBody interfaces fields) = ObjectBody [] []
+empty_body (InterfaceBody interfaces fields) = InterfaceBody [] []
+empty_body (UnionBody members) = UnionBody []
+empty_body (EnumBody values) = EnumBody []
+empty_body (InputObjectBody fields) = InputObjectBody []
+
+-- the empty definition that adoption gives a name: of the kind, with the name and at the place of its first extension
+abbrev pub adopted_part : TypePart → TypePart
+adopted_part e = record {
+  name = e.name;
+  location = e.location;
+  description = None;
+  directives = [];
+  body = empty_body e.body;
+  ignorable = false;
+}
+
+abbrev pub adopted_by : List TypePart → List ListItem
+adopted_by [] = []
+adopted_by (e ∷ es) = Defined (adopted_part e) ∷ []
+
+-- those of all names that have no definition, in order of first extension
+abbrev pub adopted : List ListItem → List ListItem
+adopted xs = flat_map (λ n. adopted_by (orphans_of xs n)) (extended_names xs)
+
+abbrev pub with_adopted : Bool → List ListItem → List ListItem
+with_adopted adopts xs = if adopts then xs ++ adopted xs else xs

@@ -1,0 +1,44 @@
+-- The directive definitions that a list means. GraphQL specification of October 2021, section 3.13.
+use Rattle.std.specs.Prelude.{ℕ, Bool, List, None, map, ◌≡◌, Option, filter, not, ◌&&◌, Some}
+use Rattle.std.specs.List.{filter_map, find, last_or}
+use Rattle.std.specs.Option.{option_or}
+use Rattle.graphql_nodes.specs.SameText.{same, same_text, by_text}
+use Rattle.graphql_nodes.specs.NameView.{NameView}
+use Rattle.graphql_nodes.specs.Tables.{lookup, keys_of}
+use Rattle.graphql_nodes.specs.NodeView.{NodeView}
+use Rattle.graphql_nodes.specs.BuiltIn.{is_built_in}
+use Rattle.graphql_ast.specs.declared.type_system.DirectiveDefinition.{DirectiveDefinition}
+use Rattle.apollo_component.specs.FirstOfEach.{first_of_each}
+use Rattle.apollo_meaning.specs.Items.ListItems.{ListItem, Other}
+use Rattle.graphql_ast.specs.declared.definition.Definition.TheVariants as ast
+
+abbrev pub Directives : Type 0
+Directives = List (NodeView DirectiveDefinition)
+
+abbrev pub directive_part : ListItem → Option (NodeView DirectiveDefinition)
+directive_part (Other (ast.DirectiveDefinition n)) = Some n
+directive_part _ = None
+
+-- the directive definitions of a list, in order
+abbrev pub directive_definitions : List ListItem → Directives
+directive_definitions xs = filter_map directive_part xs
+
+abbrev pub has_text : List ℕ → NodeView DirectiveDefinition → Bool
+has_text n d = same n d.value.name.text
+
+-- not marked built-in
+abbrev pub is_handed_in : NodeView DirectiveDefinition → Bool
+is_handed_in d = not (is_built_in d.location)
+
+-- the definition that a name means: the first that is not marked built-in; where there is none, the last one
+abbrev pub directive_of : Directives → List ℕ → Option (NodeView DirectiveDefinition)
+directive_of ds n = option_or (find (λ d. has_text n d && is_handed_in d) ds) (last_or None (filter (has_text n) ds))
+
+-- the names, as their first definitions write them, in the order of those
+abbrev pub directive_names : Directives → List NameView
+directive_names ds = map (λ d. d.value.name) (first_of_each (λ a b. same_text a.value.name b.value.name) ds)
+
+-- this table holds what the names of these definitions mean, in the order of first definition
+pub record AreDirectivesOf (ds : Directives) (table : List (NameView × NodeView DirectiveDefinition)) : Type 0 where
+  pub names : keys_of table ≡ directive_names ds
+  pub each : (n : List ℕ) → lookup (by_text n) table ≡ directive_of ds n

@@ -1,0 +1,5 @@
+pub mod Collisions
+pub mod ListFaults
+pub mod OtherFaults
+pub mod RootFaults
+pub mod TypeFaults

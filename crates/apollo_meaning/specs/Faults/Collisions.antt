@@ -1,0 +1,39 @@
+-- Named components that a name before them keeps out: GraphQL specification of October 2021, sections 3.6 to 3.10.
+use Rattle.std.specs.Prelude.{List, [], ◌∷◌, ◌++◌, Option}
+use Rattle.std.specs.Option.{option_map_or}
+use Rattle.std.specs.List.{find}
+use Rattle.graphql_nodes.specs.NameView.{NameView}
+use Rattle.graphql_nodes.specs.SameText.{same_text}
+use Rattle.graphql_nodes.specs.declared.source.SourceSpan.{SourceSpan}
+use Rattle.apollo_meaning.specs.declared.build_error.BuildError.{BuildError}
+use Rattle.apollo_meaning.specs.declared.collision.Collection.{Collection}
+use Rattle.apollo_meaning.specs.declared.collision.Collection.TheVariants.{ObjectInterfaces, InterfaceInterfaces, ObjectFields, InterfaceFields, EnumValues, UnionMembers, InputFields}
+use Rattle.apollo_meaning.specs.declared.build_error.BuildError.TheVariants as errors
+
+-- a fault, and the place that it is about
+abbrev pub Fault : Type 0
+Fault = Option SourceSpan × BuildError
+
+-- what is wrong with a second component of a name in a collection: the name that is kept, and the name of the type
+-- where the second one stands
+abbrev pub collision : Collection → NameView → NameView → BuildError
+collision ObjectInterfaces kept ty = errors.DuplicateImplementsInterfaceInObject kept ty
+collision InterfaceInterfaces kept ty = errors.DuplicateImplementsInterfaceInInterface kept ty
+collision ObjectFields kept ty = errors.ObjectFieldNameCollision kept ty
+collision InterfaceFields kept ty = errors.InterfaceFieldNameCollision kept ty
+collision EnumValues kept ty = errors.EnumValueNameCollision kept ty
+collision UnionMembers kept ty = errors.UnionMemberNameCollision kept ty
+collision InputFields kept ty = errors.InputFieldNameCollision kept ty
+
+-- a component's name, and the place of the component
+abbrev pub Entry : Type 0
+Entry = NameView × Option SourceSpan
+
+-- the fault of a component with these names before it: one if its name is among them, at the component
+abbrev pub collision_at : Collection → NameView → List NameView → Entry → List Fault
+collision_at c ty before e = option_map_or (λ kept. (e.1, collision c kept ty) ∷ []) (find (same_text e.0) before) []
+
+-- the faults of components with these names before them, in order
+abbrev pub collisions : Collection → NameView → List NameView → List Entry → List Fault
+collisions c ty before [] = []
+collisions c ty before (e ∷ es) = collision_at c ty before e ++ collisions c ty (before ++ e.0 ∷ []) es

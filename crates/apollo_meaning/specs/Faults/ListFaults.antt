@@ -1,0 +1,55 @@
+-- The faults of a list of definitions, by places of the whole list: GraphQL specification of October 2021, section 3.
+use Rattle.std.specs.Prelude.{ℕ, Bool, List, [], ◌∷◌, ◌++◌, map, if◌then◌else◌, slice_get, ◌==◌, length, take}
+use Rattle.std.specs.List.{flat_map, range_with_len}
+use Rattle.std.specs.Option.{option_map_or}
+use Rattle.apollo_meaning.specs.Items.Parts.{TypePart, SchemaPart, key_of}
+use Rattle.apollo_meaning.specs.Items.ListItems.{ListItem, Defined, SchemaDefined, Other, Extended, SchemaExtended, Added, added_items}
+use Rattle.apollo_meaning.specs.Items.Named.{extensions_of, schema_extensions}
+use Rattle.apollo_meaning.specs.Faults.Collisions.{Fault}
+use Rattle.apollo_meaning.specs.Faults.TypeFaults.{part_faults, extension_faults, further_definition, orphan}
+use Rattle.apollo_meaning.specs.Faults.RootFaults.{schema_faults, further_schema, schema_orphan}
+use Rattle.apollo_meaning.specs.Completion.Adoption.{extended_names, orphans_of, schema_orphans, with_adopted}
+use Rattle.apollo_meaning.specs.Directives.{directive_definitions}
+use Rattle.apollo_meaning.specs.Order.Places.{Placed, types, schemas, first_place, met_when}
+use Rattle.apollo_meaning.specs.Completion.ImpliedSchema.{implied_schema, completed}
+use Rattle.apollo_meaning.specs.Faults.OtherFaults.{other_faults}
+
+-- what is wrong with the definition at a place: the first one of its name, or of the schema, may repeat components, and a
+-- further one is dropped. An extension is looked at with the first definition.
+abbrev pub own_faults : List ListItem → ℕ → ListItem → List Fault
+own_faults xs i (Defined d) = option_map_or (λ f. if f.0 == i then part_faults [] d else further_definition f.1 d) (first_place types xs (key_of d)) []
+own_faults xs i (Extended e) = []
+own_faults xs i (SchemaDefined s) = option_map_or (λ f. if f.0 == i then schema_faults [] s else further_schema f.1 s ∷ []) (first_place schemas xs []) []
+own_faults xs i (SchemaExtended e) = []
+own_faults xs i (Other d) = other_faults (directive_definitions (take i xs)) d
+
+-- what is wrong with an extension, seen with the first definition of its name and the extensions before it
+abbrev pub faults_of_extension : List ListItem → Placed TypePart → List Fault
+faults_of_extension xs e = option_map_or (λ f. extension_faults f.1 (extensions_of (take e.0 xs) (key_of e.1)) e.1) (first_place types xs (key_of e.1)) []
+
+abbrev pub faults_of_schema_extension : List ListItem → Placed SchemaPart → List Fault
+faults_of_schema_extension xs e = option_map_or (λ f. schema_faults (f.1 ∷ schema_extensions (take e.0 xs)) e.1) (first_place schemas xs []) []
+
+-- what is found at a moment: at the definition that stands there, then at the extensions that are met
+abbrev pub found_when : List ListItem → ℕ → List Fault
+found_when xs i =
+    option_map_or (own_faults xs i) (slice_get xs i) []
+    ++ (flat_map (faults_of_extension xs) (met_when types xs i) ++ flat_map (faults_of_schema_extension xs) (met_when schemas xs i))
+
+-- all that is found from a moment on, by moment
+abbrev pub found_from : ℕ → ℕ → List ListItem → List Fault
+found_from i n xs = flat_map (found_when xs) (range_with_len i n)
+
+-- the faults of a list in three phases: what is found moment by moment, with the adopted types last; the extensions whose
+-- name has no definition, by name; what is found at the implied schema definition, and the extensions of the schema that
+-- have none
+abbrev pub faults_in : Bool → List ListItem → List Fault
+faults_in adopts xs =
+    found_from 0 (length (with_adopted adopts xs)) (with_adopted adopts xs)
+    ++ (map orphan (flat_map (orphans_of (with_adopted adopts xs)) (extended_names (with_adopted adopts xs)))
+    ++ (found_from (length (with_adopted adopts xs)) (length (implied_schema adopts (with_adopted adopts xs))) (completed adopts xs)
+    ++ map schema_orphan (schema_orphans (completed adopts xs))))
+
+-- the faults of a list, in order of discovery
+abbrev pub faults_of : Bool → List Added → List Fault
+faults_of adopts xs = faults_in adopts (added_items xs)

@@ -1,0 +1,33 @@
+-- What is wrong with the definitions and extensions of the schema: GraphQL specification of October 2021, sections 3.3.1
+-- and 3.3.2.
+use Rattle.std.specs.Prelude.{List, [], ◌∷◌, ◌++◌}
+use Rattle.std.specs.Option.{option_map_or}
+use Rattle.std.specs.List.{find}
+use Rattle.graphql_nodes.specs.OperationTexts.{operation_text}
+use Rattle.apollo_meaning.specs.Items.Parts.{SchemaPart, Root, roots_in}
+use Rattle.apollo_meaning.specs.Faults.Collisions.{Fault}
+use Rattle.apollo_meaning.specs.Schema.Definition.{same_operation}
+use Rattle.apollo_meaning.specs.declared.build_error.BuildError.TheVariants as errors
+
+-- a root with these before it: it is dropped where one of them is named for its operation
+abbrev pub root_fault : List Root → Root → List Fault
+root_fault before r = option_map_or
+    (λ kept. (r.location, errors.DuplicateRootOperation kept.value.1.location (operation_text r.value.0)) ∷ [])
+    (find (λ k. same_operation r.value.0 k.value.0) before) []
+
+-- the faults of roots with these before them, in order
+abbrev pub root_faults : List Root → List Root → List Fault
+root_faults before [] = []
+root_faults before (r ∷ rs) = root_fault before r ++ root_faults (before ++ r ∷ []) rs
+
+-- the roots that are dropped where a part joins these parts
+abbrev pub schema_faults : List SchemaPart → SchemaPart → List Fault
+schema_faults parts s = root_faults (roots_in parts) s.roots
+
+-- a further definition of the schema, with this first one
+abbrev pub further_schema : SchemaPart → SchemaPart → Fault
+further_schema s t = (t.location, errors.SchemaDefinitionCollision s.location)
+
+-- an extension of a schema without a definition
+abbrev pub schema_orphan : SchemaPart → Fault
+schema_orphan e = (e.location, errors.OrphanSchemaExtension)

@@ -1,0 +1,3 @@
+pub mod ListItems
+pub mod Named
+pub mod Parts

@@ -1,0 +1,119 @@
+-- What a list of definitions says of types and of the schema: GraphQL specification of October 2021, sections 3, 3.3
+-- and 3.4.
+use Rattle.std.specs.Prelude.{Bool, List, [], None, map, Option, Some, ℕ, ◌∷◌}
+use Rattle.std.specs.List.{filter_map}
+use Rattle.std.specs.Option.{option_map_or}
+use Rattle.graphql_nodes.specs.SameText.{by_text}
+use Rattle.graphql_nodes.specs.Tables.{lookup}
+use Rattle.graphql_nodes.specs.NameView.{NameView}
+use Rattle.graphql_nodes.specs.NodeView.{NodeView}
+use Rattle.graphql_ast.specs.declared.definition.Definition.{Definition}
+use Rattle.apollo_meaning.specs.Items.Parts.{TypePart, SchemaPart, scalar_definition_part, scalar_extension_part, object_definition_part, object_extension_part, interface_definition_part, interface_extension_part, union_definition_part, union_extension_part, enum_definition_part, enum_extension_part, input_object_definition_part, input_object_extension_part, schema_definition_part, schema_extension_part}
+use Rattle.graphql_ast.specs.declared.definition.Definition.TheVariants as ast
+use Rattle.graphql_ast.specs.declared.type_system.SchemaDefinition.{SchemaDefinition}
+
+-- one entry of the list: a type or the schema is defined, or extended, or something else stands there
+pub data ListItem : Type 0 where
+  Defined : TypePart → ListItem
+  Extended : TypePart → ListItem
+  SchemaDefined : SchemaPart → ListItem
+  SchemaExtended : SchemaPart → ListItem
+  Other : Definition → ListItem
+
+-- what a definition of a document says of types and of the schema
+abbrev pub item_of : Definition → ListItem
+item_of (ast.ScalarTypeDefinition n) = Defined (scalar_definition_part n)
+item_of (ast.ObjectTypeDefinition n) = Defined (object_definition_part n)
+item_of (ast.InterfaceTypeDefinition n) = Defined (interface_definition_part n)
+item_of (ast.UnionTypeDefinition n) = Defined (union_definition_part n)
+item_of (ast.EnumTypeDefinition n) = Defined (enum_definition_part n)
+item_of (ast.InputObjectTypeDefinition n) = Defined (input_object_definition_part n)
+item_of (ast.ScalarTypeExtension n) = Extended (scalar_extension_part n)
+item_of (ast.ObjectTypeExtension n) = Extended (object_extension_part n)
+item_of (ast.InterfaceTypeExtension n) = Extended (interface_extension_part n)
+item_of (ast.UnionTypeExtension n) = Extended (union_extension_part n)
+item_of (ast.EnumTypeExtension n) = Extended (enum_extension_part n)
+item_of (ast.InputObjectTypeExtension n) = Extended (input_object_extension_part n)
+item_of (ast.SchemaDefinition n) = SchemaDefined (schema_definition_part n)
+item_of (ast.SchemaExtension n) = SchemaExtended (schema_extension_part n)
+item_of d = Other d
+
+-- what a list of definitions says of types and of the schema, in order
+abbrev pub items_of : List Definition → List ListItem
+items_of xs = map item_of xs
+
+-- what is held under a name: nothing where there is no list
+abbrev pub items_held : Option (List Definition) → List ListItem
+items_held None = []
+items_held (Some xs) = items_of xs
+
+abbrev pub defined_part : ListItem → Option TypePart
+defined_part (Defined p) = Some p
+defined_part (Extended p) = None
+defined_part (SchemaDefined s) = None
+defined_part (SchemaExtended s) = None
+defined_part (Other d) = None
+
+abbrev pub extended_part : ListItem → Option TypePart
+extended_part (Defined p) = None
+extended_part (Extended p) = Some p
+extended_part (SchemaDefined s) = None
+extended_part (SchemaExtended s) = None
+extended_part (Other d) = None
+
+abbrev pub defined_schema : ListItem → Option SchemaPart
+defined_schema (Defined p) = None
+defined_schema (Extended p) = None
+defined_schema (SchemaDefined s) = Some s
+defined_schema (SchemaExtended s) = None
+defined_schema (Other d) = None
+
+abbrev pub extended_schema : ListItem → Option SchemaPart
+extended_schema (Defined p) = None
+extended_schema (Extended p) = None
+extended_schema (SchemaDefined s) = None
+extended_schema (SchemaExtended s) = Some s
+extended_schema (Other d) = None
+
+-- an extension that is folded in: of a type, or of the schema
+pub data Folding : Type 0 where
+  OfType : TypePart → Folding
+  OfSchema : SchemaPart → Folding
+
+-- the same, as it is added: a definition of a type may be ignorable
+abbrev pub ignorable_if : Bool → ListItem → ListItem
+ignorable_if b (Defined p) = Defined (record p { ignorable = b })
+ignorable_if b (Extended p) = Extended p
+ignorable_if b (SchemaDefined s) = SchemaDefined s
+ignorable_if b (SchemaExtended s) = SchemaExtended s
+ignorable_if b (Other d) = Other d
+
+-- a definition, and whether redefinitions of built-in types were ignored when it was added
+abbrev pub Added : Type 0
+Added = Bool × Definition
+
+abbrev pub added : Bool → List Definition → List Added
+added ignores ds = map (λ d. (ignores, d)) ds
+
+abbrev pub added_item : Added → ListItem
+added_item a = ignorable_if a.0 (item_of a.1)
+
+-- what a list that was added says of types and of the schema, in order
+abbrev pub added_items : List Added → List ListItem
+added_items xs = map added_item xs
+
+-- the definition of a type that it is
+abbrev pub definition_part : Definition → Option TypePart
+definition_part d = defined_part (item_of d)
+
+-- the extensions of types among definitions
+abbrev pub extended_parts : List Definition → List TypePart
+extended_parts xs = filter_map extended_part (items_of xs)
+
+-- what is held under the name of this text
+abbrev pub held_under : List ℕ → List (NameView × List Definition) → List ListItem
+held_under n waiting = items_held (lookup (by_text n) waiting)
+
+-- a definition of the schema, if there is one
+abbrev pub schema_item : Option (NodeView SchemaDefinition) → List ListItem
+schema_item definition = option_map_or (λ node. SchemaDefined (schema_definition_part node) ∷ []) definition []

@@ -1,0 +1,16 @@
+-- Where the numbers of identities don't suffice for the extensions of a list.
+use Rattle.std.specs.Prelude.{ℕ, Bool, List, length, ◌+◌, ◌^◌, ◌≤◌}
+use Rattle.apollo_meaning.specs.Items.ListItems.{Added, added_items}
+use Rattle.apollo_meaning.specs.Order.Places.{folding_order}
+use Rattle.apollo_meaning.specs.Schema.Whole.{folds}
+
+-- how many extensions are folded before the list is completed
+abbrev pub folds_so_far : List Added → ℕ
+folds_so_far xs = length (folding_order (added_items xs))
+
+-- the numbers from `start` don't suffice for the extensions that the list folds before it is completed, or once it is
+abbrev pub SpendsIdsSoFar : ℕ → List Added → Type 0
+SpendsIdsSoFar start xs = 2 ^ 64 ≤ start + folds_so_far xs
+
+abbrev pub SpendsIds : ℕ → Bool → List Added → Type 0
+SpendsIds start adopts xs = 2 ^ 64 ≤ start + folds adopts xs

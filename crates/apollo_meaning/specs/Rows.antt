@@ -1,0 +1,4 @@
+pub mod BuiltInNames
+pub mod FaultRows
+pub mod SchemaRows
+pub mod TypeRows

@@ -1,0 +1,140 @@
+-- Lists with definitions and extensions of the schema, with what they mean, computed.
+use Rattle.std.specs.Prelude.{ℕ, List, [], ◌∷◌, None, Option, Some, codes}
+use Rattle.graphql_nodes.specs.declared.operation_type.OperationType.{OperationType}
+use Rattle.graphql_nodes.specs.declared.operation_type.OperationType.TheVariants.{Query, Mutation, Subscription}
+use Rattle.graphql_nodes.specs.NodeView.{NodeView}
+use Rattle.graphql_ast.specs.declared.definition.Definition.{Definition}
+use Rattle.graphql_ast.specs.declared.directive.Directive.{Directive}
+use Rattle.apollo_component.specs.Extensions.{extension_id}
+use Rattle.apollo_component.specs.declared.component.ComponentName.{ComponentName}
+use Rattle.apollo_types.specs.declared.schema_definition.SchemaDefinition.{SchemaDefinition}
+use Rattle.apollo_built_in.specs.BuiltInNodes.{scalar}
+use Rattle.apollo_meaning.specs.Items.ListItems.{ListItem, Defined, SchemaDefined, Other, Extended, SchemaExtended}
+use Rattle.apollo_meaning.specs.Items.Parts.{key_of, Root}
+use Rattle.apollo_meaning.specs.Faults.Collisions.{Fault}
+use Rattle.apollo_meaning.specs.Rows.TypeRows.{line, name_at, field_at, definition_at, extension_at}
+use Rattle.apollo_component.specs.declared.extension.ComponentOrigin.TheVariants as origins
+use Rattle.apollo_meaning.specs.declared.build_error.BuildError.TheVariants as errors
+use Rattle.graphql_ast.specs.declared.definition.Definition.TheVariants as ast
+
+abbrev pub root_at : OperationType → List ℕ → ℕ → Root
+root_at op text n = record { value = (op, name_at text n); location = line n }
+
+abbrev pub directive_at : List ℕ → ℕ → NodeView Directive
+directive_at text n = record { value = record { name = name_at text n; arguments = [] }; location = line n }
+
+abbrev pub schema_at : ℕ → List Root → Definition
+schema_at n roots = ast.SchemaDefinition (record {
+  value = record { description = None; directives = record { 0 = [] }; root_operations = roots };
+  location = line n;
+})
+
+abbrev pub schema_extension_at : ℕ → List (NodeView Directive) → List Root → Definition
+schema_extension_at n directives roots = ast.SchemaExtension (record {
+  value = record { directives = record { 0 = directives }; root_operations = roots };
+  location = line n;
+})
+
+-- the name of a type that is defined or extended
+abbrev pub type_name_of : ListItem → Option (List ℕ)
+type_name_of (Defined p) = Some (key_of p)
+type_name_of (Extended p) = Some (key_of p)
+type_name_of (SchemaDefined s) = None
+type_name_of (SchemaExtended s) = None
+type_name_of (Other d) = None
+
+-- the root of a name that stands on a line, in the definition, or in an extension with a number and a line
+abbrev pub own_root : List ℕ → ℕ → Option ComponentName
+own_root text n = Some (record { origin = origins.Definition; name = name_at text n })
+
+abbrev pub extension_root : ℕ → ℕ → List ℕ → ℕ → Option ComponentName
+extension_root number from text n = Some (record { origin = origins.Extension (extension_id number (line from)); name = name_at text n })
+
+-- extensions alone: of the schema, twice, of an interface and of an object type
+abbrev pub extensions_alone : List Definition
+extensions_alone =
+    schema_extension_at 1 (directive_at (codes "d") 2 ∷ []) (root_at Query (codes "A") 3 ∷ [])
+    ∷ schema_extension_at 4 [] (root_at Query (codes "B") 5 ∷ [])
+    ∷ ast.InterfaceTypeExtension (record {
+      value = record { name = name_at (codes "B") 6; implements_interfaces = []; directives = record { 0 = [] }; fields = field_at (codes "x") 7 ∷ [] };
+      location = line 6;
+    })
+    ∷ extension_at 8 (name_at (codes "A") 8) [] (field_at (codes "y") 9 ∷ [])
+    ∷ []
+
+-- the schema definition where they are adopted: it is at no place, and all of it comes of its extensions, which are folded
+-- after those of types
+abbrev pub adopted_schema : NodeView SchemaDefinition
+adopted_schema = record {
+  value = record {
+    description = None;
+    directives = record { 0 = record { origin = origins.Extension (extension_id 2 (line 1)); node = directive_at (codes "d") 2 } ∷ [] };
+    query = extension_root 2 1 (codes "A") 3;
+    mutation = None;
+    subscription = None;
+  };
+  location = None;
+}
+
+-- their fault where they are adopted, and their faults where they are not
+abbrev pub adopted_faults : List Fault
+adopted_faults = (line 5, errors.DuplicateRootOperation (line 3) (codes "query")) ∷ []
+
+abbrev pub orphan_faults : List Fault
+orphan_faults =
+    (line 6, errors.OrphanTypeExtension (name_at (codes "B") 6))
+    ∷ (line 8, errors.OrphanTypeExtension (name_at (codes "A") 8))
+    ∷ (line 1, errors.OrphanSchemaExtension)
+    ∷ (line 4, errors.OrphanSchemaExtension)
+    ∷ []
+
+-- an object type with the default name of the query root, and no schema definition
+abbrev pub query_type_alone : List Definition
+query_type_alone = definition_at 1 (codes "Query") [] [] ∷ []
+
+-- the schema definition that it implies
+abbrev pub implied_query : NodeView SchemaDefinition
+implied_query = record {
+  value = record {
+    description = None;
+    directives = record { 0 = [] };
+    query = Some (record { origin = origins.Definition; name = record { text = codes "Query"; location = None } });
+    mutation = None;
+    subscription = None;
+  };
+  location = None;
+}
+
+-- extensions of the schema that wait for its definition, which names a root that the first of them names too
+abbrev pub schema_extensions_that_wait : List Definition
+schema_extensions_that_wait =
+    schema_extension_at 1 [] (root_at Query (codes "Q") 2 ∷ [])
+    ∷ schema_extension_at 3 [] (root_at Subscription (codes "S") 4 ∷ [])
+    ∷ schema_at 5 (root_at Mutation (codes "M") 6 ∷ root_at Query (codes "A") 7 ∷ [])
+    ∷ []
+
+-- the schema definition with both of them, and the fault of the root that is dropped
+abbrev pub waited_for_schema : NodeView SchemaDefinition
+waited_for_schema = record {
+  value = record {
+    description = None;
+    directives = record { 0 = [] };
+    query = own_root (codes "A") 7;
+    mutation = own_root (codes "M") 6;
+    subscription = extension_root 1 3 (codes "S") 4;
+  };
+  location = line 5;
+}
+
+abbrev pub dropped_root_fault : List Fault
+dropped_root_fault = (line 2, errors.DuplicateRootOperation (line 7) (codes "query")) ∷ []
+
+-- a built-in scalar type, and a further definition of it
+abbrev pub built_in_int : List Definition
+built_in_int = scalar (codes "Int") ∷ []
+
+abbrev pub int_again : List Definition
+int_again = ast.ScalarTypeDefinition (record { value = record { description = None; name = name_at (codes "Int") 1; directives = record { 0 = [] } }; location = line 1 }) ∷ []
+
+abbrev pub redefinition_fault : List Fault
+redefinition_fault = (line 1, errors.BuiltInScalarTypeRedefinition) ∷ []

@@ -1,0 +1,13 @@
+-- The schema that a list of definitions means: GraphQL specification of October 2021, section 3.3.
+use Rattle.std.specs.Prelude.{ℕ, Bool, List, length}
+use Rattle.apollo_meaning.specs.Items.ListItems.{ListItem, Added, added_items}
+use Rattle.apollo_meaning.specs.Completion.ImpliedSchema.{completed}
+use Rattle.apollo_meaning.specs.Order.Places.{folding_order}
+
+-- all that a list means, with and without adoption
+abbrev pub whole : Bool → List Added → List ListItem
+whole adopts xs = completed adopts (added_items xs)
+
+-- how many extensions are folded
+abbrev pub folds : Bool → List Added → ℕ
+folds adopts xs = length (folding_order (whole adopts xs))

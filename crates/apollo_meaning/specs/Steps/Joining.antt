@@ -1,0 +1,52 @@
+-- What is wrong with extensions that join a type or the schema, one after another: the form that the builder is proved
+-- against.
+use Rattle.std.specs.Prelude.{ℕ, List, [], ◌∷◌, ◌++◌, map, if◌then◌else◌}
+use Rattle.std.specs.List.{flat_map, enumerate_from}
+use Rattle.graphql_nodes.specs.NodeView.{NodeView}
+use Rattle.apollo_component.specs.declared.extension.ComponentOrigin.TheVariants.{Definition}
+use Rattle.apollo_types.specs.declared.schema_definition.SchemaDefinition.{SchemaDefinition}
+use Rattle.apollo_meaning.specs.Items.Parts.{TypePart, SchemaPart, kind_of, same_kind}
+use Rattle.apollo_meaning.specs.Faults.Collisions.{Fault}
+use Rattle.apollo_meaning.specs.Items.Named.{of_kind}
+use Rattle.apollo_meaning.specs.Faults.TypeFaults.{part_faults, kind_mismatch}
+use Rattle.apollo_meaning.specs.Schema.Definition.{SourcedSchema, schema_extension_source, schema_from}
+use Rattle.apollo_meaning.specs.Faults.RootFaults.{schema_faults}
+use Rattle.apollo_types.specs.declared.extended_type.ExtendedType.{ExtendedType}
+use Rattle.apollo_meaning.specs.Types.Meaning.{type_from, extension_part, numbered}
+
+-- the extensions that don't have the kind of this definition
+abbrev pub mismatches : TypePart → List TypePart → List Fault
+mismatches d = flat_map (λ e. if same_kind (kind_of d) (kind_of e) then [] else kind_mismatch d e ∷ [])
+
+-- the components that are dropped from those that have it, where each is folded into these parts alone
+abbrev pub folding_faults : TypePart → List TypePart → List TypePart → List Fault
+folding_faults d parts es = flat_map (part_faults parts) (of_kind (kind_of d) es)
+
+-- both, where each is folded into these parts and the extensions before it
+abbrev pub joining_faults : TypePart → List TypePart → List TypePart → List Fault
+joining_faults d parts [] = []
+joining_faults d parts (e ∷ es) =
+    (if same_kind (kind_of d) (kind_of e) then part_faults parts e else kind_mismatch d e ∷ []) ++ joining_faults d (parts ++ of_kind (kind_of d) (e ∷ [])) es
+
+-- the same for the schema: what is wrong with extensions that join these parts, one after another
+abbrev pub schema_joining_faults : List SchemaPart → List SchemaPart → List Fault
+schema_joining_faults parts [] = []
+schema_joining_faults parts (e ∷ es) = schema_faults parts e ++ schema_joining_faults (parts ++ e ∷ []) es
+
+-- extensions of the schema, with the numbers from this one on
+abbrev pub schema_numbered : ℕ → List SchemaPart → List SourcedSchema
+schema_numbered n es = map schema_extension_source (enumerate_from n es)
+
+-- a schema definition with the extensions that waited for it, and what is wrong with them
+abbrev pub schema_begun : ℕ → SchemaPart → List SchemaPart → NodeView SchemaDefinition
+schema_begun n s es = schema_from s ((Definition, s) ∷ schema_numbered n es)
+
+abbrev pub schema_begun_faults : SchemaPart → List SchemaPart → List Fault
+schema_begun_faults s es = schema_faults [] s ++ schema_joining_faults (s ∷ []) es
+
+-- a type with the extensions that waited for it, and what is wrong with them
+abbrev pub type_begun : ℕ → TypePart → List TypePart → ExtendedType
+type_begun n d es = type_from d ((Definition, d) ∷ map extension_part (numbered n (of_kind (kind_of d) es)))
+
+abbrev pub type_begun_faults : TypePart → List TypePart → List Fault
+type_begun_faults d es = part_faults [] d ++ joining_faults d (d ∷ []) es

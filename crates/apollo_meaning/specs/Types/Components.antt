@@ -1,0 +1,84 @@
+-- The components of a part of a type, with their origins: GraphQL specification of October 2021, sections 3.6 to 3.10.
+use Rattle.std.specs.Prelude.{Bool, List, [], map}
+use Rattle.graphql_nodes.specs.NameView.{NameView}
+use Rattle.graphql_nodes.specs.SameText.{same_text}
+use Rattle.graphql_nodes.specs.NodeView.{NodeView}
+use Rattle.graphql_ast.specs.declared.directive.Directive.{Directive}
+use Rattle.graphql_ast.specs.declared.type_system.FieldDefinition.{FieldDefinition}
+use Rattle.graphql_ast.specs.declared.type_system.EnumValueDefinition.{EnumValueDefinition}
+use Rattle.graphql_ast.specs.declared.type_system.InputValueDefinition.{InputValueDefinition}
+use Rattle.apollo_component.specs.FirstOfEach.{first_of_each, same_key}
+use Rattle.apollo_component.specs.declared.component.Component.{Component}
+use Rattle.apollo_component.specs.declared.component.ComponentName.{ComponentName}
+use Rattle.apollo_component.specs.declared.extension.ComponentOrigin.{ComponentOrigin}
+use Rattle.apollo_meaning.specs.Items.Parts.{TypePart, TypeBody, ObjectBody, InterfaceBody, UnionBody, EnumBody, InputObjectBody}
+
+-- a part, with the origin of its components
+abbrev pub Sourced : Type 0
+Sourced = ComponentOrigin × TypePart
+
+abbrev pub component : {T : Type 0} → ComponentOrigin → NodeView T → Component T
+component o n = record { origin = o; node = n }
+
+abbrev pub component_name : ComponentOrigin → NameView → ComponentName
+component_name o n = record { origin = o; name = n }
+
+abbrev pub same_component_name : ComponentName → ComponentName → Bool
+same_component_name a b = same_text a.name b.name
+
+-- a field, an enum value, an input field under its name
+abbrev pub field_entry : ComponentOrigin → NodeView FieldDefinition → NameView × Component FieldDefinition
+field_entry o f = (f.value.name, component o f)
+
+abbrev pub value_entry : ComponentOrigin → NodeView EnumValueDefinition → NameView × Component EnumValueDefinition
+value_entry o v = (v.value.value, component o v)
+
+abbrev pub input_field_entry : ComponentOrigin → NodeView InputValueDefinition → NameView × Component InputValueDefinition
+input_field_entry o f = (f.value.name, component o f)
+
+abbrev pub body_interfaces : TypeBody → List NameView
+body_interfaces (ObjectBody interfaces fields) = interfaces
+body_interfaces (InterfaceBody interfaces fields) = interfaces
+body_interfaces _ = []
+
+abbrev pub body_fields : TypeBody → List (NodeView FieldDefinition)
+body_fields (ObjectBody interfaces fields) = fields
+body_fields (InterfaceBody interfaces fields) = fields
+body_fields _ = []
+
+abbrev pub body_members : TypeBody → List NameView
+body_members (UnionBody members) = members
+body_members _ = []
+
+abbrev pub body_values : TypeBody → List (NodeView EnumValueDefinition)
+body_values (EnumBody values) = values
+body_values _ = []
+
+abbrev pub body_input_fields : TypeBody → List (NodeView InputValueDefinition)
+body_input_fields (InputObjectBody fields) = fields
+body_input_fields _ = []
+
+abbrev pub directives_of : Sourced → List (Component Directive)
+directives_of s = map (component s.0) s.1.directives
+
+abbrev pub interfaces_of : Sourced → List ComponentName
+interfaces_of s = map (component_name s.0) (body_interfaces s.1.body)
+
+abbrev pub members_of : Sourced → List ComponentName
+members_of s = map (component_name s.0) (body_members s.1.body)
+
+abbrev pub fields_of : Sourced → List (NameView × Component FieldDefinition)
+fields_of s = map (field_entry s.0) (body_fields s.1.body)
+
+abbrev pub values_of : Sourced → List (NameView × Component EnumValueDefinition)
+values_of s = map (value_entry s.0) (body_values s.1.body)
+
+abbrev pub input_fields_of : Sourced → List (NameView × Component InputValueDefinition)
+input_fields_of s = map (input_field_entry s.0) (body_input_fields s.1.body)
+
+-- the first of each name among names, and among named things
+abbrev pub distinct_names : List ComponentName → List ComponentName
+distinct_names = first_of_each same_component_name
+
+abbrev pub distinct_entries : {T : Type 0} → List (NameView × Component T) → List (NameView × Component T)
+distinct_entries = first_of_each (same_key same_text)

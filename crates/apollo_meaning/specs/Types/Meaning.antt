@@ -1,0 +1,120 @@
+-- The types that a list means: of each name its first definition, with its kind's extensions folded in. GraphQL
+-- specification of October 2021, sections 3.4.3, and 3.5 to 3.10.
+use Rattle.std.specs.Prelude.{ℕ, List, ◌∷◌, None, map, ◌≡◌, Option, filter, Some}
+use Rattle.std.specs.List.{filter_map, flat_map, enumerate_from}
+use Rattle.std.specs.Option.{option_map}
+use Rattle.graphql_nodes.specs.SameText.{same, by_text}
+use Rattle.graphql_nodes.specs.NameView.{NameView}
+use Rattle.graphql_nodes.specs.Tables.{lookup, keys_of}
+use Rattle.apollo_component.specs.FirstOfEach.{first_of_each, same_key}
+use Rattle.apollo_component.specs.declared.extension.ComponentOrigin.TheVariants.{Definition, Extension}
+use Rattle.apollo_component.specs.Extensions.{extension_id}
+use Rattle.apollo_types.specs.declared.extended_type.ExtendedType.TheVariants.{Scalar, Object, Interface, Union, Enum, InputObject}
+use Rattle.apollo_types.specs.declared.extended_type.ExtendedType.{ExtendedType}
+use Rattle.apollo_types.specs.declared.scalar_type.ScalarType.{ScalarType}
+use Rattle.apollo_types.specs.declared.object_type.ObjectType.{ObjectType}
+use Rattle.apollo_types.specs.declared.interface_type.InterfaceType.{InterfaceType}
+use Rattle.apollo_types.specs.declared.union_type.UnionType.{UnionType}
+use Rattle.apollo_types.specs.declared.enum_type.EnumType.{EnumType}
+use Rattle.apollo_types.specs.declared.input_object_type.InputObjectType.{InputObjectType}
+use Rattle.apollo_meaning.specs.Items.Parts.{TypePart, TypeBody, ScalarBody, ObjectBody, InterfaceBody, UnionBody, EnumBody, InputObjectBody, key_of}
+use Rattle.apollo_meaning.specs.Items.ListItems.{ListItem, Folding, OfType, OfSchema}
+use Rattle.apollo_meaning.specs.Items.Named.{first, definitions}
+use Rattle.apollo_meaning.specs.Types.Components.{Sourced, directives_of, interfaces_of, members_of, fields_of, values_of, input_fields_of, distinct_names, distinct_entries}
+
+-- the names that are defined, as their first definitions write them, in the order of those
+abbrev pub type_names : List ListItem → List NameView
+type_names xs = map (λ e. e.1.name) (first_of_each (same_key same) (definitions xs))
+
+-- an extension with its number, and the origin of its components
+abbrev pub extension_part : ℕ × TypePart → Sourced
+extension_part e = (Extension (extension_id e.0 e.1.location), e.1)
+
+-- the extensions of types among those that are folded, with their numbers
+abbrev pub of_type : ℕ × Folding → Option (ℕ × TypePart)
+of_type (i, OfType p) = Some (i, p)
+of_type (i, OfSchema s) = None
+
+-- the folded extensions of a name, with their origins
+abbrev pub sourced : List ℕ → ℕ → List Folding → List Sourced
+sourced n start folded = map extension_part (filter (λ e. same n (key_of e.1)) (filter_map of_type (enumerate_from start folded)))
+
+-- the parts of a name with this first definition, where these extensions are folded, in this order
+abbrev pub parts : ℕ → List Folding → List ℕ → TypePart → List Sourced
+parts start folded n d = (Definition, d) ∷ sourced n start folded
+
+-- the types of parts, by kind: directives joined, and the first of each name
+abbrev pub scalar_of : TypePart → List Sourced → ScalarType
+scalar_of head parts = record {
+  description = head.description;
+  name = head.name;
+  directives = record { 0 = flat_map directives_of parts };
+}
+
+abbrev pub object_of : TypePart → List Sourced → ObjectType
+object_of head parts = record {
+  description = head.description;
+  name = head.name;
+  implements_interfaces = distinct_names (flat_map interfaces_of parts);
+  directives = record { 0 = flat_map directives_of parts };
+  fields = distinct_entries (flat_map fields_of parts);
+}
+
+abbrev pub interface_of : TypePart → List Sourced → InterfaceType
+interface_of head parts = record {
+  description = head.description;
+  name = head.name;
+  implements_interfaces = distinct_names (flat_map interfaces_of parts);
+  directives = record { 0 = flat_map directives_of parts };
+  fields = distinct_entries (flat_map fields_of parts);
+}
+
+abbrev pub union_of : TypePart → List Sourced → UnionType
+union_of head parts = record {
+  description = head.description;
+  name = head.name;
+  directives = record { 0 = flat_map directives_of parts };
+  members = distinct_names (flat_map members_of parts);
+}
+
+abbrev pub enum_of : TypePart → List Sourced → EnumType
+enum_of head parts = record {
+  description = head.description;
+  name = head.name;
+  directives = record { 0 = flat_map directives_of parts };
+  values = distinct_entries (flat_map values_of parts);
+}
+
+abbrev pub input_object_of : TypePart → List Sourced → InputObjectType
+input_object_of head parts = record {
+  description = head.description;
+  name = head.name;
+  directives = record { 0 = flat_map directives_of parts };
+  fields = distinct_entries (flat_map input_fields_of parts);
+}
+
+abbrev pub type_at : TypeBody → TypePart → List Sourced → ExtendedType
+type_at ScalarBody head parts = Scalar (record { value = scalar_of head parts; location = head.location })
+type_at (ObjectBody interfaces fields) head parts = Object (record { value = object_of head parts; location = head.location })
+type_at (InterfaceBody interfaces fields) head parts = Interface (record { value = interface_of head parts; location = head.location })
+type_at (UnionBody members) head parts = Union (record { value = union_of head parts; location = head.location })
+type_at (EnumBody values) head parts = Enum (record { value = enum_of head parts; location = head.location })
+type_at (InputObjectBody fields) head parts = InputObject (record { value = input_object_of head parts; location = head.location })
+
+-- the type that these parts make, with the description, name and place of the head
+abbrev pub type_from : TypePart → List Sourced → ExtendedType
+type_from head parts = type_at head.body head parts
+
+-- the type of a name, where these extensions are folded, in this order
+abbrev pub type_of : ℕ → List Folding → List ListItem → List ℕ → Option ExtendedType
+type_of start folded xs n = option_map (λ d. type_from d (parts start folded n d)) (first xs n)
+
+-- these types are those of the list, where these extensions are folded, in this order: each under its name, in the
+-- order of first definition
+pub record AreTypesOf (start : ℕ) (folded : List Folding) (xs : List ListItem) (types : List (NameView × ExtendedType)) : Type 0 where
+  pub names : keys_of types ≡ type_names xs
+  pub each : (n : List ℕ) → lookup (by_text n) types ≡ type_of start folded xs n
+
+-- extensions that are folded, each with its number
+abbrev pub numbered : ℕ → List TypePart → List (ℕ × TypePart)
+numbered start folded = enumerate_from start folded
