@@ -1,1 +1,2 @@
 pub mod FirstOfEachLemmas
+pub mod LaterLemmas

@@ -4,4 +4,5 @@
 pub mod component;
 pub mod directive_list;
 pub mod extension;
+pub mod laws;
 pub mod named;

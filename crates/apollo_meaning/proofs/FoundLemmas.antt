@@ -64,7 +64,7 @@ module _ {P : Type 0} (f : Family P) where
 
 module _ (xs : List ListItem) (x : ListItem) where
   -- the items before a place are as before
-  same_front : (i : ℕ) → i < length xs → take i (xs ++ x ∷ []) ≡ take i xs
+  pub same_front : (i : ℕ) → i < length xs → take i (xs ++ x ∷ []) ≡ take i xs
   same_front i lt = take-append-le i xs (x ∷ []) (omega (arith, lt))
 
   own_faults-push : (i : ℕ) → i < length xs → (y : ListItem) → slice_get xs i ≡ Some y → own_faults (xs ++ x ∷ []) i y ≡ own_faults xs i y
@@ -194,11 +194,11 @@ faults_with-after d = snoc_ind (λ xs. flat_map (faults_with d xs) (filter (has_
             ∙ sym (faults_after-push d [] (extensions_of xs n) p)
 
 -- an extension of the schema, with this first definition and the extensions before it
-abbrev schema_faults_with : SchemaPart → List ListItem → Placed SchemaPart → List Fault
+abbrev pub schema_faults_with : SchemaPart → List ListItem → Placed SchemaPart → List Fault
 schema_faults_with s xs e = schema_faults (s ∷ schema_extensions (take e.0 xs)) e.1
 
 -- the same for the extensions of the schema
-schema_faults_with-joining : (s : SchemaPart) (xs : List ListItem) → flat_map (schema_faults_with s xs) (extension_places schemas xs) ≡ schema_joining_faults (s ∷ []) (schema_extensions xs)
+pub schema_faults_with-joining : (s : SchemaPart) (xs : List ListItem) → flat_map (schema_faults_with s xs) (extension_places schemas xs) ≡ schema_joining_faults (s ∷ []) (schema_extensions xs)
 schema_faults_with-joining s = snoc_ind (λ xs. flat_map (schema_faults_with s xs) (extension_places schemas xs) ≡ schema_joining_faults (s ∷ []) (schema_extensions xs)) refl step
   where
     parts : (xs : List ListItem) (x : ListItem) (o : Option SchemaPart) → extended_schema x ≡ o → flat_map (schema_faults_with s xs) (extension_places schemas xs) ≡ schema_joining_faults (s ∷ []) (schema_extensions xs)

@@ -15,6 +15,7 @@ use Rattle.apollo_component.specs.FirstOfEach.{first_of_each, same_key}
 use Rattle.apollo_component.specs.declared.component.Component.{Component}
 use Rattle.apollo_component.specs.declared.component.ComponentName.{ComponentName}
 use Rattle.apollo_component.proofs.FirstOfEachLemmas.{find-first_of_each, first_of_each-push_new, first_of_each-push_old, keys_of-first_of_each, lookup_key-find, list_any-first_of_each, insert_entry-last}
+use Rattle.apollo_component.proofs.LaterLemmas.{found-any}
 use Rattle.apollo_meaning.specs.declared.collision.Collection.{Collection}
 use Rattle.apollo_meaning.specs.Types.Components.{component, component_name, same_component_name, distinct_names}
 use Rattle.apollo_meaning.specs.Faults.TypeFaults.{name_entries}
@@ -28,15 +29,6 @@ component_name_laws = on_equiv (λ c. c.name.text) nat_list_eq_equiv
 
 pub entry_laws : {V : Type 0} → IsEquivalence (same_key {V = V} same_text)
 entry_laws = on_equiv (λ e. e.0.text) nat_list_eq_equiv
-
--- something is found where something passes
-found-any : {X : Type 0} (test : X → Bool) (xs : List X) → is_some (find test xs) ≡ list_any test xs
-found-any test [] = refl
-found-any test (x ∷ xs) = by (test x) (found-any test xs)
-  where
-    by : (b : Bool) → is_some (find test xs) ≡ list_any test xs → is_some (cond b (Some x) (find test xs)) ≡ (b || list_any test xs)
-    by true rest = refl
-    by false rest = rest
 
 module _ {X : Type 0} (same : X → X → Bool) (laws : IsEquivalence same) (xs : List X) (x : X) where
   -- one that is found is not added

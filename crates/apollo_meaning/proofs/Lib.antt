@@ -1,4 +1,6 @@
 pub mod CompletionLemmas
+pub mod ComponentLemmas
+pub mod DroppedLemmas
 pub mod EachLemmas
 pub mod FoldingLemmas
 pub mod FoundLemmas
@@ -11,3 +13,4 @@ pub mod PartLemmas
 pub mod PlaceLemmas
 pub mod Texts
 pub mod TypeLemmas
+pub mod WholeTypeLemmas

@@ -1,54 +1,13 @@
--- Each component is kept or at fault once, and each extension is met at one moment or at none.
-use Rattle.std.proofs.Common.{◌≡◌, ℕ, ◌+◌, ◌<◌, ◌≤◌, Bool, true, false, ◌==◌, max, List, [], ◌∷◌, ◌++◌, length, map, zero, suc, Option, Some, None, is_some, filter, refl, sym, ap, ◌∙◌, append_assoc, length-append, arith}
-use Rattle.std.specs.List.{All, find, range_with_len}
+-- Each extension is met at one moment or at none.
+use Rattle.std.proofs.Common.{◌≡◌, ℕ, ◌+◌, ◌<◌, ◌≤◌, Bool, true, false, ◌==◌, max, List, [], ◌∷◌, length, zero, suc, Option, Some, None, filter, refl, sym, ap, arith}
+use Rattle.std.specs.List.{All, range_with_len}
 use Rattle.std.specs.Option.{option_map_or}
 use Rattle.std.proofs.lemmas.Bool.Decides.{nat_tests}
-use Rattle.std.proofs.lemmas.List.{append-nil, map-append}
 use Rattle.std.proofs.lemmas.List.Elements.{All-from_recursion}
-use Rattle.graphql_nodes.specs.NameView.{NameView}
-use Rattle.graphql_nodes.specs.SameText.{same_text}
-use Rattle.apollo_component.specs.FirstOfEach.{first_of_each, same_key}
-use Rattle.apollo_component.proofs.FirstOfEachLemmas.{first_of_each-push_new, first_of_each-push_old}
-use Rattle.apollo_meaning.specs.declared.collision.Collection.{Collection}
 use Rattle.apollo_meaning.specs.Items.ListItems.{ListItem}
-use Rattle.apollo_meaning.specs.Faults.Collisions.{Entry, collision_at, collisions}
 use Rattle.apollo_meaning.specs.Order.Places.{Family, Placed, extension_places, first_place, is_met}
 use Rattle.apollo_meaning.proofs.EachLemmas.{each-weaken}
-use Rattle.apollo_meaning.proofs.KeptLemmas.{entry_laws, key-any}
 use Rattle.apollo_meaning.proofs.PlaceLemmas.{IsBelow, extensions-below, first_place-below}
-
-abbrev kept : List Entry → List Entry
-kept = first_of_each (same_key same_text)
-
-abbrev names : List Entry → List NameView
-names = map (λ e. e.0)
-
-module _ (c : Collection) (ty : NameView) where
-  kept-or-fault : (before : List Entry) (e : Entry) → length (kept (before ++ e ∷ [])) + length (collision_at c ty (names before) e) ≡ length (kept before) + 1
-  kept-or-fault before e = by (find (same_text e.0) (names before)) refl
-    where
-      by : (o : Option NameView) → find (same_text e.0) (names before) ≡ o → length (kept (before ++ e ∷ [])) + length (collision_at c ty (names before) e) ≡ length (kept before) + 1
-      by None none =
-          rw (none, first_of_each-push_new (same_key same_text) entry_laws before e (sym (key-any e.0 before) ∙ ap is_some none)) (omega (arith, length-append (kept before) (e ∷ [])))
-      by (Some k) found =
-          rw (found, first_of_each-push_old (same_key same_text) entry_laws before e (sym (key-any e.0 before) ∙ ap is_some found)) refl
-
-  -- with these before them
-  kept-or-faults : (before es : List Entry) → length (kept (before ++ es)) + length (collisions c ty (names before) es) ≡ length (kept before) + length es
-  kept-or-faults before [] = rw (append-nil before) refl
-  kept-or-faults before (e ∷ es) =
-      let rest : length (kept ((before ++ e ∷ []) ++ es)) + length (collisions c ty (names (before ++ e ∷ [])) es) ≡ length (kept (before ++ e ∷ [])) + length es = kept-or-faults (before ++ e ∷ []) es in
-      omega (
-        arith,
-        ap (λ l. length (kept l)) (append_assoc before (e ∷ []) es),
-        ap (λ l. length (collisions c ty l es)) (map-append (λ (e : Entry). e.0) before (e ∷ [])),
-        length-append (collision_at c ty (names before) e) (collisions c ty (names before ++ e.0 ∷ []) es),
-        kept-or-fault before e,
-        rest,
-      )
-
-  pub each-kept-or-fault : (es : List Entry) → length (kept es) + length (collisions c ty [] es) ≡ length es
-  each-kept-or-fault es = kept-or-faults [] es ∙ omega arith
 
 -- a number stands once in a row of numbers, or not at all
 none-past : (m a n : ℕ) → m < a → filter (λ i. m == i) (range_with_len a n) ≡ []

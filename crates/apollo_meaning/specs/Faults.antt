@@ -2,4 +2,5 @@ pub mod Collisions
 pub mod ListFaults
 pub mod OtherFaults
 pub mod RootFaults
+pub mod TypeComponents
 pub mod TypeFaults

@@ -2,16 +2,19 @@
 ghost use Rattle.std.specs.Prelude.{◌≡◌, ◌≤◌, ◌+◌, ℕ, Bool, List, [], ◌∷◌, ◌++◌, None, Some, true, false, length, codes, map, filter, filter_map, option_map, All};
 ghost use Rattle.std.specs.List.{range_with_len};
 ghost use Rattle.std.specs.Option.{option_map_or};
-ghost use Rattle.apollo_meaning.specs.Items.Parts.{TypePart, kind_of, key_of};
+ghost use Rattle.std.specs.Cmp.{IsEquivalence};
+ghost use Rattle.apollo_meaning.specs.Items.Parts.{TypePart, SchemaPart, kind_of, key_of, Root, roots_in};
 ghost use Rattle.apollo_meaning.specs.Items.ListItems.{ListItem, Added, added, added_items};
-ghost use Rattle.apollo_meaning.specs.Items.Named.{first, extensions_of, of_kind};
-ghost use Rattle.apollo_meaning.specs.Order.Places.{types, schemas, extension_places, first_place, is_met, folding_order};
+ghost use Rattle.apollo_meaning.specs.Items.Named.{first, extensions_of, of_kind, schema_extensions};
+ghost use Rattle.apollo_meaning.specs.Order.Places.{Placed, types, schemas, extension_places, first_place, is_met, folding_order};
 ghost use Rattle.apollo_meaning.specs.Types.Meaning.{sourced, type_of};
 ghost use Rattle.apollo_meaning.specs.Schema.Whole.{whole, folds};
 ghost use Rattle.apollo_meaning.specs.Rows.TypeRows.{line, folding_place, extensions_around, written_around, extensions_that_wait, extension_of_another_kind};
 ghost use Rattle.apollo_meaning.specs.declared.collision.Collection.{Collection};
-ghost use Rattle.apollo_meaning.specs.Faults.Collisions.{Entry, collisions};
-ghost use Rattle.apollo_meaning.specs.Faults.ListFaults.{faults_of};
+ghost use Rattle.apollo_meaning.specs.Faults.Collisions.{Entry, collisions, same_name, dropped_component};
+ghost use Rattle.apollo_meaning.specs.Faults.TypeComponents.{components_of, same_component, dropped_from_type, joined_faults};
+ghost use Rattle.apollo_meaning.specs.Faults.RootFaults.{root_faults, same_root, dropped_root};
+ghost use Rattle.apollo_meaning.specs.Faults.ListFaults.{faults_of, found_of_type, found_of_schema};
 ghost use Rattle.apollo_meaning.specs.Rows.FaultRows.{faulty_list, its_faults};
 ghost use Rattle.apollo_meaning.specs.Completion.Adoption.{adopted, with_adopted};
 ghost use Rattle.apollo_meaning.specs.Completion.OrphanNames.{orphan_names};
@@ -21,7 +24,7 @@ ghost use Rattle.apollo_built_in.specs.BuiltInTable.{built_in_definitions};
 ghost use Rattle.apollo_meaning.specs.Rows.BuiltInNames.{defined_names, component_names, Distinct};
 ghost use Rattle.apollo_meaning.specs.Order.SpentIds.{SpendsIdsSoFar, SpendsIds};
 ghost use Rattle.apollo_types.specs.TypeWriteOut.{write_type};
-ghost use Rattle.apollo_component.specs.FirstOfEach.{first_of_each, same_key};
+ghost use Rattle.apollo_component.specs.FirstOfEach.{first_of_each, later_of_each, same_key};
 ghost use Rattle.graphql_nodes.specs.NameView.{NameView};
 ghost use Rattle.graphql_nodes.specs.SameText.{same_text};
 
@@ -80,6 +83,39 @@ pub fn built_in_names_are_distinct()
 /// Of the components of a collection, as many are at fault as are not the first of their names, which are kept.
 pub fn each_component_is_kept_or_at_fault()
     ensures { (c : Collection) (ty : NameView) (es : List Entry) → length (first_of_each (same_key same_text) es) + length (collisions c ty [] es) ≡ length es }
+{}
+
+/// The components of a collection that are at fault are those that have the name of an earlier one, in order. Each fault is
+/// at its component, and has the name that is kept: that of the first component of its text. Components that join others
+/// are at fault as where all of them stand in one list. To have one name is an equivalence. GraphQL specification of
+/// October 2021, sections 3.6 to 3.10.
+pub fn later_components_are_at_fault()
+    ensures same { IsEquivalence same_name }
+    ensures faults { (c : Collection) (ty : NameView) (es : List Entry) → collisions c ty [] es ≡ map (dropped_component c ty (first_of_each same_name es)) (later_of_each same_name es) }
+    ensures joined { (c : Collection) (ty : NameView) (es more : List Entry) → collisions c ty [] (es ++ more) ≡ collisions c ty [] es ++ collisions c ty (map (λ e. e.0) es) more }
+{}
+
+/// It is so with a whole type, whose parts, its definition and then its extensions, join one after another: the components
+/// that are dropped are those that are the same as an earlier one in the joined list of all, in order. Each fault has the
+/// type's name as the part has it that the component stands in. So it is for each type of a list, with its name's first
+/// definition and the extensions of that one's kind. GraphQL specification of October 2021, sections 3.4.3 and 3.6 to
+/// 3.10.
+pub fn later_components_of_a_type_are_at_fault()
+    ensures same { IsEquivalence same_component }
+    ensures faults { (ps : List TypePart) → joined_faults ps ≡ map (dropped_from_type (first_of_each same_component (components_of ps))) (later_of_each same_component (components_of ps)) }
+    ensures all { (xs : List ListItem) (d : Placed TypePart) → first_place types xs (key_of d.1) ≡ Some d
+        → found_of_type xs d.1 ≡ joined_faults (d.1 ∷ of_kind (kind_of d.1) (extensions_of xs (key_of d.1))) }
+{}
+
+/// The roots of the schema that are at fault are those that have the operation of an earlier one, in order. Each fault is at
+/// its root, and has the place of the root that is kept, the first of its operation. Roots that join others are at fault
+/// as where all of them stand in one list, and so are those of a list of definitions, in the schema's first definition and
+/// then in its extensions. GraphQL specification of October 2021, sections 3.3.1 and 3.3.2.
+pub fn later_roots_are_at_fault()
+    ensures same { IsEquivalence same_root }
+    ensures faults { (rs : List Root) → root_faults [] rs ≡ map (dropped_root (first_of_each same_root rs)) (later_of_each same_root rs) }
+    ensures joined { (rs more : List Root) → root_faults [] (rs ++ more) ≡ root_faults [] rs ++ root_faults rs more }
+    ensures all { (xs : List ListItem) (s : Placed SchemaPart) → first_place schemas xs [] ≡ Some s → found_of_schema xs s.1 ≡ root_faults [] (roots_in (s.1 ∷ schema_extensions xs)) }
 {}
 
 /// The faults of a list, computed: they stand in the order in which they are found, and not in that of the list.

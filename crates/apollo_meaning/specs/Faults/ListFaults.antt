@@ -1,7 +1,8 @@
 -- The faults of a list of definitions, by places of the whole list: GraphQL specification of October 2021, section 3.
-use Rattle.std.specs.Prelude.{ℕ, Bool, List, [], ◌∷◌, ◌++◌, map, if◌then◌else◌, slice_get, ◌==◌, length, take}
+use Rattle.std.specs.Prelude.{ℕ, Bool, List, [], ◌∷◌, ◌++◌, map, if◌then◌else◌, filter, slice_get, ◌&&◌, ◌==◌, length, take}
 use Rattle.std.specs.List.{flat_map, range_with_len}
 use Rattle.std.specs.Option.{option_map_or}
+use Rattle.graphql_nodes.specs.SameText.{same}
 use Rattle.apollo_meaning.specs.Items.Parts.{TypePart, SchemaPart, key_of}
 use Rattle.apollo_meaning.specs.Items.ListItems.{ListItem, Defined, SchemaDefined, Other, Extended, SchemaExtended, Added, added_items}
 use Rattle.apollo_meaning.specs.Items.Named.{extensions_of, schema_extensions}
@@ -10,7 +11,7 @@ use Rattle.apollo_meaning.specs.Faults.TypeFaults.{part_faults, extension_faults
 use Rattle.apollo_meaning.specs.Faults.RootFaults.{schema_faults, further_schema, schema_orphan}
 use Rattle.apollo_meaning.specs.Completion.Adoption.{extended_names, orphans_of, schema_orphans, with_adopted}
 use Rattle.apollo_meaning.specs.Directives.{directive_definitions}
-use Rattle.apollo_meaning.specs.Order.Places.{Placed, types, schemas, first_place, met_when}
+use Rattle.apollo_meaning.specs.Order.Places.{Placed, types, schemas, extension_places, first_place, is_folded, met_when}
 use Rattle.apollo_meaning.specs.Completion.ImpliedSchema.{implied_schema, completed}
 use Rattle.apollo_meaning.specs.Faults.OtherFaults.{other_faults}
 
@@ -29,6 +30,15 @@ faults_of_extension xs e = option_map_or (λ f. extension_faults f.1 (extensions
 
 abbrev pub faults_of_schema_extension : List ListItem → Placed SchemaPart → List Fault
 faults_of_schema_extension xs e = option_map_or (λ f. schema_faults (f.1 ∷ schema_extensions (take e.0 xs)) e.1) (first_place schemas xs []) []
+
+-- the components that are dropped from a type of a list with this first definition: from that, and from the extensions
+-- that are folded into it
+abbrev pub found_of_type : List ListItem → TypePart → List Fault
+found_of_type xs d = part_faults [] d ++ flat_map (faults_of_extension xs) (filter (λ e. same (key_of d) (key_of e.1) && is_folded xs e) (extension_places types xs))
+
+-- the roots that are dropped from the schema of a list with this first definition: from that, and from the extensions
+abbrev pub found_of_schema : List ListItem → SchemaPart → List Fault
+found_of_schema xs s = schema_faults [] s ++ flat_map (faults_of_schema_extension xs) (extension_places schemas xs)
 
 -- what is found at a moment: at the definition that stands there, then at the extensions that are met
 abbrev pub found_when : List ListItem → ℕ → List Fault

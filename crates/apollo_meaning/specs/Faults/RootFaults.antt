@@ -1,9 +1,10 @@
 -- What is wrong with the definitions and extensions of the schema: GraphQL specification of October 2021, sections 3.3.1
 -- and 3.3.2.
-use Rattle.std.specs.Prelude.{List, [], ◌∷◌, ◌++◌}
+use Rattle.std.specs.Prelude.{Bool, List, [], ◌∷◌, ◌++◌}
 use Rattle.std.specs.Option.{option_map_or}
 use Rattle.std.specs.List.{find}
 use Rattle.graphql_nodes.specs.OperationTexts.{operation_text}
+use Rattle.apollo_component.specs.FirstOfEach.{kept_for}
 use Rattle.apollo_meaning.specs.Items.Parts.{SchemaPart, Root, roots_in}
 use Rattle.apollo_meaning.specs.Faults.Collisions.{Fault}
 use Rattle.apollo_meaning.specs.Schema.Definition.{same_operation}
@@ -19,6 +20,14 @@ root_fault before r = option_map_or
 abbrev pub root_faults : List Root → List Root → List Fault
 root_faults before [] = []
 root_faults before (r ∷ rs) = root_fault before r ++ root_faults (before ++ r ∷ []) rs
+
+-- roots are the same by their operations
+abbrev pub same_root : Root → Root → Bool
+same_root a b = same_operation a.value.0 b.value.0
+
+-- the fault of a root that is dropped where these are kept: at the root, with the place of the kept one
+abbrev pub dropped_root : List Root → Root → Fault
+dropped_root kept r = (r.location, errors.DuplicateRootOperation (kept_for same_root kept r).value.1.location (operation_text r.value.0))
 
 -- the roots that are dropped where a part joins these parts
 abbrev pub schema_faults : List SchemaPart → SchemaPart → List Fault

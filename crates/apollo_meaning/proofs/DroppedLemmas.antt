@@ -1,0 +1,139 @@
+-- What is at fault among components and roots is what `first_of_each` drops.
+use Rattle.std.proofs.Common.{◌≡◌, ◌+◌, Bool, true, false, cond, List, [], ◌∷◌, ◌++◌, length, map, take, Some, refl, sym, ap, ◌∙◌, true≢false}
+use Rattle.std.specs.List.{find, flat_map}
+use Rattle.std.specs.Option.{option_map_or}
+use Rattle.std.specs.Cmp.{IsEquivalence, on_equiv}
+use Rattle.std.proofs.lemmas.Grind.{flat_map-append}
+use Rattle.std.proofs.lemmas.List.{append-nil, length-map, map-append}
+use Rattle.graphql_nodes.specs.NameView.{NameView}
+use Rattle.graphql_nodes.specs.SameText.{same_text}
+use Rattle.graphql_nodes.specs.OperationTexts.{operation_text}
+use Rattle.graphql_nodes.specs.declared.operation_type.OperationType.{OperationType}
+use Rattle.graphql_nodes.specs.declared.operation_type.OperationType.TheVariants.{Query, Mutation, Subscription}
+use Rattle.apollo_component.specs.FirstOfEach.{first_of_each, later_of_each}
+use Rattle.apollo_component.proofs.LaterLemmas.{said, said-append, said-later, length-first_later}
+use Rattle.apollo_meaning.specs.declared.collision.Collection.{Collection}
+use Rattle.apollo_meaning.specs.declared.build_error.BuildError.TheVariants as errors
+use Rattle.apollo_meaning.specs.Faults.Collisions.{Fault, Entry, collision, collision_at, collisions, same_name, dropped_component}
+use Rattle.apollo_meaning.specs.Items.Parts.{SchemaPart, Root, roots_in}
+use Rattle.apollo_meaning.specs.Items.ListItems.{ListItem}
+use Rattle.apollo_meaning.specs.Items.Named.{schema_extensions}
+use Rattle.apollo_meaning.specs.Schema.Definition.{same_operation}
+use Rattle.apollo_meaning.specs.Faults.RootFaults.{root_fault, root_faults, same_root, dropped_root, schema_faults}
+use Rattle.apollo_meaning.specs.Steps.Joining.{schema_joining_faults}
+use Rattle.apollo_meaning.specs.Order.Places.{schemas, Placed, extension_places, first_place}
+use Rattle.apollo_meaning.specs.Faults.ListFaults.{found_of_schema}
+use Rattle.apollo_meaning.proofs.KeptLemmas.{entry_laws}
+use Rattle.apollo_meaning.proofs.FoundLemmas.{schema_faults_with-joining}
+
+abbrev names : List Entry → List NameView
+names = map (λ e. e.0)
+
+pub same_name_laws : IsEquivalence same_name
+same_name_laws = entry_laws
+
+module _ (c : Collection) (ty : NameView) where
+  -- the fault of a component that has the name of a kept one
+  abbrev repeated : Entry → Entry → Fault
+  repeated k e = (e.1, collision c k.0 ty)
+
+  collision-said : (before : List Entry) (e : Entry) → collision_at c ty (names before) e ≡ option_map_or (λ k. repeated k e ∷ []) (find (same_name e) before) []
+  collision-said [] e = refl
+  collision-said (k ∷ before) e = by (same_text e.0 k.0) (collision-said before e)
+    where
+      by : (b : Bool) → collision_at c ty (names before) e ≡ option_map_or (λ k. repeated k e ∷ []) (find (same_name e) before) []
+          → option_map_or (λ kept. (e.1, collision c kept ty) ∷ []) (cond b (Some k.0) (find (same_text e.0) (names before))) []
+          ≡ option_map_or (λ k. repeated k e ∷ []) (cond b (Some k) (find (same_name e) before)) []
+      by true rest = refl
+      by false rest = rest
+
+  collisions-said : (before es : List Entry) → collisions c ty (names before) es ≡ said same_name repeated before es
+  collisions-said before [] = refl
+  collisions-said before (e ∷ es) =
+      let rest : collisions c ty (names before ++ e.0 ∷ []) es ≡ said same_name repeated (before ++ e ∷ []) es =
+      ap (λ l. collisions c ty l es) (sym (map-append (λ (e : Entry). e.0) before (e ∷ []))) ∙ collisions-said (before ++ e ∷ []) es in
+      λ i. collision-said before e i ++ rest i
+
+  pub collisions-dropped : (es : List Entry) → collisions c ty [] es ≡ map (dropped_component c ty (first_of_each same_name es)) (later_of_each same_name es)
+  collisions-dropped es = collisions-said [] es ∙ said-later same_name same_name_laws repeated es
+
+  pub collisions-joined : (es more : List Entry) → collisions c ty [] (es ++ more) ≡ collisions c ty [] es ++ collisions c ty (names es) more
+  collisions-joined es more =
+      collisions-said [] (es ++ more) ∙ said-append same_name repeated [] es more ∙ sym (λ i. collisions-said [] es i ++ collisions-said es more i)
+
+  -- each is kept or at fault
+  pub each-kept-or-fault : (es : List Entry) → length (first_of_each same_name es) + length (collisions c ty [] es) ≡ length es
+  each-kept-or-fault es =
+      ap (λ l. length (first_of_each same_name es) + length l) (collisions-dropped es)
+      ∙ ap (λ n. length (first_of_each same_name es) + n) (length-map (later_of_each same_name es) (dropped_component c ty (first_of_each same_name es)))
+      ∙ length-first_later same_name same_name_laws es
+
+operation_laws : IsEquivalence same_operation
+operation_laws = record { refl = same; symm = flip; congr = through }
+  where
+    same : (a : OperationType) → same_operation a a ≡ true
+    same Query = refl
+    same Mutation = refl
+    same Subscription = refl
+
+    flip : (a b : OperationType) → same_operation a b ≡ same_operation b a
+    flip Query Query = refl
+    flip Query Mutation = refl
+    flip Query Subscription = refl
+    flip Mutation Query = refl
+    flip Mutation Mutation = refl
+    flip Mutation Subscription = refl
+    flip Subscription Query = refl
+    flip Subscription Mutation = refl
+    flip Subscription Subscription = refl
+
+    through : (a b d : OperationType) → same_operation a b ≡ true → same_operation a d ≡ same_operation b d
+    through Query Query d e = refl
+    through Query Mutation d e = absurd (true≢false (sym e))
+    through Query Subscription d e = absurd (true≢false (sym e))
+    through Mutation Query d e = absurd (true≢false (sym e))
+    through Mutation Mutation d e = refl
+    through Mutation Subscription d e = absurd (true≢false (sym e))
+    through Subscription Query d e = absurd (true≢false (sym e))
+    through Subscription Mutation d e = absurd (true≢false (sym e))
+    through Subscription Subscription d e = refl
+
+pub same_root_laws : IsEquivalence same_root
+same_root_laws = on_equiv (λ r. r.value.0) operation_laws
+
+-- the fault of a root that has the operation of a kept one
+abbrev repeated_root : Root → Root → Fault
+repeated_root k r = (r.location, errors.DuplicateRootOperation k.value.1.location (operation_text r.value.0))
+
+roots-said : (before rs : List Root) → root_faults before rs ≡ said same_root repeated_root before rs
+roots-said before [] = refl
+roots-said before (r ∷ rs) = ap (λ l. root_fault before r ++ l) (roots-said (before ++ r ∷ []) rs)
+
+pub roots-dropped : (rs : List Root) → root_faults [] rs ≡ map (dropped_root (first_of_each same_root rs)) (later_of_each same_root rs)
+roots-dropped rs = roots-said [] rs ∙ said-later same_root same_root_laws repeated_root rs
+
+roots-append : (before rs more : List Root) → root_faults before (rs ++ more) ≡ root_faults before rs ++ root_faults (before ++ rs) more
+roots-append before rs more =
+    roots-said before (rs ++ more) ∙ said-append same_root repeated_root before rs more ∙ sym (λ i. roots-said before rs i ++ roots-said (before ++ rs) more i)
+
+pub roots-joined : (rs more : List Root) → root_faults [] (rs ++ more) ≡ root_faults [] rs ++ root_faults rs more
+roots-joined rs more = roots-append [] rs more
+
+-- extensions of the schema that join parts, one after another
+schemas-joined : (parts es : List SchemaPart) → schema_joining_faults parts es ≡ root_faults (roots_in parts) (roots_in es)
+schemas-joined parts [] = refl
+schemas-joined parts (e ∷ es) =
+    let more : roots_in (parts ++ e ∷ []) ≡ roots_in parts ++ e.roots = rw (flat_map-append, append-nil e.roots) refl in
+    ap (λ l. root_faults (roots_in parts) e.roots ++ l) (schemas-joined (parts ++ e ∷ []) es ∙ ap (λ l. root_faults l (roots_in es)) more)
+    ∙ sym (roots-append (roots_in parts) e.roots (roots_in es))
+
+-- and all those of a list, with its first definition of the schema
+pub found-roots : (xs : List ListItem) (s : Placed SchemaPart) → first_place schemas xs [] ≡ Some s
+    → found_of_schema xs s.1 ≡ root_faults [] (roots_in (s.1 ∷ schema_extensions xs))
+found-roots xs s is =
+    ap (λ l. schema_faults [] s.1 ++ l) (
+    ap (λ o. flat_map (λ e. option_map_or (λ f. schema_faults (f.1 ∷ schema_extensions (take e.0 xs)) e.1) o []) (extension_places schemas xs)) is
+    ∙ schema_faults_with-joining s.1 xs
+    ∙ schemas-joined (s.1 ∷ []) (schema_extensions xs)
+    ∙ ap (λ l. root_faults l (roots_in (schema_extensions xs))) (append-nil s.1.roots))
+    ∙ sym (roots-append [] s.1.roots (roots_in (schema_extensions xs)))
