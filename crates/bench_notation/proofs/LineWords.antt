@@ -1,5 +1,5 @@
 -- What follows from the first word of a line.
-use Rattle.std.proofs.Common.{ℕ, List, [], ◌∷◌, ◌≡◌, true, false, Result, Ok, Err, IfErr, ap, codes, get_or, nat_eq, refl, subst, sym, ◌∙◌}
+use Rattle.std.proofs.Common.{ℕ, List, [], ◌∷◌, ◌≡◌, true, false, Result, Ok, Err, IfErr, ap, codes, get_or, nat_eq, refl, subst, sym}
 use lib.Pointwise.{pointwise}
 use Rattle.std.specs.Cmp.Lexicographic.{other_text}
 use Rattle.std.specs.Result.{IsErrAnd}

@@ -12,6 +12,7 @@ use Rattle.graphql_nodes.specs.declared.type_kind.TypeKind.TheVariants as k
 use Rattle.graphql_ast.specs.declared.type_reference.Type.{«Type» as TypeReference, fold-Type}
 use Rattle.graphql_ast.specs.declared.type_reference.Type.TheOpen.{Type-F}
 use Rattle.graphql_ast.specs.declared.directive.Directive.{Directive}
+use Rattle.graphql_ast.specs.declared.type_system.DirectiveDefinition.{DirectiveDefinition}
 use Rattle.graphql_ast.specs.declared.type_system.EnumValueDefinition.{EnumValueDefinition}
 use Rattle.graphql_ast.specs.declared.type_system.FieldDefinition.{FieldDefinition}
 use Rattle.graphql_ast.specs.declared.type_system.InputValueDefinition.{InputValueDefinition}
@@ -19,6 +20,7 @@ use Rattle.graphql_ast.specs.declared.definition.Definition.{Definition}
 use Rattle.graphql_ast.specs.declared.definition.Definition.TheVariants as d
 use Rattle.bench_notation.specs.declared.kind_words.Role.{Role}
 use Rattle.bench_notation.specs.declared.kind_words.Role.TheVariants as r
+use Rattle.bench_notation.specs.declared.printing.Head.{Head}
 use Rattle.bench_notation.specs.HeaderWords.{role_word, schema_word, kind_word}
 
 -- the text at one level, where what is inside a list has given its own
@@ -86,6 +88,10 @@ values_text values = flat_map (λ (value : NodeView EnumValueDefinition). named_
 abbrev pub head_text : Role → TypeKind → NameView → List (NodeView Directive) → List ℕ
 head_text role kind name directives = role_word role ++ codes " " ++ named_line (kind_word kind ++ codes " ") name ++ directives_text (codes "@ ") directives
 
+-- the same of a head
+abbrev pub head_says : Head → List ℕ
+head_says head = head_text head.role head.kind head.name.now head.directives.now.0
+
 -- interfaces, then fields
 abbrev pub fields_text : List NameView → List (NodeView FieldDefinition) → List ℕ
 fields_text interfaces fields = names_text (codes "implements ") interfaces ++ flat_map field_text fields
@@ -111,11 +117,15 @@ roots_text roots = flat_map root_text roots
 abbrev pub schema_text : Role → List (NodeView Directive) → List (NodeView (OperationType × NameView)) → List ℕ
 schema_text role directives roots = schema_word role ++ codes "\n" ++ directives_text (codes "@ ") directives ++ roots_text roots
 
+-- a directive's definition: its header, then its arguments, then where it may be applied
+abbrev pub directive_text : DirectiveDefinition → List ℕ
+directive_text item = named_line (codes "directive ") item.name ++ arguments_text item.arguments ++ repeatable_text item.repeatable ++ locations_text item.locations
+
 -- a definition or extension: its header, then the lines below it; nothing for those that the notation does not have
 abbrev pub definition_text : Definition → List ℕ
 definition_text (d.OperationDefinition n) = []
 definition_text (d.FragmentDefinition n) = []
-definition_text (d.DirectiveDefinition n) = named_line (codes "directive ") n.value.name ++ arguments_text n.value.arguments ++ repeatable_text n.value.repeatable ++ locations_text n.value.locations
+definition_text (d.DirectiveDefinition n) = directive_text n.value
 definition_text (d.SchemaDefinition n) = schema_text r.Definition n.value.directives.0 n.value.root_operations
 definition_text (d.ScalarTypeDefinition n) = head_text r.Definition k.Scalar n.value.name n.value.directives.0
 definition_text (d.ObjectTypeDefinition n) = head_text r.Definition k.Object n.value.name n.value.directives.0 ++ fields_text n.value.implements_interfaces n.value.fields

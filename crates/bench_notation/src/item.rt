@@ -1,6 +1,6 @@
 //! What has been read of the definition or extension that is being read.
-ghost use Rattle.std.specs.Prelude.{◌≡◌, IfOk, OnOk, None};
-ghost use Rattle.bench_notation.specs.Components.{applied_directive, definition_with, enum_value, input_value, root_operation};
+ghost use Rattle.std.specs.Prelude.{◌≡◌, IfOk, OnOk, Some};
+ghost use Rattle.bench_notation.specs.Components.{applied_directive, definition_with, enum_value, input_value, is_input_object, root_operation};
 
 use crate::above::Above;
 use crate::kind_words::Role;
@@ -33,7 +33,7 @@ struct OpenField {
 }
 
 impl OpenField {
-    ghost use Rattle.bench_notation.specs.Components.{field_alone, field_node, input_field_node};
+    ghost use Rattle.bench_notation.specs.Components.{field_alone, field_node, input_field_node, with_field};
 
     fn new(alloc: Global, name: Name, ty: Type, place: SourceSpan) -> OpenField
         ensures { result ≡ field_alone name ty place }
@@ -81,6 +81,17 @@ impl OpenField {
         } = self;
         input_value(alloc, name, ty, directives, place)
     }
+
+    /// Adds the field to those of an input object type, or of another.
+    fn close_into(self, alloc: Global, is_input: bool, parts: &mut Parts) -> Result<(), AllocError>
+        ensures { OnOk result (parts.new ≡ with_field is_input self parts.old) }
+    {
+        if is_input {
+            parts.inputs.push(self.close_as_input(alloc)?)
+        } else {
+            parts.fields.push(self.close(alloc)?)
+        }
+    }
 }
 
 /// A definition or extension whose components may still come.
@@ -94,7 +105,7 @@ pub struct OpenItem {
 }
 
 impl OpenItem {
-    ghost use Rattle.bench_notation.specs.Components.{header_alone, above_below, with_component, with_field_directive, with_argument, field_closed, is_input_object, whole_item};
+    ghost use Rattle.bench_notation.specs.Components.{header_alone, above_below, with_component, with_field_directive, with_argument, field_closed, whole_item};
 
     /// The item of a header, without components.
     pub fn new(alloc: Global, header: Header, place: SourceSpan) -> OpenItem
@@ -136,7 +147,7 @@ impl OpenItem {
             }
             Component::Implements(name) | Component::Member(name) => self.parts.names.push(name),
             Component::Field(name, ty) => {
-                self.close_field(alloc, Some(OpenField::new(alloc, name, ty, place)))
+                self.open_field(alloc, OpenField::new(alloc, name, ty, place))
             }
             Component::FieldDirective(name) => {
                 let directive = applied_directive(alloc, name, place)?;
@@ -182,36 +193,38 @@ impl OpenItem {
         }
     }
 
-    /// Closes the last field, after which the next is open, if there is one.
-    fn close_field(&mut self, alloc: Global, next: Option<OpenField>) -> Result<(), AllocError>
-        ensures { OnOk result (self.new ≡ record (field_closed self.old) { last_field = next }) }
+    /// Closes the last field, if there is one, after which the next is open.
+    fn open_field(&mut self, alloc: Global, next: OpenField) -> Result<(), AllocError>
+        ensures { OnOk result (self.new ≡ record (field_closed self.old) { last_field = Some next }) }
     {
-        let is_input = self.is_input_object();
-        match mem::replace(&mut self.last_field, next) {
-            Some(field) => {
-                if is_input {
-                    self.parts.inputs.push(field.close_as_input(alloc)?)
-                } else {
-                    self.parts.fields.push(field.close(alloc)?)
-                }
-            }
+        let is_input = is_input_object(&self.header);
+        match mem::replace(&mut self.last_field, Some(next)) {
+            Some(field) => field.close_into(alloc, is_input, &mut self.parts),
             None => Ok(()),
         }
     }
 
-    fn is_input_object(&self) -> bool
-        ensures { result ≡ is_input_object self.now.header }
-    {
-        matches!(&self.header, Header::Type(_, TypeKind::InputObject, _))
-    }
-
     /// The definition or extension.
-    pub fn close(mut self, alloc: Global) -> Result<Definition, AllocError>
+    pub fn close(self, alloc: Global) -> Result<Definition, AllocError>
         ensures { IfOk result (λ definition. definition ≡ whole_item self) }
     {
-        self.close_field(alloc, None)?;
-        definition_with(alloc, self.header, &mut self.parts, self.place)
+        let OpenItem {
+            place,
+            header,
+            mut parts,
+            last_field,
+        } = self;
+        if let Some(field) = last_field {
+            field.close_into(alloc, is_input_object(&header), &mut parts)?;
+        }
+        definition_with(alloc, header, &mut parts, place)
     }
+}
+
+fn is_input_object(header: &Header) -> bool
+    ensures { result ≡ is_input_object header.now }
+{
+    matches!(header, Header::Type(_, TypeKind::InputObject, _))
 }
 
 /// The definition or extension of this header with these components.

@@ -1,15 +1,17 @@
 //! Definitions as text.
-ghost use Rattle.std.specs.Prelude.{◌≡◌, ◌++◌, OnOk, IfOk, string_bytes};
+ghost use Rattle.std.specs.Prelude.{◌≡◌, ◌++◌, OnOk, IfOk, codes, string_bytes};
 ghost use Rattle.std.specs.List.{flat_map};
-ghost use Rattle.bench_notation.specs.Text.{word_line, named_line, typed_line, directives_text, names_text, arguments_text, field_line_text, field_text, input_field_text, values_text, head_text, fields_text, repeatable_text, locations_text, root_text, roots_text, schema_text, definition_text, definitions_text};
+ghost use Rattle.bench_notation.specs.Text.{word_line, named_line, typed_line, directives_text, names_text, arguments_text, field_line_text, field_text, input_field_text, values_text, head_says, fields_text, directive_text, root_text, schema_text, definition_text, definitions_text};
 
 use crate::kind_words::{Role, kind_word};
 use crate::type_notation::push_type;
 use graphql_ast::definition::Definition;
-use graphql_ast::directive::Directive;
+use graphql_ast::directive::{Directive, DirectiveList};
 use graphql_ast::type_reference::Type;
-use graphql_ast::type_system::{EnumValueDefinition, FieldDefinition, InputValueDefinition};
-use graphql_nodes::directive_location::DirectiveLocation;
+use graphql_ast::type_system::{
+    DirectiveDefinition, EnumValueDefinition, FieldDefinition, InputValueDefinition,
+};
+use graphql_nodes::collections::items::Items;
 use graphql_nodes::name::{Name, NamedType};
 use graphql_nodes::node::Node;
 use graphql_nodes::operation_type::OperationType;
@@ -31,205 +33,194 @@ fn push_definition(text: &mut String, definition: &Definition) -> Result<(), All
     ensures { OnOk result (string_bytes text.new ≡ string_bytes text.old ++ definition_text definition.now) }
 {
     match definition {
-        Definition::DirectiveDefinition(item) => {
-            push_named_line(text, "directive ", &item.name)?;
-            push_arguments(text, item.arguments.as_slice())?;
-            push_repeatable(text, item.repeatable)?;
-            push_locations(text, item.locations.as_slice())
-        }
+        Definition::DirectiveDefinition(item) => push_directive_definition(text, item),
         Definition::ScalarTypeDefinition(item) => {
-            push_head(
-                text,
-                Role::Definition,
-                TypeKind::Scalar,
-                &item.name,
-                item.directives.as_slice(),
-            )
+            let head = Head::definition(TypeKind::Scalar, &item.name, &item.directives);
+            push_head(text, head)
         }
         Definition::ObjectTypeDefinition(item) => {
-            push_head(
-                text,
-                Role::Definition,
-                TypeKind::Object,
-                &item.name,
-                item.directives.as_slice(),
-            )?;
-            push_fields(
-                text,
-                item.implements_interfaces.as_slice(),
-                item.fields.as_slice(),
-            )
+            let head = Head::definition(TypeKind::Object, &item.name, &item.directives);
+            push_with_fields(text, head, &item.implements_interfaces, &item.fields)
         }
         Definition::InterfaceTypeDefinition(item) => {
-            push_head(
-                text,
-                Role::Definition,
-                TypeKind::Interface,
-                &item.name,
-                item.directives.as_slice(),
-            )?;
-            push_fields(
-                text,
-                item.implements_interfaces.as_slice(),
-                item.fields.as_slice(),
-            )
+            let head = Head::definition(TypeKind::Interface, &item.name, &item.directives);
+            push_with_fields(text, head, &item.implements_interfaces, &item.fields)
         }
         Definition::UnionTypeDefinition(item) => {
-            push_head(
-                text,
-                Role::Definition,
-                TypeKind::Union,
-                &item.name,
-                item.directives.as_slice(),
-            )?;
-            push_names(text, "member ", item.members.as_slice())
+            let head = Head::definition(TypeKind::Union, &item.name, &item.directives);
+            push_union(text, head, &item.members)
         }
         Definition::EnumTypeDefinition(item) => {
-            push_head(
-                text,
-                Role::Definition,
-                TypeKind::Enum,
-                &item.name,
-                item.directives.as_slice(),
-            )?;
-            push_values(text, item.values.as_slice())
+            let head = Head::definition(TypeKind::Enum, &item.name, &item.directives);
+            push_enum(text, head, &item.values)
         }
         Definition::InputObjectTypeDefinition(item) => {
-            push_head(
-                text,
-                Role::Definition,
-                TypeKind::InputObject,
-                &item.name,
-                item.directives.as_slice(),
-            )?;
-            push_input_fields(text, item.fields.as_slice())
+            let head = Head::definition(TypeKind::InputObject, &item.name, &item.directives);
+            push_input_object(text, head, &item.fields)
         }
         Definition::ScalarTypeExtension(item) => {
-            push_head(
-                text,
-                Role::Extension,
-                TypeKind::Scalar,
-                &item.name,
-                item.directives.as_slice(),
-            )
+            let head = Head::extension(TypeKind::Scalar, &item.name, &item.directives);
+            push_head(text, head)
         }
         Definition::ObjectTypeExtension(item) => {
-            push_head(
-                text,
-                Role::Extension,
-                TypeKind::Object,
-                &item.name,
-                item.directives.as_slice(),
-            )?;
-            push_fields(
-                text,
-                item.implements_interfaces.as_slice(),
-                item.fields.as_slice(),
-            )
+            let head = Head::extension(TypeKind::Object, &item.name, &item.directives);
+            push_with_fields(text, head, &item.implements_interfaces, &item.fields)
         }
         Definition::InterfaceTypeExtension(item) => {
-            push_head(
-                text,
-                Role::Extension,
-                TypeKind::Interface,
-                &item.name,
-                item.directives.as_slice(),
-            )?;
-            push_fields(
-                text,
-                item.implements_interfaces.as_slice(),
-                item.fields.as_slice(),
-            )
+            let head = Head::extension(TypeKind::Interface, &item.name, &item.directives);
+            push_with_fields(text, head, &item.implements_interfaces, &item.fields)
         }
         Definition::UnionTypeExtension(item) => {
-            push_head(
-                text,
-                Role::Extension,
-                TypeKind::Union,
-                &item.name,
-                item.directives.as_slice(),
-            )?;
-            push_names(text, "member ", item.members.as_slice())
+            let head = Head::extension(TypeKind::Union, &item.name, &item.directives);
+            push_union(text, head, &item.members)
         }
         Definition::EnumTypeExtension(item) => {
-            push_head(
-                text,
-                Role::Extension,
-                TypeKind::Enum,
-                &item.name,
-                item.directives.as_slice(),
-            )?;
-            push_values(text, item.values.as_slice())
+            let head = Head::extension(TypeKind::Enum, &item.name, &item.directives);
+            push_enum(text, head, &item.values)
         }
         Definition::InputObjectTypeExtension(item) => {
-            push_head(
-                text,
-                Role::Extension,
-                TypeKind::InputObject,
-                &item.name,
-                item.directives.as_slice(),
-            )?;
-            push_input_fields(text, item.fields.as_slice())
+            let head = Head::extension(TypeKind::InputObject, &item.name, &item.directives);
+            push_input_object(text, head, &item.fields)
         }
         Definition::SchemaDefinition(item) => {
-            push_schema(
-                text,
-                Role::Definition,
-                item.directives.as_slice(),
-                item.root_operations.as_slice(),
-            )
+            let roots = &item.root_operations;
+            push_schema(text, Role::Definition, &item.directives, roots)
         }
         Definition::SchemaExtension(item) => {
-            push_schema(
-                text,
-                Role::Extension,
-                item.directives.as_slice(),
-                item.root_operations.as_slice(),
-            )
+            let roots = &item.root_operations;
+            push_schema(text, Role::Extension, &item.directives, roots)
         }
         Definition::OperationDefinition(_) | Definition::FragmentDefinition(_) => Ok(()),
     }
 }
 
-/// The header of a type, and the directives of the type.
-fn push_head(
-    text: &mut String,
+/// What the header of a type says, and the directives of the type.
+#[derive(Drop)]
+struct Head<'a> {
     role: Role,
     kind: TypeKind,
-    name: &Name,
-    directives: &[Node<Directive>],
-) -> Result<(), AllocError>
-    ensures { OnOk result (string_bytes text.new ≡ string_bytes text.old ++ head_text role kind name.now directives.now) }
+    name: &'a Name,
+    directives: &'a DirectiveList,
+}
+
+impl<'a> Head<'a> {
+    ghost use Rattle.bench_notation.specs.declared.kind_words.Role.{Role};
+
+    fn definition(kind: TypeKind, name: &'a Name, directives: &'a DirectiveList) -> Head<'a>
+        ensures { result ≡ record { role = Role.Definition; kind = kind; name = name.entry; directives = directives.entry } }
+    {
+        Head {
+            role: Role::Definition,
+            kind,
+            name,
+            directives,
+        }
+    }
+
+    fn extension(kind: TypeKind, name: &'a Name, directives: &'a DirectiveList) -> Head<'a>
+        ensures { result ≡ record { role = Role.Extension; kind = kind; name = name.entry; directives = directives.entry } }
+    {
+        Head {
+            role: Role::Extension,
+            kind,
+            name,
+            directives,
+        }
+    }
+}
+
+fn push_head(text: &mut String, head: Head) -> Result<(), AllocError>
+    ensures { OnOk result (string_bytes text.new ≡ string_bytes text.old ++ head_says head.entry) }
 {
-    text.push_str(role.word())?;
+    text.push_str(head.role.word())?;
     text.push_str(" ")?;
-    text.push_str(kind_word(kind))?;
-    push_named_line(text, " ", name)?;
-    push_directives(text, "@ ", directives)
+    text.push_str(kind_word(head.kind))?;
+    push_named_line(text, " ", head.name)?;
+    push_directives(text, "@ ", head.directives.as_slice())
+}
+
+/// An object or interface type.
+fn push_with_fields(
+    text: &mut String,
+    head: Head,
+    interfaces: &Items<Name>,
+    fields: &Items<Node<FieldDefinition>>,
+) -> Result<(), AllocError>
+    ensures { OnOk result (string_bytes text.new ≡ string_bytes text.old ++ head_says head.entry ++ fields_text interfaces.now fields.now) }
+{
+    push_head(text, head)?;
+    push_names(text, "implements ", interfaces.as_slice())?;
+    for field in fields.as_slice() {
+        push_field(text, field)?;
+    }
+    Ok(())
+}
+
+fn push_union(text: &mut String, head: Head, members: &Items<Name>) -> Result<(), AllocError>
+    ensures { OnOk result (string_bytes text.new ≡ string_bytes text.old ++ head_says head.entry ++ names_text (codes "member ") members.now) }
+{
+    push_head(text, head)?;
+    push_names(text, "member ", members.as_slice())
+}
+
+fn push_enum(
+    text: &mut String,
+    head: Head,
+    values: &Items<Node<EnumValueDefinition>>,
+) -> Result<(), AllocError>
+    ensures { OnOk result (string_bytes text.new ≡ string_bytes text.old ++ head_says head.entry ++ values_text values.now) }
+{
+    push_head(text, head)?;
+    for value in values.as_slice() {
+        push_named_line(text, "value ", &value.value)?;
+    }
+    Ok(())
+}
+
+fn push_input_object(
+    text: &mut String,
+    head: Head,
+    fields: &Items<Node<InputValueDefinition>>,
+) -> Result<(), AllocError>
+    ensures { OnOk result (string_bytes text.new ≡ string_bytes text.old ++ head_says head.entry ++ flat_map input_field_text fields.now) }
+{
+    push_head(text, head)?;
+    for field in fields.as_slice() {
+        push_field_line(text, &field.name, &field.ty, field.directives.as_slice())?;
+    }
+    Ok(())
+}
+
+fn push_directive_definition(
+    text: &mut String,
+    item: &DirectiveDefinition,
+) -> Result<(), AllocError>
+    ensures { OnOk result (string_bytes text.new ≡ string_bytes text.old ++ directive_text item.now) }
+{
+    push_named_line(text, "directive ", &item.name)?;
+    push_arguments(text, item.arguments.as_slice())?;
+    if item.repeatable {
+        text.push_str("repeatable\n")?;
+    }
+    for location in item.locations.as_slice() {
+        push_line(text, "on ", location.name())?;
+    }
+    Ok(())
 }
 
 /// The header of the schema, its directives and its roots.
 fn push_schema(
     text: &mut String,
     role: Role,
-    directives: &[Node<Directive>],
-    roots: &[Node<(OperationType, NamedType)>],
+    directives: &DirectiveList,
+    roots: &Items<Node<(OperationType, NamedType)>>,
 ) -> Result<(), AllocError>
-    ensures { OnOk result (string_bytes text.new ≡ string_bytes text.old ++ schema_text role directives.now roots.now) }
+    ensures { OnOk result (string_bytes text.new ≡ string_bytes text.old ++ schema_text role directives.now.0 roots.now) }
 {
     text.push_str(role.schema_word())?;
     text.push_str("\n")?;
-    push_directives(text, "@ ", directives)?;
-    push_roots(text, roots)
-}
-
-fn push_roots(
-    text: &mut String,
-    roots: &[Node<(OperationType, NamedType)>],
-) -> Result<(), AllocError>
-    ensures { OnOk result (string_bytes text.new ≡ string_bytes text.old ++ roots_text roots.now) }
-{
-    for root in roots {
+    push_directives(text, "@ ", directives.as_slice())?;
+    for root in roots.as_slice() {
         push_root(text, root)?;
     }
     Ok(())
@@ -266,37 +257,11 @@ fn push_names(text: &mut String, word: &str, names: &[Name]) -> Result<(), Alloc
     Ok(())
 }
 
-fn push_fields(
-    text: &mut String,
-    interfaces: &[Name],
-    fields: &[Node<FieldDefinition>],
-) -> Result<(), AllocError>
-    ensures { OnOk result (string_bytes text.new ≡ string_bytes text.old ++ fields_text interfaces.now fields.now) }
-{
-    push_names(text, "implements ", interfaces)?;
-    for field in fields {
-        push_field(text, field)?;
-    }
-    Ok(())
-}
-
 fn push_field(text: &mut String, field: &Node<FieldDefinition>) -> Result<(), AllocError>
     ensures { OnOk result (string_bytes text.new ≡ string_bytes text.old ++ field_text field.now) }
 {
     push_field_line(text, &field.name, &field.ty, field.directives.as_slice())?;
     push_arguments(text, field.arguments.as_slice())
-}
-
-fn push_input_fields(
-    text: &mut String,
-    fields: &[Node<InputValueDefinition>],
-) -> Result<(), AllocError>
-    ensures { OnOk result (string_bytes text.new ≡ string_bytes text.old ++ flat_map input_field_text fields.now) }
-{
-    for field in fields {
-        push_field_line(text, &field.name, &field.ty, field.directives.as_slice())?;
-    }
-    Ok(())
 }
 
 /// A field, and its directives.
@@ -310,34 +275,6 @@ fn push_field_line(
 {
     push_typed_line(text, "field ", name, ty)?;
     push_directives(text, "field@ ", directives)
-}
-
-fn push_values(text: &mut String, values: &[Node<EnumValueDefinition>]) -> Result<(), AllocError>
-    ensures { OnOk result (string_bytes text.new ≡ string_bytes text.old ++ values_text values.now) }
-{
-    for value in values {
-        push_named_line(text, "value ", &value.value)?;
-    }
-    Ok(())
-}
-
-fn push_repeatable(text: &mut String, is_repeatable: bool) -> Result<(), AllocError>
-    ensures { OnOk result (string_bytes text.new ≡ string_bytes text.old ++ repeatable_text is_repeatable) }
-{
-    if is_repeatable {
-        text.push_str("repeatable\n")
-    } else {
-        Ok(())
-    }
-}
-
-fn push_locations(text: &mut String, locations: &[DirectiveLocation]) -> Result<(), AllocError>
-    ensures { OnOk result (string_bytes text.new ≡ string_bytes text.old ++ locations_text locations.now) }
-{
-    for location in locations {
-        push_line(text, "on ", location.name())?;
-    }
-    Ok(())
 }
 
 fn push_arguments(

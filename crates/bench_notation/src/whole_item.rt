@@ -1,6 +1,6 @@
 //! Definitions and extensions made of their components.
 ghost use Rattle.std.specs.Prelude.{◌≡◌, [], IfOk};
-ghost use Rattle.bench_notation.specs.WholeItems.{type_definition, type_extension, directive_definition, schema_definition, schema_extension};
+ghost use Rattle.bench_notation.specs.WholeItems.{node_at, type_definition, type_extension, directive_definition, schema_definition, schema_extension};
 
 use graphql_ast::definition::Definition;
 use graphql_ast::directive::DirectiveList;
@@ -77,6 +77,13 @@ fn taken<T>(items: &mut Items<T>, alloc: Global) -> Items<T>
     mem::replace(items, Items::new(alloc))
 }
 
+/// A node at this place.
+fn placed<T: Drop>(alloc: Global, value: T, place: SourceSpan) -> Result<Node<T>, AllocError>
+    ensures { IfOk result (λ node. node ≡ node_at place value) }
+{
+    Node::new_opt_location(alloc, value, Some(place))
+}
+
 /// The definition of a type of this kind.
 pub fn type_definition(
     alloc: Global,
@@ -87,67 +94,62 @@ pub fn type_definition(
 ) -> Result<Definition, AllocError>
     ensures { IfOk result (λ definition. definition ≡ type_definition kind name parts.old place) }
 {
+    let directives = parts.take_directives(alloc);
     match kind {
         TypeKind::Scalar => {
             let value = ScalarTypeDefinition {
                 description: None,
                 name,
-                directives: parts.take_directives(alloc),
+                directives,
             };
-            let node = Node::new_opt_location(alloc, value, Some(place))?;
-            Ok(Definition::ScalarTypeDefinition(node))
+            Ok(Definition::ScalarTypeDefinition(placed(alloc, value, place)?))
         }
         TypeKind::Object => {
             let value = ObjectTypeDefinition {
                 description: None,
                 name,
                 implements_interfaces: taken(&mut parts.names, alloc),
-                directives: parts.take_directives(alloc),
+                directives,
                 fields: taken(&mut parts.fields, alloc),
             };
-            let node = Node::new_opt_location(alloc, value, Some(place))?;
-            Ok(Definition::ObjectTypeDefinition(node))
+            Ok(Definition::ObjectTypeDefinition(placed(alloc, value, place)?))
         }
         TypeKind::Interface => {
             let value = InterfaceTypeDefinition {
                 description: None,
                 name,
                 implements_interfaces: taken(&mut parts.names, alloc),
-                directives: parts.take_directives(alloc),
+                directives,
                 fields: taken(&mut parts.fields, alloc),
             };
-            let node = Node::new_opt_location(alloc, value, Some(place))?;
-            Ok(Definition::InterfaceTypeDefinition(node))
+            Ok(Definition::InterfaceTypeDefinition(placed(alloc, value, place)?))
         }
         TypeKind::Union => {
             let value = UnionTypeDefinition {
                 description: None,
                 name,
-                directives: parts.take_directives(alloc),
+                directives,
                 members: taken(&mut parts.names, alloc),
             };
-            let node = Node::new_opt_location(alloc, value, Some(place))?;
-            Ok(Definition::UnionTypeDefinition(node))
+            Ok(Definition::UnionTypeDefinition(placed(alloc, value, place)?))
         }
         TypeKind::Enum => {
             let value = EnumTypeDefinition {
                 description: None,
                 name,
-                directives: parts.take_directives(alloc),
+                directives,
                 values: taken(&mut parts.values, alloc),
             };
-            let node = Node::new_opt_location(alloc, value, Some(place))?;
-            Ok(Definition::EnumTypeDefinition(node))
+            Ok(Definition::EnumTypeDefinition(placed(alloc, value, place)?))
         }
         TypeKind::InputObject => {
             let value = InputObjectTypeDefinition {
                 description: None,
                 name,
-                directives: parts.take_directives(alloc),
+                directives,
                 fields: taken(&mut parts.inputs, alloc),
             };
-            let node = Node::new_opt_location(alloc, value, Some(place))?;
-            Ok(Definition::InputObjectTypeDefinition(node))
+            Ok(Definition::InputObjectTypeDefinition(placed(alloc, value, place)?))
         }
     }
 }
@@ -162,61 +164,53 @@ pub fn type_extension(
 ) -> Result<Definition, AllocError>
     ensures { IfOk result (λ definition. definition ≡ type_extension kind name parts.old place) }
 {
+    let directives = parts.take_directives(alloc);
     match kind {
         TypeKind::Scalar => {
-            let value = ScalarTypeExtension {
-                name,
-                directives: parts.take_directives(alloc),
-            };
-            let node = Node::new_opt_location(alloc, value, Some(place))?;
-            Ok(Definition::ScalarTypeExtension(node))
+            let value = ScalarTypeExtension { name, directives };
+            Ok(Definition::ScalarTypeExtension(placed(alloc, value, place)?))
         }
         TypeKind::Object => {
             let value = ObjectTypeExtension {
                 name,
                 implements_interfaces: taken(&mut parts.names, alloc),
-                directives: parts.take_directives(alloc),
+                directives,
                 fields: taken(&mut parts.fields, alloc),
             };
-            let node = Node::new_opt_location(alloc, value, Some(place))?;
-            Ok(Definition::ObjectTypeExtension(node))
+            Ok(Definition::ObjectTypeExtension(placed(alloc, value, place)?))
         }
         TypeKind::Interface => {
             let value = InterfaceTypeExtension {
                 name,
                 implements_interfaces: taken(&mut parts.names, alloc),
-                directives: parts.take_directives(alloc),
+                directives,
                 fields: taken(&mut parts.fields, alloc),
             };
-            let node = Node::new_opt_location(alloc, value, Some(place))?;
-            Ok(Definition::InterfaceTypeExtension(node))
+            Ok(Definition::InterfaceTypeExtension(placed(alloc, value, place)?))
         }
         TypeKind::Union => {
             let value = UnionTypeExtension {
                 name,
-                directives: parts.take_directives(alloc),
+                directives,
                 members: taken(&mut parts.names, alloc),
             };
-            let node = Node::new_opt_location(alloc, value, Some(place))?;
-            Ok(Definition::UnionTypeExtension(node))
+            Ok(Definition::UnionTypeExtension(placed(alloc, value, place)?))
         }
         TypeKind::Enum => {
             let value = EnumTypeExtension {
                 name,
-                directives: parts.take_directives(alloc),
+                directives,
                 values: taken(&mut parts.values, alloc),
             };
-            let node = Node::new_opt_location(alloc, value, Some(place))?;
-            Ok(Definition::EnumTypeExtension(node))
+            Ok(Definition::EnumTypeExtension(placed(alloc, value, place)?))
         }
         TypeKind::InputObject => {
             let value = InputObjectTypeExtension {
                 name,
-                directives: parts.take_directives(alloc),
+                directives,
                 fields: taken(&mut parts.inputs, alloc),
             };
-            let node = Node::new_opt_location(alloc, value, Some(place))?;
-            Ok(Definition::InputObjectTypeExtension(node))
+            Ok(Definition::InputObjectTypeExtension(placed(alloc, value, place)?))
         }
     }
 }
@@ -237,8 +231,7 @@ pub fn directive_definition(
         repeatable: parts.is_repeatable,
         locations: taken(&mut parts.locations, alloc),
     };
-    let node = Node::new_opt_location(alloc, value, Some(place))?;
-    Ok(Definition::DirectiveDefinition(node))
+    Ok(Definition::DirectiveDefinition(placed(alloc, value, place)?))
 }
 
 /// The definition of the schema.
@@ -254,8 +247,7 @@ pub fn schema_definition(
         directives: parts.take_directives(alloc),
         root_operations: taken(&mut parts.roots, alloc),
     };
-    let node = Node::new_opt_location(alloc, value, Some(place))?;
-    Ok(Definition::SchemaDefinition(node))
+    Ok(Definition::SchemaDefinition(placed(alloc, value, place)?))
 }
 
 /// An extension of the schema.
@@ -270,6 +262,5 @@ pub fn schema_extension(
         directives: parts.take_directives(alloc),
         root_operations: taken(&mut parts.roots, alloc),
     };
-    let node = Node::new_opt_location(alloc, value, Some(place))?;
-    Ok(Definition::SchemaExtension(node))
+    Ok(Definition::SchemaExtension(placed(alloc, value, place)?))
 }

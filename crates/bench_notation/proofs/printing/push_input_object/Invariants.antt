@@ -1,0 +1,8 @@
+-- What was added is the text of the fields so far.
+use Rattle.std.proofs.Common.{◌≡◌, ◌++◌, string_bytes, take}
+use Rattle.std.specs.List.{flat_map}
+use Rattle.bench_notation.specs.Text.{input_field_text}
+use Rattle.bench_notation.proofs.printing.push_input_object.Given as goal
+
+abbrev pub invariant-loop-field : goal.invariant-loop-field
+invariant-loop-field l = string_bytes l.text ≡ string_bytes l.initial.text ++ flat_map input_field_text (take l.field-index l.field-items)
