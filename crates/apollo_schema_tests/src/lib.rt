@@ -1,16 +1,20 @@
-//! Tests of schemas and their builder, of what the proofs don't show: that calls succeed with memory, and the texts of some
-//! faults.
+//! Tests of schemas and their builder and of the notation, of what the proofs don't show: that calls succeed with memory,
+//! and the texts of faults. Most compare a text that tells all that is looked at.
 #![tactic(auto)]
 
 #[cfg(test)]
-mod built_in;
+mod accounts;
+#[cfg(test)]
+mod building;
+#[cfg(test)]
+mod by_hand;
+#[cfg(test)]
+mod extensions;
 #[cfg(test)]
 mod faults;
 #[cfg(test)]
 mod no_documents;
 #[cfg(test)]
-mod orphan_names;
+mod reading;
 #[cfg(test)]
-mod schemas;
-#[cfg(test)]
-mod spent;
+mod roots;

@@ -1,43 +1,62 @@
-//! What is built of no documents.
+//! The built-in definitions, and what is built of no documents.
 
-use crate::schemas::{faultless, written};
+use crate::building::{is_built_of, push_whole};
+use apollo_built_in::definitions::built_in_definitions;
 use apollo_schema::schema::Schema;
-use apollo_schema::schema_builder::SchemaBuilder;
-use graphql_nodes::name::Name;
+use graphql_ast::definition::Definition;
 use std::alloc::{AllocError, Global};
 use std::test::Fail;
 
-/// The schema of no documents.
-fn fresh(alloc: Global) -> Result<Schema, AllocError> {
-    Schema::new(alloc)
+/// The names of definitions.
+fn names(alloc: Global, definitions: &[Definition]) -> Result<String, AllocError> {
+    let mut names = String::new(alloc);
+    for definition in definitions {
+        let name = definition.name().map_or("none", |name| name.as_str());
+        write!(&mut names, "{name} ")?;
+    }
+    Ok(names)
 }
 
-/// A builder that was given no document.
-fn builder(alloc: Global) -> Result<SchemaBuilder, AllocError> {
-    Schema::builder(alloc)
+/// The names of the built-in definitions.
+fn built_in_names(alloc: Global) -> Result<String, AllocError> {
+    let definitions = built_in_definitions(alloc)?;
+    names(alloc, definitions.as_slice())
 }
 
-/// Whether the schema has a type of this name.
-fn has_type(alloc: Global, schema: &Schema, text: &str) -> Result<bool, AllocError> {
-    let name = Name::new_unchecked(alloc, text)?;
-    Ok(schema.types.get(&name).is_some())
+#[test]
+fn the_table_has_these_names(rt: HostRuntime) -> Result<(), Fail> {
+    let names = built_in_names(rt.alloc())?;
+    assert_eq!(rt;
+        names.as_str(),
+        "Int Float String Boolean ID skip include deprecated specifiedBy __Schema __Type __TypeKind __Field __InputValue __EnumValue __Directive __DirectiveLocation "
+    );
+    Ok(())
+}
+
+/// The names of the types of a schema, all else that is said of it, and whether it is built of no documents.
+fn told(alloc: Global, schema: &Schema) -> Result<String, AllocError> {
+    let mut text = String::new(alloc);
+    for name in schema.types.keys() {
+        write!(&mut text, "{name} ")?;
+    }
+    push_whole(alloc, &mut text, schema)?;
+    let is_built = is_built_of(alloc, schema, &[])?;
+    write!(&mut text, "built of no documents: {is_built}\n")?;
+    Ok(text)
+}
+
+/// The same of a new schema.
+fn told_of_new(alloc: Global) -> Result<String, AllocError> {
+    let schema = Schema::new(alloc)?;
+    told(alloc, &schema)
 }
 
 #[test]
 fn a_new_schema_has_the_built_in_types_alone(rt: HostRuntime) -> Result<(), Fail> {
-    let alloc = rt.alloc();
-    let schema = fresh(alloc)?;
-    assert!(rt; has_type(alloc, &schema, "String")?);
-    assert!(rt; !has_type(alloc, &schema, "Query")?);
-    assert_eq!(rt; written(alloc, &schema)?.len(), 0);
-    Ok(())
-}
-
-#[test]
-fn a_new_builder_builds_a_new_schema(rt: HostRuntime) -> Result<(), Fail> {
-    let alloc = rt.alloc();
-    let schema = fresh(alloc)?;
-    let built = faultless(builder(alloc)?)?;
-    assert!(rt; built == schema);
+    let text = told_of_new(rt.alloc())?;
+    assert_eq!(rt;
+        text.as_str(),
+        "Int Float String Boolean ID __Schema __Type __TypeKind __Field __InputValue __EnumValue __Directive __DirectiveLocation rebuilt equal: true\ncopied equal: true, true, true\nbuilt of no documents: true\n"
+    );
     Ok(())
 }

@@ -6,25 +6,18 @@ use gqltool_run::status::Status;
 use std::test::Fail;
 
 #[test]
-fn spent_identities(rt: HostRuntime) -> Result<(), Fail> {
-    let alloc = rt.alloc();
-    let failure = Failure::ExtensionIds;
-    let said = format!(in alloc; "{failure}")?;
-    assert_eq!(rt; said.as_str(), "extension identities spent");
-    assert_eq!(rt; failure.status(), Status::Exhausted);
-    Ok(())
-}
-
-#[test]
-fn texts_of_refused_readings(rt: HostRuntime) -> Result<(), Fail> {
-    let alloc = rt.alloc();
-    let refused = RefusedLine {
+fn spent_identities_and_refused_readings(rt: HostRuntime) -> Result<(), Fail> {
+    let spent = Failure::ExtensionIds;
+    let refused = ReadError::Refused(RefusedLine {
         number: 3,
         reason: Reason::BadWord,
-    };
-    let said = format!(in alloc; "{}", ReadError::Refused(refused))?;
-    assert_eq!(rt; said.as_str(), "line 3: bad word");
-    let said = format!(in alloc; "{}", ReadError::Memory)?;
-    assert_eq!(rt; said.as_str(), "out of memory");
+    });
+    let memory = ReadError::Memory;
+    let said = format!(in rt.alloc(); "{spent}, {refused}, {memory}")?;
+    assert_eq!(rt;
+        said.as_str(),
+        "extension identities spent, line 3: bad word, out of memory"
+    );
+    assert_eq!(rt; spent.status(), Status::Exhausted);
     Ok(())
 }

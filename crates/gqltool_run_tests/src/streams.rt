@@ -4,7 +4,7 @@ use gqltool_run::running::run;
 use gqltool_run::status::Status;
 use std::alloc::Global;
 use std::io::{self, Error, ErrorKind, Read, Write};
-use std::test::Fail;
+use std::process::Abort;
 
 /// A reader that gives its bytes and then fails.
 #[derive(Drop)]
@@ -27,17 +27,6 @@ impl<'a> Read for FailingReader<'a> {
 struct FailingWriter {
     room: usize,
     fails_at_flush: bool,
-    taken: Vec<u8>,
-}
-
-impl FailingWriter {
-    fn new(alloc: Global, room: usize, fails_at_flush: bool) -> FailingWriter {
-        FailingWriter {
-            room,
-            fails_at_flush,
-            taken: Vec::new(alloc),
-        }
-    }
 }
 
 impl Write for FailingWriter {
@@ -46,7 +35,6 @@ impl Write for FailingWriter {
         if n == 0 {
             return Err(Error::from(ErrorKind::BrokenPipe));
         }
-        self.taken.extend_from_slice(&buf[..n])?;
         self.room -= n;
         Ok(n)
     }
@@ -59,10 +47,25 @@ impl Write for FailingWriter {
     }
 }
 
+/// Expects a run to write nothing, to end so and to say this.
+fn expect_refusal<R: Read>(
+    rt: &(impl Abort + AllocGlobal),
+    words: &[&str],
+    reader: &mut R,
+    status: Status,
+    errors: &str,
+) {
+    let mut written = Vec::new(rt.alloc());
+    let mut said = Vec::new(rt.alloc());
+    let ended = run(rt.alloc(), words, reader, &mut written, &mut said);
+    assert_eq!(rt; ended, status);
+    assert!(rt; written.is_empty());
+    assert_eq!(rt; said.as_slice(), errors.as_bytes());
+}
+
 #[test]
-fn readers_that_fail(rt: HostRuntime) -> Result<(), Fail> {
-    let alloc = rt.alloc();
-    let rows = [
+fn readers_that_fail(rt: HostRuntime) {
+    for (text, kind, status, errors) in [
         (
             "def object T\n",
             ErrorKind::BrokenPipe,
@@ -88,65 +91,17 @@ fn readers_that_fail(rt: HostRuntime) -> Result<(), Fail> {
             Status::Exhausted,
             "out of memory\n",
         ),
-    ];
-    for (text, kind, status, errors) in rows {
+    ] {
         let mut reader = FailingReader {
             bytes: text.as_bytes(),
             kind,
         };
-        let mut written = Vec::new(alloc);
-        let mut said = Vec::new(alloc);
-        let ended = run(alloc, &["schema"], &mut reader, &mut written, &mut said);
-        assert_eq!(rt; ended, status, "at {text:?}");
-        assert_eq!(rt; written.as_slice(), "".as_bytes(), "at {text:?}");
-        assert_eq!(rt; said.as_slice(), errors.as_bytes(), "at {text:?}");
+        expect_refusal(&rt, &["schema"], &mut reader, status, errors);
     }
-    Ok(())
 }
 
 #[test]
-fn writers_that_fail(rt: HostRuntime) -> Result<(), Fail> {
-    let alloc = rt.alloc();
-    let text = "def object T\nfield a Int\n";
-    for (room, fails_at_flush) in [(0, false), (5, false), (1000, true)] {
-        let mut reader = text.as_bytes();
-        let mut output = FailingWriter::new(alloc, room, fails_at_flush);
-        let mut said = Vec::new(alloc);
-        let status = run(alloc, &["schema"], &mut reader, &mut output, &mut said);
-        assert_eq!(rt; status, Status::NotWritten, "at {room}");
-        assert_eq!(rt;
-            said.as_slice(),
-            "cannot write output\n".as_bytes(),
-            "at {room}"
-        );
-    }
-    Ok(())
-}
-
-#[test]
-fn error_writers_that_fail_change_no_status(rt: HostRuntime) -> Result<(), Fail> {
-    let alloc = rt.alloc();
-    let rows: [(&[&str], &str, usize, Status); 4] = [
-        (&["schema"], "foo", 1000, Status::Refused),
-        (&["schema"], "def object T", 0, Status::NotWritten),
-        (&["schema"], "def object T", 1000, Status::Done),
-        (&["doc"], "", 1000, Status::Refused),
-    ];
-    for (words, text, room, status) in rows {
-        for errors_room in [0, 3] {
-            let mut reader = text.as_bytes();
-            let mut output = FailingWriter::new(alloc, room, false);
-            let mut errors = FailingWriter::new(alloc, errors_room, false);
-            let ended = run(alloc, words, &mut reader, &mut output, &mut errors);
-            assert_eq!(rt; ended, status, "at {text:?}");
-        }
-    }
-    Ok(())
-}
-
-#[test]
-fn input_that_is_no_text(rt: HostRuntime) -> Result<(), Fail> {
-    let alloc = rt.alloc();
+fn input_that_is_no_text(rt: HostRuntime) {
     let rows: [&[u8]; 4] = [
         b"\xff",
         b"def object T\n\xc3",
@@ -155,27 +110,78 @@ fn input_that_is_no_text(rt: HostRuntime) -> Result<(), Fail> {
     ];
     for input in rows {
         let mut reader = input;
-        let mut written = Vec::new(alloc);
-        let mut said = Vec::new(alloc);
-        let status = run(alloc, &["schema"], &mut reader, &mut written, &mut said);
-        assert_eq!(rt; status, Status::Refused, "at {input:?}");
-        assert_eq!(rt; written.as_slice(), "".as_bytes(), "at {input:?}");
-        assert_eq!(rt; said.as_slice(), "cannot read input\n".as_bytes());
+        expect_refusal(
+            &rt,
+            &["schema"],
+            &mut reader,
+            Status::Refused,
+            "cannot read input\n",
+        );
     }
-    Ok(())
 }
 
 #[test]
-fn nothing_is_read_where_the_words_are_refused(rt: HostRuntime) -> Result<(), Fail> {
+fn writers_that_fail(rt: HostRuntime) {
+    for (room, fails_at_flush) in [(0, false), (5, false), (1000, true)] {
+        let mut reader = "def object T\nfield a Int\n".as_bytes();
+        let mut output = FailingWriter {
+            room,
+            fails_at_flush,
+        };
+        let mut said = Vec::new(rt.alloc());
+        let ended = run(rt.alloc(), &["schema"], &mut reader, &mut output, &mut said);
+        assert_eq!(rt; ended, Status::NotWritten);
+        assert_eq!(rt; said.as_slice(), "cannot write output\n".as_bytes());
+    }
+}
+
+/// How a run ends whose writers have so much room.
+fn ended(alloc: Global, words: &[&str], text: &str, room: usize, errors_room: usize) -> Status {
+    let mut reader = text.as_bytes();
+    let mut output = FailingWriter {
+        room,
+        fails_at_flush: false,
+    };
+    let mut errors = FailingWriter {
+        room: errors_room,
+        fails_at_flush: false,
+    };
+    run(alloc, words, &mut reader, &mut output, &mut errors)
+}
+
+#[test]
+fn error_writers_that_fail_change_no_status(rt: HostRuntime) {
     let alloc = rt.alloc();
+    for errors_room in [0, 3] {
+        assert_eq!(rt;
+            ended(alloc, &["schema"], "foo", 1000, errors_room),
+            Status::Refused
+        );
+        let text = "def object T";
+        assert_eq!(rt;
+            ended(alloc, &["schema"], text, 0, errors_room),
+            Status::NotWritten
+        );
+        assert_eq!(rt;
+            ended(alloc, &["schema"], text, 1000, errors_room),
+            Status::Done
+        );
+        assert_eq!(rt;
+            ended(alloc, &["doc"], "", 1000, errors_room),
+            Status::Refused
+        );
+    }
+}
+
+#[test]
+fn nothing_is_read_where_the_words_are_refused(rt: HostRuntime) {
     let rows: [&[&str]; 2] = [&[], &["schema", "x"]];
     for words in rows {
         let mut reader = "foo".as_bytes();
-        let mut written = Vec::new(alloc);
-        let mut said = Vec::new(alloc);
-        let status = run(alloc, words, &mut reader, &mut written, &mut said);
-        assert_eq!(rt; status, Status::Refused);
+        let mut written = Vec::new(rt.alloc());
+        let mut said = Vec::new(rt.alloc());
+        let ended = run(rt.alloc(), words, &mut reader, &mut written, &mut said);
+        assert_eq!(rt; ended, Status::Refused);
         assert_eq!(rt; reader, "foo".as_bytes());
     }
-    Ok(())
 }

@@ -1,3 +1,5 @@
+//! Definitions of all kinds: their texts and copies.
+
 use graphql_ast::definition::Definition;
 use graphql_ast::directive::DirectiveList;
 use graphql_ast::operation::{FragmentDefinition, OperationDefinition};
@@ -12,9 +14,28 @@ use graphql_nodes::name::Name;
 use graphql_nodes::node::Node;
 use graphql_nodes::operation_type::OperationType;
 use graphql_nodes::source::{FileId, SourceSpan};
+use likeness::{is_copied, is_copied_so};
 use std::alloc::{AllocError, Global};
-use std::process::Abort;
-use std::test::Fail;
+
+/// Whether there was memory for the node, what it holds has an equal copy, and so has what is made of the node, which
+/// is right. A copy of the node shares what it holds.
+pub fn is_kept<
+    T: Clone + PartialEq + Drop,
+    D: Clone + PartialEq + Drop,
+    M: FnOnce(Node<T>) -> D + Drop,
+    F: FnOnce(&D) -> bool + Drop,
+>(node: Result<Node<T>, AllocError>, made_of: M, is_right: F) -> bool
+    requires made { M.IsAlwaysCallable made_of }
+    requires asked { F.IsAlwaysCallable is_right }
+{
+    match node {
+        Ok(node) => {
+            let is_held_copied = is_copied(&*node);
+            is_copied_so(Ok(made_of(node)), is_right) && is_held_copied
+        }
+        Err(_) => false,
+    }
+}
 
 pub const PLACE: SourceSpan = SourceSpan {
     file: FileId(3),
@@ -26,282 +47,331 @@ fn placed<T: Drop>(alloc: Global, value: T) -> Result<Node<T>, AllocError> {
     Node::new_opt_location(alloc, value, Some(PLACE))
 }
 
-fn operation(alloc: Global) -> Result<Definition, AllocError> {
-    Ok(Definition::OperationDefinition(placed(
-        alloc,
-        OperationDefinition {
-            operation_type: OperationType::Query,
-            name: None,
-            variables: Items::new(alloc),
-            directives: DirectiveList::new(alloc),
-            selection_set: Items::new(alloc),
-        },
-    )?))
+fn name(alloc: Global) -> Result<Name, AllocError> {
+    Name::new_unchecked(alloc, "n")
 }
 
-fn fragment(alloc: Global) -> Result<Definition, AllocError> {
-    Ok(Definition::FragmentDefinition(placed(
-        alloc,
-        FragmentDefinition {
-            name: Name::new_unchecked(alloc, "n")?,
-            type_condition: Name::new_unchecked(alloc, "T")?,
-            directives: DirectiveList::new(alloc),
-            selection_set: Items::new(alloc),
-        },
-    )?))
+fn operation(alloc: Global) -> Result<Node<OperationDefinition>, AllocError> {
+    let operation = OperationDefinition {
+        operation_type: OperationType::Query,
+        name: None,
+        variables: Items::new(alloc),
+        directives: DirectiveList::new(alloc),
+        selection_set: Items::new(alloc),
+    };
+    placed(alloc, operation)
 }
 
-fn directive(alloc: Global) -> Result<Definition, AllocError> {
-    Ok(Definition::DirectiveDefinition(placed(
-        alloc,
-        DirectiveDefinition {
-            description: None,
-            name: Name::new_unchecked(alloc, "n")?,
-            arguments: Items::new(alloc),
-            repeatable: false,
-            locations: Items::new(alloc),
-        },
-    )?))
+fn fragment(alloc: Global) -> Result<Node<FragmentDefinition>, AllocError> {
+    let name = name(alloc)?;
+    let type_condition = Name::new_unchecked(alloc, "T")?;
+    let fragment = FragmentDefinition {
+        name,
+        type_condition,
+        directives: DirectiveList::new(alloc),
+        selection_set: Items::new(alloc),
+    };
+    placed(alloc, fragment)
 }
 
-fn schema(alloc: Global) -> Result<Definition, AllocError> {
-    Ok(Definition::SchemaDefinition(placed(
-        alloc,
-        SchemaDefinition {
-            description: None,
-            directives: DirectiveList::new(alloc),
-            root_operations: Items::new(alloc),
-        },
-    )?))
+fn directive(alloc: Global) -> Result<Node<DirectiveDefinition>, AllocError> {
+    let name = name(alloc)?;
+    let directive = DirectiveDefinition {
+        description: None,
+        name,
+        arguments: Items::new(alloc),
+        repeatable: false,
+        locations: Items::new(alloc),
+    };
+    placed(alloc, directive)
 }
 
-fn scalar(alloc: Global) -> Result<Definition, AllocError> {
-    Ok(Definition::ScalarTypeDefinition(placed(
-        alloc,
-        ScalarTypeDefinition {
-            description: None,
-            name: Name::new_unchecked(alloc, "n")?,
-            directives: DirectiveList::new(alloc),
-        },
-    )?))
+fn schema(alloc: Global) -> Result<Node<SchemaDefinition>, AllocError> {
+    let schema = SchemaDefinition {
+        description: None,
+        directives: DirectiveList::new(alloc),
+        root_operations: Items::new(alloc),
+    };
+    placed(alloc, schema)
 }
 
-fn object(alloc: Global) -> Result<Definition, AllocError> {
-    Ok(Definition::ObjectTypeDefinition(placed(
-        alloc,
-        ObjectTypeDefinition {
-            description: None,
-            name: Name::new_unchecked(alloc, "n")?,
-            implements_interfaces: Items::new(alloc),
-            directives: DirectiveList::new(alloc),
-            fields: Items::new(alloc),
-        },
-    )?))
+fn scalar(alloc: Global) -> Result<Node<ScalarTypeDefinition>, AllocError> {
+    let name = name(alloc)?;
+    let scalar = ScalarTypeDefinition {
+        description: None,
+        name,
+        directives: DirectiveList::new(alloc),
+    };
+    placed(alloc, scalar)
 }
 
-fn interface(alloc: Global) -> Result<Definition, AllocError> {
-    Ok(Definition::InterfaceTypeDefinition(placed(
-        alloc,
-        InterfaceTypeDefinition {
-            description: None,
-            name: Name::new_unchecked(alloc, "n")?,
-            implements_interfaces: Items::new(alloc),
-            directives: DirectiveList::new(alloc),
-            fields: Items::new(alloc),
-        },
-    )?))
+fn object(alloc: Global) -> Result<Node<ObjectTypeDefinition>, AllocError> {
+    let name = name(alloc)?;
+    let object = ObjectTypeDefinition {
+        description: None,
+        name,
+        implements_interfaces: Items::new(alloc),
+        directives: DirectiveList::new(alloc),
+        fields: Items::new(alloc),
+    };
+    placed(alloc, object)
 }
 
-fn union(alloc: Global) -> Result<Definition, AllocError> {
-    Ok(Definition::UnionTypeDefinition(placed(
-        alloc,
-        UnionTypeDefinition {
-            description: None,
-            name: Name::new_unchecked(alloc, "n")?,
-            directives: DirectiveList::new(alloc),
-            members: Items::new(alloc),
-        },
-    )?))
+fn interface(alloc: Global) -> Result<Node<InterfaceTypeDefinition>, AllocError> {
+    let name = name(alloc)?;
+    let interface = InterfaceTypeDefinition {
+        description: None,
+        name,
+        implements_interfaces: Items::new(alloc),
+        directives: DirectiveList::new(alloc),
+        fields: Items::new(alloc),
+    };
+    placed(alloc, interface)
 }
 
-fn enumeration(alloc: Global) -> Result<Definition, AllocError> {
-    Ok(Definition::EnumTypeDefinition(placed(
-        alloc,
-        EnumTypeDefinition {
-            description: None,
-            name: Name::new_unchecked(alloc, "n")?,
-            directives: DirectiveList::new(alloc),
-            values: Items::new(alloc),
-        },
-    )?))
+fn union(alloc: Global) -> Result<Node<UnionTypeDefinition>, AllocError> {
+    let name = name(alloc)?;
+    let union = UnionTypeDefinition {
+        description: None,
+        name,
+        directives: DirectiveList::new(alloc),
+        members: Items::new(alloc),
+    };
+    placed(alloc, union)
 }
 
-fn input(alloc: Global) -> Result<Definition, AllocError> {
-    Ok(Definition::InputObjectTypeDefinition(placed(
-        alloc,
-        InputObjectTypeDefinition {
-            description: None,
-            name: Name::new_unchecked(alloc, "n")?,
-            directives: DirectiveList::new(alloc),
-            fields: Items::new(alloc),
-        },
-    )?))
+fn enumeration(alloc: Global) -> Result<Node<EnumTypeDefinition>, AllocError> {
+    let name = name(alloc)?;
+    let enumeration = EnumTypeDefinition {
+        description: None,
+        name,
+        directives: DirectiveList::new(alloc),
+        values: Items::new(alloc),
+    };
+    placed(alloc, enumeration)
 }
 
-fn schema_extension(alloc: Global) -> Result<Definition, AllocError> {
-    Ok(Definition::SchemaExtension(placed(
-        alloc,
-        SchemaExtension {
-            directives: DirectiveList::new(alloc),
-            root_operations: Items::new(alloc),
-        },
-    )?))
+fn input(alloc: Global) -> Result<Node<InputObjectTypeDefinition>, AllocError> {
+    let name = name(alloc)?;
+    let input = InputObjectTypeDefinition {
+        description: None,
+        name,
+        directives: DirectiveList::new(alloc),
+        fields: Items::new(alloc),
+    };
+    placed(alloc, input)
 }
 
-fn scalar_extension(alloc: Global) -> Result<Definition, AllocError> {
-    Ok(Definition::ScalarTypeExtension(placed(
-        alloc,
-        ScalarTypeExtension {
-            name: Name::new_unchecked(alloc, "n")?,
-            directives: DirectiveList::new(alloc),
-        },
-    )?))
+fn schema_extension(alloc: Global) -> Result<Node<SchemaExtension>, AllocError> {
+    let schema_extension = SchemaExtension {
+        directives: DirectiveList::new(alloc),
+        root_operations: Items::new(alloc),
+    };
+    placed(alloc, schema_extension)
 }
 
-fn object_extension(alloc: Global) -> Result<Definition, AllocError> {
-    Ok(Definition::ObjectTypeExtension(placed(
-        alloc,
-        ObjectTypeExtension {
-            name: Name::new_unchecked(alloc, "n")?,
-            implements_interfaces: Items::new(alloc),
-            directives: DirectiveList::new(alloc),
-            fields: Items::new(alloc),
-        },
-    )?))
+fn scalar_extension(alloc: Global) -> Result<Node<ScalarTypeExtension>, AllocError> {
+    let name = name(alloc)?;
+    let scalar_extension = ScalarTypeExtension {
+        name,
+        directives: DirectiveList::new(alloc),
+    };
+    placed(alloc, scalar_extension)
 }
 
-fn interface_extension(alloc: Global) -> Result<Definition, AllocError> {
-    Ok(Definition::InterfaceTypeExtension(placed(
-        alloc,
-        InterfaceTypeExtension {
-            name: Name::new_unchecked(alloc, "n")?,
-            implements_interfaces: Items::new(alloc),
-            directives: DirectiveList::new(alloc),
-            fields: Items::new(alloc),
-        },
-    )?))
+fn object_extension(alloc: Global) -> Result<Node<ObjectTypeExtension>, AllocError> {
+    let name = name(alloc)?;
+    let object_extension = ObjectTypeExtension {
+        name,
+        implements_interfaces: Items::new(alloc),
+        directives: DirectiveList::new(alloc),
+        fields: Items::new(alloc),
+    };
+    placed(alloc, object_extension)
 }
 
-fn union_extension(alloc: Global) -> Result<Definition, AllocError> {
-    Ok(Definition::UnionTypeExtension(placed(
-        alloc,
-        UnionTypeExtension {
-            name: Name::new_unchecked(alloc, "n")?,
-            directives: DirectiveList::new(alloc),
-            members: Items::new(alloc),
-        },
-    )?))
+fn interface_extension(alloc: Global) -> Result<Node<InterfaceTypeExtension>, AllocError> {
+    let name = name(alloc)?;
+    let interface_extension = InterfaceTypeExtension {
+        name,
+        implements_interfaces: Items::new(alloc),
+        directives: DirectiveList::new(alloc),
+        fields: Items::new(alloc),
+    };
+    placed(alloc, interface_extension)
 }
 
-fn enum_extension(alloc: Global) -> Result<Definition, AllocError> {
-    Ok(Definition::EnumTypeExtension(placed(
-        alloc,
-        EnumTypeExtension {
-            name: Name::new_unchecked(alloc, "n")?,
-            directives: DirectiveList::new(alloc),
-            values: Items::new(alloc),
-        },
-    )?))
+fn union_extension(alloc: Global) -> Result<Node<UnionTypeExtension>, AllocError> {
+    let name = name(alloc)?;
+    let union_extension = UnionTypeExtension {
+        name,
+        directives: DirectiveList::new(alloc),
+        members: Items::new(alloc),
+    };
+    placed(alloc, union_extension)
 }
 
-fn input_extension(alloc: Global) -> Result<Definition, AllocError> {
-    Ok(Definition::InputObjectTypeExtension(placed(
-        alloc,
-        InputObjectTypeExtension {
-            name: Name::new_unchecked(alloc, "n")?,
-            directives: DirectiveList::new(alloc),
-            fields: Items::new(alloc),
-        },
-    )?))
+fn enum_extension(alloc: Global) -> Result<Node<EnumTypeExtension>, AllocError> {
+    let name = name(alloc)?;
+    let enum_extension = EnumTypeExtension {
+        name,
+        directives: DirectiveList::new(alloc),
+        values: Items::new(alloc),
+    };
+    placed(alloc, enum_extension)
 }
 
-/// Whether a copy is equal.
-fn is_copied<T: Clone + PartialEq + Drop>(value: &T) -> Result<bool, AllocError> {
-    let copy = value.clone()?;
-    Ok(copy == *value)
+fn input_extension(alloc: Global) -> Result<Node<InputObjectTypeExtension>, AllocError> {
+    let name = name(alloc)?;
+    let input_extension = InputObjectTypeExtension {
+        name,
+        directives: DirectiveList::new(alloc),
+        fields: Items::new(alloc),
+    };
+    placed(alloc, input_extension)
 }
 
-/// Whether a copy of what the node of a definition holds is equal. A copy of the node shares it.
-fn is_held_copied(definition: &Definition) -> Result<bool, AllocError> {
-    match definition {
-        Definition::OperationDefinition(node) => is_copied(&**node),
-        Definition::FragmentDefinition(node) => is_copied(&**node),
-        Definition::DirectiveDefinition(node) => is_copied(&**node),
-        Definition::SchemaDefinition(node) => is_copied(&**node),
-        Definition::ScalarTypeDefinition(node) => is_copied(&**node),
-        Definition::ObjectTypeDefinition(node) => is_copied(&**node),
-        Definition::InterfaceTypeDefinition(node) => is_copied(&**node),
-        Definition::UnionTypeDefinition(node) => is_copied(&**node),
-        Definition::EnumTypeDefinition(node) => is_copied(&**node),
-        Definition::InputObjectTypeDefinition(node) => is_copied(&**node),
-        Definition::SchemaExtension(node) => is_copied(&**node),
-        Definition::ScalarTypeExtension(node) => is_copied(&**node),
-        Definition::ObjectTypeExtension(node) => is_copied(&**node),
-        Definition::InterfaceTypeExtension(node) => is_copied(&**node),
-        Definition::UnionTypeExtension(node) => is_copied(&**node),
-        Definition::EnumTypeExtension(node) => is_copied(&**node),
-        Definition::InputObjectTypeExtension(node) => is_copied(&**node),
-    }
+/// Whether this is how the definition is described, and it is at the place.
+fn is_described(definition: &Definition, text: &str) -> bool {
+    definition.describe() == text && definition.location() == Some(PLACE)
 }
 
-/// Expects that a copy is equal and at the same place.
-fn expect_copied(rt: &impl Abort, definition: &Definition) -> Result<(), AllocError> {
-    let copy = definition.clone()?;
-    assert!(rt; copy == *definition);
-    assert_eq!(rt; copy.location(), Some(PLACE));
-    Ok(())
-}
-
-fn check(rt: &impl Abort, definition: Definition, text: &str) -> Result<(), AllocError> {
-    assert_eq!(rt; definition.describe(), text);
-    expect_copied(rt, &definition)?;
-    assert!(rt; is_held_copied(&definition)?);
-    Ok(())
+/// Whether what the node holds is copied, and so is the definition of the node, which is described so.
+fn is_defined<T: Clone + PartialEq + Drop, M: FnOnce(Node<T>) -> Definition + Drop>(
+    node: Result<Node<T>, AllocError>,
+    define: M,
+    text: &str,
+) -> bool
+    requires { M.IsAlwaysCallable define }
+{
+    is_kept(node, define, |definition| is_described(definition, text))
 }
 
 #[test]
-fn definitions(rt: HostRuntime) -> Result<(), Fail> {
+fn definitions(rt: HostRuntime) {
     let alloc = rt.alloc();
-    check(&rt, operation(alloc)?, "an operation definition")?;
-    check(&rt, fragment(alloc)?, "a fragment definition")?;
-    check(&rt, directive(alloc)?, "a directive definition")?;
-    check(&rt, schema(alloc)?, "a schema definition")?;
-    check(&rt, scalar(alloc)?, "a scalar type definition")?;
-    check(&rt, object(alloc)?, "an object type definition")?;
-    check(&rt, interface(alloc)?, "an interface type definition")?;
-    check(&rt, union(alloc)?, "a union type definition")?;
-    check(&rt, enumeration(alloc)?, "an enum type definition")?;
-    check(&rt, input(alloc)?, "an input object type definition")?;
-    Ok(())
+    assert!(rt;
+        is_defined(
+            operation(alloc),
+            Definition::OperationDefinition,
+            "an operation definition"
+        )
+    );
+    assert!(rt;
+        is_defined(
+            fragment(alloc),
+            Definition::FragmentDefinition,
+            "a fragment definition"
+        )
+    );
+    assert!(rt;
+        is_defined(
+            directive(alloc),
+            Definition::DirectiveDefinition,
+            "a directive definition"
+        )
+    );
+    assert!(rt;
+        is_defined(
+            schema(alloc),
+            Definition::SchemaDefinition,
+            "a schema definition"
+        )
+    );
+    assert!(rt;
+        is_defined(
+            scalar(alloc),
+            Definition::ScalarTypeDefinition,
+            "a scalar type definition"
+        )
+    );
+    assert!(rt;
+        is_defined(
+            object(alloc),
+            Definition::ObjectTypeDefinition,
+            "an object type definition"
+        )
+    );
+    assert!(rt;
+        is_defined(
+            interface(alloc),
+            Definition::InterfaceTypeDefinition,
+            "an interface type definition"
+        )
+    );
+    assert!(rt;
+        is_defined(
+            union(alloc),
+            Definition::UnionTypeDefinition,
+            "a union type definition"
+        )
+    );
+    assert!(rt;
+        is_defined(
+            enumeration(alloc),
+            Definition::EnumTypeDefinition,
+            "an enum type definition"
+        )
+    );
+    assert!(rt;
+        is_defined(
+            input(alloc),
+            Definition::InputObjectTypeDefinition,
+            "an input object type definition"
+        )
+    );
 }
 
 #[test]
-fn extensions(rt: HostRuntime) -> Result<(), Fail> {
+fn extensions(rt: HostRuntime) {
     let alloc = rt.alloc();
-    check(&rt, schema_extension(alloc)?, "a schema extension")?;
-    check(&rt, scalar_extension(alloc)?, "a scalar type extension")?;
-    check(&rt, object_extension(alloc)?, "an object type extension")?;
-    check(
-        &rt,
-        interface_extension(alloc)?,
-        "an interface type extension",
-    )?;
-    check(&rt, union_extension(alloc)?, "a union type extension")?;
-    check(&rt, enum_extension(alloc)?, "an enum type extension")?;
-    check(
-        &rt,
-        input_extension(alloc)?,
-        "an input object type extension",
-    )?;
-    Ok(())
+    assert!(rt;
+        is_defined(
+            schema_extension(alloc),
+            Definition::SchemaExtension,
+            "a schema extension"
+        )
+    );
+    assert!(rt;
+        is_defined(
+            scalar_extension(alloc),
+            Definition::ScalarTypeExtension,
+            "a scalar type extension"
+        )
+    );
+    assert!(rt;
+        is_defined(
+            object_extension(alloc),
+            Definition::ObjectTypeExtension,
+            "an object type extension"
+        )
+    );
+    assert!(rt;
+        is_defined(
+            interface_extension(alloc),
+            Definition::InterfaceTypeExtension,
+            "an interface type extension"
+        )
+    );
+    assert!(rt;
+        is_defined(
+            union_extension(alloc),
+            Definition::UnionTypeExtension,
+            "a union type extension"
+        )
+    );
+    assert!(rt;
+        is_defined(
+            enum_extension(alloc),
+            Definition::EnumTypeExtension,
+            "an enum type extension"
+        )
+    );
+    assert!(rt;
+        is_defined(
+            input_extension(alloc),
+            Definition::InputObjectTypeExtension,
+            "an input object type extension"
+        )
+    );
 }

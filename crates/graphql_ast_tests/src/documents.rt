@@ -1,3 +1,5 @@
+//! Documents and their sources.
+
 use crate::definitions::PLACE;
 use graphql_ast::definition::Definition;
 use graphql_ast::directive::DirectiveList;
@@ -9,23 +11,19 @@ use graphql_nodes::collections::table::Table;
 use graphql_nodes::collections::text::Text;
 use graphql_nodes::node::Node;
 use graphql_nodes::source::{FileId, SourceFile, SourceMap, SourceSpan};
+use likeness::{are_equal, is_copied_so};
 use std::alloc::{AllocError, Global};
-use std::test::Fail;
 
 /// A definition of the schema at this place.
-fn schema(alloc: Global, place: Option<SourceSpan>) -> Result<Definition, AllocError> {
+fn definitions(alloc: Global, place: Option<SourceSpan>) -> Result<Items<Definition>, AllocError> {
     let schema = SchemaDefinition {
         description: None,
         directives: DirectiveList::new(alloc),
         root_operations: Items::new(alloc),
     };
     let node = Node::new_opt_location(alloc, schema, place)?;
-    Ok(Definition::SchemaDefinition(node))
-}
-
-fn definitions(alloc: Global, place: Option<SourceSpan>) -> Result<Items<Definition>, AllocError> {
     let mut definitions = Items::new(alloc);
-    definitions.push(schema(alloc, place)?)?;
+    definitions.push(Definition::SchemaDefinition(node))?;
     Ok(definitions)
 }
 
@@ -36,20 +34,22 @@ fn file(alloc: Global) -> Result<SourceFile, AllocError> {
 }
 
 fn sources(alloc: Global) -> Result<SourceMap, AllocError> {
+    let file = Shared::new(alloc, file(alloc)?)?;
     let mut sources = Table::new(alloc);
-    sources.insert(FileId(3), Shared::new(alloc, file(alloc)?)?)?;
+    sources.insert(FileId(3), file)?;
     Ok(sources)
 }
 
 /// A document of that definition alone, without sources.
-fn document(alloc: Global, place: Option<SourceSpan>) -> Result<Document, AllocError> {
+fn document(alloc: Global) -> Result<Document, AllocError> {
+    let definitions = definitions(alloc, None)?;
     Ok(Document {
         sources: Table::new(alloc),
-        definitions: definitions(alloc, place)?,
+        definitions,
     })
 }
 
-/// That document with a source.
+/// That document with a source, and the definition at the place.
 fn with_source(alloc: Global) -> Result<Document, AllocError> {
     let definitions = definitions(alloc, Some(PLACE))?;
     Ok(Document {
@@ -58,36 +58,34 @@ fn with_source(alloc: Global) -> Result<Document, AllocError> {
     })
 }
 
-/// The path of the document's source.
-fn path(document: &Document) -> Result<&str, Fail> {
-    let kept = document
-        .sources
-        .get(&FileId(3))
-        .ok_or("the source is gone")?;
-    Ok(kept.path.as_str())
-}
-
-/// The place of the document's definition.
-fn place(document: &Document) -> Result<Option<SourceSpan>, Fail> {
-    let first = document.definitions.get(0).ok_or("no definition")?;
-    Ok(first.location())
-}
-
 #[test]
-fn sources_are_left_out(rt: HostRuntime) -> Result<(), Fail> {
+fn sources_are_left_out(rt: HostRuntime) {
     let alloc = rt.alloc();
-    let placed = with_source(alloc)?;
-    assert!(rt; placed == document(alloc, None)?);
-    assert!(rt; placed != Document::new(alloc));
-    Ok(())
+    assert!(rt; are_equal(with_source(alloc), document(alloc)) == Some(true));
+    assert!(rt; are_equal(with_source(alloc), Ok(Document::new(alloc))) == Some(false));
+}
+
+/// Whether the document has the source, by its path.
+fn has_source(document: &Document) -> bool {
+    match document.sources.get(&FileId(3)) {
+        Some(kept) => kept.path.as_str() == "schema.graphql",
+        None => false,
+    }
+}
+
+/// Whether the document's definition is at the place.
+fn is_in_place(document: &Document) -> bool {
+    match document.definitions.get(0) {
+        Some(first) => first.location() == Some(PLACE),
+        None => false,
+    }
+}
+
+fn is_whole(document: &Document) -> bool {
+    has_source(document) && is_in_place(document)
 }
 
 #[test]
-fn sources_are_copied(rt: HostRuntime) -> Result<(), Fail> {
-    let placed = with_source(rt.alloc())?;
-    let copy = placed.clone()?;
-    assert!(rt; copy == placed);
-    assert_eq!(rt; path(&copy)?, "schema.graphql");
-    assert_eq!(rt; place(&copy)?, Some(PLACE));
-    Ok(())
+fn sources_are_copied(rt: HostRuntime) {
+    assert!(rt; is_copied_so(with_source(rt.alloc()), is_whole));
 }

@@ -6,133 +6,157 @@ use graphql_nodes::collections::key_set::KeySet;
 use graphql_nodes::collections::shared::Shared;
 use graphql_nodes::collections::table::Table;
 use graphql_nodes::collections::text::Text;
+use likeness::{is_copied, is_made, is_printed};
 use std::alloc::{AllocError, Global};
-use std::process::Abort;
 use std::rc::Rc;
-use std::test::Fail;
 
 /// The list of 1, 2 and 3.
 fn numbers(alloc: Global) -> Result<Items<i32>, AllocError> {
-    let mut items = Items::from_vec(vec![in alloc; 1, 2]?);
+    let mut items = Items::from_vec([1, 2].to_vec(alloc)?);
     items.push(3)?;
     Ok(items)
 }
 
-#[test]
-fn lists(rt: HostRuntime) -> Result<(), Fail> {
-    let alloc = rt.alloc();
+/// Whether the elements are these.
+fn are(items: &[i32], wanted: &[i32]) -> bool {
+    items == wanted
+}
+
+/// Whether the list reads as 1, 2 and 3.
+fn are_numbers(items: &Items<i32>) -> bool {
+    let parts = (items.len(), items.is_empty(), items.get(2), items.get(3));
+    let is_walked = items.iter().eq([1, 2, 3].iter());
+    is_walked && parts == (3, false, Some(&3), None)
+}
+
+/// Whether the list of 1, 2 and 3 is read and copied.
+fn are_numbers_kept(alloc: Global) -> Result<bool, AllocError> {
     let items = numbers(alloc)?;
-    assert_eq!(rt; (items.len(), items.is_empty()), (3, false));
-    assert_eq!(rt; (items.get(2), items.get(3)), (Some(&3), None));
-    assert_eq!(rt; items.as_slice(), [1, 2, 3].as_slice());
-    assert!(rt; items.clone()? == items);
-    assert!(rt; items.iter().eq([1, 2, 3].iter()));
-    assert_eq!(rt; items.into_vec().as_slice(), [1, 2, 3].as_slice());
-    assert!(rt; Items::<u8>::new(alloc).is_empty());
-    Ok(())
-}
-
-fn expect_boxed(rt: &impl Abort, alloc: Global) -> Result<(), AllocError> {
-    let boxed = Boxed::from_box(Box::new(alloc, 5)?);
-    let other = boxed.same_allocator(6)?;
-    assert_eq!(rt; (*boxed, *other), (5, 6));
-    assert!(rt; boxed == Boxed::new(alloc, 5)?);
-    assert_eq!(rt; (*boxed.into_box(), other.into_inner()), (5, 6));
-    Ok(())
-}
-
-fn expect_shared(rt: &impl Abort, alloc: Global) -> Result<(), AllocError> {
-    let shared = Shared::from_rc(Rc::new(alloc, 7)?);
-    assert!(rt; shared.clone()? == Shared::new(alloc, 7)?);
-    assert_eq!(rt; *shared.into_rc(), 7);
-    Ok(())
-}
-
-fn words(alloc: Global) -> Result<Text, AllocError> {
-    Ok(Text::from_string(String::from_str(alloc, "words")?))
-}
-
-fn expect_text(rt: &impl Abort, text: Text) {
-    assert_eq!(rt;
-        (text.as_str(), text.len(), text.is_empty()),
-        ("words", 5, false)
-    );
-    assert_eq!(rt; text.into_string().as_str(), "words");
-}
-
-fn expect_text_copied(rt: &impl Abort, alloc: Global, text: &Text) -> Result<(), AllocError> {
-    assert_eq!(rt; text.to_string(alloc)?.as_str(), "words");
-    assert!(rt; text.clone()? == Text::from_str(alloc, "words")?);
-    Ok(())
+    let holds = are_numbers(&items) && is_copied(&items) && are(items.as_slice(), &[1, 2, 3]);
+    Ok(holds && are(items.into_vec().as_slice(), &[1, 2, 3]))
 }
 
 #[test]
-fn single_values(rt: HostRuntime) -> Result<(), Fail> {
+fn lists(rt: HostRuntime) {
     let alloc = rt.alloc();
-    expect_boxed(&rt, alloc)?;
-    expect_shared(&rt, alloc)?;
-    expect_text(&rt, words(alloc)?);
-    expect_text_copied(&rt, alloc, &words(alloc)?)?;
-    Ok(())
+    assert!(rt; are_numbers_kept(alloc) == Ok(true));
+    assert!(rt; Items::<u8>::new(alloc).is_empty());
 }
 
-/// A table of three calls, with their answers.
-fn table(rt: &impl Abort, alloc: Global) -> Table<i32, char> {
-    let mut table = Table::new(alloc);
-    for (key, value, old) in [(5, 'a', None), (3, 'b', None), (5, 'c', Some('a'))] {
-        assert_eq!(rt; table.insert(key, value).ok(), Some(old));
-    }
-    table
+/// Whether these boxes hold 5 and 6.
+fn are_5_and_6(boxed: Boxed<i32>, other: Boxed<i32>) -> bool {
+    let seen = [*boxed, *other];
+    seen == [5, 6] && [*boxed.into_box(), other.into_inner()] == seen
 }
 
-/// Takes the first entry out of a copy.
-fn expect_copied(rt: &impl Abort, table: &Table<i32, char>) -> Result<(), AllocError> {
-    let mut copy = table.clone()?;
-    assert!(rt; copy == *table);
-    assert_eq!(rt; copy.shift_remove(&5), Some('c'));
-    assert_eq!(rt; copy.len(), 1);
-    Ok(())
+/// Whether 5 and then 6 are boxed.
+fn are_boxed(alloc: Global) -> Result<bool, AllocError> {
+    let boxed = Boxed::from_box(Box::new(alloc, 5)?);
+    let is_made = is_made(Boxed::new(alloc, 5), &boxed);
+    let other = boxed.same_allocator(6)?;
+    Ok(is_made && are_5_and_6(boxed, other))
+}
+
+/// Whether 7 is shared.
+fn is_shared(alloc: Global) -> Result<bool, AllocError> {
+    let shared = Shared::from_rc(Rc::new(alloc, 7)?);
+    let holds = is_copied(&shared) && is_made(Shared::new(alloc, 7), &shared);
+    Ok(holds && *shared.into_rc() == 7)
+}
+
+/// Whether the text reads as `words`, and is printed and copied so.
+fn is_words(alloc: Global, text: &Text) -> bool {
+    (text.as_str(), text.len(), text.is_empty()) == ("words", 5, false)
+        && is_printed(alloc, text, "words")
+        && is_copied(text)
+        && is_made(Text::from_str(alloc, "words"), text)
+}
+
+/// Whether the text `words` is kept.
+fn is_text_kept(alloc: Global) -> Result<bool, AllocError> {
+    let text = Text::from_string(String::from_str(alloc, "words")?);
+    Ok(is_words(alloc, &text) && text.into_string().as_str() == "words")
 }
 
 #[test]
-fn tables(rt: HostRuntime) -> Result<(), Fail> {
-    let mut table = table(&rt, rt.alloc());
+fn single_values(rt: HostRuntime) {
+    let alloc = rt.alloc();
+    assert!(rt; are_boxed(alloc) == Ok(true));
+    assert!(rt; is_shared(alloc) == Ok(true));
+    assert!(rt; is_text_kept(alloc) == Ok(true));
+}
+
+/// Whether three calls answer what they replace. Then one value is written.
+fn are_inserted(table: &mut Table<i32, char>) -> bool {
+    let old = [
+        table.insert(5, 'a').ok(),
+        table.insert(3, 'b').ok(),
+        table.insert(5, 'c').ok(),
+    ];
     if let Some(value) = table.get_mut(&3) {
         *value = 'e';
     }
-    assert_eq!(rt; (table.get(&5), table.get(&9)), (Some(&'c'), None));
-    assert!(rt; table.keys().eq([5, 3].iter()));
-    assert!(rt; table.values().eq(['c', 'e'].iter()));
-    expect_copied(&rt, &table)?;
-    let back = Table::from_index_map(table.into_index_map());
-    assert_eq!(rt; back.len(), 2);
-    Ok(())
+    old == [Some(None), Some(None), Some(Some('a'))]
 }
 
-/// A set of three calls, with their answers.
-fn set(rt: &impl Abort, alloc: Global) -> KeySet<i32> {
-    let mut set = KeySet::new(alloc);
-    for (key, is_new) in [(5, true), (3, true), (5, false)] {
-        assert_eq!(rt; set.insert(key).ok(), Some(is_new));
+/// Whether the table reads as 5 with `c` and then 3 with `e`.
+fn are_entries(table: &Table<i32, char>) -> bool {
+    let found = (table.get(&5), table.get(&9));
+    let are_keys = table.keys().eq([5, 3].iter());
+    let are_values = table.values().eq(['c', 'e'].iter());
+    are_keys && are_values && found == (Some(&'c'), None)
+}
+
+/// Whether the first entry can be taken out of a copy.
+fn is_entry_removed(table: &Table<i32, char>) -> bool {
+    match table.clone() {
+        Ok(mut copy) => (copy.shift_remove(&5), copy.len()) == (Some('c'), 1),
+        Err(_) => false,
     }
-    set
 }
 
-/// Takes the first key out of a copy.
-fn expect_set_copied(rt: &impl Abort, set: &KeySet<i32>) -> Result<(), AllocError> {
-    let mut copy = set.clone()?;
-    assert!(rt; copy == *set);
-    assert!(rt; copy.shift_remove(&5));
-    assert_eq!(rt; copy.as_slice(), [3].as_slice());
-    Ok(())
+/// Whether the table is made again of its map.
+fn is_table_kept(table: Table<i32, char>) -> bool {
+    Table::from_index_map(table.into_index_map()).len() == 2
 }
 
 #[test]
-fn sets(rt: HostRuntime) -> Result<(), Fail> {
-    let set = set(&rt, rt.alloc());
-    assert!(rt; set.iter().eq([5, 3].iter()));
-    expect_set_copied(&rt, &set)?;
+fn tables(rt: HostRuntime) {
+    let mut table = Table::new(rt.alloc());
+    assert!(rt; are_inserted(&mut table));
+    assert!(rt; are_entries(&table) && is_copied(&table) && is_entry_removed(&table));
+    assert!(rt; is_table_kept(table));
+}
+
+/// Whether three calls answer which keys are new.
+fn are_keys_inserted(set: &mut KeySet<i32>) -> bool {
+    let is_new = [set.insert(5).ok(), set.insert(3).ok(), set.insert(5).ok()];
+    is_new == [Some(true), Some(true), Some(false)]
+}
+
+/// Whether the keys are 5 and 3.
+fn are_keys(set: &KeySet<i32>) -> bool {
+    set.iter().eq([5, 3].iter())
+}
+
+/// Whether the first key can be taken out of a copy.
+fn is_key_removed(set: &KeySet<i32>) -> bool {
+    match set.clone() {
+        Ok(mut copy) => copy.shift_remove(&5) && are(copy.as_slice(), &[3]),
+        Err(_) => false,
+    }
+}
+
+/// Whether the set of 5 and 3 is made again of its set.
+fn is_set_kept(set: KeySet<i32>) -> bool {
     let back = KeySet::from_index_set(set.into_index_set());
-    assert_eq!(rt; back.as_slice(), [5, 3].as_slice());
-    Ok(())
+    are(back.as_slice(), &[5, 3])
+}
+
+#[test]
+fn sets(rt: HostRuntime) {
+    let mut set = KeySet::new(rt.alloc());
+    assert!(rt; are_keys_inserted(&mut set));
+    assert!(rt; are_keys(&set) && is_copied(&set) && is_key_removed(&set));
+    assert!(rt; is_set_kept(set));
 }

@@ -1,5 +1,7 @@
 //! Tests of names, nodes, containers and enums of `graphql_nodes`, of what no clause says: printed texts, examples from
 //! the specification, and that calls succeed with memory.
+//!
+//! What a test compares stands in functions that borrow and answer whether it holds: these are cheap to prove.
 #![tactic(auto)]
 
 #[cfg(test)]
@@ -8,5 +10,7 @@ mod containers;
 mod names;
 #[cfg(test)]
 mod nodes;
+#[cfg(test)]
+mod tables;
 #[cfg(test)]
 mod texts;

@@ -1,11 +1,13 @@
+//! Names and shared texts.
+
+use crate::tables::expect_at;
 use graphql_nodes::name::{InvalidNameError, Name, NameError};
 use graphql_nodes::node_str::NodeStr;
 use graphql_nodes::source::{FileId, SourceSpan};
+use likeness::{are_alike, are_equal, is_printed};
 use std::alloc::{AllocError, Global};
 use std::cmp::Ordering;
-use std::hash::{DefaultHasher, Hash, Hasher};
 use std::process::Abort;
-use std::test::Fail;
 
 pub const PLACE: SourceSpan = SourceSpan {
     file: FileId(3),
@@ -13,153 +15,151 @@ pub const PLACE: SourceSpan = SourceSpan {
     end: 17,
 };
 
-/// A hash of the value, for tests to compare. It has no clause, since no contract says what the value of a hash is.
-pub fn hash_of<T: Hash>(value: &T) -> u64 {
-    let mut state = DefaultHasher::new();
-    value.hash(&mut state);
-    state.finish()
+/// Expects that all texts are names, or that none is.
+fn expect_names(rt: &impl Abort, texts: &[&str], valid: bool) {
+    for text in texts {
+        expect_at(rt, text, Name::is_valid_syntax(text) == valid);
+    }
 }
 
 #[test]
 fn grammar(rt: HostRuntime) {
-    for (text, valid) in [
-        ("a", true),
-        ("_", true),
-        ("__typename", true),
-        ("Az09_", true),
-        ("_9", true),
-        ("", false),
-        ("9a", false),
-        ("a-b", false),
-        (" a", false),
-        ("a ", false),
-        ("[", false),
-        ("@", false),
-        ("`", false),
-        ("{", false),
-        ("a:", false),
-        ("a/", false),
-        ("é", false),
-    ] {
-        assert_eq!(rt; Name::is_valid_syntax(text), valid, "at {text}");
+    expect_names(&rt, &["a", "_", "__typename", "Az09_", "_9"], true);
+    expect_names(
+        &rt,
+        &[
+            "", "9a", "a-b", " a", "a ", "[", "@", "`", "{", "a:", "a/", "é",
+        ],
+        false,
+    );
+}
+
+/// Whether a name and its copy at a place differ in the place alone.
+fn is_placed(name: &Name, placed: &Name) -> bool {
+    (name.location(), placed.location()) == (None, Some(PLACE))
+        && are_alike(name, placed)
+        && placed.cmp(name) == Ordering::Equal
+}
+
+/// The place of a copy, if one is made.
+fn place_of_copy(name: &Name) -> Option<SourceSpan> {
+    match name.clone() {
+        Ok(copy) => copy.location(),
+        Err(_) => None,
     }
 }
 
-/// Expects that a name and its copy at a place differ in the place alone.
-fn expect_placed(rt: &impl Abort, name: &Name, placed: &Name) {
-    assert_eq!(rt; name.location(), None);
-    assert_eq!(rt; placed.location(), Some(PLACE));
-    assert!(rt; name == placed);
-    assert_eq!(rt; hash_of(name), hash_of(placed));
-    assert_eq!(rt; placed.cmp(name), Ordering::Equal);
+/// Whether the name can be copied to a place, and from there.
+fn is_kept(name: &Name) -> bool {
+    match name.clone() {
+        Ok(copy) => {
+            let placed = copy.with_location(PLACE);
+            is_placed(name, &placed) && place_of_copy(&placed) == Some(PLACE)
+        }
+        Err(_) => false,
+    }
+}
+
+/// Whether a text that is no name is kept as one, and comes before the name.
+fn is_kept_unchecked(alloc: Global, name: &Name) -> bool {
+    match Name::new_unchecked(alloc, "9 lives") {
+        Ok(unchecked) => unchecked.as_str() == "9 lives" && unchecked < *name,
+        Err(_) => false,
+    }
+}
+
+/// Whether the name reads as `field_1`, and is printed so.
+fn is_field(alloc: Global, name: &Name) -> bool {
+    name.as_str() == "field_1" && is_printed(alloc, name, "field_1")
+}
+
+/// Whether `field_1` is a name, with its text, and with the place of a copy.
+fn is_field_kept(alloc: Global) -> bool {
+    match Name::new(alloc, "field_1") {
+        Ok(name) => { is_field(alloc, &name) && is_kept(&name) && is_kept_unchecked(alloc, &name) }
+        Err(_) => false,
+    }
 }
 
 #[test]
-fn names_carry_text_and_place(rt: HostRuntime) -> Result<(), Fail> {
-    let name = Name::new(rt.alloc(), "field_1")?;
-    assert_eq!(rt; name.as_str(), "field_1");
-    let placed = name.clone()?.with_location(PLACE);
-    expect_placed(&rt, &name, &placed);
-    assert_eq!(rt; placed.clone()?.location(), Some(PLACE));
-    Ok(())
-}
-
-#[test]
-fn names_are_texts(rt: HostRuntime) -> Result<(), Fail> {
-    let alloc = rt.alloc();
-    let name = Name::new(alloc, "field_1")?;
-    assert_eq!(rt; name.to_string(alloc)?.as_str(), "field_1");
-    let unchecked = Name::new_unchecked(alloc, "9 lives")?;
-    assert_eq!(rt; unchecked.as_str(), "9 lives");
-    assert!(rt; unchecked < name);
-    Ok(())
+fn names_carry_text_and_place(rt: HostRuntime) {
+    assert!(rt; is_field_kept(rt.alloc()));
 }
 
 /// Why this text is refused, if it is.
 fn refusal(alloc: Global, text: &str) -> Option<InvalidNameError> {
     match Name::new(alloc, text) {
-        Ok(_name) => None,
-        Err(error) => match error {
-            NameError::Invalid(refused) => Some(refused),
-            NameError::Memory => None,
-        },
+        Ok(_) | Err(NameError::Memory) => None,
+        Err(NameError::Invalid(refused)) => Some(refused),
     }
 }
 
-/// Expects this text of an error.
-fn expect_text(
-    rt: &impl Abort,
-    alloc: Global,
-    error: &NameError,
-    text: &str,
-) -> Result<(), AllocError> {
-    let said = error.to_string(alloc)?;
-    assert_eq!(rt; said.as_str(), text);
-    Ok(())
+/// Whether the refusal is of this text, at no place, and says this, alone and as one of the errors.
+fn is_refusal(alloc: Global, error: InvalidNameError, text: &str, said: &str) -> bool {
+    let are_parts = error.name.as_str() == text && error.location.is_none();
+    let is_alone = is_printed(alloc, &error, said);
+    are_parts && is_alone && is_printed(alloc, &NameError::Invalid(error), said)
 }
 
-/// Expects that this text is refused as no name, and what the refusal says.
-fn expect_refused(
-    rt: &impl Abort,
-    alloc: Global,
-    text: &str,
-    said: &str,
-) -> Result<(), AllocError> {
-    let error = refusal(alloc, text);
-    assert!(rt; error.is_some(), "{text} is no name");
-    if let Some(error) = error {
-        assert_eq!(rt; error.name.as_str(), text);
-        assert_eq!(rt; error.location, None);
-        let own = error.to_string(alloc)?;
-        assert_eq!(rt; own.as_str(), said);
-        expect_text(rt, alloc, &NameError::Invalid(error), said)?;
+/// Whether this text is refused as no name, and the refusal says this.
+fn is_refused(alloc: Global, text: &str, said: &str) -> bool {
+    match refusal(alloc, text) {
+        Some(error) => is_refusal(alloc, error, text, said),
+        None => false,
     }
-    Ok(())
 }
 
 #[test]
-fn refused_names(rt: HostRuntime) -> Result<(), Fail> {
+fn refused_names(rt: HostRuntime) {
     let alloc = rt.alloc();
-    for (text, said) in [
-        ("9a", "`9a` is not a valid GraphQL name"),
-        ("", "`` is not a valid GraphQL name"),
-    ] {
-        expect_refused(&rt, alloc, text, said)?;
+    assert!(rt; is_refused(alloc, "9a", "`9a` is not a valid GraphQL name"));
+    assert!(rt; is_refused(alloc, "", "`` is not a valid GraphQL name"));
+    assert!(rt; is_printed(alloc, &NameError::Memory, "out of memory"));
+}
+
+/// Whether a copy of the refusal at another place is equal.
+fn is_equal_at_place(error: &InvalidNameError) -> bool {
+    match error.clone() {
+        Ok(mut placed) => {
+            placed.location = Some(PLACE);
+            placed == *error
+        }
+        Err(_) => false,
     }
-    expect_text(&rt, alloc, &NameError::Memory, "out of memory")?;
-    Ok(())
 }
 
 #[test]
-fn refusals_are_equal_without_places(rt: HostRuntime) -> Result<(), Fail> {
-    let error = refusal(rt.alloc(), "9a").ok_or("a digit first is no name")?;
-    let mut placed = error.clone()?;
-    placed.location = Some(PLACE);
-    assert!(rt; placed == error);
-    Ok(())
+fn refusals_are_equal_without_places(rt: HostRuntime) {
+    let error = refusal(rt.alloc(), "9a");
+    assert!(rt; error.is_some_and(|error| is_equal_at_place(&error)));
 }
 
-/// Expects that a text and its copy at a place differ in the place alone.
-fn expect_placed_text(rt: &impl Abort, text: &NodeStr, placed: &NodeStr) {
-    assert_eq!(rt; text.location(), None);
-    assert_eq!(rt; placed.location(), Some(PLACE));
-    assert!(rt; text == placed);
-    assert_eq!(rt; hash_of(text), hash_of(placed));
+/// Whether a text and its copy at a place differ in the place alone.
+fn is_text_placed(text: &NodeStr, placed: &NodeStr) -> bool {
+    (text.location(), placed.location()) == (None, Some(PLACE))
+        && placed.as_str() == "A type, \"quoted\"."
+        && are_alike(text, placed)
 }
 
-#[test]
-fn shared_texts(rt: HostRuntime) -> Result<(), Fail> {
-    let text = NodeStr::new(rt.alloc(), "A type, \"quoted\".")?;
+/// A text with quotes in it.
+fn quoted(alloc: Global) -> Result<NodeStr, AllocError> {
+    NodeStr::new(alloc, "A type, \"quoted\".")
+}
+
+/// Whether that text can be copied to a place.
+fn is_text_kept(alloc: Global) -> Result<bool, AllocError> {
+    let text = quoted(alloc)?;
     let placed = text.clone()?.with_location(PLACE);
-    assert_eq!(rt; placed.as_str(), "A type, \"quoted\".");
-    expect_placed_text(&rt, &text, &placed);
-    Ok(())
+    Ok(is_text_placed(&text, &placed))
 }
 
 #[test]
-fn other_texts_are_unequal(rt: HostRuntime) -> Result<(), Fail> {
+fn shared_texts(rt: HostRuntime) {
+    assert!(rt; is_text_kept(rt.alloc()) == Ok(true));
+}
+
+#[test]
+fn other_texts_are_unequal(rt: HostRuntime) {
     let alloc = rt.alloc();
-    let text = NodeStr::new(alloc, "A type, \"quoted\".")?;
-    assert!(rt; text != NodeStr::new(alloc, "another")?);
-    Ok(())
+    assert!(rt; are_equal(quoted(alloc), NodeStr::new(alloc, "another")) == Some(false));
 }

@@ -1,20 +1,16 @@
-use crate::names::{PLACE, hash_of};
+//! Nodes and their places.
+
+use crate::names::PLACE;
 use graphql_nodes::name::Name;
 use graphql_nodes::node::Node;
 use graphql_nodes::source::{FileId, SourceFile, SourceSpan};
+use likeness::{are_alike, are_equal};
 use std::alloc::{AllocError, Global};
 use std::mem::size_of;
-use std::process::Abort;
-use std::test::Fail;
 
 #[test]
 fn one_pointer_wide(rt: HostRuntime) {
-    assert_eq!(rt; size_of::<Node<SourceFile>>(), size_of::<usize>());
-}
-
-/// Expects this place of a node.
-fn expect_place(rt: &impl Abort, node: &Node<i32>, place: Option<SourceSpan>, is_built_in: bool) {
-    assert_eq!(rt; (node.location(), node.is_built_in()), (place, is_built_in));
+    assert!(rt; size_of::<Node<SourceFile>>() == size_of::<usize>());
 }
 
 /// A place in the file of built-in definitions.
@@ -24,34 +20,61 @@ const BUILT_IN: SourceSpan = SourceSpan {
     end: 0,
 };
 
+/// Whether the node was made, and is at this place.
+fn is_at(
+    node: Result<Node<i32>, AllocError>,
+    place: Option<SourceSpan>,
+    is_built_in: bool,
+) -> bool {
+    match node {
+        Ok(node) => (node.location(), node.is_built_in()) == (place, is_built_in),
+        Err(_) => false,
+    }
+}
+
 /// A node that holds 7 at this place.
 fn seven(alloc: Global, place: Option<SourceSpan>) -> Result<Node<i32>, AllocError> {
     Node::new_opt_location(alloc, 7, place)
 }
 
-#[test]
-fn places(rt: HostRuntime) -> Result<(), Fail> {
-    let alloc = rt.alloc();
-    expect_place(&rt, &Node::new(alloc, 7)?, None, false);
-    for (place, is_built_in) in [(None, false), (Some(PLACE), false), (Some(BUILT_IN), true)] {
-        expect_place(&rt, &seven(alloc, place)?, place, is_built_in);
+/// A node that holds `a` at the place of another.
+fn beside(alloc: Global) -> Result<Node<char>, AllocError> {
+    seven(alloc, Some(PLACE))?.same_location(alloc, 'a')
+}
+
+/// Whether the node was made, and holds `a` at the place.
+fn is_beside(node: Result<Node<char>, AllocError>) -> bool {
+    match node {
+        Ok(node) => (*node, node.location()) == ('a', Some(PLACE)),
+        Err(_) => false,
     }
-    let other = seven(alloc, Some(PLACE))?.same_location(alloc, 'a')?;
-    assert_eq!(rt; (*other, other.location()), ('a', Some(PLACE)));
-    Ok(())
 }
 
 #[test]
-fn nodes_are_equal_without_places(rt: HostRuntime) -> Result<(), Fail> {
+fn places(rt: HostRuntime) {
     let alloc = rt.alloc();
-    let nowhere = Node::new(alloc, 7)?;
-    for place in [None, Some(PLACE), Some(BUILT_IN)] {
-        let node = seven(alloc, place)?;
-        assert!(rt; nowhere == node);
-        assert_eq!(rt; hash_of(&nowhere), hash_of(&node));
+    assert!(rt; is_at(Node::new(alloc, 7), None, false));
+    assert!(rt; is_at(seven(alloc, None), None, false));
+    assert!(rt; is_at(seven(alloc, Some(PLACE)), Some(PLACE), false));
+    assert!(rt; is_at(seven(alloc, Some(BUILT_IN)), Some(BUILT_IN), true));
+    assert!(rt; is_beside(beside(alloc)));
+}
+
+/// Whether a node of 7 and one of 7 at this place are equal, and hashed the same.
+fn is_alike_at(alloc: Global, place: Option<SourceSpan>) -> bool {
+    match (Node::new(alloc, 7), seven(alloc, place)) {
+        (Ok(nowhere), Ok(node)) => are_alike(&nowhere, &node),
+        _ => false,
     }
-    assert!(rt; nowhere != Node::new(alloc, 8)?);
-    Ok(())
+}
+
+#[test]
+fn nodes_are_equal_without_places(rt: HostRuntime) {
+    let alloc = rt.alloc();
+    assert!(rt; is_alike_at(alloc, None));
+    assert!(rt; is_alike_at(alloc, Some(PLACE)));
+    assert!(rt; is_alike_at(alloc, Some(BUILT_IN)));
+    assert!(rt; are_equal(Node::new(alloc, 7), Node::new(alloc, 8)) == Some(false));
 }
 
 /// The node of this name.
@@ -62,26 +85,38 @@ fn named(alloc: Global, name: &str) -> Result<Node<Name>, AllocError> {
 
 /// Writes another name to the node.
 fn rename(alloc: Global, node: &mut Node<Name>, name: &str) -> Result<(), AllocError> {
-    let name = Name::new_unchecked(alloc, name)?;
-    *node.make_mut()? = name;
+    let held = node.make_mut()?;
+    *held = Name::new_unchecked(alloc, name)?;
     Ok(())
 }
 
-#[test]
-fn a_write_leaves_the_other_node(rt: HostRuntime) -> Result<(), Fail> {
-    let alloc = rt.alloc();
+/// Whether the nodes have these names, both at the place.
+fn are_named(first: &Node<Name>, second: &Node<Name>, names: (&str, &str)) -> bool {
+    let places = (first.location(), second.location());
+    (first.as_str(), second.as_str()) == names && places == (Some(PLACE), Some(PLACE))
+}
+
+/// Whether a write to the second of two equal nodes leaves the first, and another makes them equal again.
+fn is_write_apart(
+    alloc: Global,
+    first: &Node<Name>,
+    second: &mut Node<Name>,
+) -> Result<bool, AllocError> {
+    let is_shared = *first == *second;
+    rename(alloc, second, "after")?;
+    let is_apart = are_named(first, second, ("before", "after")) && *first != *second;
+    rename(alloc, second, "before")?;
+    Ok(is_shared && is_apart && *first == *second)
+}
+
+/// Whether two nodes that share a name are written apart.
+fn are_written_apart(alloc: Global) -> Result<bool, AllocError> {
     let first = named(alloc, "before")?;
     let mut second = first.clone()?;
-    assert!(rt; first == second);
-    rename(alloc, &mut second, "after")?;
-    assert_eq!(rt; first.as_str(), "before");
-    assert_eq!(rt; second.as_str(), "after");
-    assert_eq!(rt;
-        (first.location(), second.location()),
-        (Some(PLACE), Some(PLACE))
-    );
-    assert!(rt; first != second);
-    rename(alloc, &mut second, "before")?;
-    assert!(rt; first == second);
-    Ok(())
+    is_write_apart(alloc, &first, &mut second)
+}
+
+#[test]
+fn a_write_leaves_the_other_node(rt: HostRuntime) {
+    assert!(rt; are_written_apart(rt.alloc()) == Ok(true));
 }

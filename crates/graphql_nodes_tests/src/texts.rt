@@ -1,71 +1,103 @@
+//! The texts of the small enums.
+
+use crate::tables::expect_at;
 use graphql_nodes::directive_location::DirectiveLocation;
 use graphql_nodes::operation_type::OperationType;
 use graphql_nodes::type_kind::TypeKind;
-use std::test::Fail;
+use likeness::is_printed;
+use std::alloc::Global;
+
+/// Each kind of a type, with its text.
+const KINDS: &[(TypeKind, &str)] = &[
+    (TypeKind::Scalar, "a scalar type"),
+    (TypeKind::Object, "an object type"),
+    (TypeKind::Interface, "an interface type"),
+    (TypeKind::Union, "a union type"),
+    (TypeKind::Enum, "an enum type"),
+    (TypeKind::InputObject, "an input object type"),
+];
 
 #[test]
 fn kinds(rt: HostRuntime) {
-    for (kind, text) in [
-        (TypeKind::Scalar, "a scalar type"),
-        (TypeKind::Object, "an object type"),
-        (TypeKind::Interface, "an interface type"),
-        (TypeKind::Union, "a union type"),
-        (TypeKind::Enum, "an enum type"),
-        (TypeKind::InputObject, "an input object type"),
-    ] {
-        assert_eq!(rt; kind.describe(), text);
+    for (kind, text) in KINDS {
+        expect_at(&rt, text, kind.describe() == *text);
+    }
+}
+
+/// Whether the root has this default name, at no place.
+fn is_root(alloc: Global, operation: OperationType, root: &str) -> bool {
+    match operation.default_type_name(alloc) {
+        Ok(name) => (name.as_str(), name.location()) == (root, None),
+        Err(_) => false,
+    }
+}
+
+/// Whether the operation has this keyword, and this default name of its root.
+fn is_operation(alloc: Global, operation: OperationType, keyword: &str, root: &str) -> bool {
+    operation.name() == keyword
+        && is_printed(alloc, &operation, keyword)
+        && is_root(alloc, operation, root)
+}
+
+/// Each operation, with its keyword and the default name of its root.
+const OPERATIONS: &[(OperationType, &str, &str)] = &[
+    (OperationType::Query, "query", "Query"),
+    (OperationType::Mutation, "mutation", "Mutation"),
+    (OperationType::Subscription, "subscription", "Subscription"),
+];
+
+#[test]
+fn operations(rt: HostRuntime) {
+    let alloc = rt.alloc();
+    for (operation, keyword, root) in OPERATIONS {
+        expect_at(&rt, keyword, is_operation(alloc, *operation, keyword, root));
+    }
+}
+
+/// Each place of a directive, with its name.
+const LOCATIONS: &[(DirectiveLocation, &str)] = &[
+    (DirectiveLocation::Query, "QUERY"),
+    (DirectiveLocation::Mutation, "MUTATION"),
+    (DirectiveLocation::Subscription, "SUBSCRIPTION"),
+    (DirectiveLocation::Field, "FIELD"),
+    (DirectiveLocation::FragmentDefinition, "FRAGMENT_DEFINITION"),
+    (DirectiveLocation::FragmentSpread, "FRAGMENT_SPREAD"),
+    (DirectiveLocation::InlineFragment, "INLINE_FRAGMENT"),
+    (DirectiveLocation::VariableDefinition, "VARIABLE_DEFINITION"),
+    (DirectiveLocation::Schema, "SCHEMA"),
+    (DirectiveLocation::Scalar, "SCALAR"),
+    (DirectiveLocation::Object, "OBJECT"),
+    (DirectiveLocation::FieldDefinition, "FIELD_DEFINITION"),
+    (DirectiveLocation::ArgumentDefinition, "ARGUMENT_DEFINITION"),
+    (DirectiveLocation::Interface, "INTERFACE"),
+    (DirectiveLocation::Union, "UNION"),
+    (DirectiveLocation::Enum, "ENUM"),
+    (DirectiveLocation::EnumValue, "ENUM_VALUE"),
+    (DirectiveLocation::InputObject, "INPUT_OBJECT"),
+    (
+        DirectiveLocation::InputFieldDefinition,
+        "INPUT_FIELD_DEFINITION",
+    ),
+];
+
+/// Whether the place of a directive has this name, and is found by it.
+fn is_location(alloc: Global, location: DirectiveLocation, text: &str) -> bool {
+    location.name() == text
+        && is_printed(alloc, &location, text)
+        && DirectiveLocation::from_name(text) == Some(location)
+}
+
+#[test]
+fn directive_locations(rt: HostRuntime) {
+    let alloc = rt.alloc();
+    for (location, text) in LOCATIONS {
+        expect_at(&rt, text, is_location(alloc, *location, text));
     }
 }
 
 #[test]
-fn operations(rt: HostRuntime) -> Result<(), Fail> {
-    let alloc = rt.alloc();
-    for (operation, keyword, root) in [
-        (OperationType::Query, "query", "Query"),
-        (OperationType::Mutation, "mutation", "Mutation"),
-        (OperationType::Subscription, "subscription", "Subscription"),
-    ] {
-        assert_eq!(rt; operation.name(), keyword);
-        assert_eq!(rt; operation.to_string(alloc)?.as_str(), keyword);
-        let name = operation.default_type_name(alloc)?;
-        assert_eq!(rt; (name.as_str(), name.location()), (root, None));
+fn other_texts_are_no_locations(rt: HostRuntime) {
+    for text in &["", "NOWHERE", "query", "QUERY ", "FIELD_", "ENUM_VALUES"] {
+        expect_at(&rt, text, DirectiveLocation::from_name(text).is_none());
     }
-    Ok(())
-}
-
-#[test]
-fn directive_locations(rt: HostRuntime) -> Result<(), Fail> {
-    let alloc = rt.alloc();
-    for (location, text) in [
-        (DirectiveLocation::Query, "QUERY"),
-        (DirectiveLocation::Mutation, "MUTATION"),
-        (DirectiveLocation::Subscription, "SUBSCRIPTION"),
-        (DirectiveLocation::Field, "FIELD"),
-        (DirectiveLocation::FragmentDefinition, "FRAGMENT_DEFINITION"),
-        (DirectiveLocation::FragmentSpread, "FRAGMENT_SPREAD"),
-        (DirectiveLocation::InlineFragment, "INLINE_FRAGMENT"),
-        (DirectiveLocation::VariableDefinition, "VARIABLE_DEFINITION"),
-        (DirectiveLocation::Schema, "SCHEMA"),
-        (DirectiveLocation::Scalar, "SCALAR"),
-        (DirectiveLocation::Object, "OBJECT"),
-        (DirectiveLocation::FieldDefinition, "FIELD_DEFINITION"),
-        (DirectiveLocation::ArgumentDefinition, "ARGUMENT_DEFINITION"),
-        (DirectiveLocation::Interface, "INTERFACE"),
-        (DirectiveLocation::Union, "UNION"),
-        (DirectiveLocation::Enum, "ENUM"),
-        (DirectiveLocation::EnumValue, "ENUM_VALUE"),
-        (DirectiveLocation::InputObject, "INPUT_OBJECT"),
-        (
-            DirectiveLocation::InputFieldDefinition,
-            "INPUT_FIELD_DEFINITION",
-        ),
-    ] {
-        assert_eq!(rt; location.name(), text);
-        assert_eq!(rt; location.to_string(alloc)?.as_str(), text);
-        assert_eq!(rt; DirectiveLocation::from_name(text), Some(location));
-    }
-    for text in ["", "NOWHERE", "query", "QUERY ", "FIELD_", "ENUM_VALUES"] {
-        assert_eq!(rt; DirectiveLocation::from_name(text), None);
-    }
-    Ok(())
 }

@@ -1,5 +1,5 @@
 -- A text may be cut behind its space.
-use Rattle.std.proofs.Common.{arith, ◌<◌, ℕ, List, get_or, length}
+use Rattle.std.proofs.Common.{arith, ◌<◌, length}
 use Rattle.std.proofs.lemmas.Str.{IsCharBoundary-after_ascii}
 use Rattle.gqlrows_run.proofs.line.text.Goals as goal
 

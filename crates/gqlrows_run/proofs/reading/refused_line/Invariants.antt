@@ -1,5 +1,5 @@
 -- No line so far is refused.
-use Rattle.std.proofs.Common.{◌≡◌, ◌+◌, ◌++◌, List, Bor, ℕ, drop, map, string_bytes, take}
+use Rattle.std.proofs.Common.{◌≡◌, ◌+◌, drop, map}
 use Rattle.gqlrows_run.specs.FileLines.{refused_from, refused_of}
 use Rattle.gqlrows_run.proofs.reading.refused_line.Given as goal
 

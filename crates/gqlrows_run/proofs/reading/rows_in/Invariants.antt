@@ -1,5 +1,5 @@
 -- The rows so far and those of the lines left are the rows of all lines.
-use Rattle.std.proofs.Common.{◌≡◌, ◌+◌, ◌++◌, List, Bor, ℕ, drop, map, string_bytes, take}
+use Rattle.std.proofs.Common.{◌≡◌, ◌++◌, drop, map}
 use Rattle.gqlrows_run.specs.Rows.{row_view, rows_of}
 use Rattle.gqlrows_run.proofs.reading.rows_in.Given as goal
 

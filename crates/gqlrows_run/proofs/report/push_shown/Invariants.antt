@@ -1,5 +1,5 @@
 -- What is shown of the bytes so far and what is to be shown of those left are the whole text as shown.
-use Rattle.std.proofs.Common.{◌≡◌, ◌++◌, ℕ, true, drop}
+use Rattle.std.proofs.Common.{◌≡◌, ◌++◌, true, drop}
 use Rattle.gqlrows_run.specs.Report.{shown}
 use Rattle.gqlrows_run.proofs.report.push_shown.Given as goal
 

@@ -1,5 +1,5 @@
 -- One more row has run, and is told of where it differs.
-use Rattle.std.proofs.Common.{◌≡◌, ◌≤◌, ℕ, Bool, refl, ◌+◌, ◌++◌, ◌∷◌, [], List, cond, true, false, map, string_bytes, subst, sym, ap, ◌∙◌, add-zero, arith}
+use Rattle.std.proofs.Common.{◌≡◌, ◌≤◌, ℕ, Bool, refl, ◌+◌, ◌++◌, ◌∷◌, [], List, cond, true, false, map, subst, sym, ap, ◌∙◌, add-zero, arith}
 use Rattle.std.specs.List.{count_by}
 use Rattle.gqlrows_run.specs.Rows.{row_view}
 use Rattle.gqlrows_run.specs.Runs.{Ran, IsOutcome}

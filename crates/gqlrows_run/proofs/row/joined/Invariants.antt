@@ -1,5 +1,5 @@
 -- What was found and the text of the lines left is the text of all lines.
-use Rattle.std.proofs.Common.{◌≡◌, ◌+◌, ◌++◌, List, Bor, ℕ, drop, map, string_bytes, take}
+use Rattle.std.proofs.Common.{◌≡◌, ◌++◌, drop, map, string_bytes}
 use Rattle.gqlrows_run.specs.Rows.{joined}
 use Rattle.gqlrows_run.proofs.row.joined.Given as goal
 

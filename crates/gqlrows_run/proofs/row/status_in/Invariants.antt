@@ -1,5 +1,5 @@
 -- The lines left say the status of all lines.
-use Rattle.std.proofs.Common.{◌≡◌, ◌+◌, ◌++◌, List, Bor, ℕ, drop, map, string_bytes, take}
+use Rattle.std.proofs.Common.{◌≡◌, drop, map}
 use Rattle.gqlrows_run.specs.Rows.{status_in}
 use Rattle.gqlrows_run.proofs.row.status_in.Given as goal
 

@@ -1,5 +1,5 @@
 -- What was found and the texts of the lines left are the texts of all lines.
-use Rattle.std.proofs.Common.{◌≡◌, ◌+◌, ◌++◌, List, Bor, ℕ, drop, map, string_bytes, take}
+use Rattle.std.proofs.Common.{◌≡◌, ◌++◌, drop, map}
 use Rattle.gqlrows_run.specs.Rows.{texts}
 use Rattle.gqlrows_run.proofs.row.texts.Given as goal
 

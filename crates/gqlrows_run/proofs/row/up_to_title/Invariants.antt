@@ -1,5 +1,5 @@
 -- No line so far is a title.
-use Rattle.std.proofs.Common.{◌≡◌, ◌+◌, ◌++◌, List, Bor, ℕ, drop, map, string_bytes, take}
+use Rattle.std.proofs.Common.{◌≡◌, ◌++◌, drop, map, take}
 use Rattle.gqlrows_run.specs.Rows.{up_to_title}
 use Rattle.gqlrows_run.proofs.row.up_to_title.Given as goal
 

@@ -1,0 +1,98 @@
+//! What is read from lines: extensions as they stand, before a schema is built of them, and the places of nodes.
+
+use crate::accounts::push_place;
+use bench_notation::printing::print;
+use bench_notation::reading::read;
+use graphql_ast::definition::Definition;
+use graphql_ast::document::Document;
+use graphql_ast::type_system::{InputObjectTypeDefinition, SchemaDefinition};
+use graphql_nodes::node::Node;
+use std::alloc::{AllocError, Global};
+use std::test::Fail;
+
+/// Documents that are printed as they are read.
+const SAME: &str =
+    "ext scalar S\n@ d\n---\next interface I\nimplements J\nimplements J\nfield a Int\n---\next union U\nmember A\nmember A\n---\next enum E\nvalue true\n---\next input P\nfield a Int\n---\next object T\n@ d\nimplements I\nfield a Int\narg x Int\n---\nschema\n---\next-schema\n---\next-schema\n@ d\nroot query A\nroot query B\nroot query A\n---\nschema\nroot query query\next-schema\nroot mutation root\ndef object schema\nschema\n---\next-schema\nroot query A\nschema\n@ d\nroot query B\n";
+
+/// The prints of documents, parted as documents are.
+fn printed(alloc: Global, documents: &[Document]) -> Result<String, AllocError> {
+    let mut text = String::new(alloc);
+    for document in documents {
+        if !text.is_empty() {
+            text.push_str("---\n")?;
+        }
+        let printed = print(alloc, document.definitions.as_slice())?;
+        text.push_str(printed.as_str())?;
+    }
+    Ok(text)
+}
+
+#[test]
+fn definitions_are_printed_as_they_are_read(rt: HostRuntime) -> Result<(), Fail> {
+    let alloc = rt.alloc();
+    let documents = read(alloc, SAME)?;
+    let text = printed(alloc, documents.as_slice())?;
+    assert_eq!(rt; text.as_str(), SAME);
+    Ok(())
+}
+
+/// Adds the places of an input object type, its name, its fields and their parts.
+fn push_input_places(
+    text: &mut String,
+    node: &Node<InputObjectTypeDefinition>,
+) -> Result<(), AllocError> {
+    push_place(text, node.location())?;
+    push_place(text, node.name.location())?;
+    for field in node.fields.as_slice() {
+        push_place(text, field.location())?;
+        push_place(text, field.name.location())?;
+        push_place(text, field.ty.location())?;
+    }
+    Ok(())
+}
+
+/// Adds the places of a schema definition, its directives and its roots.
+fn push_schema_places(text: &mut String, node: &Node<SchemaDefinition>) -> Result<(), AllocError> {
+    push_place(text, node.location())?;
+    for directive in node.directives.as_slice() {
+        push_place(text, directive.location())?;
+        push_place(text, directive.name.location())?;
+    }
+    for root in node.root_operations.as_slice() {
+        let (operation, name) = &**root;
+        write!(text, "{operation} {name} ")?;
+        push_place(text, root.location())?;
+        push_place(text, name.location())?;
+    }
+    Ok(())
+}
+
+/// Adds the places of what stands in input object types and schema definitions.
+fn push_places(text: &mut String, documents: &[Document]) -> Result<(), AllocError> {
+    for document in documents {
+        for definition in document.definitions.as_slice() {
+            match definition {
+                Definition::InputObjectTypeDefinition(node) => push_input_places(text, node)?,
+                Definition::SchemaDefinition(node) => push_schema_places(text, node)?,
+                _ => {}
+            }
+        }
+    }
+    Ok(())
+}
+
+#[test]
+fn nodes_stand_at_their_lines(rt: HostRuntime) -> Result<(), Fail> {
+    let alloc = rt.alloc();
+    let documents = read(
+        alloc,
+        "\ndef input P\n\nfield a Int\n\nschema\n@ d\n\nroot mutation M",
+    )?;
+    let mut text = String::new(alloc);
+    push_places(&mut text, documents.as_slice())?;
+    assert_eq!(rt;
+        text.as_str(),
+        "1:2-2 1:2-2 1:4-4 1:4-4 1:4-4 1:6-6 1:7-7 1:7-7 mutation M 1:9-9 1:9-9 "
+    );
+    Ok(())
+}

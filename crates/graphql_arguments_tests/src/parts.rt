@@ -1,0 +1,67 @@
+//! Parts of operations and of types, files and texts: their copies.
+
+use crate::arguments::{field, int_type, number, with_default};
+use crate::samples::placed_name;
+use graphql_ast::directive::DirectiveList;
+use graphql_ast::operation::VariableDefinition;
+use graphql_ast::selection::FragmentSpread;
+use graphql_ast::type_system::EnumValueDefinition;
+use graphql_nodes::collections::static_text::StaticText;
+use graphql_nodes::collections::text::Text;
+use graphql_nodes::source::SourceFile;
+use likeness::{is_held_copied, is_made_copied};
+use std::alloc::{AllocError, Global};
+
+/// The variable `$n: Int! = 10`.
+fn variable_definition(alloc: Global) -> Result<VariableDefinition, AllocError> {
+    let default_value = Some(number(alloc, "10")?);
+    let ty = int_type(alloc, true)?;
+    Ok(VariableDefinition {
+        name: placed_name(alloc)?,
+        ty,
+        default_value,
+        directives: DirectiveList::new(alloc),
+    })
+}
+
+fn spread(alloc: Global) -> Result<FragmentSpread, AllocError> {
+    Ok(FragmentSpread {
+        fragment_name: placed_name(alloc)?,
+        directives: DirectiveList::new(alloc),
+    })
+}
+
+fn enum_value(alloc: Global) -> Result<EnumValueDefinition, AllocError> {
+    Ok(EnumValueDefinition {
+        description: None,
+        value: placed_name(alloc)?,
+        directives: DirectiveList::new(alloc),
+    })
+}
+
+fn file(alloc: Global) -> Result<SourceFile, AllocError> {
+    let path = Text::from_str(alloc, "a.graphql")?;
+    let text = Text::from_str(alloc, "scalar S")?;
+    Ok(SourceFile { path, text })
+}
+
+#[test]
+fn variables_and_spreads(rt: HostRuntime) {
+    let alloc = rt.alloc();
+    assert!(rt; is_made_copied(variable_definition(alloc)));
+    assert!(rt; is_made_copied(spread(alloc)));
+}
+
+#[test]
+fn parts_of_types(rt: HostRuntime) {
+    let alloc = rt.alloc();
+    assert!(rt; is_held_copied(with_default(alloc)));
+    assert!(rt; is_made_copied(field(alloc)));
+    assert!(rt; is_made_copied(enum_value(alloc)));
+}
+
+#[test]
+fn files_and_texts(rt: HostRuntime) {
+    assert!(rt; is_made_copied(file(rt.alloc())));
+    assert!(rt; is_made_copied(Ok(StaticText::new("an object type"))));
+}

@@ -1,0 +1,31 @@
+//! Parts that the trees of several tests have.
+
+use graphql_nodes::collections::items::Items;
+use graphql_nodes::name::Name;
+use graphql_nodes::node::Node;
+use graphql_nodes::source::{FileId, SourceSpan};
+use std::alloc::{AllocError, Global};
+
+/// The place of what the tests put at one.
+pub const PLACE: SourceSpan = SourceSpan {
+    file: FileId(3),
+    start: 14,
+    end: 17,
+};
+
+/// The node of this value, at the place.
+pub fn placed<T: Drop>(alloc: Global, value: T) -> Result<Node<T>, AllocError> {
+    Node::new_opt_location(alloc, value, Some(PLACE))
+}
+
+/// The name `n`, at the place.
+pub fn placed_name(alloc: Global) -> Result<Name, AllocError> {
+    Ok(Name::new_unchecked(alloc, "n")?.with_location(PLACE))
+}
+
+/// A list of this value alone.
+pub fn list<T: Drop>(alloc: Global, value: T) -> Result<Items<T>, AllocError> {
+    let mut list = Items::new(alloc);
+    list.push(value)?;
+    Ok(list)
+}

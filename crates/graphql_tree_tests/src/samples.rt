@@ -1,0 +1,28 @@
+//! Parts that the trees of several tests have.
+
+use graphql_nodes::collections::items::Items;
+use graphql_nodes::name::Name;
+use graphql_nodes::source::{FileId, SourceSpan};
+use std::alloc::{AllocError, Global};
+
+pub const PLACE: SourceSpan = SourceSpan {
+    file: FileId(3),
+    start: 14,
+    end: 17,
+};
+
+/// The name of this text, at a place if one is given.
+pub fn name(alloc: Global, text: &str, place: Option<SourceSpan>) -> Result<Name, AllocError> {
+    let name = Name::new_unchecked(alloc, text)?;
+    match place {
+        Some(place) => Ok(name.with_location(place)),
+        None => Ok(name),
+    }
+}
+
+/// A list of this value alone.
+pub fn list<T: Drop>(alloc: Global, value: T) -> Result<Items<T>, AllocError> {
+    let mut list = Items::new(alloc);
+    list.push(value)?;
+    Ok(list)
+}

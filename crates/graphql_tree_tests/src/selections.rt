@@ -1,0 +1,133 @@
+//! Selections with directives and arguments: their likeness, copies and writes.
+
+use crate::samples::{PLACE, list, name};
+use crate::values::value;
+use graphql_ast::directive::{Argument, Directive, DirectiveList};
+use graphql_ast::selection::{Field, InlineFragment, Selection};
+use graphql_nodes::collections::items::Items;
+use graphql_nodes::node::Node;
+use graphql_nodes::source::SourceSpan;
+use likeness::{are_made_alike, is_copied_so, is_held_copied, is_made_copied, is_so};
+use std::alloc::{AllocError, Global};
+
+/// The argument `where: ..`, all at one place.
+fn argument(alloc: Global, place: Option<SourceSpan>) -> Result<Node<Argument>, AllocError> {
+    let value = Node::new_opt_location(alloc, value(alloc, place)?, place)?;
+    let name = name(alloc, "where", place)?;
+    Node::new_opt_location(alloc, Argument { name, value }, place)
+}
+
+/// The directive `@on(where: ..)`, all at one place.
+fn directive(alloc: Global, place: Option<SourceSpan>) -> Result<Node<Directive>, AllocError> {
+    let arguments = list(alloc, argument(alloc, place)?)?;
+    let name = name(alloc, "on", place)?;
+    Node::new_opt_location(alloc, Directive { name, arguments }, place)
+}
+
+/// The directives `@on(where: ..)`, all at one place.
+fn directives(alloc: Global, place: Option<SourceSpan>) -> Result<DirectiveList, AllocError> {
+    Ok(DirectiveList(list(alloc, directive(alloc, place)?)?))
+}
+
+/// The field `other: key`, all at one place.
+fn field(alloc: Global, place: Option<SourceSpan>) -> Result<Node<Field>, AllocError> {
+    let alias = Some(name(alloc, "other", place)?);
+    let field = Field {
+        alias,
+        name: name(alloc, "key", place)?,
+        arguments: Items::new(alloc),
+        directives: DirectiveList::new(alloc),
+        selection_set: Items::new(alloc),
+    };
+    Node::new_opt_location(alloc, field, place)
+}
+
+/// The selections `{ other: key }`, all at one place.
+fn selections(alloc: Global, place: Option<SourceSpan>) -> Result<Items<Selection>, AllocError> {
+    list(alloc, Selection::Field(field(alloc, place)?))
+}
+
+/// The fragment `... on T @on(..) { other: key }`, all at one place.
+fn fragment(alloc: Global, place: Option<SourceSpan>) -> Result<Node<InlineFragment>, AllocError> {
+    let directives = directives(alloc, place)?;
+    let selection_set = selections(alloc, place)?;
+    let type_condition = Some(name(alloc, "T", place)?);
+    let inline = InlineFragment {
+        type_condition,
+        directives,
+        selection_set,
+    };
+    Node::new_opt_location(alloc, inline, place)
+}
+
+/// That fragment as a selection.
+fn selection(alloc: Global, place: Option<SourceSpan>) -> Result<Selection, AllocError> {
+    Ok(Selection::InlineFragment(fragment(alloc, place)?))
+}
+
+#[test]
+fn trees_are_equal_without_places(rt: HostRuntime) {
+    let alloc = rt.alloc();
+    assert!(rt; are_made_alike(selection(alloc, Some(PLACE)), selection(alloc, None)));
+}
+
+/// The place of the type condition.
+fn place_of_condition(node: &Node<InlineFragment>) -> Option<SourceSpan> {
+    match node.type_condition.as_ref() {
+        Some(condition) => condition.location(),
+        None => None,
+    }
+}
+
+/// Whether the inline fragment and its type condition are at the place.
+fn is_in_place(selection: &Selection) -> bool {
+    match selection {
+        Selection::InlineFragment(node) => {
+            (node.location(), place_of_condition(node)) == (Some(PLACE), Some(PLACE))
+        }
+        _ => false,
+    }
+}
+
+#[test]
+fn copies_keep_places(rt: HostRuntime) {
+    let here = selection(rt.alloc(), Some(PLACE));
+    assert!(rt; is_copied_so(here, is_in_place));
+}
+
+/// Takes all directives off the fragment.
+fn clear(alloc: Global, node: &mut Node<InlineFragment>) -> Result<(), AllocError> {
+    let fragment = node.make_mut()?;
+    fragment.directives = DirectiveList::new(alloc);
+    Ok(())
+}
+
+/// Whether the first fragment has no directive, and the second has its one.
+fn are_apart(first: &Node<InlineFragment>, second: &Node<InlineFragment>) -> bool {
+    *first != *second && (first.directives.len(), second.directives.len()) == (0, 1)
+}
+
+/// Whether a write to a copy leaves the fragment.
+fn is_write_apart(alloc: Global, node: &Node<InlineFragment>) -> bool {
+    match node.clone() {
+        Ok(mut copy) => clear(alloc, &mut copy).is_ok() && are_apart(&copy, node),
+        Err(_) => false,
+    }
+}
+
+#[test]
+fn a_write_leaves_the_other_tree(rt: HostRuntime) {
+    let alloc = rt.alloc();
+    let node = fragment(alloc, Some(PLACE));
+    assert!(rt; is_so(node, |node| is_write_apart(alloc, node)));
+}
+
+#[test]
+fn parts_of_trees_are_copied(rt: HostRuntime) {
+    let alloc = rt.alloc();
+    assert!(rt; is_held_copied(fragment(alloc, Some(PLACE))));
+    assert!(rt; is_made_copied(directives(alloc, Some(PLACE))));
+    assert!(rt; is_held_copied(directive(alloc, Some(PLACE))));
+    assert!(rt; is_held_copied(argument(alloc, Some(PLACE))));
+    assert!(rt; is_held_copied(field(alloc, Some(PLACE))));
+}

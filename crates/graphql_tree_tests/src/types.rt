@@ -1,0 +1,52 @@
+//! References to types, and their copies.
+
+use crate::samples::{PLACE, name};
+use graphql_ast::type_reference::Type;
+use graphql_nodes::collections::boxed::Boxed;
+use likeness::{are_equal, is_copied_so, is_so};
+use std::alloc::{AllocError, Global};
+
+/// The type `Page!`, at a place.
+fn page(alloc: Global) -> Result<Type, AllocError> {
+    Ok(Type::NonNullNamed(name(alloc, "Page", Some(PLACE))?))
+}
+
+/// The type `[Page!]`.
+fn pages(alloc: Global) -> Result<Type, AllocError> {
+    Ok(Type::List(Boxed::new(alloc, page(alloc)?)?))
+}
+
+/// The type `[Page!]!`.
+fn all_pages(alloc: Global) -> Result<Type, AllocError> {
+    Ok(Type::NonNullList(Boxed::new(alloc, pages(alloc)?)?))
+}
+
+/// The type `Page`.
+fn optional(alloc: Global) -> Result<Type, AllocError> {
+    Ok(Type::Named(name(alloc, "Page", None)?))
+}
+
+fn is_optional(ty: &Type) -> bool {
+    !ty.is_non_null()
+}
+
+#[test]
+fn type_references(rt: HostRuntime) {
+    let alloc = rt.alloc();
+    assert!(rt; is_so(page(alloc), Type::is_non_null));
+    assert!(rt; is_so(pages(alloc), is_optional));
+    assert!(rt; is_so(all_pages(alloc), Type::is_non_null));
+    assert!(rt; is_so(optional(alloc), is_optional));
+    assert!(rt; are_equal(optional(alloc), all_pages(alloc)) == Some(false));
+}
+
+/// Whether the type's name is `Page`, at the place.
+fn is_of_page(ty: &Type) -> bool {
+    let name = ty.inner_named_type();
+    (name.as_str(), name.location()) == ("Page", Some(PLACE))
+}
+
+#[test]
+fn type_references_are_copied(rt: HostRuntime) {
+    assert!(rt; is_copied_so(all_pages(rt.alloc()), is_of_page));
+}
