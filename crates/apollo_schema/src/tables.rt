@@ -44,7 +44,6 @@ use std::mem;
 
 /// What a builder holds until it fails. An extension before its definition waits under its name; a name that is
 /// defined keeps an empty list, so that taking its extensions out moves no other.
-#[derive(Drop)]
 pub struct Tables {
     alloc: Global,
     sources: SourceMap,
@@ -55,6 +54,23 @@ pub struct Tables {
     waiting: Table<Name, Items<Definition>>,
     ids: ExtensionSource,
     errors: Items<Fault>,
+}
+
+/// Written by hand, so that it is proved here and not in each crate that drops a builder.
+impl Drop for Tables {
+    fn drop(self) {
+        let Tables {
+            alloc: _,
+            sources: _,
+            schema_definition: _,
+            schema_extensions: _,
+            types: _,
+            directive_definitions: _,
+            waiting: _,
+            ids: _,
+            errors: _,
+        } = self;
+    }
 }
 
 /// Puts a type under a name.

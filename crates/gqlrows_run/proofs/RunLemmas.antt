@@ -1,5 +1,5 @@
 -- Runs of rows, and the report on them.
-use Rattle.std.proofs.Common.{◌≡◌, ℕ, ◌+◌, ◌<◌, Bool, true, false, not, ◌&&◌, cond, List, [], ◌∷◌, ◌++◌, All, codes, get_or, length, map, take, refl, sym, ap, subst, ◌∙◌, arith, eqb, zero-add}
+use Rattle.std.proofs.Common.{◌≡◌, ℕ, ◌+◌, ◌<◌, Bool, true, false, not, ◌&&◌, cond, List, [], ◌∷◌, ◌++◌, All, get_or, length, map, take, refl, sym, ap, ◌∙◌, arith, eqb, zero-add}
 use Rattle.std.specs.List.{flat_map, count_by}
 use Rattle.std.specs.Cmp.Lexicographic.{same_text}
 use Rattle.std.proofs.lemmas.Bool.{eqb-true, true≢false}
@@ -9,10 +9,10 @@ use Rattle.std.proofs.lemmas.List.Elements.{All-append, All-cons, All-nil}
 use Rattle.std.proofs.lemmas.List.Sums.{sum_by-append, sum_by-cons}
 use Rattle.gqltool_run.specs.Status.{exit_code}
 use Rattle.gqlrows_run.specs.declared.row.Row.{Row}
-use Rattle.gqlrows_run.specs.Rows.{RowView, row_view, rows_of}
+use Rattle.gqlrows_run.specs.Rows.{row_view, rows_of}
 use Rattle.gqlrows_run.specs.Runs.{Ran, IsRun, AreRunsOf, IsAsExpected, AllAgree}
 use Rattle.graphql_nodes.specs.SameText.{same}
-use Rattle.gqlrows_run.specs.Report.{differs, report_on, count_text, report_text, IsReportOn}
+use Rattle.gqlrows_run.specs.Report.{differs, report_on, count_text, IsReportOn}
 
 pub one_more_run : (rows : List Row) (i : ℕ) (row : Row) (runs : List Ran) (ran : Ran) → i < length rows → row ≡ get_or rows i row → AreRunsOf (map row_view (take i rows)) runs → ran.row ≡ row_view row → IsRun ran
     → AreRunsOf (map row_view (take (i + 1) rows)) (runs ++ ran ∷ [])

@@ -1,5 +1,5 @@
 -- The lines of a file of rows: docs/NOTATION.md.
-use Rattle.std.specs.Prelude.{◌≡◌, ℕ, Bool, true, false, not, List, [], ◌∷◌, ◌+◌, ◌==◌, ◌&&◌, ◌||◌, if◌then◌else◌, get_or, length, drop, Option, None, Some}
+use Rattle.std.specs.Prelude.{◌≡◌, ℕ, Bool, false, not, List, [], ◌∷◌, ◌+◌, ◌==◌, ◌&&◌, ◌||◌, if◌then◌else◌, get_or, length, drop, Option, None, Some}
 use Rattle.gqlrows_run.specs.declared.refusal.Reason.{Reason}
 use Rattle.gqlrows_run.specs.declared.refusal.Reason.TheVariants as r
 use Rattle.gqlrows_run.specs.declared.refusal.RefusedLine.{RefusedLine}

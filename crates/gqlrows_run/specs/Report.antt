@@ -1,5 +1,5 @@
 -- The report on rows that ran.
-use Rattle.std.specs.Prelude.{◌≡◌, ◌<◌, ℕ, Bool, true, false, not, None, List, [], ◌∷◌, ◌++◌, ◌==◌, ◌&&◌, if◌then◌else◌, codes, decimal, length}
+use Rattle.std.specs.Prelude.{◌≡◌, ◌<◌, ℕ, Bool, true, not, Option, None, List, [], ◌∷◌, ◌++◌, ◌==◌, ◌&&◌, if◌then◌else◌, codes, decimal, length}
 use Rattle.std.specs.List.{flat_map, count_by}
 use Rattle.std.specs.Io.KnownBytes.{Appends}
 use Rattle.graphql_nodes.specs.SameText.{same}
@@ -54,10 +54,10 @@ pub record IsReportOn (lines : List (List ℕ)) (text : List ℕ) (differing : �
   pub counts : differing ≡ count_by differs runs
 
 -- a report that rows differ is put at the end of the output, and a count where none does
-abbrev pub TellsDifferences : List ℕ → List ℕ → List ℕ → Type 0
+abbrev pub TellsDifferences : List ℕ → Option (List ℕ) → Option (List ℕ) → Type 0
 TellsDifferences input old new = (text : List ℕ) × ((differing : ℕ) × (IsReportOn (lines_of input) text differing × ((0 < differing) × Appends old new text)))
 
-abbrev pub TellsNone : List ℕ → List ℕ → List ℕ → Type 0
+abbrev pub TellsNone : List ℕ → Option (List ℕ) → Option (List ℕ) → Type 0
 TellsNone input old new = AllAgree (rows_of (lines_of input)) × Appends old new (count_text (length (rows_of (lines_of input))) 0)
 
 -- how a run ends whose rows are not read

@@ -114,11 +114,12 @@ impl Tables {
             alloc,
             sources,
             schema_definition,
+            schema_extensions: _,
             types,
             directive_definitions,
+            waiting: _,
             ids,
             errors,
-            ..
         } = self;
         let Ok(schema_definition) = definition_or_none(alloc, schema_definition) else {
             return (

@@ -3,8 +3,7 @@ use Rattle.std.proofs.Common.{subst}
 use Rattle.std.proofs.lemmas.Option.{IfSome_then}
 use Rattle.std.specs.Io.KnownBytes.{Appends}
 use Rattle.bench_notation.specs.Line.{lines_of}
-use Rattle.gqlrows_run.specs.Report.{IsReportOn, count_text}
-use Rattle.gqlrows_run.specs.Rows.{rows_of}
+use Rattle.gqlrows_run.specs.Report.{IsReportOn}
 use Rattle.gqlrows_run.proofs.RunLemmas.{agreement}
 use Rattle.gqlrows_run.proofs.running.run_rows.Goals as goal
 
