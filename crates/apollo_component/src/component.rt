@@ -19,10 +19,15 @@ use std::ops::Deref;
 /// A part of a type, and the definition or extension that it comes from.
 ///
 /// Components are equal and hashed by their values: origins and places are left out.
-#[derive(Drop)]
 pub struct Component<T> {
     pub origin: ComponentOrigin,
     pub node: Node<T>,
+}
+
+impl<T: Drop> Drop for Component<T> {
+    fn drop(self) {
+        let Self { origin: _, node: _ } = self;
+    }
 }
 
 impl<T> Component<T> {
@@ -110,10 +115,15 @@ impl<T: Drop> Clone for Component<T> {
 /// A name that a type lists, as an interface or a union member, and the definition or extension that it comes from.
 ///
 /// Component names are equal and hashed by their texts: origins and places are left out.
-#[derive(Drop)]
 pub struct ComponentName {
     pub origin: ComponentOrigin,
     pub name: Name,
+}
+
+impl Drop for ComponentName {
+    fn drop(self) {
+        let Self { origin: _, name: _ } = self;
+    }
 }
 
 impl ComponentName {

@@ -8,8 +8,14 @@ use std::alloc::{AllocError, Global};
 use std::ops::Deref;
 
 /// The directives applied to a type, in order. One directive may stand there more than once.
-#[derive(Drop, PartialEq, Eq, Hash, Clone)]
+#[derive(PartialEq, Eq, Hash, Clone)]
 pub struct DirectiveList(pub Items<Component<Directive>>);
+
+impl Drop for DirectiveList {
+    fn drop(self) {
+        let Self(_) = self;
+    }
+}
 
 impl DirectiveList {
     /// No directive.

@@ -28,13 +28,23 @@ use std::alloc::{AllocError, Global};
 ///
 /// After a refusal the builder holds nothing more than its source, which then stands where it stood before the refused
 /// call, and each later call answers `Failed`.
-#[derive(Drop)]
 pub struct SchemaBuilder {
     first_number: u64,
     state: State,
     adopt_orphan_extensions: bool,
     ignore_builtin_redefinitions: bool,
     ghost standing: { ∥ HasStood first_number state ∥₁ },
+}
+
+impl Drop for SchemaBuilder {
+    fn drop(self) {
+        let Self {
+            first_number: _,
+            state: _,
+            adopt_orphan_extensions: _,
+            ignore_builtin_redefinitions: _,
+        } = self;
+    }
 }
 
 impl SchemaBuilder {
@@ -163,9 +173,10 @@ impl SchemaBuilder {
         ensures not_below { first_number self ≤ next_number result.1 }
     {
         let SchemaBuilder {
+            first_number: _,
             state,
             adopt_orphan_extensions,
-            ..
+            ignore_builtin_redefinitions: _,
         } = self;
         match state {
             State::Open(tables) => tables.finish(adopt_orphan_extensions),

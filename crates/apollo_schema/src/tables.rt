@@ -56,10 +56,9 @@ pub struct Tables {
     errors: Items<Fault>,
 }
 
-/// Written by hand, so that it is proved here and not in each crate that drops a builder.
 impl Drop for Tables {
     fn drop(self) {
-        let Tables {
+        let Self {
             alloc: _,
             sources: _,
             schema_definition: _,

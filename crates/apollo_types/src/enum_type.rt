@@ -19,12 +19,23 @@ use graphql_nodes::source::SourceSpan;
 use std::alloc::{AllocError, Global};
 
 /// An enum type. Equality ignores places and origins, and the order of values.
-#[derive(Drop, PartialEq, Eq)]
+#[derive(PartialEq, Eq)]
 pub struct EnumType {
     pub description: Option<NodeStr>,
     pub name: Name,
     pub directives: DirectiveList,
     pub values: Table<Name, Component<EnumValueDefinition>>,
+}
+
+impl Drop for EnumType {
+    fn drop(self) {
+        let Self {
+            description: _,
+            name: _,
+            directives: _,
+            values: _,
+        } = self;
+    }
 }
 
 impl Clone for EnumType {

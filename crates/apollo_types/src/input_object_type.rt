@@ -21,12 +21,23 @@ use graphql_nodes::source::SourceSpan;
 use std::alloc::{AllocError, Global};
 
 /// An input object type. Equality ignores places and origins, and the order of fields.
-#[derive(Drop, PartialEq, Eq)]
+#[derive(PartialEq, Eq)]
 pub struct InputObjectType {
     pub description: Option<NodeStr>,
     pub name: Name,
     pub directives: DirectiveList,
     pub fields: Table<Name, Component<InputValueDefinition>>,
+}
+
+impl Drop for InputObjectType {
+    fn drop(self) {
+        let Self {
+            description: _,
+            name: _,
+            directives: _,
+            fields: _,
+        } = self;
+    }
 }
 
 impl Clone for InputObjectType {

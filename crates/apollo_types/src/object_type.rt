@@ -20,13 +20,25 @@ use graphql_nodes::source::SourceSpan;
 use std::alloc::{AllocError, Global};
 
 /// An object type. Equality ignores places and origins, and the order of interfaces and fields.
-#[derive(Drop, PartialEq, Eq)]
+#[derive(PartialEq, Eq)]
 pub struct ObjectType {
     pub description: Option<NodeStr>,
     pub name: Name,
     pub implements_interfaces: KeySet<ComponentName>,
     pub directives: DirectiveList,
     pub fields: Table<Name, Component<FieldDefinition>>,
+}
+
+impl Drop for ObjectType {
+    fn drop(self) {
+        let Self {
+            description: _,
+            name: _,
+            implements_interfaces: _,
+            directives: _,
+            fields: _,
+        } = self;
+    }
 }
 
 impl Clone for ObjectType {

@@ -15,11 +15,21 @@ use graphql_nodes::source::SourceSpan;
 use std::alloc::{AllocError, Global};
 
 /// A scalar type. Equality ignores places and origins.
-#[derive(Drop, PartialEq, Eq, Hash)]
+#[derive(PartialEq, Eq, Hash)]
 pub struct ScalarType {
     pub description: Option<NodeStr>,
     pub name: Name,
     pub directives: DirectiveList,
+}
+
+impl Drop for ScalarType {
+    fn drop(self) {
+        let Self {
+            description: _,
+            name: _,
+            directives: _,
+        } = self;
+    }
 }
 
 impl Clone for ScalarType {

@@ -34,13 +34,25 @@ const OPERATION_TYPES: [OperationType; 3] = [
 
 /// The definition of a schema, and its extensions (section 3.3): the root of each operation type, which is the name of an
 /// object type. Equality ignores places and origins.
-#[derive(Drop, PartialEq, Eq)]
+#[derive(PartialEq, Eq)]
 pub struct SchemaDefinition {
     pub description: Option<NodeStr>,
     pub directives: DirectiveList,
     pub query: Option<ComponentName>,
     pub mutation: Option<ComponentName>,
     pub subscription: Option<ComponentName>,
+}
+
+impl Drop for SchemaDefinition {
+    fn drop(self) {
+        let Self {
+            description: _,
+            directives: _,
+            query: _,
+            mutation: _,
+            subscription: _,
+        } = self;
+    }
 }
 
 impl Clone for SchemaDefinition {

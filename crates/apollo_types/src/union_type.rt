@@ -18,12 +18,23 @@ use graphql_nodes::source::SourceSpan;
 use std::alloc::{AllocError, Global};
 
 /// A union type. Equality ignores places and origins, and the order of members.
-#[derive(Drop, PartialEq, Eq)]
+#[derive(PartialEq, Eq)]
 pub struct UnionType {
     pub description: Option<NodeStr>,
     pub name: Name,
     pub directives: DirectiveList,
     pub members: KeySet<ComponentName>,
+}
+
+impl Drop for UnionType {
+    fn drop(self) {
+        let Self {
+            description: _,
+            name: _,
+            directives: _,
+            members: _,
+        } = self;
+    }
 }
 
 impl Clone for UnionType {

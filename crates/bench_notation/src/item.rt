@@ -23,13 +23,24 @@ use std::alloc::{AllocError, Global};
 use std::mem;
 
 /// A field whose directives and arguments may still come.
-#[derive(Drop)]
 struct OpenField {
     place: SourceSpan,
     name: Name,
     ty: Type,
     arguments: Items<Node<InputValueDefinition>>,
     directives: DirectiveList,
+}
+
+impl Drop for OpenField {
+    fn drop(self) {
+        let Self {
+            place: _,
+            name: _,
+            ty: _,
+            arguments: _,
+            directives: _,
+        } = self;
+    }
 }
 
 impl OpenField {
@@ -95,13 +106,23 @@ impl OpenField {
 }
 
 /// A definition or extension whose components may still come.
-#[derive(Drop)]
 pub struct OpenItem {
     place: SourceSpan,
     header: Header,
     /// The components, without the last field.
     parts: Parts,
     last_field: Option<OpenField>,
+}
+
+impl Drop for OpenItem {
+    fn drop(self) {
+        let Self {
+            place: _,
+            header: _,
+            parts: _,
+            last_field: _,
+        } = self;
+    }
 }
 
 impl OpenItem {

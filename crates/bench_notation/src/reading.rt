@@ -30,13 +30,22 @@ fn line_place(number: usize) -> SourceSpan
 }
 
 /// The documents that the lines so far say.
-#[derive(Drop)]
 struct DocumentReader {
     /// The documents before the last.
     documents: Items<Document>,
     /// The last document, without the item that is being read.
     document: Document,
     item: Option<OpenItem>,
+}
+
+impl Drop for DocumentReader {
+    fn drop(self) {
+        let Self {
+            documents: _,
+            document: _,
+            item: _,
+        } = self;
+    }
 }
 
 impl DocumentReader {

@@ -22,7 +22,6 @@ use std::alloc::{AllocError, Global};
 use std::mem;
 
 /// The components of an item. Those that its header does not have are none.
-#[derive(Drop)]
 pub struct Parts {
     pub directives: DirectiveList,
     /// The interfaces of an object or interface type, or the members of a union.
@@ -39,6 +38,21 @@ pub struct Parts {
     pub is_repeatable: bool,
     /// The roots of the schema.
     pub roots: Items<Node<(OperationType, NamedType)>>,
+}
+
+impl Drop for Parts {
+    fn drop(self) {
+        let Self {
+            directives: _,
+            names: _,
+            fields: _,
+            inputs: _,
+            values: _,
+            locations: _,
+            is_repeatable: _,
+            roots: _,
+        } = self;
+    }
 }
 
 impl Parts {

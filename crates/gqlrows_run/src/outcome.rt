@@ -7,11 +7,20 @@ use gqltool_run::status::Status;
 use std::alloc::Global;
 
 /// What came of a run: its status, and what it wrote.
-#[derive(Drop)]
 pub struct Outcome {
     pub status: Status,
     pub output: Vec<u8>,
     pub errors: Vec<u8>,
+}
+
+impl Drop for Outcome {
+    fn drop(self) {
+        let Self {
+            status: _,
+            output: _,
+            errors: _,
+        } = self;
+    }
 }
 
 /// Runs the program in memory, with these words and this input.

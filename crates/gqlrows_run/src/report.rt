@@ -11,10 +11,18 @@ use crate::row::Row;
 use std::alloc::{AllocError, Global};
 
 /// What is to be written, and how many rows differ.
-#[derive(Drop)]
 pub struct Report {
     pub text: Vec<u8>,
     pub differing: usize,
+}
+
+impl Drop for Report {
+    fn drop(self) {
+        let Self {
+            text: _,
+            differing: _,
+        } = self;
+    }
 }
 
 fn same(came: &[u8], expected: &[u8]) -> bool

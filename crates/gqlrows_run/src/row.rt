@@ -6,7 +6,6 @@ use crate::line::{mark, text};
 use std::alloc::{AllocError, Global};
 
 /// A row: the words and the input of a run, and what is to come of it.
-#[derive(Drop)]
 pub struct Row<'a> {
     pub title: &'a str,
     pub words: Vec<&'a str>,
@@ -14,6 +13,19 @@ pub struct Row<'a> {
     pub output: String,
     pub errors: String,
     pub status: u8,
+}
+
+impl<'a> Drop for Row<'a> {
+    fn drop(self) {
+        let Self {
+            title: _,
+            words: _,
+            input: _,
+            output: _,
+            errors: _,
+            status: _,
+        } = self;
+    }
 }
 
 /// The texts of the lines of a mark.

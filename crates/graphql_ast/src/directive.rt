@@ -9,22 +9,43 @@ use std::alloc::{AllocError, Global};
 use std::ops::Deref;
 
 /// An argument: a name with a value.
-#[derive(Drop, PartialEq, Eq, Hash, Clone)]
+#[derive(PartialEq, Eq, Hash, Clone)]
 pub struct Argument {
     pub name: Name,
     pub value: Node<Value>,
 }
 
+impl Drop for Argument {
+    fn drop(self) {
+        let Self { name: _, value: _ } = self;
+    }
+}
+
 /// An applied directive.
-#[derive(Drop, PartialEq, Eq, Hash, Clone)]
+#[derive(PartialEq, Eq, Hash, Clone)]
 pub struct Directive {
     pub name: Name,
     pub arguments: Items<Node<Argument>>,
 }
 
+impl Drop for Directive {
+    fn drop(self) {
+        let Self {
+            name: _,
+            arguments: _,
+        } = self;
+    }
+}
+
 /// The directives applied to a definition, in order.
-#[derive(Drop, PartialEq, Eq, Hash, Clone)]
+#[derive(PartialEq, Eq, Hash, Clone)]
 pub struct DirectiveList(pub Items<Node<Directive>>);
+
+impl Drop for DirectiveList {
+    fn drop(self) {
+        let Self(_) = self;
+    }
+}
 
 impl DirectiveList {
     /// No directive.

@@ -10,7 +10,7 @@ use graphql_nodes::node::Node;
 use graphql_nodes::operation_type::OperationType;
 
 /// A query, mutation or subscription, anonymous where it has no name.
-#[derive(Drop, PartialEq, Eq, Hash, Clone)]
+#[derive(PartialEq, Eq, Hash, Clone)]
 pub struct OperationDefinition {
     pub operation_type: OperationType,
     pub name: Option<Name>,
@@ -19,8 +19,20 @@ pub struct OperationDefinition {
     pub selection_set: Items<Selection>,
 }
 
+impl Drop for OperationDefinition {
+    fn drop(self) {
+        let Self {
+            operation_type: _,
+            name: _,
+            variables: _,
+            directives: _,
+            selection_set: _,
+        } = self;
+    }
+}
+
 /// A variable of an operation.
-#[derive(Drop, PartialEq, Eq, Hash, Clone)]
+#[derive(PartialEq, Eq, Hash, Clone)]
 pub struct VariableDefinition {
     pub name: Name,
     pub ty: Node<Type>,
@@ -28,11 +40,33 @@ pub struct VariableDefinition {
     pub directives: DirectiveList,
 }
 
+impl Drop for VariableDefinition {
+    fn drop(self) {
+        let Self {
+            name: _,
+            ty: _,
+            default_value: _,
+            directives: _,
+        } = self;
+    }
+}
+
 /// A named fragment.
-#[derive(Drop, PartialEq, Eq, Hash, Clone)]
+#[derive(PartialEq, Eq, Hash, Clone)]
 pub struct FragmentDefinition {
     pub name: Name,
     pub type_condition: NamedType,
     pub directives: DirectiveList,
     pub selection_set: Items<Selection>,
+}
+
+impl Drop for FragmentDefinition {
+    fn drop(self) {
+        let Self {
+            name: _,
+            type_condition: _,
+            directives: _,
+            selection_set: _,
+        } = self;
+    }
 }

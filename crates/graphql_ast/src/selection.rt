@@ -18,7 +18,7 @@ pub enum Selection {
 
 /// A selected field.
 #[cycle(selection)]
-#[derive(Drop, PartialEq, Eq, Hash)]
+#[derive(PartialEq, Eq, Hash)]
 pub struct Field {
     pub alias: Option<Name>,
     pub name: Name,
@@ -27,20 +27,53 @@ pub struct Field {
     pub selection_set: Items<Selection>,
 }
 
+impl Drop for Field {
+    #[cycle(drop_selection)]
+    fn drop(self) {
+        let Self {
+            alias: _,
+            name: _,
+            arguments: _,
+            directives: _,
+            selection_set: _,
+        } = self;
+    }
+}
+
 /// The selections of a named fragment.
-#[derive(Drop, PartialEq, Eq, Hash, Clone)]
+#[derive(PartialEq, Eq, Hash, Clone)]
 pub struct FragmentSpread {
     pub fragment_name: Name,
     pub directives: DirectiveList,
 }
 
+impl Drop for FragmentSpread {
+    fn drop(self) {
+        let Self {
+            fragment_name: _,
+            directives: _,
+        } = self;
+    }
+}
+
 /// Selections under a type condition, if there is one, and directives of their own.
 #[cycle(selection)]
-#[derive(Drop, PartialEq, Eq, Hash)]
+#[derive(PartialEq, Eq, Hash)]
 pub struct InlineFragment {
     pub type_condition: Option<NamedType>,
     pub directives: DirectiveList,
     pub selection_set: Items<Selection>,
+}
+
+impl Drop for InlineFragment {
+    #[cycle(drop_selection)]
+    fn drop(self) {
+        let Self {
+            type_condition: _,
+            directives: _,
+            selection_set: _,
+        } = self;
+    }
 }
 
 impl Clone for Selection {

@@ -44,10 +44,18 @@ pub enum NameError {
 /// A GraphQL name, and the place where it stands. Copies share the text.
 ///
 /// Names are equal, and are ordered and hashed, by their texts: the place is left out.
-#[derive(Drop)]
 pub struct Name {
     shared: RcStr,
     place: Option<SourceSpan>,
+}
+
+impl Drop for Name {
+    fn drop(self) {
+        let Self {
+            shared: _,
+            place: _,
+        } = self;
+    }
 }
 
 /// A name that stands for a type.
@@ -124,13 +132,11 @@ impl Name {
     }
 
     /// The same name at another place.
-    pub fn with_location(self, location: SourceSpan) -> Name
+    pub fn with_location(mut self, location: SourceSpan) -> Name
         ensures { result ≡ record self { location = Some location } }
     {
-        Name {
-            shared: self.shared,
-            place: Some(location),
-        }
+        self.place = Some(location);
+        self
     }
 
     /// The text of the name.

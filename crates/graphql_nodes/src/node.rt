@@ -13,10 +13,15 @@ use std::marker::Model;
 use std::ops::Deref;
 use std::rc::Rc;
 
-#[derive(Drop)]
 struct Held<T> {
     place: Option<SourceSpan>,
     value: T,
+}
+
+impl<T: Drop> Drop for Held<T> {
+    fn drop(self) {
+        let Self { place: _, value: _ } = self;
+    }
 }
 
 impl<T: Clone + Drop> Clone for Held<T> {
@@ -33,9 +38,14 @@ impl<T: Clone + Drop> Clone for Held<T> {
 /// A value that copies share, and the place in a source where it stands.
 ///
 /// Nodes are equal and hashed by their values: the place is left out. A node is one pointer wide.
-#[derive(Drop)]
 pub struct Node<T> {
     shared: Rc<Held<T>>,
+}
+
+impl<T: Drop> Drop for Node<T> {
+    fn drop(self) {
+        let Self { shared: _ } = self;
+    }
 }
 
 impl<T> Model for Node<T> {

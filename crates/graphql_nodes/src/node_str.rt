@@ -16,10 +16,18 @@ use std::rc::RcStr;
 /// A text, and the place where it stands. Copies share the text.
 ///
 /// Texts are equal and hashed without their places.
-#[derive(Drop)]
 pub struct NodeStr {
     shared: RcStr,
     place: Option<SourceSpan>,
+}
+
+impl Drop for NodeStr {
+    fn drop(self) {
+        let Self {
+            shared: _,
+            place: _,
+        } = self;
+    }
 }
 
 impl Model for NodeStr {
@@ -45,13 +53,11 @@ impl NodeStr {
     }
 
     /// The same text at another place.
-    pub fn with_location(self, location: SourceSpan) -> NodeStr
+    pub fn with_location(mut self, location: SourceSpan) -> NodeStr
         ensures { result ≡ record self { location = Some location } }
     {
-        NodeStr {
-            shared: self.shared,
-            place: Some(location),
-        }
+        self.place = Some(location);
+        self
     }
 
     /// The text.

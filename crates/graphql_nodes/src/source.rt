@@ -23,10 +23,16 @@ pub struct SourceSpan {
 }
 
 /// A source file: the path that it was read from, and its text.
-#[derive(Drop, PartialEq, Eq, Hash, Clone)]
+#[derive(PartialEq, Eq, Hash, Clone)]
 pub struct SourceFile {
     pub path: Text,
     pub text: Text,
+}
+
+impl Drop for SourceFile {
+    fn drop(self) {
+        let Self { path: _, text: _ } = self;
+    }
 }
 
 /// The source files of a document, by their numbers.

@@ -120,10 +120,9 @@ fn fold(
 fn bare(alloc: Global, definition: &ast::SchemaDefinition) -> Result<SchemaDefinition, AllocError>
     ensures { IfOk result (λ made. made ≡ record { description = definition.now.description; directives = record { 0 = [] }; query = None; mutation = None; subscription = None }) }
 {
-    Ok(SchemaDefinition {
-        description: definition.description.clone()?,
-        ..SchemaDefinition::new(alloc)
-    })
+    let mut made = SchemaDefinition::new(alloc);
+    made.description = definition.description.clone()?;
+    Ok(made)
 }
 
 /// The schema definition of a definition alone.

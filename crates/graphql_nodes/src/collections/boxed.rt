@@ -9,9 +9,14 @@ use std::marker::Model;
 use std::ops::Deref;
 
 /// A `Box` that contracts see as its value.
-#[derive(Drop)]
 pub struct Boxed<T> {
     inner: Box<T>,
+}
+
+impl<T: Drop> Drop for Boxed<T> {
+    fn drop(self) {
+        let Self { inner: _ } = self;
+    }
 }
 
 impl<T> Model for Boxed<T> {

@@ -13,9 +13,14 @@ use std::marker::Model;
 use std::ops::Deref;
 
 /// A `Vec` that contracts see as the list of its elements.
-#[derive(Drop)]
 pub struct Items<T> {
     items: Vec<T>,
+}
+
+impl<T: Drop> Drop for Items<T> {
+    fn drop(self) {
+        let Self { items: _ } = self;
+    }
 }
 
 impl<T> Model for Items<T> {

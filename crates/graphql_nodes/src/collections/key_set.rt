@@ -13,9 +13,14 @@ use std::hash::Hash;
 use std::marker::Model;
 
 /// A set in the order of insertion, which contracts see as the list of its keys.
-#[derive(Drop)]
 pub struct KeySet<T: Eq + Hash> {
     set: IndexSet<T>,
+}
+
+impl<T: Eq + Hash + Drop> Drop for KeySet<T> {
+    fn drop(self) {
+        let Self { set: _ } = self;
+    }
 }
 
 impl<T: Eq + Hash> Model for KeySet<T> {

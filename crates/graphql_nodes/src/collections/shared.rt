@@ -10,9 +10,14 @@ use std::ops::Deref;
 use std::rc::Rc;
 
 /// An `Rc` that contracts see as its value. Copies share the value.
-#[derive(Drop)]
 pub struct Shared<T> {
     inner: Rc<T>,
+}
+
+impl<T: Drop> Drop for Shared<T> {
+    fn drop(self) {
+        let Self { inner: _ } = self;
+    }
 }
 
 impl<T> Model for Shared<T> {

@@ -15,9 +15,14 @@ use std::hash::Hash;
 use std::marker::Model;
 
 /// A map in the order of insertion, which contracts see as the list of its entries.
-#[derive(Drop)]
 pub struct Table<K: Eq + Hash, V> {
     map: IndexMap<K, V>,
+}
+
+impl<K: Eq + Hash + Drop, V: Drop> Drop for Table<K, V> {
+    fn drop(self) {
+        let Self { map: _ } = self;
+    }
 }
 
 impl<K: Eq + Hash, V> Model for Table<K, V> {

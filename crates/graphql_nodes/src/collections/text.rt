@@ -12,9 +12,15 @@ use std::hash::{Hash, Hasher};
 use std::marker::Model;
 
 /// A `String` that contracts see as its bytes.
-#[derive(Debug, Drop)]
+#[derive(Debug)]
 pub struct Text {
     inner: String,
+}
+
+impl Drop for Text {
+    fn drop(self) {
+        let Self { inner: _ } = self;
+    }
 }
 
 impl Model for Text {
