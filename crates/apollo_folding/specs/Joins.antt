@@ -1,16 +1,13 @@
 -- What a step does to what was made of parts, and to the faults: each word speaks of all parts that it may be made of.
 use Rattle.std.specs.Prelude.{◌≡◌, List, [], ◌∷◌, ◌++◌, map}
-use Rattle.graphql_nodes.specs.NameView.{NameView}
 use Rattle.graphql_nodes.specs.NodeView.{NodeView}
-use Rattle.graphql_ast.specs.declared.definition.Definition.{Definition}
 use Rattle.graphql_ast.specs.declared.directive.Directive.{Directive}
 use Rattle.apollo_component.specs.Extensions.{next_number}
 use Rattle.apollo_component.specs.declared.extension.ComponentOrigin.{ComponentOrigin}
 use Rattle.apollo_component.specs.declared.extension.ExtensionSource.{ExtensionSource}
 use Rattle.apollo_types.specs.declared.extended_type.ExtendedType.{ExtendedType}
 use Rattle.apollo_types.specs.declared.schema_definition.SchemaDefinition.{SchemaDefinition}
-use Rattle.apollo_meaning.specs.Items.Parts.{TypeBody, TypePart, SchemaPart, Root}
-use Rattle.apollo_meaning.specs.Items.ListItems.{Defined, item_of}
+use Rattle.apollo_meaning.specs.Items.Parts.{TypePart, SchemaPart, Root}
 use Rattle.apollo_meaning.specs.Types.Components.{Sourced}
 use Rattle.apollo_meaning.specs.Types.Meaning.{extension_part, numbered, type_from}
 use Rattle.apollo_meaning.specs.Schema.Definition.{SourcedSchema, schema_definition_of}
@@ -25,12 +22,7 @@ with_numbers ids es = map extension_part (numbered (next_number ids) es)
 abbrev pub Joins : {P T : Type 0} → (P → List (ComponentOrigin × P) → T) → T → (P → List (ComponentOrigin × P)) → T → Type 0
 Joins {P} made old more new = (head : P) (done : List (ComponentOrigin × P)) → old ≡ made head done → new ≡ made head (done ++ more head)
 
--- what was made of some parts is made of one as well that has these directives and this body
-abbrev pub JoinsPart : {T : Type 0} → (TypePart → List Sourced → T) → T → ComponentOrigin → List (NodeView Directive) → TypeBody → T → Type 0
-JoinsPart made old origin directives body new = (head part : TypePart) (done : List Sourced)
-    → part.directives ≡ directives → part.body ≡ body → old ≡ made head done → new ≡ made head (done ++ (origin, part) ∷ [])
-
--- the same of the schema definition, and of a part that has these directives and these roots
+-- what a schema definition was made of, and a part that has these directives and these roots, make it
 abbrev pub JoinsSchemaPart : SchemaDefinition → ComponentOrigin → List (NodeView Directive) → List Root → SchemaDefinition → Type 0
 JoinsSchemaPart old origin directives roots new = (head part : SchemaPart) (done : List SourcedSchema)
     → part.directives ≡ directives → part.roots ≡ roots
@@ -54,7 +46,6 @@ Lengthens {X} made old more new = (xs : List X) → old ≡ made xs → new ≡ 
 abbrev pub FindsIn : {X T : Type 0} → (List X → T) → T → (List X → List Fault) → List Fault → List Fault → Type 0
 FindsIn {X} made old faults before after = (xs : List X) → old ≡ made xs → after ≡ before ++ faults xs
 
--- P of the first definition of a name and of a further one, where this type was made by the first
-abbrev pub ForFurther : ExtendedType → NameView → Definition → (TypePart → TypePart → Type 0) → Type 0
-ForFurther ty name definition P = (d p : TypePart) (done : List Sourced)
-    → ty ≡ type_from d done → item_of definition ≡ Defined p → p.name ≡ name → P d p
+-- P of the first definition of a name, where this type was made by it
+abbrev pub ForFirst : ExtendedType → (TypePart → Type 0) → Type 0
+ForFirst ty P = (d : TypePart) (done : List Sourced) → ty ≡ type_from d done → P d

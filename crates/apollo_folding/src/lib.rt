@@ -8,4 +8,5 @@ pub mod directive_definition;
 pub mod from_ast;
 pub mod orphans;
 pub mod redefinition;
+pub mod views;
 pub mod waiting;

@@ -7,7 +7,7 @@ ghost use Rattle.apollo_meaning.specs.Items.Parts.{schema_extension_part};
 ghost use Rattle.apollo_meaning.specs.Faults.TypeFaults.{orphan};
 ghost use Rattle.apollo_meaning.specs.Faults.RootFaults.{schema_orphan};
 
-use crate::from_ast::extended_name;
+use crate::views::ItemView;
 use apollo_meaning::build_error::{BuildError, Fault};
 use graphql_ast::definition::Definition;
 use graphql_ast::type_system::SchemaExtension;
@@ -21,13 +21,13 @@ use std::alloc::AllocError;
 fn note_orphan(extension: &Definition, errors: &mut Items<Fault>) -> Result<(), AllocError>
     ensures { OnOk result (errors.new ≡ errors.old ++ map orphan (extended_parts (extension.now ∷ []))) }
 {
-    let Some(name) = extended_name(extension) else {
+    let ItemView::Extended(part) = ItemView::of(extension) else {
         return Ok(());
     };
     let error = BuildError::OrphanTypeExtension {
-        name: name.clone()?,
+        name: part.name.clone()?,
     };
-    errors.push((name.location(), error))
+    errors.push((part.name.location(), error))
 }
 
 /// Notes extensions whose name has no definition, in order.

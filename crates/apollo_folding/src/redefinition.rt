@@ -1,62 +1,56 @@
 //! The faults of further definitions of a name.
-ghost use Rattle.apollo_folding.specs.Joins.{ForFurther};
+ghost use Rattle.apollo_folding.specs.Joins.{ForFirst};
 ghost use Rattle.std.specs.Prelude.{◌≡◌, List, ◌++◌, OnOk, IfOk};
-ghost use Rattle.apollo_meaning.specs.Items.Parts.{TypePart};
-ghost use Rattle.apollo_meaning.specs.Types.Components.{Sourced};
-ghost use Rattle.apollo_meaning.specs.Types.Meaning.{type_from};
+ghost use Rattle.apollo_folding.specs.Views.{part_seen};
 ghost use Rattle.apollo_meaning.specs.Faults.TypeFaults.{redefinition, built_in_redefinition, further_definition};
 
+use crate::views::PartView;
 use apollo_meaning::build_error::{BuildError, Fault};
 use apollo_types::extended_type::ExtendedType;
-use graphql_ast::definition::Definition;
 use graphql_nodes::collections::items::Items;
-use graphql_nodes::name::Name;
 use graphql_nodes::type_kind::TypeKind;
 use std::alloc::AllocError;
 
 /// The fault of a further definition of a type's name.
-fn redefinition(previous: &ExtendedType, name: &Name) -> Result<Fault, AllocError>
-    ensures { IfOk result (λ fault. (d p : TypePart) (done : List Sourced) → previous.now ≡ type_from d done → p.name ≡ name.now → fault ≡ redefinition d p) }
+fn redefinition(previous: &ExtendedType, further: &PartView<'_>) -> Result<Fault, AllocError>
+    ensures { IfOk result (λ fault. ForFirst previous.now (λ d. fault ≡ redefinition d (part_seen further.now))) }
 {
     let error = BuildError::TypeDefinitionCollision {
         previous_location: previous.name().location(),
-        name: name.clone()?,
+        name: further.name.clone()?,
     };
-    Ok((name.location(), error))
+    Ok((further.name.location(), error))
 }
 
 /// The fault of a further definition of a built-in type's name.
 fn built_in_redefinition(
     previous: &ExtendedType,
-    name: &Name,
-    definition: &Definition,
+    further: &PartView<'_>,
 ) -> Result<Fault, AllocError>
-    ensures { IfOk result (λ fault. ForFurther previous.now name.now definition.now (λ d p. fault ≡ built_in_redefinition d p)) }
+    ensures { IfOk result (λ fault. ForFirst previous.now (λ d. fault ≡ built_in_redefinition d (part_seen further.now))) }
 {
-    if definition.type_kind() == Some(TypeKind::Scalar) {
-        let error = BuildError::BuiltInScalarTypeRedefinition;
-        return Ok((definition.location(), error));
+    if further.kind() == TypeKind::Scalar {
+        return Ok((further.location, BuildError::BuiltInScalarTypeRedefinition));
     }
-    let fault = redefinition(previous, name)?;
+    let fault = redefinition(previous, further)?;
     Ok(fault)
 }
 
 /// Notes a further definition of a type's name, unless the type is built in and such definitions are ignored.
 pub fn note_redefinition(
     previous: &ExtendedType,
-    name: &Name,
-    definition: &Definition,
+    further: &PartView<'_>,
     ignores: bool,
     errors: &mut Items<Fault>,
 ) -> Result<(), AllocError>
-    ensures { OnOk result (ForFurther previous.now name.now definition.now (λ d p. errors.new ≡ errors.old ++ further_definition d (record p { ignorable = ignores }))) }
+    ensures { OnOk result (ForFirst previous.now (λ d. errors.new ≡ errors.old ++ further_definition d (record (part_seen further.now) { ignorable = ignores }))) }
 {
     if !previous.is_built_in() {
-        errors.push(redefinition(previous, name)?)?;
+        errors.push(redefinition(previous, further)?)?;
         return Ok(());
     }
     if !ignores {
-        errors.push(built_in_redefinition(previous, name, definition)?)?;
+        errors.push(built_in_redefinition(previous, further)?)?;
     }
     Ok(())
 }

@@ -1,7 +1,5 @@
--- What a definition does for a type, from the names that it defines and extends.
-use Rattle.std.proofs.Common.{◌≡◌, ◌⊎◌, inl, inr, false, List, [], ◌∷◌, Some, refl, sym, ap, ◌∙◌}
-use Rattle.std.specs.Option.{option_map, unwrap_or}
-use Rattle.graphql_nodes.specs.NameView.{NameView}
+-- What a definition does that neither defines nor extends a type, and what the settings leave.
+use Rattle.std.proofs.Common.{◌≡◌, ◌⊎◌, inl, inr, false, List, [], ◌∷◌, refl, sym, ap, ◌∙◌, arith, Bor}
 use Rattle.graphql_nodes.specs.NodeView.{NodeView}
 use Rattle.graphql_ast.specs.Definitions.{location_of}
 use Rattle.graphql_ast.specs.DefinitionTexts.{definition_text}
@@ -12,22 +10,10 @@ use Rattle.apollo_meaning.specs.Directives.{Directives, directive_definitions}
 use Rattle.apollo_meaning.specs.Faults.OtherFaults.{other_faults}
 use Rattle.graphql_ast.specs.declared.definition.Definition.{Definition}
 use Rattle.graphql_ast.specs.declared.definition.Definition.TheVariants as ast
-use Rattle.apollo_meaning.specs.Items.Parts.{TypePart}
-use Rattle.apollo_meaning.specs.Items.ListItems.{ListItem, Defined, Extended, SchemaDefined, SchemaExtended, Other, item_of, items_of, ignorable_if, added, added_items, defined_part, extended_part}
-
-pub defined-item : (x : ListItem) (n : NameView) → option_map (λ p. p.name) (defined_part x) ≡ Some n → (p : TypePart) × ((x ≡ Defined p) × (p.name ≡ n))
-defined-item (Defined p) n h = (p, (refl, ap (λ o. unwrap_or o n) h))
-defined-item (Extended p) n h = absurd (cc)
-defined-item (SchemaDefined s) n h = absurd (cc)
-defined-item (SchemaExtended s) n h = absurd (cc)
-defined-item (Other d) n h = absurd (cc)
-
-pub extended-item : (x : ListItem) (n : NameView) → option_map (λ p. p.name) (extended_part x) ≡ Some n → (p : TypePart) × ((x ≡ Extended p) × (p.name ≡ n))
-extended-item (Defined p) n h = absurd (cc)
-extended-item (Extended p) n h = (p, (refl, ap (λ o. unwrap_or o n) h))
-extended-item (SchemaDefined s) n h = absurd (cc)
-extended-item (SchemaExtended s) n h = absurd (cc)
-extended-item (Other d) n h = absurd (cc)
+use Rattle.apollo_meaning.specs.Items.ListItems.{Other, item_of, items_of, ignorable_if, added, added_items}
+use Rattle.apollo_folding.specs.declared.views.ItemView.{ItemView}
+use Rattle.apollo_folding.specs.declared.views.ItemView.TheVariants as items
+use Rattle.apollo_folding.specs.Views.{item_seen}
 
 -- an operation or fragment is no directive definition, and at fault
 pub executable-other : (ds : Directives) (d : Definition) → ((n : NodeView OperationDefinition) × (d ≡ ast.OperationDefinition n)) ⊎ ((n : NodeView FragmentDefinition) × (d ≡ ast.FragmentDefinition n))
@@ -38,6 +24,17 @@ executable-other ds d (inr h) = (ap (λ d. directive_definitions (Other d ∷ []
 pub executable-item : (d : Definition) → ((n : NodeView OperationDefinition) × (d ≡ ast.OperationDefinition n)) ⊎ ((n : NodeView FragmentDefinition) × (d ≡ ast.FragmentDefinition n)) → item_of d ≡ Other d
 executable-item d (inl h) = ap item_of h.1 ∙ sym (ap Other h.1)
 executable-item d (inr h) = ap item_of h.1 ∙ sym (ap Other h.1)
+
+-- what is neither of a type nor of the schema is the definition itself
+other-is : (d x : Definition) → item_of d ≡ Other x → d ≡ x
+other-is d x is = grind arith
+
+-- a definition that is seen as an operation or fragment is one
+pub executable-view : (v : ItemView) (d : Definition) → item_seen v ≡ item_of d
+    → ((n : Bor (NodeView OperationDefinition)) × (v ≡ items.Operation n)) ⊎ ((n : Bor (NodeView FragmentDefinition)) × (v ≡ items.Fragment n))
+    → ((n : NodeView OperationDefinition) × (d ≡ ast.OperationDefinition n)) ⊎ ((n : NodeView FragmentDefinition) × (d ≡ ast.FragmentDefinition n))
+executable-view v d sees (inl h) = inl (h.0.now, other-is d _ (sym sees ∙ ap item_seen h.1))
+executable-view v d sees (inr h) = inr (h.0.now, other-is d _ (sym sees ∙ ap item_seen h.1))
 
 -- without the setting an item is what the definition says
 unset-item : (d : Definition) → ignorable_if false (item_of d) ≡ item_of d

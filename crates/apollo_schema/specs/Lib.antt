@@ -8,4 +8,3 @@ pub mod SchemaWriteOut
 pub mod Sources
 pub mod Stands
 pub mod Takes
-pub mod TakesType

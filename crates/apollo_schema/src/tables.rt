@@ -1,16 +1,19 @@
 //! What a builder holds.
-ghost use Rattle.std.specs.Prelude.{◌≡◌, false, None, ◌+◌, ◌^◌, ◌≤◌, [], ◌∷◌, length, OnOk, IfOk, IfErr, Some};
+ghost use Rattle.std.specs.Prelude.{◌≡◌, false, None, ◌+◌, ◌^◌, ◌≤◌, [], ◌∷◌, ◌++◌, length, OnOk, IfOk, IfErr, Some};
 ghost use Rattle.graphql_nodes.specs.Tables.{insert_entry};
 ghost use Rattle.graphql_nodes.specs.SameText.{same_text};
+ghost use Rattle.graphql_ast.specs.Definitions.{location_of};
+ghost use Rattle.graphql_ast.specs.DefinitionTexts.{definition_text};
 ghost use Rattle.apollo_component.specs.Extensions.{next_number};
+ghost use Rattle.apollo_meaning.specs.declared.build_error.BuildError.TheVariants as faults;
 ghost use Rattle.apollo_component.specs.declared.extension.ComponentOrigin.TheVariants as origins;
 ghost use Rattle.apollo_meaning.specs.Items.Parts.{schema_definition_part, schema_extension_part};
-ghost use Rattle.apollo_meaning.specs.Items.ListItems.{SchemaDefined, SchemaExtended, added, added_item, added_items, item_of};
+ghost use Rattle.apollo_meaning.specs.Items.ListItems.{Extended, SchemaDefined, SchemaExtended, added, added_item, added_items, item_of};
 ghost use Rattle.apollo_built_in.specs.BuiltInTable.{built_in_definitions};
 ghost use Rattle.apollo_folding.specs.Refusals.{RefusedAs};
+ghost use Rattle.apollo_folding.specs.Views.{part_seen, definition_seen};
 ghost use Rattle.apollo_schema.specs.Stands.{Stands};
 ghost use Rattle.apollo_schema.specs.Takes.{Takes, SpentBy, with_schema};
-ghost use Rattle.apollo_schema.specs.TakesType.{TakesDefinition, SpentByDefinition, TakesExtension, SpentByExtension, TakesOther};
 ghost use Rattle.apollo_schema.specs.Sources.{merged};
 
 mod completion;
@@ -22,8 +25,9 @@ use apollo_component::extension::ExtensionSource;
 use apollo_folding::builder_error::BuilderError;
 use apollo_folding::directive_definition::define_directive;
 use apollo_folding::from_ast::schema_definition::{begin_schema, extend_schema};
-use apollo_folding::from_ast::{begin_type, defined_name, extend_type, extended_name};
+use apollo_folding::from_ast::{begin_type, extend_type};
 use apollo_folding::redefinition::note_redefinition;
+use apollo_folding::views::{ItemView, PartView};
 use apollo_folding::waiting::{take_waiting, wait};
 use apollo_meaning::build_error::{BuildError, Fault};
 use apollo_types::extended_type::ExtendedType;
@@ -126,43 +130,39 @@ impl Tables {
     }
 
     /// Takes the definition of a type, under this setting of whether redefinitions of built-in types are ignored.
-    fn define(
-        &mut self,
-        name: &Name,
-        definition: &Definition,
-        ignores: bool,
-    ) -> Result<(), BuilderError>
-        ensures stands { OnOk result (TakesDefinition self.old name.now definition.now ignores self.new) }
-        ensures refused { IfErr result (λ error. RefusedAs error (SpentByDefinition self.old name.now definition.now ignores)) }
+    fn define(&mut self, definition: &PartView<'_>, ignores: bool) -> Result<(), BuilderError>
+        ensures stands { OnOk result (Takes self.old (definition_seen ignores definition.now ∷ []) self.new) }
+        ensures refused { IfErr result (λ error. RefusedAs error (SpentBy self.old (definition_seen ignores definition.now ∷ []))) }
         ensures sources { self.new.sources ≡ self.old.sources }
     {
-        if let Some(previous) = self.types.get(name) {
-            note_redefinition(previous, name, definition, ignores, &mut self.errors)?;
+        if let Some(previous) = self.types.get(definition.name) {
+            note_redefinition(previous, definition, ignores, &mut self.errors)?;
             return Ok(());
         }
-        let extensions = take_waiting(self.alloc, &mut self.waiting, name);
-        let made = begin_type(
+        let extensions = take_waiting(self.alloc, &mut self.waiting, definition.name);
+        let ty = begin_type(
             self.alloc,
             definition,
             extensions.as_slice(),
             &mut self.ids,
             &mut self.errors,
         )?;
-        let Some(ty) = made else {
-            return Ok(());
-        };
-        put(&mut self.types, name, ty)?;
+        put(&mut self.types, definition.name, ty)?;
         Ok(())
     }
 
-    /// Takes an extension of a type.
-    fn extend(&mut self, name: &Name, extension: &Definition) -> Result<(), BuilderError>
-        ensures stands { OnOk result (TakesExtension self.old name.now extension.now self.new) }
-        ensures refused { IfErr result (λ error. RefusedAs error (SpentByExtension self.old name.now extension.now)) }
+    /// Takes an extension of a type, which this definition of the document is.
+    fn extend(
+        &mut self,
+        extension: &PartView<'_>,
+        definition: &Definition,
+    ) -> Result<(), BuilderError>
+        ensures stands { OnOk result (item_of definition.now ≡ Extended (part_seen extension.now) → Takes self.old (Extended (part_seen extension.now) ∷ []) self.new) }
+        ensures refused { IfErr result (λ error. RefusedAs error (SpentBy self.old (Extended (part_seen extension.now) ∷ []))) }
         ensures sources { self.new.sources ≡ self.old.sources }
     {
-        let Some(ty) = self.types.get_mut(name) else {
-            wait(self.alloc, &mut self.waiting, name, extension)?;
+        let Some(ty) = self.types.get_mut(extension.name) else {
+            wait(self.alloc, &mut self.waiting, extension.name, definition)?;
             return Ok(());
         };
         extend_type(ty, extension, &mut self.ids, &mut self.errors)?;
@@ -218,27 +218,15 @@ impl Tables {
         Ok(())
     }
 
-    /// Takes what neither defines nor extends a type.
-    fn take_other(&mut self, definition: &Definition) -> Result<(), BuilderError>
-        ensures stands { OnOk result (TakesOther self.old definition.now self.new) }
-        ensures refused { IfErr result (λ error. RefusedAs error (SpentBy self.old (item_of definition.now ∷ []))) }
+    /// Notes a definition that has no place in a schema.
+    fn note_executable(&mut self, definition: &Definition) -> Result<(), AllocError>
+        ensures noted { OnOk result (self.new ≡ record self.old { errors = self.old.errors ++ (location_of definition.now, faults.ExecutableDefinition (definition_text definition.now)) ∷ [] }) }
         ensures sources { self.new.sources ≡ self.old.sources }
     {
-        match definition {
-            Definition::SchemaDefinition(node) => self.define_schema(node)?,
-            Definition::SchemaExtension(node) => self.extend_schema(node)?,
-            Definition::DirectiveDefinition(node) => {
-                define_directive(&mut self.directive_definitions, node, &mut self.errors)?;
-            }
-            Definition::OperationDefinition(_) | Definition::FragmentDefinition(_) => {
-                let error = BuildError::ExecutableDefinition {
-                    describe: StaticText::new(definition.describe()),
-                };
-                self.errors.push((definition.location(), error))?;
-            }
-            _ => {}
-        }
-        Ok(())
+        let error = BuildError::ExecutableDefinition {
+            describe: StaticText::new(definition.describe()),
+        };
+        self.errors.push((definition.location(), error))
     }
 
     /// Takes a definition, under this setting of whether redefinitions of built-in types are ignored.
@@ -247,12 +235,15 @@ impl Tables {
         ensures refused { IfErr result (λ error. RefusedAs error (SpentBy self.old (added_item (ignores, definition.now) ∷ []))) }
         ensures sources { self.new.sources ≡ self.old.sources }
     {
-        if let Some(name) = defined_name(definition) {
-            self.define(name, definition, ignores)?;
-        } else if let Some(name) = extended_name(definition) {
-            self.extend(name, definition)?;
-        } else {
-            self.take_other(definition)?;
+        match ItemView::of(definition) {
+            ItemView::Defined(part) => self.define(&part, ignores)?,
+            ItemView::Extended(part) => self.extend(&part, definition)?,
+            ItemView::SchemaDefined(node) => self.define_schema(node)?,
+            ItemView::SchemaExtended(node) => self.extend_schema(node)?,
+            ItemView::Directive(node) => {
+                define_directive(&mut self.directive_definitions, node, &mut self.errors)?;
+            }
+            ItemView::Operation(_) | ItemView::Fragment(_) => self.note_executable(definition)?,
         }
         Ok(())
     }

@@ -1,19 +1,20 @@
-use Rattle.std.proofs.Common.{◌≡◌, ap, ◌∙◌}
+use Rattle.std.proofs.Common.{◌≡◌, ◌++◌, codes, ap, ◌∙◌}
 use Rattle.graphql_nodes.specs.NameView.{NameView}
 use Rattle.graphql_nodes.specs.KindTexts.{kind_text}
 use Rattle.apollo_types.specs.TypeWriteOut.{type_kind, type_name}
 use Rattle.apollo_meaning.specs.declared.build_error.BuildError.TheVariants as errors
 use Rattle.apollo_meaning.specs.Items.Parts.{kind_of}
 use Rattle.apollo_meaning.proofs.FoldingLemmas.{type_kind-from, type_name-from}
+use Rattle.apollo_folding.specs.Views.{part_seen}
 use Rattle.apollo_folding.proofs.JoiningLemmas.{extension_text}
 use Rattle.apollo_folding.proofs.from_ast.kind_mismatch.Goals as goal
 
 pub returns : goal.returns
-returns c = λ head e done was is named.
-    let name = c.in_ok-clone.ensures.cases ∙ named in
-    let extension = c.new.ensures ∙ c.describe.ensures ∙ extension_text c.args.extension.now e is in
+returns c = λ head done was.
+    let e = part_seen c.args.part.now in
+    let name : c.in_ok-clone.field-0 ≡ e.name = c.in_ok-clone.ensures.cases in
+    let extension = c.new.ensures ∙ c.describe_extension.ensures ∙ extension_text c.kind.result ∙ ap (λ k. kind_text k ++ codes " extension") c.kind.ensures in
     let place = c.location.ensures ∙ ap (λ (n : NameView). n.location) (c.name.ensures ∙ ap type_name was ∙ type_name-from head done) in
-    let kind : c.kind.result ≡ kind_of head = c.kind.ensures ∙ ap type_kind was ∙ type_kind-from head done in
-    let definition = c.new-2.ensures ∙ c.describe-2.ensures ∙ ap kind_text kind in
-    let about = c.location-2.ensures ∙ ap (λ (n : NameView). n.location) named in
-    λ i. (about i, errors.TypeExtensionKindMismatch (name i) (extension i) (place i) (definition i))
+    let kind : c.kind-2.result ≡ kind_of head = c.kind-2.ensures ∙ ap type_kind was ∙ type_kind-from head done in
+    let definition = c.new-2.ensures ∙ c.describe.ensures ∙ ap kind_text kind in
+    λ i. (c.location-2.ensures i, errors.TypeExtensionKindMismatch (name i) (extension i) (place i) (definition i))

@@ -3,13 +3,15 @@ use Rattle.graphql_nodes.specs.BuiltIn.{is_built_in}
 use Rattle.apollo_types.specs.TypeWriteOut.{type_location}
 use Rattle.apollo_meaning.specs.Faults.TypeFaults.{redefinition, built_in_redefinition}
 use Rattle.apollo_meaning.proofs.FoldingLemmas.{type_location-from}
+use Rattle.apollo_folding.specs.Views.{part_seen}
 use Rattle.apollo_folding.proofs.redefinition.note_redefinition.Goals as goal
 
 pub returns-then-not-is_built_in : goal.returns-then-not-is_built_in
-returns-then-not-is_built_in c = λ d p done made is name.
+returns-then-not-is_built_in c = λ d done made.
+    let p = part_seen c.args.further.now in
     let before = c.args.errors.now in
     let place : type_location c.args.previous.now ≡ d.location = ap type_location made ∙ type_location-from d done in
     let apart : is_built_in d.location ≡ false = ap is_built_in (sym place) ∙ sym c.is_built_in.ensures ∙ c.if-not-is_built_in.true in
     c.in_ok-push.ensures.ok
-    ∙ ap (λ f. before ++ f ∷ []) (c.in_ok-redefinition.ensures d p done made name)
+    ∙ ap (λ f. before ++ f ∷ []) (c.in_ok-redefinition.ensures d done made)
     ∙ ap (λ b. before ++ cond b (cond c.args.ignores [] (built_in_redefinition d p ∷ [])) (redefinition d p ∷ [])) (sym apart)

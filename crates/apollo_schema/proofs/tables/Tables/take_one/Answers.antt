@@ -1,62 +1,37 @@
-use Rattle.std.proofs.Common.{◌≡◌, ◌+◌, ◌^◌, ◌≤◌, Bool, false, [], ◌∷◌, ◌++◌, length, Option, None, Some, is_some, refl, sym, ap, subst, ◌∙◌}
-use Rattle.std.specs.Option.{option_copied, option_map}
-use Rattle.std.proofs.lemmas.Result.{err_from_is_err_and}
-use Rattle.apollo_meaning.specs.Items.Parts.{TypePart}
-use Rattle.apollo_meaning.specs.Items.ListItems.{ListItem, Defined, Extended, SchemaDefined, SchemaExtended, Other, item_of, ignorable_if, defined_part, extended_part}
-use Rattle.apollo_meaning.specs.Steps.Prefixes.{folded}
+use Rattle.std.proofs.Common.{◌≡◌, [], ◌∷◌, ◌++◌, List, refl, sym, ap, subst, ◌∙◌}
+use Rattle.std.proofs.lemmas.List.{append-nil}
+use Rattle.graphql_ast.specs.declared.definition.Definition.{Definition}
+use Rattle.graphql_ast.specs.declared.definition.Definition.TheVariants as ast
+use Rattle.apollo_meaning.specs.Directives.{directive_definitions, AreDirectivesOf}
+use Rattle.apollo_meaning.specs.Items.ListItems.{ListItem, Other, added_item, ignorable_if}
+use Rattle.apollo_folding.specs.Views.{item_seen}
+use Rattle.apollo_schema.specs.declared.tables.Tables.{Tables}
 use Rattle.apollo_schema.specs.Stands.{Stands}
-use Rattle.apollo_folding.proofs.RefusalLemmas.{RefusedAs-weaker}
-use Rattle.apollo_schema.proofs.RoleLemmas.{defined-item, extended-item}
+use Rattle.apollo_schema.proofs.StandsLemmas.{Stands-other}
+use Rattle.apollo_schema.proofs.RoleLemmas.{executable-other, executable-item, executable-view}
 use Rattle.apollo_schema.proofs.tables.Tables.take_one.Goals as goal
 
-pub returns-in_ok-define-clause-stands : goal.returns-in_ok-define-clause-stands
-returns-in_ok-define-clause-stands c = λ start xs was.
-    let item = defined-item (item_of c.args.definition.now) c.in-Some.name.now (sym c.defined_name.ensures ∙ ap option_copied c.in-Some.is) in
-    subst (λ (x : ListItem). Stands start (xs ++ ignorable_if c.args.ignores x ∷ []) c.define.new.self) (sym item.1.0) (c.in_ok-define.ensures.stands start xs item.0 item.1.0 item.1.1 was)
+pub returns-in_ok-define_directive-in-Directive-clause-stands : goal.returns-in_ok-define_directive-in-Directive-clause-stands
+returns-in_ok-define_directive-in-Directive-clause-stands c = λ start xs was.
+    let d : Definition = ast.DirectiveDefinition c.in-Directive.node.now in
+    let now : Tables = record c.args.self.now { directive_definitions = c.define_directive.new.table; errors = c.define_directive.new.errors } in
+    let made = c.in_ok-define_directive-in-Directive.ensures in
+    let item : added_item (c.args.ignores, c.args.definition.now) ≡ Other d = ap (ignorable_if c.args.ignores) (sym c.of.ensures ∙ ap item_seen c.in-Directive.is) in
+    subst (λ (x : ListItem). Stands start (xs ++ x ∷ []) now) (sym item)
+    (Stands-other was d now refl refl refl refl refl (made.defined (directive_definitions xs) was.directives) (made.faults (directive_definitions xs) was.directives))
 
-pub returns-in_ok-extend-clause-stands : goal.returns-in_ok-extend-clause-stands
-returns-in_ok-extend-clause-stands c = λ start xs was.
-    let item = extended-item (item_of c.args.definition.now) c.in-Some-extended_name.name.now (sym c.extended_name.ensures ∙ ap option_copied c.in-Some-extended_name.is) in
-    subst (λ (x : ListItem). Stands start (xs ++ ignorable_if c.args.ignores x ∷ []) c.extend.new.self) (sym item.1.0) (c.in_ok-extend.ensures.stands start xs item.0 item.1.0 item.1.1 was)
+-- the directive definitions after an item that is none
+none_more : (xs : List ListItem) (t : Tables) (d : Definition) → directive_definitions (Other d ∷ []) ≡ [] → AreDirectivesOf (directive_definitions xs) t.directive_definitions
+    → AreDirectivesOf (directive_definitions xs ++ directive_definitions (Other d ∷ [])) t.directive_definitions
+none_more xs t d none = subst (λ ds. AreDirectivesOf ds t.directive_definitions) (sym (ap (λ ds. directive_definitions xs ++ ds) none ∙ append-nil (directive_definitions xs)))
 
--- what neither defines nor extends a type is the same under each setting
-unset : (b : Bool) (x : ListItem) → option_map (λ p. p.name) (defined_part x) ≡ None → ignorable_if b x ≡ x
-unset b (Defined p) h = absurd (cc)
-unset b (Extended p) h = refl
-unset b (SchemaDefined s) h = refl
-unset b (SchemaExtended s) h = refl
-unset b (Other d) h = refl
-
-none-of : {X : Type 0} (f : TypePart → X) (o : Option TypePart) → option_map f o ≡ None → is_some o ≡ false
-none-of f None h = refl
-none-of f (Some p) h = absurd (cc)
-
-pub returns-in_ok-take_other-clause-stands : goal.returns-in_ok-take_other-clause-stands
-returns-in_ok-take_other-clause-stands c = λ start xs was.
-    let x = item_of c.args.definition.now in
-    let undefined = sym c.defined_name.ensures ∙ ap option_copied c.in_default.is in
-    let unextended = sym c.extended_name.ensures ∙ ap option_copied c.in_default-extended_name.is in
-    subst (λ (x : ListItem). Stands start (xs ++ x ∷ []) c.take_other.new.self) (sym (unset c.args.ignores x undefined))
-    (c.in_ok-take_other.ensures.stands start xs (none-of (λ p. p.name) (defined_part x) undefined) (none-of (λ p. p.name) (extended_part x) unextended) was)
-
-pub returns-in_err-take_other-clause-refused : goal.returns-in_err-take_other-clause-refused
-returns-in_err-take_other-clause-refused c =
-    let x = item_of c.args.definition.now in
-    let undefined = sym c.defined_name.ensures ∙ ap option_copied c.in_default.is in
-    let exit = err_from_is_err_and c.from_residual-in_err-take_other.result c.from_residual-in_err-take_other.ensures.1 in
-    rw (exit.1, exit.2) (RefusedAs-weaker c.in_err-take_other.field-0.0 _ _ (λ full start xs was.
-    subst (λ (x : ListItem). 2 ^ 64 ≤ start + length (folded (xs ++ x ∷ []))) (sym (unset c.args.ignores x undefined)) (full start xs was)) c.in_err-take_other.ensures.refused)
-
-pub returns-in_err-define-clause-refused : goal.returns-in_err-define-clause-refused
-returns-in_err-define-clause-refused c =
-    let item = defined-item (item_of c.args.definition.now) c.in-Some.name.now (sym c.defined_name.ensures ∙ ap option_copied c.in-Some.is) in
-    let exit = err_from_is_err_and c.from_residual.result c.from_residual.ensures.1 in
-    rw (exit.1, exit.2) (RefusedAs-weaker c.in_err-define.field-0.0 _ _ (λ full start xs was.
-    subst (λ (x : ListItem). 2 ^ 64 ≤ start + length (folded (xs ++ ignorable_if c.args.ignores x ∷ []))) (sym item.1.0) (full start xs item.0 item.1.0 item.1.1 was)) c.in_err-define.ensures.refused)
-
-pub returns-in_err-extend-clause-refused : goal.returns-in_err-extend-clause-refused
-returns-in_err-extend-clause-refused c =
-    let item = extended-item (item_of c.args.definition.now) c.in-Some-extended_name.name.now (sym c.extended_name.ensures ∙ ap option_copied c.in-Some-extended_name.is) in
-    let exit = err_from_is_err_and c.from_residual-in_err-extend.result c.from_residual-in_err-extend.ensures.1 in
-    rw (exit.1, exit.2) (RefusedAs-weaker c.in_err-extend.field-0.0 _ _ (λ full start xs was.
-    subst (λ (x : ListItem). 2 ^ 64 ≤ start + length (folded (xs ++ ignorable_if c.args.ignores x ∷ []))) (sym item.1.0) (full start xs item.0 item.1.0 item.1.1 was)) c.in_err-extend.ensures.refused)
+pub returns-in_ok-note_executable-in-Operation-clause-stands : goal.returns-in_ok-note_executable-in-Operation-clause-stands
+returns-in_ok-note_executable-in-Operation-clause-stands c = λ start xs was.
+    let t = c.args.self.now in
+    let d = c.args.definition.now in
+    let is = executable-view c.of.result d c.of.ensures c.in-Operation.is in
+    let other = executable-other (directive_definitions xs) d is in
+    let item : added_item (c.args.ignores, d) ≡ Other d = ap (ignorable_if c.args.ignores) (executable-item d is) in
+    subst (λ (x : ListItem). Stands start (xs ++ x ∷ []) c.note_executable.new.self) (sym item)
+    (subst (Stands start (xs ++ Other d ∷ [])) (sym c.in_ok-note_executable-in-Operation.ensures.noted)
+    (Stands-other was d _ refl refl refl refl refl (none_more xs t d other.0 was.directives) (ap (λ l. t.errors ++ l) (sym other.1))))

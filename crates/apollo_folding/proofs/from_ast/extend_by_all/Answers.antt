@@ -11,7 +11,7 @@ use Rattle.apollo_types.specs.TypeWriteOut.{type_kind}
 use Rattle.apollo_meaning.proofs.FoldingLemmas.{numbered-more, of_kind-turn, of_kind-past, type_kind-from}
 use Rattle.apollo_folding.proofs.JoiningLemmas.{parts-numbered, joining-turn}
 use Rattle.apollo_folding.proofs.RefusalLemmas.{RefusedAs-weaker}
-use Rattle.apollo_folding.proofs.from_ast.extend_type_by_all.Goals as goal
+use Rattle.apollo_folding.proofs.from_ast.extend_by_all.Goals as goal
 
 pub loop-extension-preserved : goal.loop-extension-preserved
 loop-extension-preserved c =
@@ -23,7 +23,7 @@ loop-extension-preserved c =
     let before = λ (k : TypeKind). of_kind k (extended_parts (take i xs)) in
     let these = λ (k : TypeKind). of_kind k (extended_parts (x ∷ [])) in
     let was = c.loop-extension.invariant in
-    let now = c.in_ok-extend_type.ensures in
+    let now = c.in_ok-extend_by.ensures in
     let at : next_number c.loop-extension.ids ≡ start + length (before k) = ap next_number was.next in
     let turn = λ (k : TypeKind). of_kind-turn k xs i x (omega arith) c.extension-item.is in
     record {
@@ -49,8 +49,8 @@ loop-extension-preserved c =
           now.next ∙ ap (λ k. source_at (next_number c.loop-extension.ids + length (these k))) kinds ∙ ap source_at sum;
     }
 
-pub returns-in_err-extend_type-clause-refused : goal.returns-in_err-extend_type-clause-refused
-returns-in_err-extend_type-clause-refused c =
+pub returns-in_err-extend_by-clause-refused : goal.returns-in_err-extend_by-clause-refused
+returns-in_err-extend_by-clause-refused c =
     let xs = c.args.extensions.now in
     let i = c.loop-extension.extension-index in
     let x = c.extension-item.result in
@@ -60,4 +60,4 @@ returns-in_err-extend_type-clause-refused c =
     let kinds : length (of_kind (type_kind c.loop-extension.ty) (extended_parts (x ∷ []))) ≡ length (of_kind k (extended_parts (x ∷ []))) = ap (λ k. length (of_kind k (extended_parts (x ∷ [])))) was.kind in
     let past = of_kind-past k xs i x (omega arith) c.extension-item.is in
     let exit = err_from_is_err_and c.from_residual.result c.from_residual.ensures.1 in
-    rw (exit.1, exit.2) (RefusedAs-weaker c.in_err-extend_type.field-0.0 _ _ (λ full. omega (arith, past, at, kinds, full)) c.in_err-extend_type.ensures.refused)
+    rw (exit.1, exit.2) (RefusedAs-weaker c.in_err-extend_by.field-0.0 _ _ (λ full. omega (arith, past, at, kinds, full)) c.in_err-extend_by.ensures.refused)

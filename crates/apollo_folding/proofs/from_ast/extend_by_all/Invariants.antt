@@ -7,7 +7,7 @@ use Rattle.apollo_meaning.specs.Types.Components.{Sourced}
 use Rattle.apollo_meaning.specs.Types.Meaning.{type_from, extension_part, numbered}
 use Rattle.apollo_meaning.specs.Steps.Joining.{joining_faults}
 use Rattle.apollo_types.specs.TypeWriteOut.{type_kind}
-use Rattle.apollo_folding.proofs.from_ast.extend_type_by_all.Given as goal
+use Rattle.apollo_folding.proofs.from_ast.extend_by_all.Given as goal
 
 abbrev pub invariant-loop-extension : goal.invariant-loop-extension
 invariant-loop-extension l =

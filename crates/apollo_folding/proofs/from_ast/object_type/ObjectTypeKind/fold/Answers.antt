@@ -1,0 +1,26 @@
+use Rattle.std.proofs.Common.{◌≡◌, ◌++◌, map, sym, ap, ◌∙◌, List, append_assoc}
+use Rattle.std.specs.List.{flat_map}
+use Rattle.graphql_nodes.specs.NameView.{NameView}
+use Rattle.apollo_types.specs.declared.object_type.ObjectType.{ObjectType}
+use Rattle.apollo_meaning.specs.declared.collision.Collection.TheVariants as collections
+use Rattle.apollo_meaning.specs.Faults.Collisions.{collisions}
+use Rattle.apollo_meaning.specs.Faults.TypeFaults.{body_faults, interface_names, field_names, name_entries, field_entries}
+use Rattle.apollo_meaning.specs.Items.Parts.{ObjectBody}
+use Rattle.apollo_meaning.specs.Types.Components.{interfaces_of, fields_of}
+use Rattle.apollo_folding.specs.Views.{body_seen}
+use Rattle.apollo_folding.proofs.PartNames.{interfaces-joined, fields-joined}
+use Rattle.apollo_folding.proofs.from_ast.object_type.ObjectTypeKind.fold.Goals as goal
+
+pub returns-clause-faults : goal.returns-clause-faults
+returns-clause-faults c = λ same head done was.
+    let ty = c.args.part.now.name.now in
+    let before = c.args.errors.now in
+    let parts = map (λ s. s.1) done in
+    let body : body_seen c.args.part.now.body ≡ ObjectBody c.as_slice-2.result.now c.as_slice-3.result.now = ap body_seen c.in-Object.is ∙ (λ i. ObjectBody (sym c.as_slice-2.ensures i) (sym c.as_slice-3.ensures i)) in
+    let interfaces = λ (names : List NameView). collisions collections.ObjectInterfaces ty names (name_entries c.as_slice-2.result.now) in
+    let fields = λ (names : List NameView). collisions collections.ObjectFields ty names (field_entries c.as_slice-3.result.now) in
+    let first = c.in_ok-fold_names.ensures.faults (flat_map interfaces_of done) (ap (λ (t : ObjectType). t.implements_interfaces) was) ∙ ap (λ names. before ++ interfaces names) (interfaces-joined done) in
+    c.in_ok-fold_named.ensures.faults (flat_map fields_of done) (ap (λ (t : ObjectType). t.fields) was)
+    ∙ (λ i. first i ++ fields (fields-joined done i))
+    ∙ append_assoc before (interfaces (interface_names parts)) (fields (field_names parts))
+    ∙ ap (λ b. before ++ body_faults b ty parts) (sym body)

@@ -1,0 +1,183 @@
+//! What a definition of a document says, read once: a definition or extension of a type, whatever its kind, of the
+//! schema, or something else.
+ghost use Rattle.std.specs.Prelude.{◌≡◌, IfOk};
+ghost use Rattle.std.specs.Option.{option_copied};
+ghost use Rattle.apollo_meaning.specs.Items.ListItems.{item_of};
+ghost use Rattle.apollo_meaning.specs.Items.Parts.{kind_of};
+
+use graphql_ast::definition::Definition;
+use graphql_ast::directive::DirectiveList;
+use graphql_ast::operation::{FragmentDefinition, OperationDefinition};
+use graphql_ast::type_system::{
+    DirectiveDefinition, EnumValueDefinition, FieldDefinition, InputValueDefinition,
+    SchemaDefinition, SchemaExtension,
+};
+use graphql_nodes::collections::items::Items;
+use graphql_nodes::name::Name;
+use graphql_nodes::node::Node;
+use graphql_nodes::node_str::NodeStr;
+use graphql_nodes::source::SourceSpan;
+use graphql_nodes::type_kind::TypeKind;
+use std::alloc::AllocError;
+
+/// What the definitions and extensions of one kind hold besides directives.
+#[derive(Clone, Copy)]
+pub enum BodyView<'a> {
+    Scalar,
+    Object(&'a Items<Name>, &'a Items<Node<FieldDefinition>>),
+    Interface(&'a Items<Name>, &'a Items<Node<FieldDefinition>>),
+    Union(&'a Items<Name>),
+    Enum(&'a Items<Node<EnumValueDefinition>>),
+    InputObject(&'a Items<Node<InputValueDefinition>>),
+}
+
+/// A definition or extension of a type.
+#[derive(Clone, Copy)]
+pub struct PartView<'a> {
+    pub location: Option<SourceSpan>,
+    pub description: Option<&'a NodeStr>,
+    pub name: &'a Name,
+    pub directives: &'a DirectiveList,
+    pub body: BodyView<'a>,
+}
+
+impl<'a> PartView<'a> {
+    ghost use Rattle.apollo_folding.specs.Views.{part_seen};
+
+    /// A copy of the description.
+    pub fn description(&self) -> Result<Option<NodeStr>, AllocError>
+        ensures { IfOk result (λ copy. copy ≡ option_copied self.now.description) }
+    {
+        match self.description {
+            Some(description) => Ok(Some(description.clone()?)),
+            None => Ok(None),
+        }
+    }
+
+    /// The kind of the type that is defined or extended.
+    pub fn kind(&self) -> TypeKind
+        ensures { result ≡ kind_of (part_seen self.now) }
+    {
+        match self.body {
+            BodyView::Scalar => TypeKind::Scalar,
+            BodyView::Object(_, _) => TypeKind::Object,
+            BodyView::Interface(_, _) => TypeKind::Interface,
+            BodyView::Union(_) => TypeKind::Union,
+            BodyView::Enum(_) => TypeKind::Enum,
+            BodyView::InputObject(_) => TypeKind::InputObject,
+        }
+    }
+}
+
+/// What a definition of a document says of types and of the schema.
+#[derive(Clone, Copy)]
+pub enum ItemView<'a> {
+    Defined(PartView<'a>),
+    Extended(PartView<'a>),
+    SchemaDefined(&'a Node<SchemaDefinition>),
+    SchemaExtended(&'a Node<SchemaExtension>),
+    Directive(&'a Node<DirectiveDefinition>),
+    Operation(&'a Node<OperationDefinition>),
+    Fragment(&'a Node<FragmentDefinition>),
+}
+
+impl<'a> ItemView<'a> {
+    ghost use Rattle.apollo_folding.specs.Views.{item_seen};
+
+    /// What this definition says.
+    pub fn of(definition: &'a Definition) -> ItemView<'a>
+        ensures { item_seen result ≡ item_of definition.now }
+    {
+        match definition {
+            Definition::OperationDefinition(node) => ItemView::Operation(node),
+            Definition::FragmentDefinition(node) => ItemView::Fragment(node),
+            Definition::DirectiveDefinition(node) => ItemView::Directive(node),
+            Definition::SchemaDefinition(node) => ItemView::SchemaDefined(node),
+            Definition::SchemaExtension(node) => ItemView::SchemaExtended(node),
+            Definition::ScalarTypeDefinition(node) => ItemView::Defined(PartView {
+                location: node.location(),
+                description: node.description.as_ref(),
+                name: &node.name,
+                directives: &node.directives,
+                body: BodyView::Scalar,
+            }),
+            Definition::ObjectTypeDefinition(node) => ItemView::Defined(PartView {
+                location: node.location(),
+                description: node.description.as_ref(),
+                name: &node.name,
+                directives: &node.directives,
+                body: BodyView::Object(&node.implements_interfaces, &node.fields),
+            }),
+            Definition::InterfaceTypeDefinition(node) => ItemView::Defined(PartView {
+                location: node.location(),
+                description: node.description.as_ref(),
+                name: &node.name,
+                directives: &node.directives,
+                body: BodyView::Interface(&node.implements_interfaces, &node.fields),
+            }),
+            Definition::UnionTypeDefinition(node) => ItemView::Defined(PartView {
+                location: node.location(),
+                description: node.description.as_ref(),
+                name: &node.name,
+                directives: &node.directives,
+                body: BodyView::Union(&node.members),
+            }),
+            Definition::EnumTypeDefinition(node) => ItemView::Defined(PartView {
+                location: node.location(),
+                description: node.description.as_ref(),
+                name: &node.name,
+                directives: &node.directives,
+                body: BodyView::Enum(&node.values),
+            }),
+            Definition::InputObjectTypeDefinition(node) => ItemView::Defined(PartView {
+                location: node.location(),
+                description: node.description.as_ref(),
+                name: &node.name,
+                directives: &node.directives,
+                body: BodyView::InputObject(&node.fields),
+            }),
+            Definition::ScalarTypeExtension(node) => ItemView::Extended(PartView {
+                location: node.location(),
+                description: None,
+                name: &node.name,
+                directives: &node.directives,
+                body: BodyView::Scalar,
+            }),
+            Definition::ObjectTypeExtension(node) => ItemView::Extended(PartView {
+                location: node.location(),
+                description: None,
+                name: &node.name,
+                directives: &node.directives,
+                body: BodyView::Object(&node.implements_interfaces, &node.fields),
+            }),
+            Definition::InterfaceTypeExtension(node) => ItemView::Extended(PartView {
+                location: node.location(),
+                description: None,
+                name: &node.name,
+                directives: &node.directives,
+                body: BodyView::Interface(&node.implements_interfaces, &node.fields),
+            }),
+            Definition::UnionTypeExtension(node) => ItemView::Extended(PartView {
+                location: node.location(),
+                description: None,
+                name: &node.name,
+                directives: &node.directives,
+                body: BodyView::Union(&node.members),
+            }),
+            Definition::EnumTypeExtension(node) => ItemView::Extended(PartView {
+                location: node.location(),
+                description: None,
+                name: &node.name,
+                directives: &node.directives,
+                body: BodyView::Enum(&node.values),
+            }),
+            Definition::InputObjectTypeExtension(node) => ItemView::Extended(PartView {
+                location: node.location(),
+                description: None,
+                name: &node.name,
+                directives: &node.directives,
+                body: BodyView::InputObject(&node.fields),
+            }),
+        }
+    }
+}
