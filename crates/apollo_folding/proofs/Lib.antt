@@ -6,3 +6,4 @@ pub mod NameTables
 pub mod PartNames
 pub mod RefusalLemmas
 pub mod RootLemmas
+pub mod ViewLemmas

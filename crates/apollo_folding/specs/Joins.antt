@@ -22,7 +22,7 @@ with_numbers ids es = map extension_part (numbered (next_number ids) es)
 abbrev pub Joins : {P T : Type 0} → (P → List (ComponentOrigin × P) → T) → T → (P → List (ComponentOrigin × P)) → T → Type 0
 Joins {P} made old more new = (head : P) (done : List (ComponentOrigin × P)) → old ≡ made head done → new ≡ made head (done ++ more head)
 
--- what a schema definition was made of, and a part that has these directives and these roots, make it
+-- a schema definition that was made of some parts is made of one as well that has these directives and these roots
 abbrev pub JoinsSchemaPart : SchemaDefinition → ComponentOrigin → List (NodeView Directive) → List Root → SchemaDefinition → Type 0
 JoinsSchemaPart old origin directives roots new = (head part : SchemaPart) (done : List SourcedSchema)
     → part.directives ≡ directives → part.roots ≡ roots

@@ -1,16 +1,18 @@
 //! What a build completes a list with: types that are extended only, where they are adopted, and the definition of the
 //! schema that is implied. GraphQL specification of October 2021, sections 3.3.1 and 3.4.3.
-ghost use Rattle.std.specs.Prelude.{◌≡◌, ◌==◌, ◌&&◌, if◌then◌else◌, [], ◌++◌, length, map, not, option_map, IfOk, OnOk};
+ghost use Rattle.std.specs.Prelude.{◌≡◌, ◌==◌, ◌&&◌, if◌then◌else◌, [], ◌++◌, length, map, not, IfOk, OnOk};
 ghost use Rattle.std.specs.List.{flat_map, list_any};
 ghost use Rattle.std.specs.Option.{unwrap_or};
 ghost use Rattle.graphql_nodes.specs.Tables.{values_of};
-ghost use Rattle.apollo_meaning.specs.Items.ListItems.{schema_item, Defined, item_of, items_of, extended_part, extended_parts};
+ghost use Rattle.apollo_meaning.specs.Items.ListItems.{schema_item, Defined, item_of, items_of, extended_parts};
 ghost use Rattle.apollo_meaning.specs.Items.Parts.{schema_extension_part, roots_in};
 ghost use Rattle.apollo_meaning.specs.Completion.Adoption.{adopted_part, adopted_by};
 ghost use Rattle.apollo_meaning.specs.Completion.ImpliedSchema.{schema_for};
+ghost use Rattle.apollo_folding.specs.Views.{part_seen};
 ghost use Rattle.apollo_folding.specs.HeldRoots.{held_root, held_roots};
 ghost use Rattle.apollo_meaning.specs.Schema.Definition.{no_schema};
 
+use crate::views::{BodyView, ItemView, PartView};
 use apollo_types::extended_type::ExtendedType;
 use apollo_types::schema_definition::SchemaDefinition;
 use graphql_ast::definition::Definition;
@@ -24,69 +26,70 @@ use graphql_nodes::node::Node;
 use graphql_nodes::operation_type::OperationType;
 use std::alloc::{AllocError, Global};
 
-/// The empty definition of the kind of an extension, with its name and at its place, if it extends a type.
-fn empty_definition(alloc: Global, extension: &Definition) -> Result<Option<Definition>, AllocError>
-    ensures { IfOk result (λ made. option_map item_of made ≡ option_map (λ e. Defined (adopted_part e)) (extended_part (item_of extension.now))) }
+/// The empty definition of the kind of an extension, with its name and at its place.
+fn empty_definition(alloc: Global, extension: &PartView<'_>) -> Result<Definition, AllocError>
+    ensures { IfOk result (λ made. item_of made ≡ Defined (adopted_part (part_seen extension.now))) }
 {
-    let definition = match extension {
-        Definition::ScalarTypeExtension(node) => {
+    let name = extension.name.clone()?;
+    let directives = DirectiveList::new(alloc);
+    let place = extension.location;
+    match extension.body {
+        BodyView::Scalar => {
             let empty = ast::ScalarTypeDefinition {
                 description: None,
-                name: node.name.clone()?,
-                directives: DirectiveList::new(alloc),
+                name,
+                directives,
             };
-            Definition::ScalarTypeDefinition(node.same_location(alloc, empty)?)
+            Ok(Definition::ScalarTypeDefinition(Node::new_opt_location(alloc, empty, place)?))
         }
-        Definition::ObjectTypeExtension(node) => {
+        BodyView::Object(_, _) => {
             let empty = ast::ObjectTypeDefinition {
                 description: None,
-                name: node.name.clone()?,
+                name,
                 implements_interfaces: Items::new(alloc),
-                directives: DirectiveList::new(alloc),
+                directives,
                 fields: Items::new(alloc),
             };
-            Definition::ObjectTypeDefinition(node.same_location(alloc, empty)?)
+            Ok(Definition::ObjectTypeDefinition(Node::new_opt_location(alloc, empty, place)?))
         }
-        Definition::InterfaceTypeExtension(node) => {
+        BodyView::Interface(_, _) => {
             let empty = ast::InterfaceTypeDefinition {
                 description: None,
-                name: node.name.clone()?,
+                name,
                 implements_interfaces: Items::new(alloc),
-                directives: DirectiveList::new(alloc),
+                directives,
                 fields: Items::new(alloc),
             };
-            Definition::InterfaceTypeDefinition(node.same_location(alloc, empty)?)
+            Ok(Definition::InterfaceTypeDefinition(Node::new_opt_location(alloc, empty, place)?))
         }
-        Definition::UnionTypeExtension(node) => {
+        BodyView::Union(_) => {
             let empty = ast::UnionTypeDefinition {
                 description: None,
-                name: node.name.clone()?,
-                directives: DirectiveList::new(alloc),
+                name,
+                directives,
                 members: Items::new(alloc),
             };
-            Definition::UnionTypeDefinition(node.same_location(alloc, empty)?)
+            Ok(Definition::UnionTypeDefinition(Node::new_opt_location(alloc, empty, place)?))
         }
-        Definition::EnumTypeExtension(node) => {
+        BodyView::Enum(_) => {
             let empty = ast::EnumTypeDefinition {
                 description: None,
-                name: node.name.clone()?,
-                directives: DirectiveList::new(alloc),
+                name,
+                directives,
                 values: Items::new(alloc),
             };
-            Definition::EnumTypeDefinition(node.same_location(alloc, empty)?)
+            Ok(Definition::EnumTypeDefinition(Node::new_opt_location(alloc, empty, place)?))
         }
-        Definition::InputObjectTypeExtension(node) => {
+        BodyView::InputObject(_) => {
             let empty = ast::InputObjectTypeDefinition {
                 description: None,
-                name: node.name.clone()?,
-                directives: DirectiveList::new(alloc),
+                name,
+                directives,
                 fields: Items::new(alloc),
             };
-            Definition::InputObjectTypeDefinition(node.same_location(alloc, empty)?)
+            Ok(Definition::InputObjectTypeDefinition(Node::new_opt_location(alloc, empty, place)?))
         }
-        _ => return Ok(None),
-    };
-    Ok(Some(definition))
+    }
 }
 
 /// Adds the empty definition of the first of these that extends a type.
@@ -98,8 +101,8 @@ fn adopt_first(
     ensures { OnOk result (items_of adopted.new ≡ items_of adopted.old ++ adopted_by (extended_parts extensions.now)) }
 {
     for extension in extensions {
-        if let Some(definition) = empty_definition(alloc, extension)? {
-            adopted.push(definition)?;
+        if let ItemView::Extended(part) = ItemView::of(extension) {
+            adopted.push(empty_definition(alloc, &part)?)?;
             return Ok(());
         }
     }

@@ -1,9 +1,9 @@
 //! What a definition of a document says, read once: a definition or extension of a type, whatever its kind, of the
 //! schema, or something else.
-ghost use Rattle.std.specs.Prelude.{◌≡◌, IfOk};
+ghost use Rattle.std.specs.Prelude.{◌≡◌, None, IfOk};
 ghost use Rattle.std.specs.Option.{option_copied};
-ghost use Rattle.apollo_meaning.specs.Items.ListItems.{item_of};
-ghost use Rattle.apollo_meaning.specs.Items.Parts.{kind_of};
+ghost use Rattle.apollo_meaning.specs.Items.ListItems.{Defined, Extended, item_of};
+ghost use Rattle.apollo_meaning.specs.Items.Parts.{kind_of, part_at};
 
 use graphql_ast::definition::Definition;
 use graphql_ast::directive::DirectiveList;
@@ -82,7 +82,44 @@ pub enum ItemView<'a> {
 }
 
 impl<'a> ItemView<'a> {
-    ghost use Rattle.apollo_folding.specs.Views.{item_seen};
+    ghost use Rattle.apollo_folding.specs.Views.{item_seen, body_seen};
+
+    /// A definition of a type.
+    fn defined<T>(
+        node: &'a Node<T>,
+        description: &'a Option<NodeStr>,
+        name: &'a Name,
+        directives: &'a DirectiveList,
+        body: BodyView<'a>,
+    ) -> ItemView<'a>
+        ensures { item_seen result ≡ Defined (part_at node.now.location name.now description.now directives.now (body_seen body.entry)) }
+    {
+        ItemView::Defined(PartView {
+            location: node.location(),
+            description: description.as_ref(),
+            name,
+            directives,
+            body,
+        })
+    }
+
+    /// An extension of a type.
+    fn extended<T>(
+        node: &'a Node<T>,
+        name: &'a Name,
+        directives: &'a DirectiveList,
+        body: BodyView<'a>,
+    ) -> ItemView<'a>
+        ensures { item_seen result ≡ Extended (part_at node.now.location name.now None directives.now (body_seen body.entry)) }
+    {
+        ItemView::Extended(PartView {
+            location: node.location(),
+            description: None,
+            name,
+            directives,
+            body,
+        })
+    }
 
     /// What this definition says.
     pub fn of(definition: &'a Definition) -> ItemView<'a>
@@ -94,90 +131,58 @@ impl<'a> ItemView<'a> {
             Definition::DirectiveDefinition(node) => ItemView::Directive(node),
             Definition::SchemaDefinition(node) => ItemView::SchemaDefined(node),
             Definition::SchemaExtension(node) => ItemView::SchemaExtended(node),
-            Definition::ScalarTypeDefinition(node) => ItemView::Defined(PartView {
-                location: node.location(),
-                description: node.description.as_ref(),
-                name: &node.name,
-                directives: &node.directives,
-                body: BodyView::Scalar,
-            }),
-            Definition::ObjectTypeDefinition(node) => ItemView::Defined(PartView {
-                location: node.location(),
-                description: node.description.as_ref(),
-                name: &node.name,
-                directives: &node.directives,
-                body: BodyView::Object(&node.implements_interfaces, &node.fields),
-            }),
-            Definition::InterfaceTypeDefinition(node) => ItemView::Defined(PartView {
-                location: node.location(),
-                description: node.description.as_ref(),
-                name: &node.name,
-                directives: &node.directives,
-                body: BodyView::Interface(&node.implements_interfaces, &node.fields),
-            }),
-            Definition::UnionTypeDefinition(node) => ItemView::Defined(PartView {
-                location: node.location(),
-                description: node.description.as_ref(),
-                name: &node.name,
-                directives: &node.directives,
-                body: BodyView::Union(&node.members),
-            }),
-            Definition::EnumTypeDefinition(node) => ItemView::Defined(PartView {
-                location: node.location(),
-                description: node.description.as_ref(),
-                name: &node.name,
-                directives: &node.directives,
-                body: BodyView::Enum(&node.values),
-            }),
-            Definition::InputObjectTypeDefinition(node) => ItemView::Defined(PartView {
-                location: node.location(),
-                description: node.description.as_ref(),
-                name: &node.name,
-                directives: &node.directives,
-                body: BodyView::InputObject(&node.fields),
-            }),
-            Definition::ScalarTypeExtension(node) => ItemView::Extended(PartView {
-                location: node.location(),
-                description: None,
-                name: &node.name,
-                directives: &node.directives,
-                body: BodyView::Scalar,
-            }),
-            Definition::ObjectTypeExtension(node) => ItemView::Extended(PartView {
-                location: node.location(),
-                description: None,
-                name: &node.name,
-                directives: &node.directives,
-                body: BodyView::Object(&node.implements_interfaces, &node.fields),
-            }),
-            Definition::InterfaceTypeExtension(node) => ItemView::Extended(PartView {
-                location: node.location(),
-                description: None,
-                name: &node.name,
-                directives: &node.directives,
-                body: BodyView::Interface(&node.implements_interfaces, &node.fields),
-            }),
-            Definition::UnionTypeExtension(node) => ItemView::Extended(PartView {
-                location: node.location(),
-                description: None,
-                name: &node.name,
-                directives: &node.directives,
-                body: BodyView::Union(&node.members),
-            }),
-            Definition::EnumTypeExtension(node) => ItemView::Extended(PartView {
-                location: node.location(),
-                description: None,
-                name: &node.name,
-                directives: &node.directives,
-                body: BodyView::Enum(&node.values),
-            }),
-            Definition::InputObjectTypeExtension(node) => ItemView::Extended(PartView {
-                location: node.location(),
-                description: None,
-                name: &node.name,
-                directives: &node.directives,
-                body: BodyView::InputObject(&node.fields),
-            }),
+            Definition::ScalarTypeDefinition(node) => {
+                ItemView::defined(
+                    node,
+                    &node.description,
+                    &node.name,
+                    &node.directives,
+                    BodyView::Scalar,
+                )
+            }
+            Definition::ObjectTypeDefinition(node) => {
+                let body = BodyView::Object(&node.implements_interfaces, &node.fields);
+                ItemView::defined(node, &node.description, &node.name, &node.directives, body)
+            }
+            Definition::InterfaceTypeDefinition(node) => {
+                let body = BodyView::Interface(&node.implements_interfaces, &node.fields);
+                ItemView::defined(node, &node.description, &node.name, &node.directives, body)
+            }
+            Definition::UnionTypeDefinition(node) => {
+                let body = BodyView::Union(&node.members);
+                ItemView::defined(node, &node.description, &node.name, &node.directives, body)
+            }
+            Definition::EnumTypeDefinition(node) => {
+                let body = BodyView::Enum(&node.values);
+                ItemView::defined(node, &node.description, &node.name, &node.directives, body)
+            }
+            Definition::InputObjectTypeDefinition(node) => {
+                let body = BodyView::InputObject(&node.fields);
+                ItemView::defined(node, &node.description, &node.name, &node.directives, body)
+            }
+            Definition::ScalarTypeExtension(node) => {
+                ItemView::extended(node, &node.name, &node.directives, BodyView::Scalar)
+            }
+            Definition::ObjectTypeExtension(node) => {
+                let body = BodyView::Object(&node.implements_interfaces, &node.fields);
+                ItemView::extended(node, &node.name, &node.directives, body)
+            }
+            Definition::InterfaceTypeExtension(node) => {
+                let body = BodyView::Interface(&node.implements_interfaces, &node.fields);
+                ItemView::extended(node, &node.name, &node.directives, body)
+            }
+            Definition::UnionTypeExtension(node) => {
+                let body = BodyView::Union(&node.members);
+                ItemView::extended(node, &node.name, &node.directives, body)
+            }
+            Definition::EnumTypeExtension(node) => {
+                let body = BodyView::Enum(&node.values);
+                ItemView::extended(node, &node.name, &node.directives, body)
+            }
+            Definition::InputObjectTypeExtension(node) => {
+                let body = BodyView::InputObject(&node.fields);
+                ItemView::extended(node, &node.name, &node.directives, body)
+            }
         }
     }
 }
