@@ -1,18 +1,22 @@
 -- What a step does to what was made of parts, and to the faults: each word speaks of all parts that it may be made of.
-use Rattle.std.specs.Prelude.{◌≡◌, List, [], ◌∷◌, ◌++◌, map}
+use Rattle.std.specs.Prelude.{◌≡◌, ℕ, length, List, [], ◌∷◌, ◌++◌, map}
 use Rattle.graphql_nodes.specs.NodeView.{NodeView}
+use Rattle.graphql_nodes.specs.declared.type_kind.TypeKind.{TypeKind}
 use Rattle.graphql_ast.specs.declared.directive.Directive.{Directive}
 use Rattle.apollo_component.specs.Extensions.{next_number}
 use Rattle.apollo_component.specs.declared.extension.ComponentOrigin.{ComponentOrigin}
 use Rattle.apollo_component.specs.declared.extension.ExtensionSource.{ExtensionSource}
 use Rattle.apollo_types.specs.declared.extended_type.ExtendedType.{ExtendedType}
 use Rattle.apollo_types.specs.declared.schema_definition.SchemaDefinition.{SchemaDefinition}
-use Rattle.apollo_meaning.specs.Items.Parts.{TypePart, SchemaPart, Root}
+use Rattle.apollo_meaning.specs.Items.Parts.{TypePart, SchemaPart, Root, kind_of}
+use Rattle.apollo_meaning.specs.Items.Named.{of_kind}
 use Rattle.apollo_meaning.specs.Types.Components.{Sourced}
 use Rattle.apollo_meaning.specs.Types.Meaning.{extension_part, numbered, type_from}
 use Rattle.apollo_meaning.specs.Schema.Definition.{SourcedSchema, schema_definition_of}
 use Rattle.apollo_meaning.specs.Faults.Collisions.{Fault}
 use Rattle.apollo_meaning.specs.Faults.RootFaults.{schema_faults}
+use Rattle.apollo_meaning.specs.Faults.TypeFaults.{part_faults}
+use Rattle.apollo_meaning.specs.Steps.Joining.{joining_faults}
 
 -- extensions, with the numbers of a source from its next one on
 abbrev pub with_numbers : ExtensionSource → List TypePart → List Sourced
@@ -37,6 +41,26 @@ FindsRoots old roots before after = (head part : SchemaPart) (done : List Source
 abbrev pub Finds : {P T : Type 0} → (P → List (ComponentOrigin × P) → T) → T → (P → List P → List Fault) → List Fault → List Fault → Type 0
 Finds {P} made old faults before after = (head : P) (done : List (ComponentOrigin × P))
     → old ≡ made head done → after ≡ before ++ faults head (map (λ s. s.1) done)
+
+-- what was made of some parts is made of one more as well
+abbrev pub JoinsOne : {T : Type 0} → (TypePart → List Sourced → T) → T → ComponentOrigin → TypePart → T → Type 0
+JoinsOne made old origin part new = Joins made old (λ _. (origin, part) ∷ []) new
+
+-- to the faults are added those of the components that this part drops
+abbrev pub FindsOne : {T : Type 0} → (TypePart → List Sourced → T) → T → TypePart → List Fault → List Fault → Type 0
+FindsOne made old part before after = Finds made old (λ _ parts. part_faults parts part) before after
+
+-- a type that was made of some parts is made as well of those of these extensions that have its kind
+abbrev pub Extends : ExtendedType → ExtensionSource → List TypePart → ExtendedType → Type 0
+Extends old ids es new = Joins type_from old (λ head. with_numbers ids (of_kind (kind_of head) es)) new
+
+-- how many of these extensions have this kind
+abbrev pub how_many : TypeKind → List TypePart → ℕ
+how_many kind es = length (of_kind kind es)
+
+-- to the faults are added those of these extensions, where they join the type one after another
+abbrev pub FindsJoining : ExtendedType → List TypePart → List Fault → List Fault → Type 0
+FindsJoining old es before after = Finds type_from old (λ head parts. joining_faults head parts es) before after
 
 -- what was made of a list is made of it with these at its end
 abbrev pub Lengthens : {X T : Type 0} → (List X → T) → T → List X → T → Type 0

@@ -1,17 +1,16 @@
 //! Types from what definitions and extensions say.
-ghost use Rattle.std.specs.Prelude.{◌≡◌, Bool, ◌+◌, ◌^◌, ◌≤◌, List, [], ◌∷◌, ◌++◌, length, IfOk, IfErr, OnOk};
-ghost use Rattle.apollo_component.specs.Extensions.{next_number, source_at};
+ghost use Rattle.std.specs.Prelude.{◌≡◌, Bool, List, [], ◌∷◌, ◌++◌, IfOk, IfErr, OnOk};
+ghost use Rattle.apollo_component.specs.Extensions.{next_number};
 ghost use Rattle.apollo_component.specs.declared.extension.ComponentOrigin.TheVariants as origins;
 ghost use Rattle.apollo_meaning.specs.Items.Parts.{TypePart, kind_of};
 ghost use Rattle.apollo_meaning.specs.Items.ListItems.{extended_parts};
-ghost use Rattle.apollo_meaning.specs.Items.Named.{of_kind};
 ghost use Rattle.apollo_meaning.specs.Types.Components.{Sourced};
 ghost use Rattle.apollo_meaning.specs.Types.Meaning.{type_from};
 ghost use Rattle.apollo_meaning.specs.Faults.TypeFaults.{part_faults, kind_mismatch};
-ghost use Rattle.apollo_meaning.specs.Steps.Joining.{type_begun, type_begun_faults, joining_faults};
+ghost use Rattle.apollo_meaning.specs.Steps.Joining.{type_begun, type_begun_faults};
 ghost use Rattle.apollo_types.specs.TypeWriteOut.{type_kind};
-ghost use Rattle.apollo_folding.specs.Joins.{with_numbers, Joins, Finds};
-ghost use Rattle.apollo_folding.specs.Refusals.{RefusedAs};
+ghost use Rattle.apollo_folding.specs.Joins.{Extends, FindsJoining, JoinsOne, FindsOne, how_many};
+ghost use Rattle.apollo_folding.specs.Refusals.{RefusedAs, SpentWith, after};
 ghost use Rattle.apollo_folding.specs.Views.{part_seen};
 
 mod enum_type;
@@ -80,8 +79,8 @@ fn fold_part(
     origin: ComponentOrigin,
     errors: &mut Items<Fault>,
 ) -> Result<(), AllocError>
-    ensures folded { OnOk result (kind_of (part_seen part.now) ≡ type_kind ty.old → Joins type_from ty.old (λ _. (origin, part_seen part.now) ∷ []) ty.new) }
-    ensures faults { OnOk result (kind_of (part_seen part.now) ≡ type_kind ty.old → Finds type_from ty.old (λ _ parts. part_faults parts (part_seen part.now)) errors.old errors.new) }
+    ensures folded { OnOk result (kind_of (part_seen part.now) ≡ type_kind ty.old → JoinsOne type_from ty.old origin (part_seen part.now) ty.new) }
+    ensures faults { OnOk result (kind_of (part_seen part.now) ≡ type_kind ty.old → FindsOne type_from ty.old (part_seen part.now) errors.old errors.new) }
     ensures kind { OnOk result (type_kind ty.new ≡ type_kind ty.old) }
 {
     match ty {
@@ -103,11 +102,11 @@ pub fn extend_type(
     ids: &mut ExtensionSource,
     errors: &mut Items<Fault>,
 ) -> Result<(), BuilderError>
-    ensures folded { OnOk result (Joins type_from ty.old (λ head. with_numbers ids.old (of_kind (kind_of head) (part_seen extension.now ∷ []))) ty.new) }
-    ensures faults { OnOk result (Finds type_from ty.old (λ head parts. joining_faults head parts (part_seen extension.now ∷ [])) errors.old errors.new) }
+    ensures folded { OnOk result (Extends ty.old ids.old (part_seen extension.now ∷ []) ty.new) }
+    ensures faults { OnOk result (FindsJoining ty.old (part_seen extension.now ∷ []) errors.old errors.new) }
     ensures kind { OnOk result (type_kind ty.new ≡ type_kind ty.old) }
-    ensures next { OnOk result (ids.new ≡ source_at (next_number ids.old + length (of_kind (type_kind ty.old) (part_seen extension.now ∷ [])))) }
-    ensures refused { IfErr result (λ error. RefusedAs error (2 ^ 64 ≤ next_number ids.old + length (of_kind (type_kind ty.old) (part_seen extension.now ∷ [])))) }
+    ensures next { OnOk result (ids.new ≡ after ids.old (how_many (type_kind ty.old) (part_seen extension.now ∷ []))) }
+    ensures refused { IfErr result (λ error. RefusedAs error (SpentWith ids.old (how_many (type_kind ty.old) (part_seen extension.now ∷ [])))) }
 {
     if extension.kind() != ty.kind() {
         errors.push(kind_mismatch(ty, extension)?)?;
@@ -125,11 +124,11 @@ fn extend_by(
     ids: &mut ExtensionSource,
     errors: &mut Items<Fault>,
 ) -> Result<(), BuilderError>
-    ensures folded { OnOk result (Joins type_from ty.old (λ head. with_numbers ids.old (of_kind (kind_of head) (extended_parts (definition.now ∷ [])))) ty.new) }
-    ensures faults { OnOk result (Finds type_from ty.old (λ head parts. joining_faults head parts (extended_parts (definition.now ∷ []))) errors.old errors.new) }
+    ensures folded { OnOk result (Extends ty.old ids.old (extended_parts (definition.now ∷ [])) ty.new) }
+    ensures faults { OnOk result (FindsJoining ty.old (extended_parts (definition.now ∷ [])) errors.old errors.new) }
     ensures kind { OnOk result (type_kind ty.new ≡ type_kind ty.old) }
-    ensures next { OnOk result (ids.new ≡ source_at (next_number ids.old + length (of_kind (type_kind ty.old) (extended_parts (definition.now ∷ []))))) }
-    ensures refused { IfErr result (λ error. RefusedAs error (2 ^ 64 ≤ next_number ids.old + length (of_kind (type_kind ty.old) (extended_parts (definition.now ∷ []))))) }
+    ensures next { OnOk result (ids.new ≡ after ids.old (how_many (type_kind ty.old) (extended_parts (definition.now ∷ [])))) }
+    ensures refused { IfErr result (λ error. RefusedAs error (SpentWith ids.old (how_many (type_kind ty.old) (extended_parts (definition.now ∷ []))))) }
 {
     match ItemView::of(definition) {
         ItemView::Extended(extension) => extend_type(ty, &extension, ids, errors),
@@ -144,10 +143,10 @@ fn extend_by_all(
     ids: &mut ExtensionSource,
     errors: &mut Items<Fault>,
 ) -> Result<(), BuilderError>
-    ensures folded { OnOk result (Joins type_from ty.old (λ head. with_numbers ids.old (of_kind (kind_of head) (extended_parts extensions.now))) ty.new) }
-    ensures faults { OnOk result (Finds type_from ty.old (λ head parts. joining_faults head parts (extended_parts extensions.now)) errors.old errors.new) }
-    ensures next { OnOk result (ids.new ≡ source_at (next_number ids.old + length (of_kind (type_kind ty.old) (extended_parts extensions.now)))) }
-    ensures refused { IfErr result (λ error. RefusedAs error (2 ^ 64 ≤ next_number ids.old + length (of_kind (type_kind ty.old) (extended_parts extensions.now)))) }
+    ensures folded { OnOk result (Extends ty.old ids.old (extended_parts extensions.now) ty.new) }
+    ensures faults { OnOk result (FindsJoining ty.old (extended_parts extensions.now) errors.old errors.new) }
+    ensures next { OnOk result (ids.new ≡ after ids.old (how_many (type_kind ty.old) (extended_parts extensions.now))) }
+    ensures refused { IfErr result (λ error. RefusedAs error (SpentWith ids.old (how_many (type_kind ty.old) (extended_parts extensions.now)))) }
 {
     for extension in extensions {
         extend_by(ty, extension, ids, errors)?;
@@ -165,8 +164,8 @@ pub fn begin_type(
 ) -> Result<ExtendedType, BuilderError>
     ensures made { IfOk result (λ ty. (b : Bool) → ty ≡ type_begun (next_number ids.old) (record (part_seen head.now) { ignorable = b }) (extended_parts extensions.now)) }
     ensures faults { OnOk result ((b : Bool) → errors.new ≡ errors.old ++ type_begun_faults (record (part_seen head.now) { ignorable = b }) (extended_parts extensions.now)) }
-    ensures next { OnOk result (ids.new ≡ source_at (next_number ids.old + length (of_kind (kind_of (part_seen head.now)) (extended_parts extensions.now)))) }
-    ensures refused { IfErr result (λ error. RefusedAs error (2 ^ 64 ≤ next_number ids.old + length (of_kind (kind_of (part_seen head.now)) (extended_parts extensions.now)))) }
+    ensures next { OnOk result (ids.new ≡ after ids.old (how_many (kind_of (part_seen head.now)) (extended_parts extensions.now))) }
+    ensures refused { IfErr result (λ error. RefusedAs error (SpentWith ids.old (how_many (kind_of (part_seen head.now)) (extended_parts extensions.now)))) }
 {
     let mut ty = type_from_ast(alloc, head, errors)?;
     extend_by_all(&mut ty, extensions, ids, errors)?;

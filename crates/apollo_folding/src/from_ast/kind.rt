@@ -5,7 +5,7 @@ ghost use Rattle.apollo_component.specs.declared.extension.ComponentOrigin.TheVa
 ghost use Rattle.apollo_meaning.specs.Items.Parts.{TypePart, kind_of};
 ghost use Rattle.apollo_meaning.specs.Types.Components.{Sourced};
 ghost use Rattle.apollo_meaning.specs.Faults.TypeFaults.{part_faults};
-ghost use Rattle.apollo_folding.specs.Joins.{Joins, Finds};
+ghost use Rattle.apollo_folding.specs.Joins.{JoinsOne, FindsOne};
 ghost use Rattle.apollo_folding.specs.Views.{part_seen};
 
 use crate::views::PartView;
@@ -34,8 +34,8 @@ pub trait Kind: Clone + Drop {
         origin: ComponentOrigin,
         errors: &mut Items<Fault>,
     ) -> Result<(), AllocError>
-        ensures folded { OnOk result (kind_of (part_seen part.now) ≡ kind → Joins made self.old (λ _. (origin, part_seen part.now) ∷ []) self.new) }
-        ensures faults { OnOk result (kind_of (part_seen part.now) ≡ kind → Finds made self.old (λ _ parts. part_faults parts (part_seen part.now)) errors.old errors.new) };
+        ensures folded { OnOk result (kind_of (part_seen part.now) ≡ kind → JoinsOne made self.old origin (part_seen part.now) self.new) }
+        ensures faults { OnOk result (kind_of (part_seen part.now) ≡ kind → FindsOne made self.old (part_seen part.now) errors.old errors.new) };
 
     /// A copy is the same type.
     ghost copies: { (x y : Self) → Self.is_clone x y → y ≡ x };
@@ -63,8 +63,8 @@ pub fn fold_into<K: Kind>(
     origin: ComponentOrigin,
     errors: &mut Items<Fault>,
 ) -> Result<(), AllocError>
-    ensures folded { OnOk result (kind_of (part_seen part.now) ≡ K.kind → Joins K.made node.old.value (λ _. (origin, part_seen part.now) ∷ []) node.new.value) }
-    ensures faults { OnOk result (kind_of (part_seen part.now) ≡ K.kind → Finds K.made node.old.value (λ _ parts. part_faults parts (part_seen part.now)) errors.old errors.new) }
+    ensures folded { OnOk result (kind_of (part_seen part.now) ≡ K.kind → JoinsOne K.made node.old.value origin (part_seen part.now) node.new.value) }
+    ensures faults { OnOk result (kind_of (part_seen part.now) ≡ K.kind → FindsOne K.made node.old.value (part_seen part.now) errors.old errors.new) }
     ensures place { OnOk result (node.new.location ≡ node.old.location) }
 {
     let ty = node.make_mut()?;

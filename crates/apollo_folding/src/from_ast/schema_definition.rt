@@ -1,8 +1,8 @@
 //! The definition of the schema from its definitions and extensions.
 ghost use Rattle.apollo_folding.specs.Joins.{JoinsSchemaPart, FindsRoots, Joins, Finds};
-ghost use Rattle.std.specs.Prelude.{◌≡◌, ◌+◌, ◌^◌, ◌≤◌, List, [], ◌∷◌, ◌++◌, length, map, None, Some, IfOk, IfErr, OnOk};
+ghost use Rattle.std.specs.Prelude.{◌≡◌, ◌≤◌, List, [], ◌∷◌, ◌++◌, length, map, None, Some, IfOk, IfErr, OnOk};
 ghost use Rattle.std.specs.Option.{option_or};
-ghost use Rattle.apollo_component.specs.Extensions.{next_number, source_at};
+ghost use Rattle.apollo_component.specs.Extensions.{next_number};
 ghost use Rattle.apollo_component.specs.declared.extension.ComponentOrigin.TheVariants as origins;
 ghost use Rattle.apollo_types.specs.SchemaDefinitionWriteOut.{root_of};
 ghost use Rattle.apollo_types.specs.declared.schema_definition.SchemaDefinition.{SchemaDefinition as AnyDefinition};
@@ -12,7 +12,7 @@ ghost use Rattle.apollo_meaning.specs.Schema.Definition.{schema_from};
 ghost use Rattle.apollo_meaning.specs.Faults.RootFaults.{schema_faults};
 ghost use Rattle.apollo_folding.specs.RootTables.{NamedRoot, named_root, with_roots, put_root, dropped_root, held_fault, held_faults};
 ghost use Rattle.apollo_meaning.specs.Steps.Joining.{schema_numbered, schema_begun, schema_begun_faults, schema_joining_faults};
-ghost use Rattle.apollo_folding.specs.Refusals.{RefusedAs};
+ghost use Rattle.apollo_folding.specs.Refusals.{RefusedAs, SpentWith, after};
 
 use crate::builder_error::BuilderError;
 use crate::from_ast::folding::fold_directives;
@@ -155,9 +155,9 @@ pub fn extend_schema(
 ) -> Result<(), BuilderError>
     ensures folded { OnOk result (Joins schema_from node.old (λ _. schema_numbered (next_number ids.old) (schema_extension_part extension.now ∷ [])) node.new) }
     ensures faults { OnOk result (Finds schema_from node.old (λ _ parts. schema_faults parts (schema_extension_part extension.now)) errors.old errors.new) }
-    ensures next { OnOk result (ids.new ≡ source_at (next_number ids.old + 1)) }
+    ensures next { OnOk result (ids.new ≡ after ids.old 1) }
     ensures grows { next_number ids.old ≤ next_number ids.new }
-    ensures refused { IfErr result (λ error. RefusedAs error (2 ^ 64 ≤ next_number ids.old + 1)) }
+    ensures refused { IfErr result (λ error. RefusedAs error (SpentWith ids.old 1)) }
 {
     let id = ExtensionId::new(ids, extension)?;
     fold(
@@ -179,9 +179,9 @@ fn extend_schema_by_all(
 ) -> Result<(), BuilderError>
     ensures folded { OnOk result (Joins schema_from node.old (λ _. schema_numbered (next_number ids.old) (map schema_extension_part extensions.now)) node.new) }
     ensures faults { OnOk result (Finds schema_from node.old (λ _ parts. schema_joining_faults parts (map schema_extension_part extensions.now)) errors.old errors.new) }
-    ensures next { OnOk result (ids.new ≡ source_at (next_number ids.old + length extensions.now)) }
+    ensures next { OnOk result (ids.new ≡ after ids.old (length extensions.now)) }
     ensures grows { next_number ids.old ≤ next_number ids.new }
-    ensures refused { IfErr result (λ error. RefusedAs error (2 ^ 64 ≤ next_number ids.old + length extensions.now)) }
+    ensures refused { IfErr result (λ error. RefusedAs error (SpentWith ids.old (length extensions.now))) }
 {
     for extension in extensions {
         extend_schema(node, extension, ids, errors)?;
@@ -199,9 +199,9 @@ pub fn begin_schema(
 ) -> Result<Node<SchemaDefinition>, BuilderError>
     ensures made { IfOk result (λ made. made ≡ schema_begun (next_number ids.old) (schema_definition_part node.now) (map schema_extension_part extensions.now)) }
     ensures faults { OnOk result (errors.new ≡ errors.old ++ schema_begun_faults (schema_definition_part node.now) (map schema_extension_part extensions.now)) }
-    ensures next { OnOk result (ids.new ≡ source_at (next_number ids.old + length extensions.now)) }
+    ensures next { OnOk result (ids.new ≡ after ids.old (length extensions.now)) }
     ensures grows { next_number ids.old ≤ next_number ids.new }
-    ensures refused { IfErr result (λ error. RefusedAs error (2 ^ 64 ≤ next_number ids.old + length extensions.now)) }
+    ensures refused { IfErr result (λ error. RefusedAs error (SpentWith ids.old (length extensions.now))) }
 {
     let mut definition = schema_from_ast(alloc, node, errors)?;
     extend_schema_by_all(&mut definition, extensions, ids, errors)?;
