@@ -1,4 +1,5 @@
--- What the views of definitions are views of.
+-- What the views of definitions are views of: GraphQL specification of October 2021, sections 3, 3.3, 3.4, and 3.5 to
+-- 3.10.
 use Rattle.std.specs.Prelude.{Bool}
 use Rattle.std.specs.Option.{option_copied}
 use Rattle.graphql_ast.specs.declared.definition.Definition.TheVariants as ast
@@ -10,6 +11,7 @@ use Rattle.apollo_folding.specs.declared.views.ItemView.TheVariants as items
 use Rattle.apollo_meaning.specs.Items.Parts.{TypeBody, TypePart, ScalarBody, ObjectBody, InterfaceBody, UnionBody, EnumBody, InputObjectBody, part_at, schema_definition_part, schema_extension_part}
 use Rattle.apollo_meaning.specs.Items.ListItems.{ListItem, Defined, Extended, SchemaDefined, SchemaExtended, Other}
 
+-- what a kind holds besides directives
 abbrev pub body_seen : BodyView → TypeBody
 body_seen bodies.Scalar = ScalarBody
 body_seen (bodies.Object interfaces fields) = ObjectBody interfaces.now fields.now
@@ -18,9 +20,11 @@ body_seen (bodies.Union members) = UnionBody members.now
 body_seen (bodies.Enum values) = EnumBody values.now
 body_seen (bodies.InputObject fields) = InputObjectBody fields.now
 
+-- a definition or extension of a type
 abbrev pub part_seen : PartView → TypePart
 part_seen v = part_at v.location v.name.now (option_copied v.description) v.directives.now (body_seen v.body)
 
+-- a definition of a document
 abbrev pub item_seen : ItemView → ListItem
 item_seen (items.Defined part) = Defined (part_seen part)
 item_seen (items.Extended part) = Extended (part_seen part)

@@ -111,6 +111,7 @@ fn push_sources(text: &mut String, sources: &SourceMap) -> Result<(), AllocError
 }
 
 /// Adds the components of a schema, each with where it comes from.
+/// No clause: it serves tests.
 pub fn push_schema(text: &mut String, schema: &Schema) -> Result<(), AllocError> {
     push_sources(text, &schema.sources)?;
     push_directives(text, &schema.schema_definition.directives)?;
@@ -125,6 +126,7 @@ pub fn push_schema(text: &mut String, schema: &Schema) -> Result<(), AllocError>
 }
 
 /// Adds a place: the number of its file, and from where to where it goes.
+/// No clause: it serves tests.
 pub fn push_place(text: &mut String, place: Option<SourceSpan>) -> Result<(), AllocError> {
     match place {
         Some(span) => {
@@ -137,6 +139,7 @@ pub fn push_place(text: &mut String, place: Option<SourceSpan>) -> Result<(), Al
 }
 
 /// Adds faults, each with its place.
+/// No clause: it serves tests.
 pub fn push_faults(text: &mut String, faults: &[Fault]) -> Result<(), AllocError> {
     for (place, error) in faults {
         push_place(text, *place)?;

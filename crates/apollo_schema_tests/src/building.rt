@@ -80,6 +80,7 @@ fn add_all(builder: &mut SchemaBuilder, documents: &[Document]) {
 }
 
 /// Whether documents build this schema, where extensions are adopted.
+/// No clause: it serves tests.
 pub fn is_built_of(
     alloc: Global,
     schema: &Schema,
@@ -163,6 +164,7 @@ fn push_copies(text: &mut String, schema: &Schema) -> Result<(), AllocError> {
 }
 
 /// Adds all that is said of a schema.
+/// No clause: it serves tests.
 pub fn push_whole(alloc: Global, text: &mut String, schema: &Schema) -> Result<(), AllocError> {
     push_schema(text, schema)?;
     push_write_out(alloc, text, schema)?;
@@ -254,6 +256,7 @@ fn tell(
 }
 
 /// What a builder of the documents says and builds.
+/// No clause: it serves tests.
 pub fn told(
     alloc: Global,
     settings: Settings,
@@ -275,6 +278,7 @@ fn told_of(alloc: Global, settings: Settings, input: &str) -> Result<String, Fai
 }
 
 /// Expects this to be told of the documents that a text says.
+/// No clause: it serves tests.
 pub fn expect(
     rt: &(impl Abort + AllocGlobal),
     settings: Settings,

@@ -15,6 +15,7 @@ use likeness::is_so;
 use std::alloc::{AllocError, Global};
 
 /// The node of this integer, at the place.
+/// No clause: it serves tests.
 pub fn number(alloc: Global, text: &str) -> Result<Node<Value>, AllocError> {
     placed(alloc, Value::Int(Text::from_str(alloc, text)?))
 }
@@ -27,6 +28,7 @@ fn argument(alloc: Global, value: &str) -> Result<Node<Argument>, AllocError> {
 }
 
 /// The type `Int`, or `Int!` where it is required.
+/// No clause: it serves tests.
 pub fn int_type(alloc: Global, required: bool) -> Result<Node<Type>, AllocError> {
     let int = Name::new_unchecked(alloc, "Int")?;
     if required {
@@ -122,6 +124,7 @@ fn argument_by_name(rt: HostRuntime) {
 }
 
 /// The required argument `limit` with the default value `10`.
+/// No clause: it serves tests.
 pub fn with_default(alloc: Global) -> Result<Node<InputValueDefinition>, AllocError> {
     let ten = number(alloc, "10")?;
     defined(alloc, "limit", true, Some(ten))
@@ -159,6 +162,7 @@ fn directive(alloc: Global) -> Result<DirectiveDefinition, AllocError> {
 }
 
 /// The field `pages` of the type `Page`.
+/// No clause: it serves tests.
 pub fn field(alloc: Global) -> Result<FieldDefinition, AllocError> {
     let arguments = definitions(alloc)?;
     let ty = Type::Named(Name::new_unchecked(alloc, "Page")?);

@@ -14,16 +14,19 @@ pub const PLACE: SourceSpan = SourceSpan {
 };
 
 /// The node of this value, at the place.
+/// No clause: it serves tests.
 pub fn placed<T: Drop>(alloc: Global, value: T) -> Result<Node<T>, AllocError> {
     Node::new_opt_location(alloc, value, Some(PLACE))
 }
 
 /// The name `n`, at the place.
+/// No clause: it serves tests.
 pub fn placed_name(alloc: Global) -> Result<Name, AllocError> {
     Ok(Name::new_unchecked(alloc, "n")?.with_location(PLACE))
 }
 
 /// A list of this value alone.
+/// No clause: it serves tests.
 pub fn list<T: Drop>(alloc: Global, value: T) -> Result<Items<T>, AllocError> {
     let mut list = Items::new(alloc);
     list.push(value)?;

@@ -19,6 +19,7 @@ use std::alloc::{AllocError, Global};
 
 /// Whether there was memory for the node, what it holds has an equal copy, and so has what is made of the node, which
 /// is right. A copy of the node shares what it holds.
+/// No clause: it serves tests.
 pub fn is_kept<
     T: Clone + PartialEq + Drop,
     D: Clone + PartialEq + Drop,

@@ -12,6 +12,7 @@ pub const PLACE: SourceSpan = SourceSpan {
 };
 
 /// The name of this text, at a place if one is given.
+/// No clause: it serves tests.
 pub fn name(alloc: Global, text: &str, place: Option<SourceSpan>) -> Result<Name, AllocError> {
     let name = Name::new_unchecked(alloc, text)?;
     match place {
@@ -21,6 +22,7 @@ pub fn name(alloc: Global, text: &str, place: Option<SourceSpan>) -> Result<Name
 }
 
 /// A list of this value alone.
+/// No clause: it serves tests.
 pub fn list<T: Drop>(alloc: Global, value: T) -> Result<Items<T>, AllocError> {
     let mut list = Items::new(alloc);
     list.push(value)?;

@@ -28,6 +28,7 @@ fn ids(alloc: Global, place: Option<SourceSpan>) -> Result<Node<Value>, AllocErr
 }
 
 /// The value `{ids: [$id, ONE]}`, all at one place.
+/// No clause: it serves tests.
 pub fn value(alloc: Global, place: Option<SourceSpan>) -> Result<Value, AllocError> {
     let member = (name(alloc, "ids", place)?, ids(alloc, place)?);
     Ok(Value::Object(list(alloc, member)?))

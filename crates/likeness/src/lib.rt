@@ -14,11 +14,13 @@ fn hash_of<T: Hash>(value: &T) -> u64 {
 }
 
 /// Whether the values are equal, and so are their hashes.
+/// No clause: it serves tests.
 pub fn are_alike<T: PartialEq + Hash>(first: &T, second: &T) -> bool {
     *first == *second && hash_of(first) == hash_of(second)
 }
 
 /// Whether there was memory for both values, and they are equal and so are their hashes.
+/// No clause: it serves tests.
 pub fn are_made_alike<T: PartialEq + Hash + Drop>(
     first: Result<T, AllocError>,
     second: Result<T, AllocError>,
@@ -30,6 +32,7 @@ pub fn are_made_alike<T: PartialEq + Hash + Drop>(
 }
 
 /// Whether the values are equal, if there was memory for both.
+/// No clause: it serves tests.
 pub fn are_equal<T: PartialEq + Drop>(
     first: Result<T, AllocError>,
     second: Result<T, AllocError>,
@@ -41,6 +44,7 @@ pub fn are_equal<T: PartialEq + Drop>(
 }
 
 /// Whether there was memory, and what was made is equal to the value.
+/// No clause: it serves tests.
 pub fn is_made<T: PartialEq + Drop>(made: Result<T, AllocError>, value: &T) -> bool {
     match made {
         Ok(other) => other == *value,
@@ -49,6 +53,7 @@ pub fn is_made<T: PartialEq + Drop>(made: Result<T, AllocError>, value: &T) -> b
 }
 
 /// Whether there was memory for the value, and it is right.
+/// No clause: it serves tests.
 pub fn is_so<T: Drop, F: FnOnce(&T) -> bool + Drop>(
     made: Result<T, AllocError>,
     is_right: F,
@@ -62,11 +67,13 @@ pub fn is_so<T: Drop, F: FnOnce(&T) -> bool + Drop>(
 }
 
 /// Whether a copy is made, and is equal.
+/// No clause: it serves tests.
 pub fn is_copied<T: Clone + PartialEq + Drop>(value: &T) -> bool {
     is_made(value.clone(), value)
 }
 
 /// Whether there was memory for the value, and it has an equal copy.
+/// No clause: it serves tests.
 pub fn is_made_copied<T: Clone + PartialEq + Drop>(made: Result<T, AllocError>) -> bool {
     match made {
         Ok(value) => is_copied(&value),
@@ -75,6 +82,7 @@ pub fn is_made_copied<T: Clone + PartialEq + Drop>(made: Result<T, AllocError>) 
 }
 
 /// Whether there was memory for the node, and what it holds has an equal copy. A copy of the node shares it.
+/// No clause: it serves tests.
 pub fn is_held_copied<T: Clone + PartialEq + Drop>(made: Result<Node<T>, AllocError>) -> bool {
     match made {
         Ok(node) => is_copied(&*node),
@@ -83,6 +91,7 @@ pub fn is_held_copied<T: Clone + PartialEq + Drop>(made: Result<Node<T>, AllocEr
 }
 
 /// Whether there was memory for the value, and it has an equal copy, which is right.
+/// No clause: it serves tests.
 pub fn is_copied_so<T: Clone + PartialEq + Drop, F: FnOnce(&T) -> bool + Drop>(
     made: Result<T, AllocError>,
     is_right: F,
@@ -99,6 +108,7 @@ pub fn is_copied_so<T: Clone + PartialEq + Drop, F: FnOnce(&T) -> bool + Drop>(
 }
 
 /// Whether there is memory to print the value, and this is how it is printed.
+/// No clause: it serves tests.
 pub fn is_printed<T: Display>(alloc: Global, value: &T, text: &str) -> bool {
     match value.to_string(alloc) {
         Ok(printed) => printed.as_str() == text,
