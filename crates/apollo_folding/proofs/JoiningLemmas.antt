@@ -16,10 +16,10 @@ use Rattle.apollo_meaning.specs.Faults.TypeFaults.{part_faults, kind_mismatch}
 use Rattle.apollo_meaning.specs.Steps.Joining.{joining_faults}
 use Rattle.apollo_meaning.proofs.FoldingLemmas.{extended_parts-turn}
 
-pub same_kind-true : (a b : TypeKind) → same_kind a b ≡ true → a ≡ b
+same_kind-true : (a b : TypeKind) → same_kind a b ≡ true → a ≡ b
 same_kind-true a b h = grind arith
 
--- whether two kinds are one, where they are not
+-- two kinds that aren't one
 pub same_kind-false : (a b : TypeKind) → (a ≡ b → ⊥) → same_kind a b ≡ false
 same_kind-false a b apart = false_from_ne_true (same_kind a b) (λ h. apart (same_kind-true a b h))
 

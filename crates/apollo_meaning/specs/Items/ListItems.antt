@@ -102,10 +102,6 @@ added_item a = ignorable_if a.0 (item_of a.1)
 abbrev pub added_items : List Added → List ListItem
 added_items xs = map added_item xs
 
--- the definition of a type that it is
-abbrev pub definition_part : Definition → Option TypePart
-definition_part d = defined_part (item_of d)
-
 -- the extensions of types among definitions
 abbrev pub extended_parts : List Definition → List TypePart
 extended_parts xs = filter_map extended_part (items_of xs)

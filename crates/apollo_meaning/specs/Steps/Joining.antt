@@ -1,7 +1,7 @@
 -- What is wrong with extensions that join a type or the schema, one after another: the form that the builder is proved
 -- against.
 use Rattle.std.specs.Prelude.{ℕ, List, [], ◌∷◌, ◌++◌, map, if◌then◌else◌}
-use Rattle.std.specs.List.{flat_map, enumerate_from}
+use Rattle.std.specs.List.{enumerate_from}
 use Rattle.graphql_nodes.specs.NodeView.{NodeView}
 use Rattle.apollo_component.specs.declared.extension.ComponentOrigin.TheVariants.{Definition}
 use Rattle.apollo_types.specs.declared.schema_definition.SchemaDefinition.{SchemaDefinition}
@@ -14,15 +14,8 @@ use Rattle.apollo_meaning.specs.Faults.RootFaults.{schema_faults}
 use Rattle.apollo_types.specs.declared.extended_type.ExtendedType.{ExtendedType}
 use Rattle.apollo_meaning.specs.Types.Meaning.{type_from, extension_part, numbered}
 
--- the extensions that don't have the kind of this definition
-abbrev pub mismatches : TypePart → List TypePart → List Fault
-mismatches d = flat_map (λ e. if same_kind (kind_of d) (kind_of e) then [] else kind_mismatch d e ∷ [])
-
--- the components that are dropped from those that have it, where each is folded into these parts alone
-abbrev pub folding_faults : TypePart → List TypePart → List TypePart → List Fault
-folding_faults d parts es = flat_map (part_faults parts) (of_kind (kind_of d) es)
-
--- both, where each is folded into these parts and the extensions before it
+-- the extensions that don't have the kind of this definition, and the components that are dropped from those that have
+-- it, where each is folded into these parts and the extensions before it
 abbrev pub joining_faults : TypePart → List TypePart → List TypePart → List Fault
 joining_faults d parts [] = []
 joining_faults d parts (e ∷ es) =
