@@ -9,6 +9,7 @@ use Rattle.std.proofs.lemmas.List.Elements.{All-map, All-weaker, filter_passes}
 use Rattle.std.proofs.lemmas.List.Filters.{length-filter_both}
 use Rattle.std.proofs.lemmas.List.Folds.{find-append, list_any-append}
 use Rattle.std.proofs.lemmas.List.FromFn.{length-enumerate_from}
+use Rattle.apollo_component.specs.EachAfter.{each_after}
 use Rattle.apollo_component.specs.FirstOfEach.{first_of_each, is_later, later_of_each, kept_for}
 use Rattle.apollo_component.proofs.FirstOfEachLemmas.{list_any-first_of_each, first_of_each-push_new, first_of_each-push_old, find-first_of_each}
 
@@ -28,19 +29,13 @@ first_from same whole n xs = map (λ p. p.1) (filter (λ p. not (is_later same w
 abbrev later_from : {X : Type 0} → (X → X → Bool) → List X → ℕ → List X → List X
 later_from same whole n xs = map (λ p. p.1) (filter (is_later same whole) (enumerate_from n xs))
 
--- what is said of one after another, where one that is the same is found among those before it
-abbrev pub said : {X Y : Type 0} → (X → X → Bool) → (X → X → Y) → List X → List X → List Y
-said same say before [] = []
-said same say before (x ∷ xs) = option_map_or (λ k. say k x ∷ []) (find (same x) before) [] ++ said same say (before ++ x ∷ []) xs
+-- what is said of an element, where one that is the same is found among those before it
+abbrev pub saying : {X Y : Type 0} → (X → X → Bool) → (X → X → Y) → List X → X → List Y
+saying same say before x = option_map_or (λ k. say k x ∷ []) (find (same x) before) []
 
--- what is said of more, after these
-pub said-append : {X Y : Type 0} (same : X → X → Bool) (say : X → X → Y) (before xs ys : List X)
-    → said same say before (xs ++ ys) ≡ said same say before xs ++ said same say (before ++ xs) ys
-said-append same say before [] ys = ap (λ l. said same say l ys) (sym (append-nil before))
-said-append same say before (x ∷ xs) ys =
-    let here = option_map_or (λ k. say k x ∷ []) (find (same x) before) [] in
-    ap (λ l. here ++ l) (said-append same say (before ++ x ∷ []) xs ys ∙ ap (λ l. said same say (before ++ x ∷ []) xs ++ said same say l ys) (append_assoc before (x ∷ []) xs))
-    ∙ sym (append_assoc here (said same say (before ++ x ∷ []) xs) (said same say (before ++ x ∷ xs) ys))
+-- and of one after another
+abbrev pub said : {X Y : Type 0} → (X → X → Bool) → (X → X → Y) → List X → List X → List Y
+said same say = each_after (saying same say)
 
 module _ {X : Type 0} (same : X → X → Bool) (before : List X) (x : X) (xs : List X) where
   -- x is the first of those that it is the same as, or a later one, by those before it

@@ -1,2 +1,3 @@
+pub mod EachAfterLemmas
 pub mod FirstOfEachLemmas
 pub mod LaterLemmas

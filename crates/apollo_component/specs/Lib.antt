@@ -1,2 +1,3 @@
+pub mod EachAfter
 pub mod Extensions
 pub mod FirstOfEach

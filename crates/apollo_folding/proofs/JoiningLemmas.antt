@@ -1,18 +1,20 @@
 -- What is wrong with extensions that join a type, one after another.
-use Rattle.std.proofs.Common.{◌≡◌, ℕ, ◌+◌, ◌<◌, true, false, get_or, take, List, [], ◌∷◌, ◌++◌, length, map, refl, sym, ap, ◌∙◌, append_assoc, if◌then◌else◌, codes, arith}
+use Rattle.std.proofs.Common.{◌≡◌, ℕ, ◌+◌, ◌<◌, true, false, get_or, take, List, [], ◌∷◌, ◌++◌, length, map, refl, sym, ap, ◌∙◌, append_assoc, codes, arith}
 use Rattle.std.proofs.lemmas.Bool.{false_from_ne_true}
 use Rattle.std.proofs.lemmas.List.{append-nil, map-append}
 use Rattle.std.proofs.lemmas.List.Elements.{filter-append}
 use Rattle.graphql_nodes.specs.KindTexts.{kind_text, kind_extension_text}
 use Rattle.graphql_nodes.specs.declared.type_kind.TypeKind.{TypeKind}
 use Rattle.graphql_ast.specs.declared.definition.Definition.{Definition}
+use Rattle.apollo_component.specs.EachAfter.{each_after}
+use Rattle.apollo_component.proofs.EachAfterLemmas.{each_after-append, each_after-start}
 use Rattle.apollo_meaning.specs.Items.Parts.{TypePart, kind_of, same_kind}
 use Rattle.apollo_meaning.specs.Items.ListItems.{extended_parts}
 use Rattle.apollo_meaning.specs.Items.Named.{of_kind}
 use Rattle.apollo_meaning.specs.Types.Components.{Sourced}
 use Rattle.apollo_meaning.specs.Types.Meaning.{extension_part, numbered}
 use Rattle.apollo_meaning.specs.Faults.Collisions.{Fault}
-use Rattle.apollo_meaning.specs.Faults.TypeFaults.{part_faults, kind_mismatch}
+use Rattle.apollo_meaning.specs.Faults.TypeFaults.{joining_fault}
 use Rattle.apollo_meaning.specs.Steps.Joining.{joining_faults}
 use Rattle.apollo_meaning.proofs.FoldingLemmas.{extended_parts-turn}
 
@@ -32,17 +34,20 @@ same_kind-refl k = grind arith
 
 module _ (d : TypePart) where
   -- more extensions join the parts and the extensions before them
-  pub joining-append : (parts es fs : List TypePart) → joining_faults d parts (es ++ fs) ≡ joining_faults d parts es ++ joining_faults d (parts ++ of_kind (kind_of d) es) fs
-  joining-append parts [] fs = ap (λ l. joining_faults d l fs) (sym (append-nil parts))
-  joining-append parts (e ∷ es) fs =
-      let k = kind_of d in
-      let this : List Fault = if same_kind k (kind_of e) then part_faults parts e else kind_mismatch d e ∷ [] in
-      let more = parts ++ of_kind k (e ∷ []) in
-      let both : more ++ of_kind k es ≡ parts ++ of_kind k (e ∷ es) =
-      append_assoc parts (of_kind k (e ∷ [])) (of_kind k es) ∙ ap (λ l. parts ++ l) (sym (filter-append (λ p. same_kind k (kind_of p)) (e ∷ []) es)) in
-      ap (λ l. this ++ l) (joining-append more es fs)
-      ∙ sym (append_assoc this (joining_faults d more es) (joining_faults d (more ++ of_kind k es) fs))
-      ∙ ap (λ l. (this ++ joining_faults d more es) ++ joining_faults d l fs) both
+  joining-append : (parts es fs : List TypePart) → joining_faults d parts (es ++ fs) ≡ joining_faults d parts es ++ joining_faults d (parts ++ of_kind (kind_of d) es) fs
+  joining-append parts es fs =
+      each_after-append join [] es fs
+      ∙ ap (λ l. each_after join [] es ++ l) (each_after-start join es fs ∙ (λ i. each_after (λ done. joining_fault d (both done i)) [] fs))
+    where
+      join : List TypePart → TypePart → List Fault
+      join before = joining_fault d (parts ++ of_kind (kind_of d) before)
+
+      both : (done : List TypePart) → parts ++ of_kind (kind_of d) (es ++ done) ≡ (parts ++ of_kind (kind_of d) es) ++ of_kind (kind_of d) done
+      both done = rw filter-append (sym (append_assoc parts (of_kind (kind_of d) es) (of_kind (kind_of d) done)))
+
+  -- one extension alone
+  pub joining-one : (parts : List TypePart) (e : TypePart) → joining_faults d parts (e ∷ []) ≡ joining_fault d parts e
+  joining-one parts e = append-nil (joining_fault d (parts ++ []) e) ∙ ap (λ l. joining_fault d l e) (append-nil parts)
 
   -- one more definition of a list
   pub joining-turn : (parts : List TypePart) (xs : List Definition) (i : ℕ) (x : Definition) → i < length xs → x ≡ get_or xs i x

@@ -14,6 +14,8 @@ use Rattle.graphql_nodes.specs.declared.operation_type.OperationType.{OperationT
 use Rattle.graphql_nodes.specs.declared.operation_type.OperationType.TheVariants.{Query, Mutation, Subscription}
 use Rattle.graphql_ast.specs.declared.type_system.SchemaExtension.{SchemaExtension}
 use Rattle.graphql_ast.specs.declared.definition.Definition.{Definition}
+use Rattle.apollo_component.specs.EachAfter.{each_after}
+use Rattle.apollo_component.proofs.EachAfterLemmas.{each_after-push, each_after-start}
 use Rattle.apollo_component.specs.declared.component.ComponentName.{ComponentName}
 use Rattle.apollo_component.specs.declared.extension.ComponentOrigin.{ComponentOrigin}
 use Rattle.apollo_types.specs.SchemaDefinitionWriteOut.{root_of}
@@ -27,7 +29,7 @@ use Rattle.apollo_meaning.specs.Completion.ImpliedSchema.{schema_of_roots, adopt
 use Rattle.apollo_meaning.specs.Schema.Definition.{SourcedSchema, same_operation, schema_directives_of, roots_of, schema_definition_of}
 use Rattle.apollo_meaning.specs.Faults.RootFaults.{root_fault, root_faults, schema_faults}
 use Rattle.apollo_folding.specs.RootTables.{NamedRoot, named_root, first_named, with_roots, put_root, held_fault, held_faults}
-use Rattle.apollo_meaning.specs.Steps.Joining.{schema_numbered, schema_joining_faults}
+use Rattle.apollo_meaning.specs.Steps.Joining.{schema_numbered}
 use Rattle.apollo_meaning.proofs.FoldingLemmas.{enumerate_from-append, extended_parts-append, extended_parts-turn}
 
 or-none : {X : Type 0} (o : Option X) → option_or o None ≡ o
@@ -87,20 +89,10 @@ root_of-first d rs Mutation = refl
 root_of-first d rs Subscription = refl
 
 -- one more root is folded
-pub held_faults-push : (rs : List NamedRoot) (o : ComponentOrigin) (xs : List Root) (x : Root)
-    → held_faults rs o (xs ++ x ∷ []) ≡ held_faults rs o xs ++ held_fault (first_named x.value.0 (rs ++ map (named_root o) xs)) x
-held_faults-push rs o [] x = append-nil (held_fault (first_named x.value.0 rs) x) ∙ ap (λ l. held_fault (first_named x.value.0 l) x) (sym (append-nil rs))
-held_faults-push rs o (y ∷ xs) x =
-    let this = held_fault (first_named y.value.0 rs) y in
-    let more = rs ++ named_root o y ∷ [] in
-    ap (λ l. this ++ l)
-    (held_faults-push more o xs x ∙ ap (λ l. held_faults more o xs ++ held_fault (first_named x.value.0 l) x) (append_assoc rs (named_root o y ∷ []) (map (named_root o) xs)))
-    ∙ sym (append_assoc this (held_faults more o xs) (held_fault (first_named x.value.0 (rs ++ named_root o y ∷ map (named_root o) xs)) x))
-
 pub held_faults-turn : (rs : List NamedRoot) (o : ComponentOrigin) (xs : List Root) (i : ℕ) (x : Root) → i < length xs → x ≡ get_or xs i x
     → held_faults rs o (take (i + 1) xs) ≡ held_faults rs o (take i xs) ++ held_fault (first_named x.value.0 (rs ++ map (named_root o) (take i xs))) x
 held_faults-turn rs o xs i x lt is =
-    ap (held_faults rs o) (take_more xs i x lt ∙ ap (λ y. take i xs ++ y ∷ []) (sym is)) ∙ held_faults-push rs o (take i xs) x
+    ap (held_faults rs o) (take_more xs i x lt ∙ ap (λ y. take i xs ++ y ∷ []) (sym is)) ∙ each_after-push (λ done x. held_fault (first_named x.value.0 (rs ++ map (named_root o) done)) x) [] (take i xs) x
 
 -- names of roots, without their origins
 abbrev Named : Type 0
@@ -140,15 +132,19 @@ root-name (k ∷ ks) x = by (same_operation x.value.0 k.value.0) (root-name ks x
     by false rest = rest
 
 -- where the roots before are the same, so are the faults
-pub held-root_faults : (o : ComponentOrigin) (rs : List NamedRoot) (before xs : List Root) → map name_of rs ≡ map (λ k. k.value) before → held_faults rs o xs ≡ root_faults before xs
-held-root_faults o rs before [] same = refl
-held-root_faults o rs before (x ∷ xs) same =
-    let this : held_fault (first_named x.value.0 rs) x ≡ root_fault before x =
-    held-name (first_named x.value.0 rs) x ∙ ap (name_fault x) (name-first x.value.0 rs ∙ ap (first_name x.value.0) same) ∙ sym (root-name before x) in
-    let more : map name_of (rs ++ named_root o x ∷ []) ≡ map (λ (k : Root). k.value) (before ++ x ∷ []) =
-    map-append name_of rs (named_root o x ∷ []) ∙ ap (λ l. l ++ x.value ∷ []) same ∙ sym (map-append (λ (k : Root). k.value) before (x ∷ [])) in
-    let rest : held_faults (rs ++ named_root o x ∷ []) o xs ≡ root_faults (before ++ x ∷ []) xs = held-root_faults o (rs ++ named_root o x ∷ []) (before ++ x ∷ []) xs more in
-    λ i. this i ++ rest i
+held-root_faults : (o : ComponentOrigin) (rs : List NamedRoot) (before xs : List Root) → map name_of rs ≡ map (λ k. k.value) before → held_faults rs o xs ≡ root_faults before xs
+held-root_faults o rs before xs same =
+    (λ i. each_after (λ done x. one done x i) [] xs) ∙ sym (each_after-start root_fault before xs)
+  where
+    more : (done : List Root) → map name_of (rs ++ map (named_root o) done) ≡ map (λ k. k.value) (before ++ done)
+    more done =
+        map-append name_of rs (map (named_root o) done) ∙ (λ i. same i ++ map-map name_of (named_root o) done i) ∙ sym (map-append (λ (k : Root). k.value) before done)
+
+    one : (done : List Root) (x : Root) → held_fault (first_named x.value.0 (rs ++ map (named_root o) done)) x ≡ root_fault (before ++ done) x
+    one done x =
+        held-name (first_named x.value.0 (rs ++ map (named_root o) done)) x
+        ∙ ap (name_fault x) (name-first x.value.0 (rs ++ map (named_root o) done) ∙ ap (first_name x.value.0) (more done))
+        ∙ sym (root-name (before ++ done) x)
 
 -- the roots that parts name are those that they hold
 pub roots-joined : (done : List SourcedSchema) → map name_of (flat_map roots_of done) ≡ map (λ k. k.value) (roots_in (map (λ s. s.1) done))
@@ -198,15 +194,6 @@ schemas-numbered n (p ∷ ps) = ap (λ l. p ∷ l) (schemas-numbered (n + 1) ps)
 -- numbers leave the extensions as they are
 pub schema_parts-numbered : (done : List SourcedSchema) (n : ℕ) (ps : List SchemaPart) → map (λ s. s.1) (done ++ schema_numbered n ps) ≡ map (λ s. s.1) done ++ ps
 schema_parts-numbered done n ps = map-append (λ s. s.1) done (schema_numbered n ps) ∙ ap (λ l. map (λ s. s.1) done ++ l) (schemas-numbered n ps)
-
--- one more extension joins the parts and the extensions before it
-pub schema_joining-push : (parts es : List SchemaPart) (e : SchemaPart) → schema_joining_faults parts (es ++ e ∷ []) ≡ schema_joining_faults parts es ++ schema_faults (parts ++ es) e
-schema_joining-push parts [] e = append-nil (schema_faults parts e) ∙ ap (λ l. schema_faults l e) (sym (append-nil parts))
-schema_joining-push parts (x ∷ es) e =
-    let this = schema_faults parts x in
-    let more = parts ++ x ∷ [] in
-    ap (λ l. this ++ l) (schema_joining-push more es e ∙ ap (λ l. schema_joining_faults more es ++ schema_faults l e) (append_assoc parts (x ∷ []) es))
-    ∙ sym (append_assoc this (schema_joining_faults more es) (schema_faults (parts ++ x ∷ es) e))
 
 -- what the first extension of a type among definitions is adopted as
 pub adopted-first : (xs : List Definition) (i : ℕ) (x d : Definition) → i < length xs → x ≡ get_or xs i x → extended_parts (take i xs) ≡ []

@@ -1,10 +1,11 @@
 -- The roots of a schema definition, named one after another: the form that the builder is proved against.
-use Rattle.std.specs.Prelude.{List, [], ◌∷◌, ◌++◌, Option, Some}
+use Rattle.std.specs.Prelude.{List, [], ◌∷◌, ◌++◌, map, Option, Some}
 use Rattle.std.specs.List.{find}
 use Rattle.std.specs.Option.{option_map, option_map_or, option_or}
 use Rattle.graphql_nodes.specs.OperationTexts.{operation_text}
 use Rattle.graphql_nodes.specs.declared.operation_type.OperationType.{OperationType}
 use Rattle.graphql_nodes.specs.declared.operation_type.OperationType.TheVariants.{Query, Mutation, Subscription}
+use Rattle.apollo_component.specs.EachAfter.{each_after}
 use Rattle.apollo_component.specs.declared.component.ComponentName.{ComponentName}
 use Rattle.apollo_component.specs.declared.extension.ComponentOrigin.{ComponentOrigin}
 use Rattle.apollo_types.specs.declared.schema_definition.SchemaDefinition.{SchemaDefinition}
@@ -51,5 +52,4 @@ held_fault held r = option_map_or (λ kept. dropped_root r kept ∷ []) held []
 
 -- the faults of roots of an origin with these before them, in order
 abbrev pub held_faults : List NamedRoot → ComponentOrigin → List Root → List Fault
-held_faults rs o [] = []
-held_faults rs o (x ∷ xs) = held_fault (first_named x.value.0 rs) x ++ held_faults (rs ++ named_root o x ∷ []) o xs
+held_faults rs o = each_after (λ done x. held_fault (first_named x.value.0 (rs ++ map (named_root o) done)) x) []

@@ -8,6 +8,7 @@ use Rattle.std.proofs.lemmas.Bool.Decides.{nat_tests}
 use Rattle.std.proofs.lemmas.List.{append-nil, map-append}
 use Rattle.std.proofs.lemmas.List.Elements.{filter_map-append}
 use Rattle.apollo_component.proofs.FirstOfEachLemmas.{list_any-first_of_each}
+use Rattle.apollo_component.specs.EachAfter.{each_after}
 use Rattle.apollo_meaning.specs.Items.Parts.{TypePart, key_of}
 use Rattle.apollo_meaning.specs.Items.ListItems.{ListItem, defined_part, extended_part}
 use Rattle.graphql_nodes.specs.SameText.{same}
@@ -19,7 +20,7 @@ use Rattle.apollo_meaning.specs.Completion.Adoption.{extended_names, orphans_of,
 use Rattle.apollo_meaning.specs.Completion.ImpliedSchema.{implied_schema, completed}
 use Rattle.apollo_meaning.specs.Faults.ListFaults.{found_from, faults_in}
 use Rattle.apollo_meaning.specs.Completion.OrphanNames.{first_name, orphan_names}
-use Rattle.apollo_meaning.specs.Steps.Prefixes.{added_after, found_at, found}
+use Rattle.apollo_meaning.specs.Steps.Prefixes.{found_at, found}
 use Rattle.apollo_meaning.proofs.Texts.{same-true}
 use Rattle.apollo_meaning.proofs.FoundLemmas.{found_after-order, found_in-order}
 use Rattle.apollo_meaning.proofs.OrphanLemmas.{no_extension}
@@ -134,7 +135,7 @@ module _ (xs : List ListItem) where
 
 -- what is found in a list and at what completes it, with other faults after each
 found-completed : (ys zs : List ListItem) (after_list after_all : List Fault)
-    → found_from 0 (length ys) ys ++ (after_list ++ (found_from (length ys) (length zs) (ys ++ zs) ++ after_all)) ≡ found ys ++ (after_list ++ (added_after found_at ys zs ++ after_all))
+    → found_from 0 (length ys) ys ++ (after_list ++ (found_from (length ys) (length zs) (ys ++ zs) ++ after_all)) ≡ found ys ++ (after_list ++ (each_after found_at ys zs ++ after_all))
 found-completed ys zs after_list after_all =
     ap (λ l. l ++ (after_list ++ (found_from (length ys) (length zs) (ys ++ zs) ++ after_all))) (found_in-order ys)
     ∙ ap (λ l. found ys ++ (after_list ++ (l ++ after_all))) (found_after-order ys zs)
@@ -143,7 +144,7 @@ found-completed ys zs after_list after_all =
 pub faults-completed : (adopts : Bool) (xs : List ListItem) → faults_in adopts xs
     ≡ found (with_adopted adopts xs)
     ++ (map orphan (flat_map (orphans_of (with_adopted adopts xs)) (extended_names (with_adopted adopts xs)))
-    ++ (added_after found_at (with_adopted adopts xs) (implied_schema adopts (with_adopted adopts xs)) ++ map schema_orphan (schema_orphans (completed adopts xs))))
+    ++ (each_after found_at (with_adopted adopts xs) (implied_schema adopts (with_adopted adopts xs)) ++ map schema_orphan (schema_orphans (completed adopts xs))))
 faults-completed adopts xs =
     found-completed (with_adopted adopts xs) (implied_schema adopts (with_adopted adopts xs))
     (map orphan (flat_map (orphans_of (with_adopted adopts xs)) (extended_names (with_adopted adopts xs))))

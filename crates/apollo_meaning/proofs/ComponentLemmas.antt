@@ -1,10 +1,9 @@
 -- What is at fault among the components of a type, definition and extensions joined, is what `first_of_each` drops.
-use Rattle.std.proofs.Common.{◌≡◌, ℕ, ◌+◌, Bool, true, false, cond, ◌&&◌, List, [], ◌∷◌, ◌++◌, length, map, take, Option, Some, None, filter, refl, sym, ap, ◌∙◌, true≢false, append_assoc, length-append}
+use Rattle.std.proofs.Common.{◌≡◌, ℕ, Bool, true, false, cond, ◌&&◌, List, [], ◌∷◌, ◌++◌, map, Option, Some, None, filter, refl, sym, ap, ◌∙◌, true≢false, append_assoc}
 use Rattle.std.specs.Prelude.{nat_eq}
-use Rattle.std.specs.List.{enumerate_from, find, flat_map}
+use Rattle.std.specs.List.{find, flat_map}
 use Rattle.std.specs.Option.{option_map, option_map_or}
 use Rattle.std.specs.Cmp.{IsEquivalence, on_equiv}
-use Rattle.std.proofs.Math.Seq.{take-append_seam}
 use Rattle.std.proofs.lemmas.Cmp.{nat_eq_equiv}
 use Rattle.std.proofs.lemmas.Grind.{flat_map-append}
 use Rattle.std.proofs.lemmas.List.{append-nil, map-append}
@@ -13,7 +12,9 @@ use Rattle.std.proofs.lemmas.Simd.{map-map}
 use Rattle.graphql_nodes.specs.NameView.{NameView}
 use Rattle.graphql_nodes.specs.SameText.{same_text}
 use Rattle.apollo_component.specs.FirstOfEach.{first_of_each, later_of_each}
-use Rattle.apollo_component.proofs.LaterLemmas.{said, said-append, said-later}
+use Rattle.apollo_component.specs.EachAfter.{each_after}
+use Rattle.apollo_component.proofs.EachAfterLemmas.{each_after-append}
+use Rattle.apollo_component.proofs.LaterLemmas.{saying, said, said-later}
 use Rattle.apollo_meaning.specs.declared.collision.Collection.{Collection}
 use Rattle.apollo_meaning.specs.declared.collision.Collection.TheVariants as c
 use Rattle.apollo_meaning.specs.Items.Parts.{TypePart, TypeBody, ScalarBody, ObjectBody, InterfaceBody, UnionBody, EnumBody, InputObjectBody}
@@ -46,7 +47,7 @@ abbrev pub faults_among : List TypeComponent → List TypeComponent → List Fau
 faults_among = said same_component repeated
 
 pub faults_among-append : (before xs ys : List TypeComponent) → faults_among before (xs ++ ys) ≡ faults_among before xs ++ faults_among (before ++ xs) ys
-faults_among-append = said-append same_component repeated
+faults_among-append = each_after-append (saying same_component repeated)
 
 -- the names of the components that a collection of this number would hold
 abbrev names_in : ℕ → List TypeComponent → List NameView
@@ -95,16 +96,25 @@ module _ (d : Collection) (ty : NameView) where
       by None = refl
       by (Some k) = refl
 
+  -- the names of these components, after others
+  names-more : (before : List TypeComponent) (es : List Entry) → names_in (what_is_held d) before ++ map (λ e. e.0) es ≡ names_in (what_is_held d) (before ++ map (component_in d ty) es)
+  names-more before es =
+      sym (names_in-append (what_is_held d) before (map (component_in d ty) es)
+      ∙ ap (λ l. names_in (what_is_held d) before ++ l) (names-own (what_is_held d) d ty (nat_eq_equiv.refl (what_is_held d)) es))
+
+  -- what is said of entries after these is said of them as components
+  said-in : (before : List TypeComponent) (done es : List Entry)
+      → each_after (λ done. collision_at d ty (names_in (what_is_held d) before ++ map (λ e. e.0) done)) done es ≡ faults_among (before ++ map (component_in d ty) done) (map (component_in d ty) es)
+  said-in before done [] = refl
+  said-in before done (e ∷ es) =
+      let here = ap (λ l. collision_at d ty l e) (names-more before done) ∙ collision-in (before ++ map (component_in d ty) done) e in
+      let more : before ++ map (component_in d ty) (done ++ e ∷ []) ≡ (before ++ map (component_in d ty) done) ++ component_in d ty e ∷ [] =
+      rw map-append (sym (append_assoc before (map (component_in d ty) done) (component_in d ty e ∷ []))) in
+      let rest = said-in before (done ++ e ∷ []) es ∙ ap (λ l. faults_among l (map (component_in d ty) es)) more in
+      λ i. here i ++ rest i
+
   collisions-in : (before : List TypeComponent) (es : List Entry) → collisions d ty (names_in (what_is_held d) before) es ≡ faults_among before (map (component_in d ty) es)
-  collisions-in before [] = refl
-  collisions-in before (e ∷ es) =
-      let one = component_in d ty e ∷ [] in
-      let own : names_in (what_is_held d) one ≡ e.0 ∷ [] = names-own (what_is_held d) d ty (nat_eq_equiv.refl (what_is_held d)) (e ∷ []) in
-      let more : names_in (what_is_held d) before ++ e.0 ∷ [] ≡ names_in (what_is_held d) (before ++ one) =
-      sym (names_in-append (what_is_held d) before one ∙ ap (λ l. names_in (what_is_held d) before ++ l) own) in
-      let rest : collisions d ty (names_in (what_is_held d) before ++ e.0 ∷ []) es ≡ faults_among (before ++ one) (map (component_in d ty) es) =
-      ap (λ l. collisions d ty l es) more ∙ collisions-in (before ++ one) es in
-      λ i. collision-in before e i ++ rest i
+  collisions-in before es = said-in before [] es ∙ ap (λ l. faults_among l (map (component_in d ty) es)) (append-nil before)
 
 -- components of one collection, and then of another, where these are before them
 two-in : (d f : Collection) (ty : NameView) (before : List TypeComponent) (ds fs : List Entry) → nat_eq (what_is_held f) (what_is_held d) ≡ false
@@ -214,18 +224,14 @@ body-in (InputObjectBody fs) ty parts =
     ∙ collisions-in c.InputFields ty (components_of parts) (input_field_entries fs)
 
 -- parts one after another, where these are before them
-pub parts-joined : (before ps : List TypePart)
-    → flat_map (λ p. part_faults (take p.0 (before ++ ps)) p.1) (enumerate_from (length before) ps) ≡ faults_among (components_of before) (components_of ps)
+pub parts-joined : (before ps : List TypePart) → each_after part_faults before ps ≡ faults_among (components_of before) (components_of ps)
 parts-joined before [] = refl
 parts-joined before (p ∷ ps) =
-    let here : part_faults (take (length before) (before ++ p ∷ ps)) p ≡ faults_among (components_of before) (body_components p.body p.name) =
-    ap (λ l. part_faults l p) (take-append_seam before (p ∷ ps)) ∙ body-in p.body p.name before in
-    let one_more : components_of (before ++ p ∷ []) ≡ components_of before ++ body_components p.body p.name = rw (flat_map-append, append-nil (body_components p.body p.name)) refl in
-    let rest : flat_map (λ q. part_faults (take q.0 (before ++ p ∷ ps)) q.1) (enumerate_from (length before + 1) ps) ≡ faults_among (components_of before ++ body_components p.body p.name) (components_of ps) =
-    sym (λ i. flat_map (λ q. part_faults (take q.0 (append_assoc before (p ∷ []) ps i)) q.1) (enumerate_from (length-append before (p ∷ []) i) ps))
-    ∙ parts-joined (before ++ p ∷ []) ps
-    ∙ ap (λ l. faults_among l (components_of ps)) one_more in
-    (λ i. here i ++ rest i) ∙ sym (faults_among-append (components_of before) (body_components p.body p.name) (components_of ps))
+    let these = body_components p.body p.name in
+    let one_more : components_of (before ++ p ∷ []) ≡ components_of before ++ these = rw (flat_map-append, append-nil these) refl in
+    let rest : each_after part_faults (before ++ p ∷ []) ps ≡ faults_among (components_of before ++ these) (components_of ps) =
+    parts-joined (before ++ p ∷ []) ps ∙ ap (λ l. faults_among l (components_of ps)) one_more in
+    (λ i. body-in p.body p.name before i ++ rest i) ∙ sym (faults_among-append (components_of before) these (components_of ps))
 
 pub joined-dropped : (ps : List TypePart)
     → joined_faults ps ≡ map (dropped_from_type (first_of_each same_component (components_of ps))) (later_of_each same_component (components_of ps))

@@ -11,7 +11,9 @@ use Rattle.graphql_nodes.specs.OperationTexts.{operation_text}
 use Rattle.graphql_nodes.specs.declared.operation_type.OperationType.{OperationType}
 use Rattle.graphql_nodes.specs.declared.operation_type.OperationType.TheVariants.{Query, Mutation, Subscription}
 use Rattle.apollo_component.specs.FirstOfEach.{first_of_each, later_of_each}
-use Rattle.apollo_component.proofs.LaterLemmas.{said, said-append, said-later, length-first_later}
+use Rattle.apollo_component.specs.EachAfter.{each_after}
+use Rattle.apollo_component.proofs.EachAfterLemmas.{each_after-append, each_after-start}
+use Rattle.apollo_component.proofs.LaterLemmas.{saying, said, said-later, length-first_later}
 use Rattle.apollo_meaning.specs.declared.collision.Collection.{Collection}
 use Rattle.apollo_meaning.specs.declared.build_error.BuildError.TheVariants as errors
 use Rattle.apollo_meaning.specs.Faults.Collisions.{Fault, Entry, collision, collision_at, collisions, same_name, dropped_component}
@@ -48,18 +50,16 @@ module _ (c : Collection) (ty : NameView) where
       by false rest = rest
 
   collisions-said : (before es : List Entry) → collisions c ty (names before) es ≡ said same_name repeated before es
-  collisions-said before [] = refl
-  collisions-said before (e ∷ es) =
-      let rest : collisions c ty (names before ++ e.0 ∷ []) es ≡ said same_name repeated (before ++ e ∷ []) es =
-      ap (λ l. collisions c ty l es) (sym (map-append (λ (e : Entry). e.0) before (e ∷ []))) ∙ collisions-said (before ++ e ∷ []) es in
-      λ i. collision-said before e i ++ rest i
+  collisions-said before es =
+      (λ i. each_after (λ done e. (ap (λ l. collision_at c ty l e) (sym (map-append (λ (e : Entry). e.0) before done)) ∙ collision-said (before ++ done) e) i) [] es)
+      ∙ sym (each_after-start (saying same_name repeated) before es)
 
   pub collisions-dropped : (es : List Entry) → collisions c ty [] es ≡ map (dropped_component c ty (first_of_each same_name es)) (later_of_each same_name es)
   collisions-dropped es = collisions-said [] es ∙ said-later same_name same_name_laws repeated es
 
   pub collisions-joined : (es more : List Entry) → collisions c ty [] (es ++ more) ≡ collisions c ty [] es ++ collisions c ty (names es) more
   collisions-joined es more =
-      collisions-said [] (es ++ more) ∙ said-append same_name repeated [] es more ∙ sym (λ i. collisions-said [] es i ++ collisions-said es more i)
+      collisions-said [] (es ++ more) ∙ each_after-append (saying same_name repeated) [] es more ∙ sym (λ i. collisions-said [] es i ++ collisions-said es more i)
 
   -- each is kept or at fault
   pub each-kept-or-fault : (es : List Entry) → length (first_of_each same_name es) + length (collisions c ty [] es) ≡ length es
@@ -105,19 +105,11 @@ same_root_laws = on_equiv (λ r. r.value.0) operation_laws
 abbrev repeated_root : Root → Root → Fault
 repeated_root k r = (r.location, errors.DuplicateRootOperation k.value.1.location (operation_text r.value.0))
 
-roots-said : (before rs : List Root) → root_faults before rs ≡ said same_root repeated_root before rs
-roots-said before [] = refl
-roots-said before (r ∷ rs) = ap (λ l. root_fault before r ++ l) (roots-said (before ++ r ∷ []) rs)
-
 pub roots-dropped : (rs : List Root) → root_faults [] rs ≡ map (dropped_root (first_of_each same_root rs)) (later_of_each same_root rs)
-roots-dropped rs = roots-said [] rs ∙ said-later same_root same_root_laws repeated_root rs
-
-roots-append : (before rs more : List Root) → root_faults before (rs ++ more) ≡ root_faults before rs ++ root_faults (before ++ rs) more
-roots-append before rs more =
-    roots-said before (rs ++ more) ∙ said-append same_root repeated_root before rs more ∙ sym (λ i. roots-said before rs i ++ roots-said (before ++ rs) more i)
+roots-dropped rs = said-later same_root same_root_laws repeated_root rs
 
 pub roots-joined : (rs more : List Root) → root_faults [] (rs ++ more) ≡ root_faults [] rs ++ root_faults rs more
-roots-joined rs more = roots-append [] rs more
+roots-joined rs more = each_after-append root_fault [] rs more
 
 -- extensions of the schema that join parts, one after another
 schemas-joined : (parts es : List SchemaPart) → schema_joining_faults parts es ≡ root_faults (roots_in parts) (roots_in es)
@@ -125,7 +117,7 @@ schemas-joined parts [] = refl
 schemas-joined parts (e ∷ es) =
     let more : roots_in (parts ++ e ∷ []) ≡ roots_in parts ++ e.roots = rw (flat_map-append, append-nil e.roots) refl in
     ap (λ l. root_faults (roots_in parts) e.roots ++ l) (schemas-joined (parts ++ e ∷ []) es ∙ ap (λ l. root_faults l (roots_in es)) more)
-    ∙ sym (roots-append (roots_in parts) e.roots (roots_in es))
+    ∙ sym (each_after-append root_fault (roots_in parts) e.roots (roots_in es))
 
 -- and all those of a list, with its first definition of the schema
 pub found-roots : (xs : List ListItem) (s : Placed SchemaPart) → first_place schemas xs [] ≡ Some s
@@ -136,4 +128,4 @@ found-roots xs s is =
     ∙ schema_faults_with-joining s.1 xs
     ∙ schemas-joined (s.1 ∷ []) (schema_extensions xs)
     ∙ ap (λ l. root_faults l (roots_in (schema_extensions xs))) (append-nil s.1.roots))
-    ∙ sym (roots-append [] s.1.roots (roots_in (schema_extensions xs)))
+    ∙ sym (each_after-append root_fault [] s.1.roots (roots_in (schema_extensions xs)))

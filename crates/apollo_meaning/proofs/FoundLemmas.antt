@@ -1,14 +1,14 @@
 -- What is found by places, moment by moment, is what the code finds.
-use Rattle.std.proofs.Common.{◌≡◌, ℕ, ◌<◌, Bool, true, false, cond, ◌==◌, List, [], ◌∷◌, ◌++◌, length, take, zero, suc, Option, Some, None, is_some, filter, slice_get, refl, sym, ap, ◌∙◌, append_assoc, arith}
+use Rattle.std.proofs.Common.{◌≡◌, ℕ, ◌<◌, Bool, true, false, cond, ◌==◌, List, [], ◌∷◌, ◌++◌, length, take, zero, suc, Option, Some, None, is_some, filter, slice_get, refl, sym, ap, ◌∙◌, arith}
 use Rattle.std.specs.List.{filter_map, flat_map}
 use Rattle.std.specs.Option.{option_map, option_map_or, unwrap_or}
 use Rattle.std.specs.Map.{lookup}
 use Rattle.std.proofs.Math.Seq.{take-append_seam}
 use Rattle.std.proofs.lemmas.Bool.{eq-eqb}
 use Rattle.std.proofs.lemmas.Bool.Decides.{nat_tests}
-use Rattle.std.proofs.lemmas.Grind.{flat_map-append}
 use Rattle.std.proofs.lemmas.List.{append-nil, take-append-le}
-use Rattle.std.proofs.lemmas.List.Elements.{filter-append}
+use Rattle.apollo_component.specs.EachAfter.{each_after}
+use Rattle.apollo_component.proofs.EachAfterLemmas.{each_after-push, each_after-start}
 use Rattle.apollo_meaning.specs.Items.Parts.{TypePart, SchemaPart, key_of}
 use Rattle.apollo_meaning.specs.Items.ListItems.{ListItem, Defined, Extended, SchemaDefined, SchemaExtended, Other, extended_part, extended_schema}
 use Rattle.graphql_nodes.specs.SameText.{same}
@@ -17,15 +17,15 @@ use Rattle.apollo_meaning.specs.Order.Places.{Family, types, schemas, Placed, ex
 use Rattle.apollo_meaning.specs.Faults.Collisions.{Fault}
 use Rattle.apollo_meaning.specs.Faults.TypeFaults.{part_faults, extension_faults, further_definition}
 use Rattle.apollo_meaning.specs.Faults.RootFaults.{schema_faults, further_schema}
-use Rattle.apollo_meaning.specs.Steps.Joining.{schema_joining_faults, schema_begun_faults}
+use Rattle.apollo_meaning.specs.Steps.Joining.{joining_faults, type_begun_faults, schema_joining_faults, schema_begun_faults}
 use Rattle.apollo_meaning.specs.Directives.{directive_definitions}
 use Rattle.apollo_meaning.specs.Faults.OtherFaults.{other_faults}
 use Rattle.apollo_meaning.specs.Faults.ListFaults.{own_faults, faults_of_extension, faults_of_schema_extension, found_when, found_from}
-use Rattle.apollo_meaning.specs.Steps.Prefixes.{added_after, faults_after, found_at, found}
+use Rattle.apollo_meaning.specs.Steps.Prefixes.{found_at, found}
 use Rattle.apollo_meaning.proofs.Texts.{same-true, same-is}
 use Rattle.apollo_meaning.proofs.EachLemmas.{each-filter, flat_map-each, moments-on}
-use Rattle.apollo_meaning.proofs.ItemLemmas.{snoc_ind, extensions_of-push_extension, extensions_of-push_unextended, schema_extensions-push_extension, schema_extensions-push_unextended, added_after-push}
-use Rattle.apollo_meaning.proofs.PlaceLemmas.{IsBelow, at_place, placed-push, extensions-below, keyed, first-forget, first-none, first-some, first_schema-none, first_schema-some, filter-schemas, first_place-below, first_place-stays, first_place-new, IsDefined, met-defined, types-apart, schemas-apart, met_when-push, met_when-early, met_when-late, met_when-new, met_when-again, met_when-other}
+use Rattle.apollo_meaning.proofs.ItemLemmas.{snoc_ind}
+use Rattle.apollo_meaning.proofs.PlaceLemmas.{IsBelow, all-kept, placed-after, extensions-below, keyed, first-forget, first-none, first-some, first_schema-none, first_schema-some, filter-schemas, first_place-below, first_place-stays, first_place-new, IsDefined, met-defined, types-apart, schemas-apart, met_when-push, met_when-early, met_when-late, met_when-new, met_when-again, met_when-other}
 
 slice_get-front : {X : Type 0} (xs ys : List X) (i : ℕ) → i < length xs → slice_get (xs ++ ys) i ≡ slice_get xs i
 slice_get-front [] ys i lt = absurd (omega (arith, lt))
@@ -133,19 +133,6 @@ module _ (xs : List ListItem) (x : ListItem) where
       ∙ ap (λ l. own_faults (xs ++ x ∷ []) (length xs) x ++ (flat_map (faults_of_extension (xs ++ x ∷ [])) l ++ flat_map (faults_of_schema_extension (xs ++ x ∷ [])) (met_when schemas (xs ++ x ∷ []) (length xs)))) none
       ∙ ap (λ l. own_faults (xs ++ x ∷ []) (length xs) x ++ l) is
 
--- one more extension adds its own faults
-faults_after-push : (d : TypePart) (before es : List TypePart) (e : TypePart) → faults_after d before (es ++ e ∷ []) ≡ faults_after d before es ++ extension_faults d (before ++ es) e
-faults_after-push d before [] e = rw (append-nil before) (append-nil (extension_faults d before e))
-faults_after-push d before (y ∷ ys) e =
-    rw (faults_after-push d (before ++ y ∷ []) ys e, append_assoc before (y ∷ []) ys)
-    (sym (append_assoc (extension_faults d before y) (faults_after d (before ++ y ∷ []) ys) (extension_faults d (before ++ y ∷ ys) e)))
-
-schema_joining_faults-push : (parts es : List SchemaPart) (e : SchemaPart) → schema_joining_faults parts (es ++ e ∷ []) ≡ schema_joining_faults parts es ++ schema_faults (parts ++ es) e
-schema_joining_faults-push parts [] e = append-nil (schema_faults parts e) ∙ ap (λ l. schema_faults l e) (sym (append-nil parts))
-schema_joining_faults-push parts (y ∷ ys) e =
-    ap (λ l. schema_faults parts y ++ l) (schema_joining_faults-push (parts ++ y ∷ []) ys e ∙ ap (λ l. schema_joining_faults (parts ++ y ∷ []) ys ++ schema_faults l e) (append_assoc parts (y ∷ []) ys))
-    ∙ sym (append_assoc (schema_faults parts y) (schema_joining_faults (parts ++ y ∷ []) ys) (schema_faults (parts ++ y ∷ ys) e))
-
 -- an extension of a name, with this first definition and the extensions before it
 abbrev faults_with : TypePart → List ListItem → Placed TypePart → List Fault
 faults_with d xs e = extension_faults d (extensions_of (take e.0 xs) (key_of d)) e.1
@@ -154,44 +141,8 @@ abbrev has_name : List ℕ → Placed TypePart → Bool
 has_name n e = same n (key_of e.1)
 
 -- the extensions of a name by places, and one after another, have the same faults
-faults_with-after : (d : TypePart) (xs : List ListItem) → flat_map (faults_with d xs) (filter (has_name (key_of d)) (extension_places types xs)) ≡ faults_after d [] (extensions_of xs (key_of d))
-faults_with-after d = snoc_ind (λ xs. flat_map (faults_with d xs) (filter (has_name n) (extension_places types xs)) ≡ faults_after d [] (extensions_of xs n)) refl step
-  where
-    n : List ℕ
-    n = key_of d
-
-    new : (xs : List ListItem) → Option TypePart → List (Placed TypePart)
-    new xs o = at_place (length xs) o
-
-    parts : (xs : List ListItem) (x : ListItem) → flat_map (faults_with d xs) (filter (has_name n) (extension_places types xs)) ≡ faults_after d [] (extensions_of xs n)
-        → flat_map (faults_with d (xs ++ x ∷ [])) (filter (has_name n) (extension_places types (xs ++ x ∷ []))) ≡ faults_after d [] (extensions_of xs n) ++ flat_map (faults_with d (xs ++ x ∷ [])) (filter (has_name n) (new xs (extended_part x)))
-    parts xs x before =
-        ap (λ l. flat_map (faults_with d (xs ++ x ∷ [])) (filter (has_name n) l)) (placed-push extended_part xs x)
-        ∙ ap (flat_map (faults_with d (xs ++ x ∷ []))) (filter-append (has_name n) (extension_places types xs) (new xs (extended_part x)))
-        ∙ flat_map-append (faults_with d (xs ++ x ∷ [])) (filter (has_name n) (extension_places types xs)) (filter (has_name n) (new xs (extended_part x)))
-        ∙ ap (λ l. l ++ flat_map (faults_with d (xs ++ x ∷ [])) (filter (has_name n) (new xs (extended_part x))))
-        (flat_map-each (λ e. IsBelow (length xs) e × (has_name n e ≡ true)) (faults_with d (xs ++ x ∷ [])) (faults_with d xs) (λ e both. ap (λ l. extension_faults d (extensions_of l n) e.1) (same_front xs x e.0 both.0)) (filter (has_name n) (extension_places types xs)) (each-filter (IsBelow (length xs)) (has_name n) (extension_places types xs) (extensions-below types xs))
-        ∙ before)
-
-    unextended : (xs : List ListItem) (x : ListItem) → extended_part x ≡ None → flat_map (faults_with d xs) (filter (has_name n) (extension_places types xs)) ≡ faults_after d [] (extensions_of xs n)
-        → flat_map (faults_with d (xs ++ x ∷ [])) (filter (has_name n) (extension_places types (xs ++ x ∷ []))) ≡ faults_after d [] (extensions_of (xs ++ x ∷ []) n)
-    unextended xs x none before =
-        parts xs x before ∙ ap (λ o. faults_after d [] (extensions_of xs n) ++ flat_map (faults_with d (xs ++ x ∷ [])) (filter (has_name n) (new xs o))) none
-        ∙ append-nil (faults_after d [] (extensions_of xs n)) ∙ ap (faults_after d []) (sym (extensions_of-push_unextended xs x none n))
-
-    step : (xs : List ListItem) (x : ListItem) → flat_map (faults_with d xs) (filter (has_name n) (extension_places types xs)) ≡ faults_after d [] (extensions_of xs n)
-        → flat_map (faults_with d (xs ++ x ∷ [])) (filter (has_name n) (extension_places types (xs ++ x ∷ []))) ≡ faults_after d [] (extensions_of (xs ++ x ∷ []) n)
-    step xs (Defined p) before = unextended xs (Defined p) refl before
-    step xs (SchemaDefined s) before = unextended xs (SchemaDefined s) refl before
-    step xs (SchemaExtended s) before = unextended xs (SchemaExtended s) refl before
-    step xs (Other o) before = unextended xs (Other o) refl before
-    step xs (Extended p) before = parts xs (Extended p) before ∙ by (same n (key_of p)) ∙ ap (faults_after d []) (sym (extensions_of-push_extension xs p n))
-      where
-        by : (b : Bool) → faults_after d [] (extensions_of xs n) ++ flat_map (faults_with d (xs ++ Extended p ∷ [])) (cond b ((length xs, p) ∷ []) []) ≡ faults_after d [] (extensions_of xs n ++ cond b (p ∷ []) [])
-        by false = append-nil (faults_after d [] (extensions_of xs n)) ∙ ap (faults_after d []) (sym (append-nil (extensions_of xs n)))
-        by true =
-            ap (λ l. faults_after d [] (extensions_of xs n) ++ l) (append-nil (faults_with d (xs ++ Extended p ∷ []) (length xs, p)) ∙ ap (λ l. extension_faults d (extensions_of l n) p) (take-append_seam xs (Extended p ∷ [])))
-            ∙ sym (faults_after-push d [] (extensions_of xs n) p)
+faults_with-after : (d : TypePart) (xs : List ListItem) → flat_map (faults_with d xs) (filter (has_name (key_of d)) (extension_places types xs)) ≡ joining_faults d (d ∷ []) (extensions_of xs (key_of d))
+faults_with-after d xs = placed-after extended_part (λ p. same (key_of d) (key_of p)) (extension_faults d) [] xs
 
 -- an extension of the schema, with this first definition and the extensions before it
 abbrev pub schema_faults_with : SchemaPart → List ListItem → Placed SchemaPart → List Fault
@@ -199,32 +150,11 @@ schema_faults_with s xs e = schema_faults (s ∷ schema_extensions (take e.0 xs)
 
 -- the same for the extensions of the schema
 pub schema_faults_with-joining : (s : SchemaPart) (xs : List ListItem) → flat_map (schema_faults_with s xs) (extension_places schemas xs) ≡ schema_joining_faults (s ∷ []) (schema_extensions xs)
-schema_faults_with-joining s = snoc_ind (λ xs. flat_map (schema_faults_with s xs) (extension_places schemas xs) ≡ schema_joining_faults (s ∷ []) (schema_extensions xs)) refl step
-  where
-    parts : (xs : List ListItem) (x : ListItem) (o : Option SchemaPart) → extended_schema x ≡ o → flat_map (schema_faults_with s xs) (extension_places schemas xs) ≡ schema_joining_faults (s ∷ []) (schema_extensions xs)
-        → flat_map (schema_faults_with s (xs ++ x ∷ [])) (extension_places schemas (xs ++ x ∷ [])) ≡ schema_joining_faults (s ∷ []) (schema_extensions xs) ++ flat_map (schema_faults_with s (xs ++ x ∷ [])) (at_place (length xs) o)
-    parts xs x o is before =
-        ap (flat_map (schema_faults_with s (xs ++ x ∷ []))) (placed-push extended_schema xs x ∙ ap (λ o. extension_places schemas xs ++ at_place (length xs) o) is)
-        ∙ flat_map-append (schema_faults_with s (xs ++ x ∷ [])) (extension_places schemas xs) (at_place (length xs) o)
-        ∙ ap (λ l. l ++ flat_map (schema_faults_with s (xs ++ x ∷ [])) (at_place (length xs) o))
-        (flat_map-each (IsBelow (length xs)) (schema_faults_with s (xs ++ x ∷ [])) (schema_faults_with s xs) (λ e low. ap (λ l. schema_faults (s ∷ schema_extensions l) e.1) (same_front xs x e.0 low)) (extension_places schemas xs) (extensions-below schemas xs)
-        ∙ before)
-
-    unextended : (xs : List ListItem) (x : ListItem) → extended_schema x ≡ None → flat_map (schema_faults_with s xs) (extension_places schemas xs) ≡ schema_joining_faults (s ∷ []) (schema_extensions xs)
-        → flat_map (schema_faults_with s (xs ++ x ∷ [])) (extension_places schemas (xs ++ x ∷ [])) ≡ schema_joining_faults (s ∷ []) (schema_extensions (xs ++ x ∷ []))
-    unextended xs x none before =
-        parts xs x None none before ∙ append-nil (schema_joining_faults (s ∷ []) (schema_extensions xs)) ∙ ap (schema_joining_faults (s ∷ [])) (sym (schema_extensions-push_unextended xs x none))
-
-    step : (xs : List ListItem) (x : ListItem) → flat_map (schema_faults_with s xs) (extension_places schemas xs) ≡ schema_joining_faults (s ∷ []) (schema_extensions xs)
-        → flat_map (schema_faults_with s (xs ++ x ∷ [])) (extension_places schemas (xs ++ x ∷ [])) ≡ schema_joining_faults (s ∷ []) (schema_extensions (xs ++ x ∷ []))
-    step xs (Defined p) before = unextended xs (Defined p) refl before
-    step xs (Extended p) before = unextended xs (Extended p) refl before
-    step xs (SchemaDefined t) before = unextended xs (SchemaDefined t) refl before
-    step xs (Other o) before = unextended xs (Other o) refl before
-    step xs (SchemaExtended e) before =
-        parts xs (SchemaExtended e) (Some e) refl before
-        ∙ ap (λ l. schema_joining_faults (s ∷ []) (schema_extensions xs) ++ l) (append-nil (schema_faults_with s (xs ++ SchemaExtended e ∷ []) (length xs, e)) ∙ ap (λ l. schema_faults (s ∷ schema_extensions l) e) (take-append_seam xs (SchemaExtended e ∷ [])))
-        ∙ sym (schema_joining_faults-push (s ∷ []) (schema_extensions xs) e) ∙ ap (schema_joining_faults (s ∷ [])) (sym (schema_extensions-push_extension xs e))
+schema_faults_with-joining s xs =
+    (λ i. flat_map (λ e. schema_faults (s ∷ all-kept (schema_extensions (take e.0 xs)) i) e.1) (all-kept (extension_places schemas xs) i))
+    ∙ placed-after extended_schema (λ _. true) (λ before. schema_faults (s ∷ before)) [] xs
+    ∙ ap (each_after (λ before. schema_faults (s ∷ before)) []) (sym (all-kept (schema_extensions xs)))
+    ∙ sym (each_after-start schema_faults (s ∷ []) (schema_extensions xs))
 
 -- at its own moment an item finds what the code finds
 pub found_when-now : (xs : List ListItem) (x : ListItem) → found_when (xs ++ x ∷ []) (length xs) ≡ found_at xs x
@@ -265,7 +195,7 @@ found_when-now xs (Defined d) =
         ap (λ l. own_faults ys (length xs) (Defined d) ++ flat_map (faults_of_extension ys) l) (met_when-again types types-apart xs (Defined d) d refl z e)
         ∙ append-nil (own_faults ys (length xs) (Defined d))
         ∙ own z false (first_place-stays types xs (Defined d) (key_of d) z e) past
-        ∙ sym (ap (λ o. option_map_or (λ f. further_definition f d) o (part_faults [] d ++ faults_after d [] (extensions_of xs (key_of d)))) (first-some xs (key_of d) z e))
+        ∙ sym (ap (λ o. option_map_or (λ f. further_definition f d) o (type_begun_faults d (extensions_of xs (key_of d)))) (first-some xs (key_of d) z e))
     by None e =
         let here = first_place-new types xs (Defined d) d refl e in
         let agree : (a : Placed TypePart) → IsBelow (length xs) a × (has_name (key_of d) a ≡ true) → faults_of_extension ys a ≡ faults_with d xs a =
@@ -277,7 +207,7 @@ found_when-now xs (Defined d) =
         ∙ ap (λ l. part_faults [] d ++ l) (ap (flat_map (faults_of_extension ys)) (met_when-new types types-apart xs (Defined d) d refl e)
         ∙ flat_map-each (λ a. IsBelow (length xs) a × (has_name (key_of d) a ≡ true)) (faults_of_extension ys) (faults_with d xs) agree (filter (has_name (key_of d)) (extension_places types xs)) (each-filter (IsBelow (length xs)) (has_name (key_of d)) (extension_places types xs) (extensions-below types xs))
         ∙ faults_with-after d xs)
-        ∙ sym (ap (λ o. option_map_or (λ f. further_definition f d) o (part_faults [] d ++ faults_after d [] (extensions_of xs (key_of d)))) (first-none xs (key_of d) e))
+        ∙ sym (ap (λ o. option_map_or (λ f. further_definition f d) o (type_begun_faults d (extensions_of xs (key_of d)))) (first-none xs (key_of d) e))
 found_when-now xs (SchemaExtended s) =
     found_when-schema xs (SchemaExtended s) (met_when-other types xs (SchemaExtended s) refl refl) (flat_map (faults_of_schema_extension (xs ++ SchemaExtended s ∷ [])) (met_when schemas (xs ++ SchemaExtended s ∷ []) (length xs))) refl
     ∙ by (first_place schemas xs []) refl
@@ -324,11 +254,11 @@ found_when-now xs (SchemaDefined s) =
         ∙ sym (ap (λ o. option_map_or (λ f. further_schema f s ∷ []) o (schema_begun_faults s (schema_extensions xs))) (first_schema-none xs e))
 
 -- what is found by places from the end of a list on, moment by moment, is what is found item by item after it
-pub found_after-order : (before xs : List ListItem) → found_from (length before) (length xs) (before ++ xs) ≡ added_after found_at before xs
-found_after-order before = snoc_ind (λ xs. found_from (length before) (length xs) (before ++ xs) ≡ added_after found_at before xs) refl
+pub found_after-order : (before xs : List ListItem) → found_from (length before) (length xs) (before ++ xs) ≡ each_after found_at before xs
+found_after-order before = snoc_ind (λ xs. found_from (length before) (length xs) (before ++ xs) ≡ each_after found_at before xs) refl
     (λ xs x so_far. moments-on found_when before xs x (found_when-push (before ++ xs) x)
     ∙ ap (λ l. l ++ found_when ((before ++ xs) ++ x ∷ []) (length (before ++ xs))) so_far
-    ∙ ap (λ l. added_after found_at before xs ++ l) (found_when-now (before ++ xs) x) ∙ sym (added_after-push found_at before xs x))
+    ∙ ap (λ l. each_after found_at before xs ++ l) (found_when-now (before ++ xs) x) ∙ sym (each_after-push found_at before xs x))
 
 -- and so is all that is found
 pub found_in-order : (xs : List ListItem) → found_from 0 (length xs) xs ≡ found xs

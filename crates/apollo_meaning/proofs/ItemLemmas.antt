@@ -5,11 +5,12 @@ use Rattle.std.specs.Option.{option_or}
 use Rattle.std.specs.Map.{lookup}
 use Rattle.std.proofs.lemmas.List.{append-nil, map-append}
 use Rattle.std.proofs.lemmas.List.Elements.{filter-append, filter_map-append}
+use Rattle.apollo_component.proofs.EachAfterLemmas.{each_after-push}
 use Rattle.apollo_meaning.specs.Items.Parts.{TypePart, SchemaPart, key_of}
 use Rattle.apollo_meaning.specs.Items.ListItems.{ListItem, Defined, Extended, SchemaDefined, SchemaExtended, Folding, defined_part, extended_part, defined_schema, extended_schema}
 use Rattle.graphql_nodes.specs.SameText.{same}
 use Rattle.apollo_meaning.specs.Items.Named.{named, definitions, first, extensions_of, first_schema, schema_extensions}
-use Rattle.apollo_meaning.specs.Steps.Prefixes.{added_after, folded_at, folded, found_at, found, waited_at, waited}
+use Rattle.apollo_meaning.specs.Steps.Prefixes.{folded_at, folded, found_at, found, waited_at, waited}
 use Rattle.apollo_meaning.specs.Types.Meaning.{sourced}
 use Rattle.apollo_meaning.proofs.FoldingLemmas.{enumerate_from-append}
 
@@ -80,22 +81,15 @@ module _ (xs : List ListItem) (x : ListItem) where
   pub schema_extensions-push_unextended : extended_schema x ≡ None → schema_extensions (xs ++ x ∷ []) ≡ schema_extensions xs
   schema_extensions-push_unextended none = filter_map-push_none extended_schema xs x none
 
--- one more item adds its own, after the others
-pub added_after-push : {X : Type 0} (at : List ListItem → ListItem → List X) (before xs : List ListItem) (x : ListItem)
-    → added_after at before (xs ++ x ∷ []) ≡ added_after at before xs ++ at (before ++ xs) x
-added_after-push at before [] x = rw (append-nil before) (append-nil (at before x))
-added_after-push at before (y ∷ ys) x =
-    rw (added_after-push at (before ++ y ∷ []) ys x, append_assoc before (y ∷ []) ys) (sym (append_assoc (at before y) (added_after at (before ++ y ∷ []) ys) (at (before ++ y ∷ ys) x)))
-
 module _ (xs : List ListItem) (x : ListItem) where
   pub folded-push : folded (xs ++ x ∷ []) ≡ folded xs ++ folded_at xs x
-  folded-push = added_after-push folded_at [] xs x
+  folded-push = each_after-push folded_at [] xs x
 
   pub found-push : found (xs ++ x ∷ []) ≡ found xs ++ found_at xs x
-  found-push = added_after-push found_at [] xs x
+  found-push = each_after-push found_at [] xs x
 
   pub waited-push : waited (xs ++ x ∷ []) ≡ waited xs ++ waited_at xs x
-  waited-push = added_after-push waited_at [] xs x
+  waited-push = each_after-push waited_at [] xs x
 
 -- the folded extensions of a name, after others
 pub sourced-append : (n : List ℕ) (start : ℕ) (ps qs : List Folding) → sourced n start (ps ++ qs) ≡ sourced n start ps ++ sourced n (start + length ps) qs

@@ -5,7 +5,7 @@ use Rattle.std.specs.Option.{option_map}
 use Rattle.std.specs.Map.{keys_of, lookup_key}
 use Rattle.std.specs.Cmp.{IsEquivalence, on_equiv}
 use Rattle.std.specs.Cmp.Lexicographic.{nat_list_eq_equiv}
-use Rattle.std.proofs.lemmas.List.{append-nil, take_more, map-append}
+use Rattle.std.proofs.lemmas.List.{take_more, map-append}
 use Rattle.indexmap.specs.IndexMap.{insert_entry}
 use Rattle.graphql_nodes.specs.NameView.{NameView}
 use Rattle.graphql_nodes.specs.NodeView.{NodeView}
@@ -14,6 +14,7 @@ use Rattle.apollo_component.specs.declared.extension.ComponentOrigin.{ComponentO
 use Rattle.apollo_component.specs.FirstOfEach.{first_of_each, same_key}
 use Rattle.apollo_component.specs.declared.component.Component.{Component}
 use Rattle.apollo_component.specs.declared.component.ComponentName.{ComponentName}
+use Rattle.apollo_component.proofs.EachAfterLemmas.{each_after-push}
 use Rattle.apollo_component.proofs.FirstOfEachLemmas.{find-first_of_each, first_of_each-push_new, first_of_each-push_old, keys_of-first_of_each, lookup_key-find, list_any-first_of_each, insert_entry-last}
 use Rattle.apollo_component.proofs.LaterLemmas.{found-any}
 use Rattle.apollo_meaning.specs.declared.collision.Collection.{Collection}
@@ -87,14 +88,6 @@ entry-put {V} es n v none =
     insert_entry-last same_text (first_of_each (same_key same_text) es) n v (list_any-first_of_each (same_key {V = V} same_text) entry_laws (n, v) es ∙ absent)
     ∙ sym (first_of_each-push_new (same_key {V = V} same_text) entry_laws es (n, v) absent)
 
--- one more component
-pub collisions-push : (c : Collection) (ty : NameView) (before : List NameView) (es : List Entry) (e : Entry)
-    → collisions c ty before (es ++ e ∷ []) ≡ collisions c ty before es ++ collision_at c ty (before ++ map (λ e. e.0) es) e
-collisions-push c ty before [] e = append-nil (collision_at c ty before e) ∙ ap (λ l. collision_at c ty l e) (sym (append-nil before))
-collisions-push c ty before (f ∷ es) e =
-    ap (λ l. collision_at c ty before f ++ l) (collisions-push c ty (before ++ f.0 ∷ []) es e ∙ ap (λ l. collisions c ty (before ++ f.0 ∷ []) es ++ collision_at c ty l e) (append_assoc before (f.0 ∷ []) (map (λ e. e.0) es)))
-    ∙ sym (append_assoc (collision_at c ty before f) (collisions c ty (before ++ f.0 ∷ []) es) (collision_at c ty (before ++ f.0 ∷ map (λ e. e.0) es) e))
-
 -- one more element of the front of a list
 pub map-turn : {X Y : Type 0} (f : X → Y) (done : List Y) (xs : List X) (i : ℕ) (x : X) → i < length xs → x ≡ get_or xs i x → done ++ map f (take (i + 1) xs) ≡ (done ++ map f (take i xs)) ++ f x ∷ []
 map-turn f done xs i x lt is = rw (take_more xs i x lt, sym is, map-append) (sym (append_assoc done (map f (take i xs)) (f x ∷ [])))
@@ -109,7 +102,7 @@ collisions-turn c ty errors start before all entry xs i x lt is names was =
     let so_far = map entry (take i xs) in
     (λ k. was k ++ collision_at c ty (names k) (entry x))
     ∙ append_assoc start (collisions c ty before so_far) (collision_at c ty (before ++ map (λ e. e.0) so_far) (entry x))
-    ∙ ap (λ l. start ++ l) (sym (collisions-push c ty before so_far (entry x)) ∙ ap (collisions c ty before) (sym (map-turn entry [] xs i x lt is)))
+    ∙ ap (λ l. start ++ l) (sym (each_after-push (λ done. collision_at c ty (before ++ map (λ e. e.0) done)) [] so_far (entry x)) ∙ ap (collisions c ty before) (sym (map-turn entry [] xs i x lt is)))
 
 -- the names of components with this origin are those of what they come from
 pub names-of-names : (o : ComponentOrigin) (ks : List ComponentName) (ns : List NameView)

@@ -1,12 +1,14 @@
 -- The order of folding by places is the order in which the code folds.
-use Rattle.std.proofs.Common.{◌≡◌, ℕ, ◌+◌, ◌<◌, Bool, true, false, cond, ◌==◌, max, List, [], ◌∷◌, ◌++◌, length, map, Option, Some, None, filter, slice_get, refl, sym, ap, subst, ◌∙◌, length-append, arith}
-use Rattle.std.specs.List.{AllByRecursion, filter_map, enumerate_from}
+use Rattle.std.proofs.Common.{◌≡◌, ℕ, ◌+◌, ◌<◌, Bool, true, false, cond, ◌==◌, max, List, [], ◌∷◌, ◌++◌, length, map, take, Option, Some, None, filter, slice_get, refl, sym, ap, subst, ◌∙◌, append_assoc, length-append, arith}
+use Rattle.std.specs.List.{AllByRecursion, filter_map, flat_map, enumerate_from}
 use Rattle.std.specs.Option.{option_map, option_map_or, option_or}
 use Rattle.std.specs.Map.{lookup}
+use Rattle.std.proofs.Math.Seq.{take-append_seam}
 use Rattle.std.proofs.lemmas.Bool.{eq-eqb}
 use Rattle.std.proofs.lemmas.Bool.Decides.{nat_tests}
 use Rattle.std.proofs.lemmas.List.{append-nil, map-append}
 use Rattle.std.proofs.lemmas.List.Elements.{filter-append, filter_map-append}
+use Rattle.apollo_component.specs.EachAfter.{each_after}
 use Rattle.apollo_meaning.specs.Items.Parts.{TypePart, SchemaPart, kind_of, key_of, same_kind}
 use Rattle.apollo_meaning.specs.Items.ListItems.{ListItem, Defined, Extended, SchemaDefined, SchemaExtended, Other, Folding, OfType, OfSchema, extended_part, defined_schema, extended_schema}
 use Rattle.graphql_nodes.specs.SameText.{same}
@@ -25,6 +27,49 @@ IsBelow n e = e.0 < n
 -- a part at a place, alone, if there is one
 abbrev pub at_place : {P : Type 0} → ℕ → Option P → List (Placed P)
 at_place i o = option_map_or (λ p. (i, p) ∷ []) o []
+
+-- a test that all pass keeps all
+pub all-kept : {X : Type 0} (xs : List X) → xs ≡ filter (λ _. true) xs
+all-kept [] = refl
+all-kept (x ∷ xs) = ap (λ l. x ∷ l) (all-kept xs)
+
+-- what the parts that are chosen add by their places is what they add one after another
+module _ {P Y : Type 0} (which : ListItem → Option P) (test : P → Bool) (at : List P → P → List Y) where
+  abbrev chosen : List ListItem → List P
+  chosen xs = filter test (filter_map which xs)
+
+  abbrev chosen_from : ℕ → List ListItem → List (Placed P)
+  chosen_from n xs = filter (λ e. test e.1) (filter_map (placed_by which) (enumerate_from n xs))
+
+  abbrev here : List ListItem → Placed P → List Y
+  here whole e = at (chosen (take e.0 whole)) e.1
+
+  chosen-push : (before : List ListItem) (x : ListItem) → chosen (before ++ x ∷ []) ≡ chosen before ++ chosen (x ∷ [])
+  chosen-push before x = ap (filter test) (filter_map-append which before (x ∷ [])) ∙ filter-append test (filter_map which before) (filter_map which (x ∷ []))
+
+  pub placed-after : (before xs : List ListItem) → flat_map (here (before ++ xs)) (chosen_from (length before) xs) ≡ each_after at (chosen before) (chosen xs)
+  placed-after before [] = refl
+  placed-after before (x ∷ xs) =
+      by (which x) refl
+      ((λ i. flat_map (here (sym (append_assoc before (x ∷ []) xs) i)) (chosen_from (sym (length-append before (x ∷ [])) i) xs))
+      ∙ placed-after (before ++ x ∷ []) xs
+      ∙ ap (λ l. each_after at l (chosen xs)) (chosen-push before x))
+    where
+      whole : List ListItem
+      whole = before ++ x ∷ xs
+
+      rest : List (Placed P)
+      rest = chosen_from (length before + 1) xs
+
+      on : (p : P) (b : Bool) → flat_map (here whole) rest ≡ each_after at (chosen before ++ cond b (p ∷ []) []) (chosen xs)
+          → flat_map (here whole) (cond b ((length before, p) ∷ rest) rest) ≡ each_after at (chosen before) (cond b (p ∷ chosen xs) (chosen xs))
+      on p false more = more ∙ ap (λ l. each_after at l (chosen xs)) (append-nil (chosen before))
+      on p true more = λ i. at (chosen (take-append_seam before (x ∷ xs) i)) p ++ more i
+
+      by : (o : Option P) → which x ≡ o → flat_map (here whole) rest ≡ each_after at (chosen before ++ chosen (x ∷ [])) (chosen xs)
+          → flat_map (here whole) (chosen_from (length before) (x ∷ xs)) ≡ each_after at (chosen before) (chosen (x ∷ xs))
+      by None e more = rw e (more ∙ ap (λ l. each_after at l (chosen xs)) (rw e (append-nil (chosen before))))
+      by (Some p) e more = rw e (on p (test p) (more ∙ ap (λ l. each_after at (chosen before ++ l) (chosen xs)) (rw e refl)))
 
 module _ {P : Type 0} (which : ListItem → Option P) where
   placed-one : (i : ℕ) (x : ListItem) (o : Option P) → which x ≡ o → filter_map (placed_by which) ((i, x) ∷ []) ≡ at_place i o

@@ -7,11 +7,12 @@ use Rattle.std.proofs.lemmas.List.{append-nil, map-append}
 use Rattle.std.proofs.lemmas.List.Elements.{filter_map-append}
 use Rattle.graphql_nodes.specs.declared.type_kind.TypeKind.{TypeKind}
 use Rattle.apollo_component.specs.declared.extension.ComponentOrigin.TheVariants as origins
+use Rattle.apollo_component.specs.EachAfter.{each_after}
 use Rattle.apollo_meaning.specs.Items.Parts.{TypePart, SchemaPart, kind_of, key_of, same_kind}
 use Rattle.apollo_meaning.specs.Items.ListItems.{ListItem, Defined, Extended, SchemaDefined, SchemaExtended, Other, Folding, OfType, OfSchema, defined_part, extended_part}
 use Rattle.graphql_nodes.specs.SameText.{same}
 use Rattle.apollo_meaning.specs.Items.Named.{named, definitions, first, extensions_of, of_kind}
-use Rattle.apollo_meaning.specs.Steps.Prefixes.{added_after, types_folded_at, schemas_folded_at, folded_at, folded}
+use Rattle.apollo_meaning.specs.Steps.Prefixes.{types_folded_at, schemas_folded_at, folded_at, folded}
 use Rattle.apollo_meaning.specs.Types.Components.{Sourced}
 use Rattle.apollo_meaning.specs.Types.Meaning.{type_from, extension_part, numbered, sourced, parts, type_of}
 use Rattle.apollo_meaning.proofs.Texts.{same-true, same-is}
@@ -143,11 +144,11 @@ Apart-types n xs (SchemaDefined s) none = tt
 Apart-types n xs (SchemaExtended s) none = tt
 Apart-types n xs (Other d) none = tt
 
-Apart-folded_after : (n : List ℕ) (before xs : List ListItem) → first (before ++ xs) n ≡ None → Apart n (type_foldings (added_after folded_at before xs))
+Apart-folded_after : (n : List ℕ) (before xs : List ListItem) → first (before ++ xs) n ≡ None → Apart n (type_foldings (each_after folded_at before xs))
 Apart-folded_after n before [] none = tt
 Apart-folded_after n before (x ∷ xs) none =
     let all : first ((before ++ x ∷ []) ++ xs) n ≡ None = ap (λ l. first l n) (append_assoc before (x ∷ []) xs) ∙ none in
-    let rest = added_after folded_at (before ++ x ∷ []) xs in
+    let rest = each_after folded_at (before ++ x ∷ []) xs in
     let split : type_foldings (folded_at before x ++ rest) ≡ types_folded_at before x ++ type_foldings rest =
     filter_map-append type_folding (folded_at before x) rest ∙ ap (λ l. l ++ type_foldings rest) (type_foldings-at before x) in
     subst (Apart n) (sym split)

@@ -2,26 +2,18 @@
 use Rattle.std.proofs.Common.{◌≡◌, ℕ, ◌+◌, Bool, true, false, cond, List, [], ◌∷◌, ◌++◌, map, Some, None, filter, refl, sym, ap, ◌∙◌}
 use Rattle.std.specs.List.{enumerate_from, filter_map}
 use Rattle.std.specs.Option.{option_map_or}
-use Rattle.std.proofs.lemmas.List.{append-nil}
-use Rattle.std.proofs.lemmas.List.Elements.{filter-append}
-use Rattle.apollo_meaning.specs.Items.Parts.{TypePart, kind_of, key_of, same_kind}
+use Rattle.apollo_meaning.specs.Items.Parts.{TypePart, kind_of, key_of}
 use Rattle.apollo_meaning.specs.Items.ListItems.{ListItem, Defined, Extended, Folding, OfType, OfSchema}
 use Rattle.graphql_nodes.specs.SameText.{same}
 use Rattle.apollo_meaning.specs.Items.Named.{first, extensions_of, of_kind}
 use Rattle.apollo_meaning.specs.Types.Components.{Sourced}
 use Rattle.apollo_meaning.specs.Types.Meaning.{extension_part, of_type, sourced, parts}
 use Rattle.apollo_meaning.specs.Faults.TypeFaults.{part_faults, extension_faults, further_definition}
-use Rattle.apollo_meaning.specs.Steps.Joining.{joining_faults}
-use Rattle.apollo_meaning.specs.Steps.Prefixes.{faults_after, found_at, folded}
+use Rattle.apollo_meaning.specs.Steps.Joining.{joining_faults, type_begun_faults}
+use Rattle.apollo_meaning.specs.Steps.Prefixes.{found_at, folded}
 use Rattle.apollo_meaning.proofs.TypeLemmas.{type_foldings}
+use Rattle.apollo_folding.proofs.JoiningLemmas.{joining-one}
 use Rattle.apollo_meaning.proofs.PartLemmas.{of_name}
-
--- extensions that join a definition and those before them
-pub joining-after : (d : TypePart) (before es : List TypePart) → joining_faults d (d ∷ of_kind (kind_of d) before) es ≡ faults_after d before es
-joining-after d before [] = refl
-joining-after d before (e ∷ es) =
-    ap (λ l. extension_faults d before e ++ joining_faults d (d ∷ l) es) (sym (filter-append (λ p. same_kind (kind_of d) (kind_of p)) before (e ∷ [])))
-    ∙ ap (λ l. extension_faults d before e ++ l) (joining-after d (before ++ e ∷ []) es)
 
 -- the folded extensions of a name, their origins forgotten
 sourced-parts : (n : List ℕ) (start : ℕ) (fs : List Folding) → map (λ (s : Sourced). s.1) (sourced n start fs) ≡ filter (λ p. same n (key_of p)) (type_foldings fs)
@@ -45,11 +37,10 @@ parts-forget start xs n d some = ap (λ l. d ∷ l) (sourced-parts n start (fold
 module _ (xs : List ListItem) (p : TypePart) where
   pub found_at-new : first xs (key_of p) ≡ None → found_at xs (Defined p) ≡ part_faults [] p ++ joining_faults p (p ∷ []) (extensions_of xs (key_of p))
   found_at-new none =
-      ap (λ o. option_map_or (λ f. further_definition f p) o (part_faults [] p ++ faults_after p [] (extensions_of xs (key_of p)))) none
-      ∙ ap (λ l. part_faults [] p ++ l) (sym (joining-after p [] (extensions_of xs (key_of p))))
+      ap (λ o. option_map_or (λ f. further_definition f p) o (type_begun_faults p (extensions_of xs (key_of p)))) none
 
   pub found_at-again : (d : TypePart) → first xs (key_of p) ≡ Some d → found_at xs (Defined p) ≡ further_definition d p
-  found_at-again d some = ap (λ o. option_map_or (λ f. further_definition f p) o (part_faults [] p ++ faults_after p [] (extensions_of xs (key_of p)))) some
+  found_at-again d some = ap (λ o. option_map_or (λ f. further_definition f p) o (type_begun_faults p (extensions_of xs (key_of p)))) some
 
   pub found_at-early : first xs (key_of p) ≡ None → found_at xs (Extended p) ≡ []
   found_at-early none = ap (λ o. option_map_or (λ d. extension_faults d (extensions_of xs (key_of p)) p) o []) none
@@ -57,4 +48,4 @@ module _ (xs : List ListItem) (p : TypePart) where
   pub found_at-late : (d : TypePart) → first xs (key_of p) ≡ Some d → found_at xs (Extended p) ≡ joining_faults d (d ∷ of_kind (kind_of d) (extensions_of xs (key_of p))) (p ∷ [])
   found_at-late d some =
       ap (λ o. option_map_or (λ d. extension_faults d (extensions_of xs (key_of p)) p) o []) some
-      ∙ sym (append-nil (extension_faults d (extensions_of xs (key_of p)) p))
+      ∙ sym (joining-one d (d ∷ of_kind (kind_of d) (extensions_of xs (key_of p))) p)

@@ -17,7 +17,8 @@ use Rattle.apollo_meaning.specs.Completion.ImpliedSchema.{completed}
 use Rattle.apollo_meaning.specs.Faults.TypeFaults.{orphan}
 use Rattle.apollo_meaning.specs.Faults.RootFaults.{schema_orphan}
 use Rattle.apollo_meaning.specs.Faults.ListFaults.{faults_in}
-use Rattle.apollo_meaning.specs.Steps.Prefixes.{added_after, folded, found_at, found, waited}
+use Rattle.apollo_component.specs.EachAfter.{each_after}
+use Rattle.apollo_meaning.specs.Steps.Prefixes.{folded, found_at, found, waited}
 
 -- these tables are those of the list, with its extensions numbered from `start`
 pub record Stands (start : ℕ) (xs : List ListItem) (t : Tables) : Type 0 where
@@ -37,7 +38,7 @@ pub record Ends (start : ℕ) (implied xs : List ListItem) (t : Tables) : Type 0
   pub types : AreTypesOf start (folded (xs ++ implied)) (xs ++ implied) t.types
   pub directives : AreDirectivesOf (directive_definitions (xs ++ implied)) t.directive_definitions
   pub faults : t.errors
-      ≡ found xs ++ (map orphan (flat_map (orphans_of xs) (extended_names xs)) ++ (added_after found_at xs implied ++ map schema_orphan (schema_orphans (xs ++ implied))))
+      ≡ found xs ++ (map orphan (flat_map (orphans_of xs) (extended_names xs)) ++ (each_after found_at xs implied ++ map schema_orphan (schema_orphans (xs ++ implied))))
   pub next : t.ids ≡ source_at (start + length (folded (xs ++ implied)))
 
 -- these tables are those of all that the list means, and hold all its faults

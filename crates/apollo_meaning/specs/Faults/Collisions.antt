@@ -1,10 +1,11 @@
 -- Named components that a name before them keeps out: GraphQL specification of October 2021, sections 3.6 to 3.10.
-use Rattle.std.specs.Prelude.{Bool, List, [], ◌∷◌, ◌++◌, Option}
+use Rattle.std.specs.Prelude.{Bool, List, [], ◌∷◌, ◌++◌, map, Option}
 use Rattle.std.specs.Option.{option_map_or}
 use Rattle.std.specs.List.{find}
 use Rattle.graphql_nodes.specs.NameView.{NameView}
 use Rattle.graphql_nodes.specs.SameText.{same_text}
 use Rattle.graphql_nodes.specs.declared.source.SourceSpan.{SourceSpan}
+use Rattle.apollo_component.specs.EachAfter.{each_after}
 use Rattle.apollo_component.specs.FirstOfEach.{same_key, kept_for}
 use Rattle.apollo_meaning.specs.declared.build_error.BuildError.{BuildError}
 use Rattle.apollo_meaning.specs.declared.collision.Collection.{Collection}
@@ -36,8 +37,7 @@ collision_at c ty before e = option_map_or (λ kept. (e.1, collision c kept ty) 
 
 -- the faults of components with these names before them, in order
 abbrev pub collisions : Collection → NameView → List NameView → List Entry → List Fault
-collisions c ty before [] = []
-collisions c ty before (e ∷ es) = collision_at c ty before e ++ collisions c ty (before ++ e.0 ∷ []) es
+collisions c ty before = each_after (λ done. collision_at c ty (before ++ map (λ e. e.0) done)) []
 
 -- components are the same by the texts of their names
 abbrev pub same_name : Entry → Entry → Bool

@@ -1,9 +1,10 @@
 -- What is wrong with the definitions and extensions of the schema: GraphQL specification of October 2021, sections 3.3.1
 -- and 3.3.2.
-use Rattle.std.specs.Prelude.{Bool, List, [], ◌∷◌, ◌++◌}
+use Rattle.std.specs.Prelude.{Bool, List, [], ◌∷◌}
 use Rattle.std.specs.Option.{option_map_or}
 use Rattle.std.specs.List.{find}
 use Rattle.graphql_nodes.specs.OperationTexts.{operation_text}
+use Rattle.apollo_component.specs.EachAfter.{each_after}
 use Rattle.apollo_component.specs.FirstOfEach.{kept_for}
 use Rattle.apollo_meaning.specs.Items.Parts.{SchemaPart, Root, roots_in}
 use Rattle.apollo_meaning.specs.Faults.Collisions.{Fault}
@@ -18,8 +19,7 @@ root_fault before r = option_map_or
 
 -- the faults of roots with these before them, in order
 abbrev pub root_faults : List Root → List Root → List Fault
-root_faults before [] = []
-root_faults before (r ∷ rs) = root_fault before r ++ root_faults (before ++ r ∷ []) rs
+root_faults = each_after root_fault
 
 -- roots are the same by their operations
 abbrev pub same_root : Root → Root → Bool

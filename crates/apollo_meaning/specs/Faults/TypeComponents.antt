@@ -1,8 +1,9 @@
 -- The components of a type, those of its definition and of its extensions joined: GraphQL specification of October 2021,
 -- section 3.4.3, and the type validation of sections 3.6 to 3.10.
-use Rattle.std.specs.Prelude.{ℕ, Bool, List, [], ◌++◌, map, ◌&&◌, take, nat_eq}
-use Rattle.std.specs.List.{flat_map, enumerate_from}
+use Rattle.std.specs.Prelude.{ℕ, Bool, List, [], ◌++◌, map, ◌&&◌, nat_eq}
+use Rattle.std.specs.List.{flat_map}
 use Rattle.graphql_nodes.specs.NameView.{NameView}
+use Rattle.apollo_component.specs.EachAfter.{each_after}
 use Rattle.apollo_component.specs.FirstOfEach.{kept_for}
 use Rattle.apollo_meaning.specs.Items.Parts.{TypePart, TypeBody, ScalarBody, ObjectBody, InterfaceBody, UnionBody, EnumBody, InputObjectBody}
 use Rattle.apollo_meaning.specs.declared.collision.Collection.{Collection}
@@ -52,4 +53,4 @@ dropped_from_type kept e = (e.entry.1, collision e.collection (kept_for same_com
 
 -- the components that are dropped from parts of a type, where each joins those before it
 abbrev pub joined_faults : List TypePart → List Fault
-joined_faults ps = flat_map (λ p. part_faults (take p.0 ps) p.1) (enumerate_from 0 ps)
+joined_faults = each_after part_faults []

@@ -64,10 +64,13 @@ part_faults parts p = body_faults p.body p.name parts
 abbrev pub kind_mismatch : TypePart → TypePart → Fault
 kind_mismatch d e = (e.name.location, errors.TypeExtensionKindMismatch e.name (kind_text (kind_of e) ++ codes " extension") d.name.location (kind_text (kind_of d)))
 
+-- an extension that doesn't have the kind of this definition, or the components that are dropped where it joins these parts
+abbrev pub joining_fault : TypePart → List TypePart → TypePart → List Fault
+joining_fault d parts e = if same_kind (kind_of d) (kind_of e) then part_faults parts e else kind_mismatch d e ∷ []
+
 -- an extension of a name with this first definition, where these extensions of the name stand before it
 abbrev pub extension_faults : TypePart → List TypePart → TypePart → List Fault
-extension_faults d before e =
-    if same_kind (kind_of d) (kind_of e) then part_faults (d ∷ of_kind (kind_of d) before) e else kind_mismatch d e ∷ []
+extension_faults d before e = joining_fault d (d ∷ of_kind (kind_of d) before) e
 
 -- a further definition of a name with this first one: of a built-in type it may be ignored
 abbrev pub redefinition : TypePart → TypePart → Fault

@@ -1,14 +1,15 @@
 -- What is wrong with extensions that join a type or the schema, one after another: the form that the builder is proved
 -- against.
-use Rattle.std.specs.Prelude.{ℕ, List, [], ◌∷◌, ◌++◌, map, if◌then◌else◌}
+use Rattle.std.specs.Prelude.{ℕ, List, [], ◌∷◌, ◌++◌, map}
 use Rattle.std.specs.List.{enumerate_from}
 use Rattle.graphql_nodes.specs.NodeView.{NodeView}
+use Rattle.apollo_component.specs.EachAfter.{each_after}
 use Rattle.apollo_component.specs.declared.extension.ComponentOrigin.TheVariants.{Definition}
 use Rattle.apollo_types.specs.declared.schema_definition.SchemaDefinition.{SchemaDefinition}
-use Rattle.apollo_meaning.specs.Items.Parts.{TypePart, SchemaPart, kind_of, same_kind}
+use Rattle.apollo_meaning.specs.Items.Parts.{TypePart, SchemaPart, kind_of}
 use Rattle.apollo_meaning.specs.Faults.Collisions.{Fault}
 use Rattle.apollo_meaning.specs.Items.Named.{of_kind}
-use Rattle.apollo_meaning.specs.Faults.TypeFaults.{part_faults, kind_mismatch}
+use Rattle.apollo_meaning.specs.Faults.TypeFaults.{part_faults, joining_fault}
 use Rattle.apollo_meaning.specs.Schema.Definition.{SourcedSchema, schema_extension_source, schema_from}
 use Rattle.apollo_meaning.specs.Faults.RootFaults.{schema_faults}
 use Rattle.apollo_types.specs.declared.extended_type.ExtendedType.{ExtendedType}
@@ -17,14 +18,11 @@ use Rattle.apollo_meaning.specs.Types.Meaning.{type_from, extension_part, number
 -- the extensions that don't have the kind of this definition, and the components that are dropped from those that have
 -- it, where each is folded into these parts and the extensions before it
 abbrev pub joining_faults : TypePart → List TypePart → List TypePart → List Fault
-joining_faults d parts [] = []
-joining_faults d parts (e ∷ es) =
-    (if same_kind (kind_of d) (kind_of e) then part_faults parts e else kind_mismatch d e ∷ []) ++ joining_faults d (parts ++ of_kind (kind_of d) (e ∷ [])) es
+joining_faults d parts = each_after (λ before. joining_fault d (parts ++ of_kind (kind_of d) before)) []
 
 -- the same for the schema: what is wrong with extensions that join these parts, one after another
 abbrev pub schema_joining_faults : List SchemaPart → List SchemaPart → List Fault
-schema_joining_faults parts [] = []
-schema_joining_faults parts (e ∷ es) = schema_faults parts e ++ schema_joining_faults (parts ++ e ∷ []) es
+schema_joining_faults = each_after schema_faults
 
 -- extensions of the schema, with the numbers from this one on
 abbrev pub schema_numbered : ℕ → List SchemaPart → List SourcedSchema

@@ -2,13 +2,14 @@
 use Rattle.std.specs.Prelude.{List, [], ◌∷◌, ◌++◌, map, if◌then◌else◌, ◌==◌, length}
 use Rattle.std.specs.Option.{option_map_or}
 use Rattle.graphql_nodes.specs.NameView.{NameView}
+use Rattle.apollo_component.specs.EachAfter.{each_after}
 use Rattle.apollo_meaning.specs.Items.Parts.{TypePart, SchemaPart, kind_of, key_of}
 use Rattle.apollo_meaning.specs.Items.ListItems.{ListItem, Defined, SchemaDefined, Other, Folding, OfType, OfSchema, Extended, SchemaExtended}
 use Rattle.apollo_meaning.specs.Items.Named.{first, extensions_of, first_schema, schema_extensions, of_kind}
 use Rattle.apollo_meaning.specs.Faults.Collisions.{Fault}
-use Rattle.apollo_meaning.specs.Faults.TypeFaults.{part_faults, extension_faults, further_definition}
+use Rattle.apollo_meaning.specs.Faults.TypeFaults.{extension_faults, further_definition}
 use Rattle.apollo_meaning.specs.Faults.RootFaults.{schema_faults, further_schema}
-use Rattle.apollo_meaning.specs.Steps.Joining.{schema_begun_faults}
+use Rattle.apollo_meaning.specs.Steps.Joining.{schema_begun_faults, type_begun_faults}
 use Rattle.apollo_meaning.specs.Directives.{directive_definitions}
 use Rattle.apollo_meaning.specs.Faults.OtherFaults.{other_faults}
 
@@ -32,23 +33,13 @@ schemas_folded_at before (Other d) = []
 abbrev pub folded_at : List ListItem → ListItem → List Folding
 folded_at before x = map OfType (types_folded_at before x) ++ map OfSchema (schemas_folded_at before x)
 
--- what the items add, one after another, where each adds something to those before it
-abbrev pub added_after : {X : Type 0} → (List ListItem → ListItem → List X) → List ListItem → List ListItem → List X
-added_after at before [] = []
-added_after at before (x ∷ xs) = at before x ++ added_after at (before ++ x ∷ []) xs
-
 -- the extensions that are folded, in the order of folding
 abbrev pub folded : List ListItem → List Folding
-folded xs = added_after folded_at [] xs
-
--- what is wrong with extensions of a name with this first definition, one after another, after these
-abbrev pub faults_after : TypePart → List TypePart → List TypePart → List Fault
-faults_after d before [] = []
-faults_after d before (e ∷ es) = extension_faults d before e ++ faults_after d (before ++ e ∷ []) es
+folded xs = each_after folded_at [] xs
 
 -- what is found at an item, where these items are before it
 abbrev pub found_at : List ListItem → ListItem → List Fault
-found_at before (Defined d) = option_map_or (λ f. further_definition f d) (first before (key_of d)) (part_faults [] d ++ faults_after d [] (extensions_of before (key_of d)))
+found_at before (Defined d) = option_map_or (λ f. further_definition f d) (first before (key_of d)) (type_begun_faults d (extensions_of before (key_of d)))
 found_at before (Extended e) = option_map_or (λ d. extension_faults d (extensions_of before (key_of e)) e) (first before (key_of e)) []
 found_at before (SchemaDefined s) = option_map_or (λ f. further_schema f s ∷ []) (first_schema before) (schema_begun_faults s (schema_extensions before))
 found_at before (SchemaExtended e) = option_map_or (λ s. schema_faults (s ∷ schema_extensions before) e) (first_schema before) []
@@ -56,7 +47,7 @@ found_at before (Other d) = other_faults (directive_definitions before) d
 
 -- what is found, in order, but for the extensions without a definition
 abbrev pub found : List ListItem → List Fault
-found xs = added_after found_at [] xs
+found xs = each_after found_at [] xs
 
 -- the names under which an extension once waited, in order
 abbrev pub waited_at : List ListItem → ListItem → List NameView
@@ -67,4 +58,4 @@ waited_at before (SchemaExtended e) = []
 waited_at before (Other d) = []
 
 abbrev pub waited : List ListItem → List NameView
-waited xs = added_after waited_at [] xs
+waited xs = each_after waited_at [] xs

@@ -7,7 +7,8 @@ use Rattle.apollo_meaning.specs.Schema.Definition.{schema_from}
 use Rattle.apollo_meaning.specs.Faults.RootFaults.{schema_faults}
 use Rattle.apollo_meaning.specs.Steps.Joining.{schema_numbered, schema_joining_faults}
 use Rattle.apollo_meaning.proofs.KeptLemmas.{map-turn}
-use Rattle.apollo_folding.proofs.RootLemmas.{schema_numbered-more, schema_parts-numbered, schema_joining-push}
+use Rattle.apollo_component.proofs.EachAfterLemmas.{each_after-push}
+use Rattle.apollo_folding.proofs.RootLemmas.{schema_numbered-more, schema_parts-numbered}
 use Rattle.apollo_folding.proofs.RefusalLemmas.{RefusedAs-weaker}
 use Rattle.apollo_folding.proofs.from_ast.schema_definition.extend_schema_by_all.Goals as goal
 
@@ -37,7 +38,7 @@ loop-extension-preserved c =
           now.faults head (done ++ schema_numbered start so_far) (was.folded head done h)
           ∙ (λ j. was.faults head done h j ++ schema_faults (schema_parts-numbered done start so_far j) this)
           ∙ append_assoc before (schema_joining_faults base so_far) (schema_faults (base ++ so_far) this)
-          ∙ ap (λ l. before ++ l) (sym (schema_joining-push base so_far this) ∙ ap (schema_joining_faults base) (sym turn));
+          ∙ ap (λ l. before ++ l) (sym (each_after-push schema_faults base so_far this) ∙ ap (schema_joining_faults base) (sym turn));
       next =
           let sum : next_number c.loop-extension.ids + 1 ≡ start + length (take (i + 1) xs) = omega (arith, at, size, size_after) in
           now.next ∙ ap source_at sum;
