@@ -1,3 +1,3 @@
-pub mod EachAfterLemmas
 pub mod FirstOfEachLemmas
 pub mod LaterLemmas
+pub mod Lists

@@ -7,7 +7,7 @@ use Rattle.graphql_nodes.specs.NameView.{NameView}
 use Rattle.graphql_nodes.specs.SameText.{same_text, same, by_text}
 use Rattle.graphql_ast.specs.declared.definition.Definition.{Definition}
 use Rattle.apollo_meaning.specs.Items.ListItems.{item_of, items_of, items_held}
-use Rattle.apollo_meaning.proofs.Texts.{same-true}
+use Rattle.graphql_nodes.proofs.Texts.{same-true}
 use Rattle.apollo_folding.proofs.NameTables.{lookup-put, lookup-write}
 
 held-cond : (b : Bool) (v : List Definition) (o : Option (List Definition)) → items_held (cond b (Some v) o) ≡ cond b (items_of v) (items_held o)

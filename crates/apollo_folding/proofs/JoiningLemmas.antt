@@ -7,7 +7,7 @@ use Rattle.graphql_nodes.specs.KindTexts.{kind_text, kind_extension_text}
 use Rattle.graphql_nodes.specs.declared.type_kind.TypeKind.{TypeKind}
 use Rattle.graphql_ast.specs.declared.definition.Definition.{Definition}
 use Rattle.apollo_component.specs.EachAfter.{each_after}
-use Rattle.apollo_component.proofs.EachAfterLemmas.{each_after-append, each_after-start}
+use Rattle.apollo_component.proofs.Lists.EachAfter.{each_after-append, each_after-start}
 use Rattle.apollo_meaning.specs.Items.Parts.{TypePart, kind_of, same_kind}
 use Rattle.apollo_meaning.specs.Items.ListItems.{extended_parts}
 use Rattle.apollo_meaning.specs.Items.Named.{of_kind}
@@ -16,7 +16,7 @@ use Rattle.apollo_meaning.specs.Types.Meaning.{extension_part, numbered}
 use Rattle.apollo_meaning.specs.Faults.Collisions.{Fault}
 use Rattle.apollo_meaning.specs.Faults.TypeFaults.{joining_fault}
 use Rattle.apollo_meaning.specs.Steps.Joining.{joining_faults}
-use Rattle.apollo_meaning.proofs.FoldingLemmas.{extended_parts-turn}
+use Rattle.apollo_meaning.proofs.Order.FoldingLemmas.{extended_parts-turn}
 
 same_kind-true : (a b : TypeKind) → same_kind a b ≡ true → a ≡ b
 same_kind-true a b h = grind arith

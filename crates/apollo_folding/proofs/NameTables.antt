@@ -9,7 +9,7 @@ use Rattle.indexmap.specs.IndexMap.{insert_entry}
 use Rattle.graphql_nodes.specs.NameView.{NameView}
 use Rattle.graphql_nodes.specs.SameText.{same_text, same, by_text}
 use Rattle.apollo_component.proofs.FirstOfEachLemmas.{is_some-lookup, insert_entry-last}
-use Rattle.apollo_meaning.proofs.Texts.{same-true, same-is, same-flip}
+use Rattle.graphql_nodes.proofs.Texts.{same-true, same-is, same-flip}
 
 module _ {V : Type 0} where
   -- an entry that is put is found under its text, and each other as before

@@ -15,11 +15,12 @@ use Rattle.graphql_nodes.specs.declared.operation_type.OperationType.TheVariants
 use Rattle.graphql_ast.specs.declared.type_system.SchemaExtension.{SchemaExtension}
 use Rattle.graphql_ast.specs.declared.definition.Definition.{Definition}
 use Rattle.apollo_component.specs.EachAfter.{each_after}
-use Rattle.apollo_component.proofs.EachAfterLemmas.{each_after-push, each_after-start}
+use Rattle.apollo_component.proofs.Lists.EachAfter.{each_after-push, each_after-start}
 use Rattle.apollo_component.specs.declared.component.ComponentName.{ComponentName}
 use Rattle.apollo_component.specs.declared.extension.ComponentOrigin.{ComponentOrigin}
 use Rattle.apollo_types.specs.SchemaDefinitionWriteOut.{root_of}
 use Rattle.apollo_types.specs.declared.schema_definition.SchemaDefinition.{SchemaDefinition}
+use Rattle.apollo_component.proofs.Lists.Ends.{enumerate_from-append}
 use Rattle.apollo_meaning.specs.declared.build_error.BuildError.TheVariants as errors
 use Rattle.apollo_meaning.specs.Faults.Collisions.{Fault}
 use Rattle.apollo_meaning.specs.Items.Parts.{TypePart, SchemaPart, schema_extension_part, Root, roots_in}
@@ -30,7 +31,7 @@ use Rattle.apollo_meaning.specs.Schema.Definition.{SourcedSchema, same_operation
 use Rattle.apollo_meaning.specs.Faults.RootFaults.{root_fault, root_faults, schema_faults}
 use Rattle.apollo_folding.specs.RootTables.{NamedRoot, named_root, first_named, with_roots, put_root, held_fault, held_faults}
 use Rattle.apollo_meaning.specs.Steps.Joining.{schema_numbered}
-use Rattle.apollo_meaning.proofs.FoldingLemmas.{enumerate_from-append, extended_parts-append, extended_parts-turn}
+use Rattle.apollo_meaning.proofs.Order.FoldingLemmas.{extended_parts-append, extended_parts-turn}
 
 or-none : {X : Type 0} (o : Option X) → option_or o None ≡ o
 or-none None = refl

@@ -1,11 +1,4 @@
 pub mod BuiltInLemmas
 pub mod CloneLemmas
-pub mod EndLemmas
-pub mod FaultLemmas
-pub mod OrphanNameLemmas
-pub mod OutcomeLemmas
-pub mod RoleLemmas
-pub mod SchemaLemmas
-pub mod SchemaStandsLemmas
-pub mod StandsLemmas
-pub mod WaitingLemmas
+pub mod Ends
+pub mod Stands

@@ -1,2 +1,3 @@
 pub mod KeySetClones
 pub mod TableLemmas
+pub mod Texts

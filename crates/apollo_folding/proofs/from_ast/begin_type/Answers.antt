@@ -4,7 +4,7 @@ use Rattle.apollo_meaning.specs.Items.Parts.{TypePart}
 use Rattle.apollo_meaning.specs.Items.ListItems.{extended_parts}
 use Rattle.apollo_meaning.specs.Faults.TypeFaults.{part_faults}
 use Rattle.apollo_meaning.specs.Steps.Joining.{joining_faults}
-use Rattle.apollo_meaning.proofs.FoldingLemmas.{type_from-ignorable}
+use Rattle.apollo_meaning.proofs.Order.FoldingLemmas.{type_from-ignorable}
 use Rattle.apollo_folding.specs.Views.{part_seen}
 use Rattle.apollo_folding.proofs.from_ast.begin_type.Goals as goal
 

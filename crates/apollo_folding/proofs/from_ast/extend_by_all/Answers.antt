@@ -8,7 +8,7 @@ use Rattle.apollo_meaning.specs.Items.Named.{of_kind}
 use Rattle.apollo_meaning.specs.Types.Meaning.{type_from, extension_part, numbered}
 use Rattle.apollo_meaning.specs.Steps.Joining.{joining_faults}
 use Rattle.apollo_types.specs.TypeWriteOut.{type_kind}
-use Rattle.apollo_meaning.proofs.FoldingLemmas.{numbered-more, of_kind-turn, of_kind-past, type_kind-from}
+use Rattle.apollo_meaning.proofs.Order.FoldingLemmas.{numbered-more, of_kind-turn, of_kind-past, type_kind-from}
 use Rattle.apollo_folding.proofs.JoiningLemmas.{parts-numbered, joining-turn}
 use Rattle.apollo_folding.proofs.RefusalLemmas.{RefusedAs-weaker}
 use Rattle.apollo_folding.proofs.from_ast.extend_by_all.Goals as goal

@@ -4,7 +4,7 @@ use Rattle.graphql_nodes.specs.KindTexts.{kind_text}
 use Rattle.apollo_types.specs.TypeWriteOut.{type_kind, type_name}
 use Rattle.apollo_meaning.specs.declared.build_error.BuildError.TheVariants as errors
 use Rattle.apollo_meaning.specs.Items.Parts.{kind_of}
-use Rattle.apollo_meaning.proofs.FoldingLemmas.{type_kind-from, type_name-from}
+use Rattle.apollo_meaning.proofs.Order.FoldingLemmas.{type_kind-from, type_name-from}
 use Rattle.apollo_folding.specs.Views.{part_seen}
 use Rattle.apollo_folding.proofs.JoiningLemmas.{extension_text}
 use Rattle.apollo_folding.proofs.from_ast.kind_mismatch.Goals as goal

@@ -2,7 +2,7 @@ use Rattle.std.proofs.Common.{◌≡◌, false, cond, [], ◌∷◌, ◌++◌, s
 use Rattle.graphql_nodes.specs.BuiltIn.{is_built_in}
 use Rattle.apollo_types.specs.TypeWriteOut.{type_location}
 use Rattle.apollo_meaning.specs.Faults.TypeFaults.{redefinition, built_in_redefinition}
-use Rattle.apollo_meaning.proofs.FoldingLemmas.{type_location-from}
+use Rattle.apollo_meaning.proofs.Order.FoldingLemmas.{type_location-from}
 use Rattle.apollo_folding.specs.Views.{part_seen}
 use Rattle.apollo_folding.proofs.redefinition.note_redefinition.Goals as goal
 

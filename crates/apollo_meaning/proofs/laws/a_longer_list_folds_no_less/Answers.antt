@@ -1,4 +1,4 @@
-use Rattle.apollo_meaning.proofs.LongerLemmas.{folded-longer, spends-longer}
+use Rattle.apollo_meaning.proofs.Order.LongerLemmas.{folded-longer, spends-longer}
 use Rattle.apollo_meaning.proofs.laws.a_longer_list_folds_no_less.Goals as goal
 
 pub returns-clause-folds : goal.returns-clause-folds

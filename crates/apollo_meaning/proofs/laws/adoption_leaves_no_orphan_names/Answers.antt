@@ -1,4 +1,4 @@
-use Rattle.apollo_meaning.proofs.CompletionLemmas.{orphan_names-adopted}
+use Rattle.apollo_meaning.proofs.Completion.CompletionLemmas.{orphan_names-adopted}
 use Rattle.apollo_meaning.proofs.laws.adoption_leaves_no_orphan_names.Goals as goal
 
 pub returns : goal.returns

@@ -1,5 +1,5 @@
 use Rattle.apollo_meaning.specs.Order.Places.{types, schemas}
-use Rattle.apollo_meaning.proofs.OnceLemmas.{each-met-once}
+use Rattle.apollo_meaning.proofs.Order.OnceLemmas.{each-met-once}
 use Rattle.apollo_meaning.proofs.laws.each_extension_is_met_once.Goals as goal
 
 pub returns-clause-types : goal.returns-clause-types

@@ -5,9 +5,9 @@ use Rattle.graphql_nodes.specs.SameText.{same}
 use Rattle.apollo_meaning.specs.Order.Places.{folding_order}
 use Rattle.apollo_meaning.specs.Types.Components.{Sourced}
 use Rattle.apollo_meaning.specs.Types.Meaning.{sourced}
-use Rattle.apollo_meaning.proofs.TypeLemmas.{type_foldings}
-use Rattle.apollo_meaning.proofs.PlaceLemmas.{folding_order-forget}
-use Rattle.apollo_meaning.proofs.PartLemmas.{of_name}
+use Rattle.apollo_meaning.proofs.Types.TypeLemmas.{type_foldings}
+use Rattle.apollo_meaning.proofs.Order.PlaceLemmas.{folding_order-forget}
+use Rattle.apollo_meaning.proofs.Items.PartLemmas.{of_name}
 use Rattle.apollo_meaning.proofs.laws.folded_extensions.Goals as goal
 
 abbrev parts_of : List Sourced → List TypePart

@@ -1,4 +1,4 @@
-use Rattle.apollo_meaning.proofs.DroppedLemmas.{same_name_laws, collisions-dropped, collisions-joined}
+use Rattle.apollo_meaning.proofs.Faults.DroppedLemmas.{same_name_laws, collisions-dropped, collisions-joined}
 use Rattle.apollo_meaning.proofs.laws.later_components_are_at_fault.Goals as goal
 
 pub returns-clause-same : goal.returns-clause-same

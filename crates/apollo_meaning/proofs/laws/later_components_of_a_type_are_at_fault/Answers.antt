@@ -1,5 +1,5 @@
-use Rattle.apollo_meaning.proofs.ComponentLemmas.{same_component_laws, joined-dropped}
-use Rattle.apollo_meaning.proofs.WholeTypeLemmas.{found-joined}
+use Rattle.apollo_meaning.proofs.Faults.ComponentLemmas.{same_component_laws, joined-dropped}
+use Rattle.apollo_meaning.proofs.Types.WholeTypeLemmas.{found-joined}
 use Rattle.apollo_meaning.proofs.laws.later_components_of_a_type_are_at_fault.Goals as goal
 
 pub returns-clause-same : goal.returns-clause-same

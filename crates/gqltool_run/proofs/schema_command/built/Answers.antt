@@ -10,7 +10,7 @@ use Rattle.apollo_schema.specs.BuilderStands.{StandsFor}
 use Rattle.apollo_meaning.specs.Order.SpentIds.{SpendsIdsSoFar, SpendsIds}
 use Rattle.apollo_meaning.specs.Faults.ListFaults.{faults_of}
 use Rattle.apollo_schema.specs.MeantSchema.{MeansSchema}
-use Rattle.apollo_meaning.proofs.LongerLemmas.{spends-longer}
+use Rattle.apollo_meaning.proofs.Order.LongerLemmas.{spends-longer}
 use Rattle.gqltool_run.specs.SchemaCommand.{all_definitions, list_of}
 use Rattle.gqltool_run.proofs.schema_command.built.Goals as goal
 

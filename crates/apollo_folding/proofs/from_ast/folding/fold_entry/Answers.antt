@@ -7,7 +7,7 @@ use Rattle.graphql_nodes.specs.SameText.{same_text}
 use Rattle.indexmap.specs.IndexMap.{insert_entry}
 use Rattle.apollo_meaning.specs.Types.Components.{component, distinct_entries}
 use Rattle.apollo_meaning.specs.Faults.Collisions.{collision}
-use Rattle.apollo_meaning.proofs.KeptLemmas.{entry-old, entry-put, found-key}
+use Rattle.apollo_meaning.proofs.Faults.KeptLemmas.{entry-old, entry-put, found-key}
 use Rattle.apollo_folding.proofs.from_ast.folding.fold_entry.Goals as goal
 
 pub returns-in_ok-push-in-Some-clause-added : goal.returns-in_ok-push-in-Some-clause-added

@@ -6,7 +6,7 @@ use Rattle.graphql_nodes.specs.SameText.{same_text}
 use Rattle.apollo_component.specs.declared.component.ComponentName.{ComponentName}
 use Rattle.apollo_meaning.specs.Types.Components.{component_name, same_component_name, distinct_names}
 use Rattle.apollo_meaning.specs.Faults.Collisions.{collision}
-use Rattle.apollo_meaning.proofs.KeptLemmas.{component_name_laws, kept-old, kept-put, found-name}
+use Rattle.apollo_meaning.proofs.Faults.KeptLemmas.{component_name_laws, kept-old, kept-put, found-name}
 use Rattle.apollo_folding.proofs.from_ast.folding.fold_name.Goals as goal
 
 pub returns-in_ok-push-in-Some-clause-added : goal.returns-in_ok-push-in-Some-clause-added

@@ -4,7 +4,7 @@ use Rattle.graphql_nodes.specs.NodeView.{NodeView}
 use Rattle.apollo_component.specs.declared.component.Component.{Component}
 use Rattle.apollo_meaning.specs.Faults.Collisions.{Entry}
 use Rattle.apollo_meaning.specs.Types.Components.{component, distinct_entries}
-use Rattle.apollo_meaning.proofs.KeptLemmas.{map-turn, collisions-turn, keys-of-nodes}
+use Rattle.apollo_meaning.proofs.Faults.KeptLemmas.{map-turn, collisions-turn, keys-of-nodes}
 use Rattle.apollo_folding.proofs.from_ast.folding.fold_named.Goals as goal
 
 pub loop-node-preserved : goal.loop-node-preserved

@@ -6,8 +6,8 @@ use Rattle.apollo_meaning.specs.Items.Parts.{schema_extension_part}
 use Rattle.apollo_meaning.specs.Schema.Definition.{schema_from}
 use Rattle.apollo_meaning.specs.Faults.RootFaults.{schema_faults}
 use Rattle.apollo_meaning.specs.Steps.Joining.{schema_numbered, schema_joining_faults}
-use Rattle.apollo_meaning.proofs.KeptLemmas.{map-turn}
-use Rattle.apollo_component.proofs.EachAfterLemmas.{each_after-push}
+use Rattle.apollo_meaning.proofs.Faults.KeptLemmas.{map-turn}
+use Rattle.apollo_component.proofs.Lists.EachAfter.{each_after-push}
 use Rattle.apollo_folding.proofs.RootLemmas.{schema_numbered-more, schema_parts-numbered}
 use Rattle.apollo_folding.proofs.RefusalLemmas.{RefusedAs-weaker}
 use Rattle.apollo_folding.proofs.from_ast.schema_definition.extend_schema_by_all.Goals as goal

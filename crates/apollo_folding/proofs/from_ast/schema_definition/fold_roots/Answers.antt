@@ -3,7 +3,7 @@ use Rattle.std.proofs.lemmas.List.{take_all}
 use Rattle.apollo_types.specs.SchemaDefinitionWriteOut.{root_of}
 use Rattle.apollo_meaning.specs.Types.Components.{component_name}
 use Rattle.apollo_folding.specs.RootTables.{named_root, first_named, with_roots, put_root, held_fault, held_faults}
-use Rattle.apollo_meaning.proofs.KeptLemmas.{map-turn}
+use Rattle.apollo_meaning.proofs.Faults.KeptLemmas.{map-turn}
 use Rattle.apollo_folding.proofs.RootLemmas.{put-first, root_of-first, held_faults-turn}
 use Rattle.apollo_folding.proofs.from_ast.schema_definition.fold_roots.Goals as goal
 

@@ -4,9 +4,9 @@ use Rattle.apollo_meaning.specs.Items.ListItems.{ListItem, added, added_items, i
 use Rattle.apollo_meaning.specs.Completion.Adoption.{adopted, with_adopted}
 use Rattle.apollo_meaning.specs.Steps.Prefixes.{folded}
 use Rattle.apollo_schema.specs.Stands.{Stands}
-use Rattle.apollo_meaning.proofs.OrphanLemmas.{held-adopted}
+use Rattle.apollo_meaning.proofs.Completion.OrphanLemmas.{held-adopted}
 use Rattle.apollo_folding.proofs.RefusalLemmas.{RefusedAs-weaker}
-use Rattle.apollo_schema.proofs.RoleLemmas.{unset-items}
+use Rattle.apollo_schema.proofs.Stands.RoleLemmas.{unset-items}
 use Rattle.apollo_schema.proofs.tables.Tables.adopt.Goals as goal
 
 pub returns-then-not-adopts-clause-stands : goal.returns-then-not-adopts-clause-stands

@@ -2,9 +2,9 @@ use Rattle.std.proofs.Common.{sym, ◌∙◌, arith}
 use Rattle.std.proofs.lemmas.Result.{err_from_is_err_and}
 use Rattle.apollo_meaning.specs.Completion.Adoption.{with_adopted}
 use Rattle.apollo_meaning.specs.Completion.ImpliedSchema.{implied_schema}
-use Rattle.apollo_meaning.proofs.CompletionLemmas.{faults-completed}
+use Rattle.apollo_meaning.proofs.Completion.CompletionLemmas.{faults-completed}
 use Rattle.apollo_folding.proofs.RefusalLemmas.{RefusedAs-weaker}
-use Rattle.apollo_meaning.proofs.ItemLemmas.{length-folded-front}
+use Rattle.apollo_meaning.proofs.Items.ItemLemmas.{length-folded-front}
 use Rattle.apollo_schema.proofs.tables.Tables.complete.Goals as goal
 
 pub returns-in_err-adopt-clause-refused : goal.returns-in_err-adopt-clause-refused

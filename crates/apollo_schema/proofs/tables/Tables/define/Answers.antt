@@ -5,7 +5,7 @@ use Rattle.std.proofs.lemmas.Result.{err_from_is_err_and}
 use Rattle.apollo_meaning.specs.Items.Parts.{TypePart}
 use Rattle.apollo_meaning.specs.Items.ListItems.{extended_part, extended_parts, items_of}
 use Rattle.apollo_folding.specs.Views.{part_seen}
-use Rattle.apollo_schema.proofs.StandsLemmas.{Stands-again, Stands-new, new-spent}
+use Rattle.apollo_schema.proofs.Stands.StandsLemmas.{Stands-again, Stands-new, new-spent}
 use Rattle.apollo_folding.proofs.RefusalLemmas.{RefusedAs-weaker}
 use Rattle.apollo_schema.proofs.tables.Tables.define.Goals as goal
 

@@ -8,7 +8,7 @@ use Rattle.apollo_meaning.specs.Items.Parts.{schema_definition_part, schema_exte
 use Rattle.apollo_meaning.specs.Steps.Joining.{schema_begun, schema_begun_faults}
 use Rattle.apollo_schema.specs.Stands.{Stands}
 use Rattle.apollo_folding.proofs.RefusalLemmas.{RefusedAs-weaker}
-use Rattle.apollo_schema.proofs.SchemaStandsLemmas.{Stands-schema_again, Stands-schema_new, schema_new-spent}
+use Rattle.apollo_schema.proofs.Stands.SchemaStandsLemmas.{Stands-schema_again, Stands-schema_new, schema_new-spent}
 use Rattle.apollo_schema.proofs.tables.Tables.define_schema.Goals as goal
 
 pub returns-in-Some-clause-stands : goal.returns-in-Some-clause-stands

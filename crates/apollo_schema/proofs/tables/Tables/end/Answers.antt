@@ -12,7 +12,7 @@ use Rattle.apollo_meaning.specs.Steps.Joining.{schema_begun, schema_begun_faults
 use Rattle.apollo_meaning.specs.Completion.ImpliedSchema.{implied_schema}
 use Rattle.apollo_schema.specs.Stands.{Ends}
 use Rattle.apollo_folding.proofs.RefusalLemmas.{RefusedAs-weaker}
-use Rattle.apollo_schema.proofs.EndLemmas.{Ends-none, Ends-some, implied-absent, implied-spent}
+use Rattle.apollo_schema.proofs.Ends.EndLemmas.{Ends-none, Ends-some, implied-absent, implied-spent}
 use Rattle.apollo_schema.proofs.tables.Tables.end.Goals as goal
 
 pub returns-in_default-clause-ends : goal.returns-in_default-clause-ends

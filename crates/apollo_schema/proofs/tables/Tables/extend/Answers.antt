@@ -6,7 +6,7 @@ use Rattle.graphql_nodes.specs.SameText.{same, by_text}
 use Rattle.apollo_meaning.specs.Items.Parts.{key_of}
 use Rattle.apollo_meaning.specs.Items.ListItems.{items_held}
 use Rattle.apollo_folding.specs.Views.{part_seen}
-use Rattle.apollo_schema.proofs.StandsLemmas.{Stands-early, Stands-late, late-spent}
+use Rattle.apollo_schema.proofs.Stands.StandsLemmas.{Stands-early, Stands-late, late-spent}
 use Rattle.apollo_folding.proofs.RefusalLemmas.{RefusedAs-weaker}
 use Rattle.apollo_schema.proofs.tables.Tables.extend.Goals as goal
 

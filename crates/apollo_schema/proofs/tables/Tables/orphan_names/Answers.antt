@@ -3,7 +3,7 @@ use Rattle.std.specs.Map.{lookup}
 use Rattle.graphql_nodes.specs.NameView.{NameView}
 use Rattle.graphql_nodes.specs.SameText.{by_text}
 use Rattle.apollo_schema.specs.NamesLeft.{IsExtendedUnder}
-use Rattle.apollo_schema.proofs.OrphanNameLemmas.{names_held-Stands, orphan_names-untyped, orphan_names-extended}
+use Rattle.apollo_schema.proofs.Ends.OrphanNameLemmas.{names_held-Stands, orphan_names-untyped, orphan_names-extended}
 use Rattle.apollo_schema.proofs.tables.Tables.orphan_names.Goals as goal
 
 pub returns-clause-names : goal.returns-clause-names

@@ -5,7 +5,7 @@ use Rattle.graphql_ast.specs.declared.definition.Definition.{Definition}
 use Rattle.apollo_meaning.specs.Items.ListItems.{ListItem, added, added_item, added_items}
 use Rattle.apollo_meaning.specs.Steps.Prefixes.{folded}
 use Rattle.apollo_schema.specs.Stands.{Stands}
-use Rattle.apollo_meaning.proofs.ItemLemmas.{length-folded-front}
+use Rattle.apollo_meaning.proofs.Items.ItemLemmas.{length-folded-front}
 use Rattle.apollo_folding.proofs.RefusalLemmas.{RefusedAs-weaker}
 use Rattle.apollo_schema.proofs.tables.Tables.take.Goals as goal
 

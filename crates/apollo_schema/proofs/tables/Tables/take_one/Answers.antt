@@ -7,8 +7,8 @@ use Rattle.apollo_meaning.specs.Items.ListItems.{ListItem, Other, added_item, ig
 use Rattle.apollo_folding.specs.Views.{item_seen}
 use Rattle.apollo_schema.specs.declared.tables.Tables.{Tables}
 use Rattle.apollo_schema.specs.Stands.{Stands}
-use Rattle.apollo_schema.proofs.StandsLemmas.{Stands-other}
-use Rattle.apollo_schema.proofs.RoleLemmas.{executable-other, executable-item, executable-view}
+use Rattle.apollo_schema.proofs.Stands.StandsLemmas.{Stands-other}
+use Rattle.apollo_schema.proofs.Stands.RoleLemmas.{executable-other, executable-item, executable-view}
 use Rattle.apollo_schema.proofs.tables.Tables.take_one.Goals as goal
 
 pub returns-in_ok-define_directive-in-Directive-clause-stands : goal.returns-in_ok-define_directive-in-Directive-clause-stands

@@ -1,22 +1,18 @@
 -- Extensions that are folded one after another.
 use Rattle.std.proofs.Common.{◌≡◌, ℕ, ◌+◌, ◌<◌, ◌≤◌, get_or, take, drop, Bool, List, [], ◌∷◌, ◌++◌, length, map, refl, sym, ap, ◌∙◌, append_assoc, length-append, arith}
-use Rattle.std.specs.List.{filter_map, enumerate_from}
+use Rattle.std.specs.List.{filter_map}
 use Rattle.std.proofs.lemmas.List.{map-append, take_more, take-append-drop}
 use Rattle.std.proofs.lemmas.List.Elements.{filter-append, filter_map-append}
 use Rattle.graphql_nodes.specs.declared.type_kind.TypeKind.{TypeKind}
 use Rattle.apollo_component.specs.declared.extension.ComponentOrigin.TheVariants as origins
 use Rattle.graphql_ast.specs.declared.definition.Definition.{Definition}
+use Rattle.apollo_component.proofs.Lists.Ends.{enumerate_from-append}
 use Rattle.apollo_meaning.specs.Items.Parts.{TypePart, TypeBody, ScalarBody, ObjectBody, InterfaceBody, UnionBody, EnumBody, InputObjectBody, body_kind, kind_of, same_kind}
 use Rattle.apollo_meaning.specs.Items.ListItems.{item_of, items_of, extended_part, extended_parts}
 use Rattle.apollo_meaning.specs.Items.Named.{of_kind}
 use Rattle.apollo_meaning.specs.Types.Components.{Sourced}
 use Rattle.apollo_meaning.specs.Types.Meaning.{type_at, type_from, extension_part, numbered}
 use Rattle.apollo_types.specs.TypeWriteOut.{type_kind, type_name, type_location}
-
--- numbers go on
-pub enumerate_from-append : {X : Type 0} (n : ℕ) (xs ys : List X) → enumerate_from n (xs ++ ys) ≡ enumerate_from n xs ++ enumerate_from (n + length xs) ys
-enumerate_from-append n [] ys = grind arith
-enumerate_from-append n (x ∷ xs) ys = grind (arith, enumerate_from-append (n + 1) xs ys)
 
 -- more extensions have the next numbers
 pub numbered-more : (done : List Sourced) (start : ℕ) (ps qs : List TypePart)

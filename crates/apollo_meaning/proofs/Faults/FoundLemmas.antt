@@ -8,7 +8,8 @@ use Rattle.std.proofs.lemmas.Bool.{eq-eqb}
 use Rattle.std.proofs.lemmas.Bool.Decides.{nat_tests}
 use Rattle.std.proofs.lemmas.List.{append-nil, take-append-le}
 use Rattle.apollo_component.specs.EachAfter.{each_after}
-use Rattle.apollo_component.proofs.EachAfterLemmas.{each_after-push, each_after-start}
+use Rattle.apollo_component.proofs.Lists.EachAfter.{each_after-push, each_after-start}
+use Rattle.apollo_component.proofs.Lists.Ends.{all-kept, slice_get-front, slice_get-last, snoc_ind}
 use Rattle.apollo_meaning.specs.Items.Parts.{TypePart, SchemaPart, key_of}
 use Rattle.apollo_meaning.specs.Items.ListItems.{ListItem, Defined, Extended, SchemaDefined, SchemaExtended, Other, extended_part, extended_schema}
 use Rattle.graphql_nodes.specs.SameText.{same}
@@ -22,19 +23,9 @@ use Rattle.apollo_meaning.specs.Directives.{directive_definitions}
 use Rattle.apollo_meaning.specs.Faults.OtherFaults.{other_faults}
 use Rattle.apollo_meaning.specs.Faults.ListFaults.{own_faults, faults_of_extension, faults_of_schema_extension, found_when, found_from}
 use Rattle.apollo_meaning.specs.Steps.Prefixes.{found_at, found}
-use Rattle.apollo_meaning.proofs.Texts.{same-true, same-is}
-use Rattle.apollo_meaning.proofs.EachLemmas.{each-filter, flat_map-each, moments-on}
-use Rattle.apollo_meaning.proofs.ItemLemmas.{snoc_ind}
-use Rattle.apollo_meaning.proofs.PlaceLemmas.{IsBelow, all-kept, placed-after, extensions-below, keyed, first-forget, first-none, first-some, first_schema-none, first_schema-some, filter-schemas, first_place-below, first_place-stays, first_place-new, IsDefined, met-defined, types-apart, schemas-apart, met_when-push, met_when-early, met_when-late, met_when-new, met_when-again, met_when-other}
-
-slice_get-front : {X : Type 0} (xs ys : List X) (i : ℕ) → i < length xs → slice_get (xs ++ ys) i ≡ slice_get xs i
-slice_get-front [] ys i lt = absurd (omega (arith, lt))
-slice_get-front (x ∷ xs) ys zero lt = refl
-slice_get-front (x ∷ xs) ys (suc i) lt = slice_get-front xs ys i (omega (arith, lt))
-
-slice_get-last : {X : Type 0} (xs : List X) (x : X) → slice_get (xs ++ x ∷ []) (length xs) ≡ Some x
-slice_get-last [] x = refl
-slice_get-last (y ∷ ys) x = slice_get-last ys x
+use Rattle.graphql_nodes.proofs.Texts.{same-true, same-is}
+use Rattle.apollo_component.proofs.Lists.Each.{each-filter, flat_map-each, moments-on}
+use Rattle.apollo_meaning.proofs.Order.PlaceLemmas.{IsBelow, placed-after, extensions-below, keyed, first-forget, first-none, first-some, first_schema-none, first_schema-some, filter-schemas, first_place-below, first_place-stays, first_place-new, IsDefined, met-defined, types-apart, schemas-apart, met_when-push, met_when-early, met_when-late, met_when-new, met_when-again, met_when-other}
 
 module _ {P : Type 0} (f : Family P) where
   -- the definition at a place gives its key a first one

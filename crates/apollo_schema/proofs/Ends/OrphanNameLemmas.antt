@@ -8,6 +8,7 @@ use Rattle.std.proofs.lemmas.List.Elements.{filter-append, filter_map-append, Al
 use Rattle.graphql_nodes.specs.NameView.{NameView}
 use Rattle.graphql_ast.specs.declared.definition.Definition.{Definition}
 use Rattle.apollo_schema.specs.declared.tables.Tables.{Tables}
+use Rattle.apollo_component.proofs.Lists.Ends.{snoc_ind}
 use Rattle.apollo_meaning.specs.Items.Parts.{TypePart, key_of}
 use Rattle.apollo_meaning.specs.Items.ListItems.{ListItem, Defined, Extended, SchemaDefined, SchemaExtended, Other, item_of, extended_part, items_held}
 use Rattle.graphql_nodes.specs.SameText.{same, by_text}
@@ -18,12 +19,12 @@ use Rattle.apollo_meaning.specs.Steps.Prefixes.{folded, waited_at, waited}
 use Rattle.apollo_schema.specs.Stands.{Stands}
 use Rattle.apollo_meaning.specs.Completion.OrphanNames.{first_name, orphan_names}
 use Rattle.apollo_schema.specs.NamesLeft.{name_if_any, names_held, IsExtendedUnder}
-use Rattle.apollo_meaning.proofs.Texts.{same-true, same-is}
-use Rattle.apollo_meaning.proofs.EachLemmas.{each-append, each-weaken, flat_map-each}
-use Rattle.apollo_meaning.proofs.ItemLemmas.{snoc_ind, first-push_definition, first-push_undefined, extensions_of-push_extension, waited-push}
-use Rattle.apollo_meaning.proofs.OrphanLemmas.{orphans-waited, held-waited}
-use Rattle.apollo_meaning.proofs.TypeLemmas.{Own, Own-named}
-use Rattle.apollo_schema.proofs.WaitingLemmas.{orphans_of-defined, orphans_of-undefined}
+use Rattle.graphql_nodes.proofs.Texts.{same-true, same-is}
+use Rattle.apollo_component.proofs.Lists.Each.{each-append, each-weaken, flat_map-each}
+use Rattle.apollo_meaning.proofs.Items.ItemLemmas.{first-push_definition, first-push_undefined, extensions_of-push_extension, waited-push}
+use Rattle.apollo_meaning.proofs.Completion.OrphanLemmas.{orphans-waited, held-waited}
+use Rattle.apollo_meaning.proofs.Types.TypeLemmas.{Own, Own-named}
+use Rattle.apollo_schema.proofs.Stands.WaitingLemmas.{orphans_of-defined, orphans_of-undefined}
 
 -- a name without a definition in a longer list has none in a front
 neither : {X : Type 0} (o m : Option X) → option_or o m ≡ None → o ≡ None

@@ -16,16 +16,17 @@ use Rattle.graphql_nodes.specs.SameText.{same_text, same, by_text}
 use Rattle.graphql_ast.specs.declared.definition.Definition.{Definition}
 use Rattle.apollo_component.specs.FirstOfEach.{first_of_each}
 use Rattle.apollo_component.proofs.FirstOfEachLemmas.{first_of_each-push_new, first_of_each-push_old, is_some-lookup, list_any-first_of_each}
+use Rattle.apollo_component.proofs.Lists.Ends.{filter_map-push_none, snoc_ind}
 use Rattle.apollo_meaning.specs.Items.Parts.{TypePart, key_of}
 use Rattle.apollo_meaning.specs.Items.ListItems.{ListItem, Defined, Extended, SchemaDefined, SchemaExtended, Other, extended_part, items_of, extended_parts, items_held}
 use Rattle.apollo_meaning.specs.Items.Named.{first, extensions_of}
 use Rattle.apollo_meaning.specs.Order.Places.{types, Placed, first_place}
 use Rattle.apollo_meaning.specs.Completion.Adoption.{extended_names, orphans_of, adopted_by, adopted}
 use Rattle.apollo_meaning.specs.Steps.Prefixes.{waited_at, waited}
-use Rattle.apollo_meaning.proofs.Texts.{same-true, same-is, same-flip}
-use Rattle.apollo_meaning.proofs.EachLemmas.{flat_map-each}
-use Rattle.apollo_meaning.proofs.ItemLemmas.{parts-extended, snoc_ind, filter_map-push_none, first-push_undefined, waited-push}
-use Rattle.apollo_meaning.proofs.PlaceLemmas.{first-none, first-some, first_place-stays}
+use Rattle.graphql_nodes.proofs.Texts.{same-true, same-is, same-flip}
+use Rattle.apollo_component.proofs.Lists.Each.{flat_map-each}
+use Rattle.apollo_meaning.proofs.Items.ItemLemmas.{parts-extended, first-push_undefined, waited-push}
+use Rattle.apollo_meaning.proofs.Order.PlaceLemmas.{first-none, first-some, first_place-stays}
 
 -- the names of extensions, each as often as it is extended
 abbrev keys : List ListItem → List (List ℕ)

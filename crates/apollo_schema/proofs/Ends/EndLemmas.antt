@@ -32,9 +32,9 @@ use Rattle.apollo_meaning.specs.Schema.Definition.{schema_of}
 use Rattle.apollo_meaning.specs.Directives.{directive_definitions, AreDirectivesOf}
 use Rattle.apollo_meaning.specs.Steps.Prefixes.{folded, found_at, found}
 use Rattle.apollo_schema.specs.Stands.{Stands, Ends}
-use Rattle.apollo_meaning.proofs.ItemLemmas.{first_schema-push_definition}
-use Rattle.apollo_meaning.proofs.OrphanLemmas.{held-orphans}
-use Rattle.apollo_schema.proofs.SchemaStandsLemmas.{schema_known, schema_unknown, Stands-schema_new, schema_new-spent}
+use Rattle.apollo_meaning.proofs.Items.ItemLemmas.{first_schema-push_definition}
+use Rattle.apollo_meaning.proofs.Completion.OrphanLemmas.{held-orphans}
+use Rattle.apollo_schema.proofs.Stands.SchemaStandsLemmas.{schema_known, schema_unknown, Stands-schema_new, schema_new-spent}
 
 pub none-of : {X : Type 0} (o : Option X) → is_some o ≡ false → o ≡ None
 none-of None h = refl

@@ -10,6 +10,7 @@ use Rattle.graphql_ast.specs.declared.type_system.SchemaExtension.{SchemaExtensi
 use Rattle.apollo_component.specs.Extensions.{next_number, source_at}
 use Rattle.apollo_component.specs.declared.extension.ComponentOrigin.TheVariants as origins
 use Rattle.apollo_types.specs.declared.schema_definition.SchemaDefinition.{SchemaDefinition}
+use Rattle.apollo_component.proofs.Lists.Ends.{filter_map-push_none}
 use Rattle.apollo_meaning.specs.declared.build_error.BuildError.TheVariants as errors
 use Rattle.apollo_schema.specs.declared.tables.Tables.{Tables}
 use Rattle.apollo_meaning.specs.Items.Parts.{SchemaPart, schema_extension_part}
@@ -21,9 +22,9 @@ use Rattle.apollo_meaning.specs.Directives.{directive_part, directive_definition
 use Rattle.apollo_meaning.specs.Steps.Joining.{schema_numbered, schema_begun, schema_begun_faults}
 use Rattle.apollo_meaning.specs.Steps.Prefixes.{schemas_folded_at, folded}
 use Rattle.apollo_schema.specs.Stands.{Stands}
-use Rattle.apollo_meaning.proofs.ItemLemmas.{filter_map-push_none, first_schema-push_definition, first_schema-push_undefined, schema_extensions-push_extension, schema_extensions-push_unextended}
-use Rattle.apollo_schema.proofs.SchemaLemmas.{schema_of-same, schema_of-more, schema-unfolded, schema_sourced-parts}
-use Rattle.apollo_schema.proofs.StandsLemmas.{counted, length-map, at, same_types, same_waiting, same_names, same_directives, more_faults}
+use Rattle.apollo_meaning.proofs.Items.ItemLemmas.{first_schema-push_definition, first_schema-push_undefined, schema_extensions-push_extension, schema_extensions-push_unextended}
+use Rattle.apollo_schema.proofs.Stands.SchemaLemmas.{schema_of-same, schema_of-more, schema-unfolded, schema_sourced-parts}
+use Rattle.apollo_schema.proofs.Stands.StandsLemmas.{counted, length-map, at, same_types, same_waiting, same_names, same_directives, more_faults}
 
 module _ {start : ℕ} {xs : List ListItem} {t : Tables} (was : Stands start xs t) where
   -- the schema has a definition exactly if the list has one

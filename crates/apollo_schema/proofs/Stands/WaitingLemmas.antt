@@ -12,8 +12,8 @@ use Rattle.graphql_nodes.specs.SameText.{same}
 use Rattle.apollo_meaning.specs.Items.Named.{definitions, first, extensions_of}
 use Rattle.apollo_meaning.specs.Types.Meaning.{type_names}
 use Rattle.apollo_meaning.specs.Completion.Adoption.{orphans_of}
-use Rattle.apollo_meaning.proofs.Texts.{same-true, same-is}
-use Rattle.apollo_meaning.proofs.ItemLemmas.{definitions-push_definition, definitions-push_undefined, first-push_definition, first-push_undefined, extensions_of-push_extension, extensions_of-push_unextended}
+use Rattle.graphql_nodes.proofs.Texts.{same-true, same-is}
+use Rattle.apollo_meaning.proofs.Items.ItemLemmas.{definitions-push_definition, definitions-push_undefined, first-push_definition, first-push_undefined, extensions_of-push_extension, extensions_of-push_unextended}
 
 by_key : IsEquivalence (same_key {V = TypePart} same)
 by_key = on_equiv (λ e. e.0) nat_list_eq_equiv

@@ -14,7 +14,7 @@ use Rattle.apollo_component.specs.declared.extension.ComponentOrigin.{ComponentO
 use Rattle.apollo_component.specs.FirstOfEach.{first_of_each, same_key}
 use Rattle.apollo_component.specs.declared.component.Component.{Component}
 use Rattle.apollo_component.specs.declared.component.ComponentName.{ComponentName}
-use Rattle.apollo_component.proofs.EachAfterLemmas.{each_after-push}
+use Rattle.apollo_component.proofs.Lists.EachAfter.{each_after-push}
 use Rattle.apollo_component.proofs.FirstOfEachLemmas.{find-first_of_each, first_of_each-push_new, first_of_each-push_old, keys_of-first_of_each, lookup_key-find, list_any-first_of_each, insert_entry-last}
 use Rattle.apollo_component.proofs.LaterLemmas.{found-any}
 use Rattle.apollo_meaning.specs.declared.collision.Collection.{Collection}

@@ -8,8 +8,8 @@ use Rattle.apollo_meaning.specs.Completion.ImpliedSchema.{implied_schema, comple
 use Rattle.apollo_meaning.specs.Schema.Whole.{whole, folds}
 use Rattle.apollo_meaning.specs.Order.SpentIds.{SpendsIdsSoFar, SpendsIds}
 use Rattle.apollo_meaning.specs.Steps.Prefixes.{folded}
-use Rattle.apollo_meaning.proofs.PlaceLemmas.{folding_order-forget}
-use Rattle.apollo_meaning.proofs.ItemLemmas.{length-folded-front}
+use Rattle.apollo_meaning.proofs.Order.PlaceLemmas.{folding_order-forget}
+use Rattle.apollo_meaning.proofs.Items.ItemLemmas.{length-folded-front}
 
 -- what is adopted only adds to it
 folded-adopted : (adopts : Bool) (xs : List ListItem) → length (folded xs) ≤ length (folded (with_adopted adopts xs))

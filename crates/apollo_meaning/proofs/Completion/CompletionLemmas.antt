@@ -3,16 +3,16 @@ use Rattle.std.proofs.Common.{◌≡◌, ℕ, Bool, true, false, cond, not, ◌=
 use Rattle.std.specs.List.{AllByRecursion, filter_map, flat_map, list_any}
 use Rattle.std.specs.Option.{option_map_or, option_or}
 use Rattle.std.specs.Cmp.Lexicographic.{nat_list_eq_equiv}
-use Rattle.std.specs.Map.{lookup}
 use Rattle.std.proofs.lemmas.Bool.Decides.{nat_tests}
-use Rattle.std.proofs.lemmas.List.{append-nil, map-append}
+use Rattle.std.proofs.lemmas.List.{append-nil}
 use Rattle.std.proofs.lemmas.List.Elements.{filter_map-append}
 use Rattle.apollo_component.proofs.FirstOfEachLemmas.{list_any-first_of_each}
 use Rattle.apollo_component.specs.EachAfter.{each_after}
+use Rattle.apollo_meaning.proofs.Items.ItemLemmas.{first-append}
 use Rattle.apollo_meaning.specs.Items.Parts.{TypePart, key_of}
-use Rattle.apollo_meaning.specs.Items.ListItems.{ListItem, defined_part, extended_part}
+use Rattle.apollo_meaning.specs.Items.ListItems.{ListItem, extended_part}
 use Rattle.graphql_nodes.specs.SameText.{same}
-use Rattle.apollo_meaning.specs.Items.Named.{definitions, first, extensions_of}
+use Rattle.apollo_meaning.specs.Items.Named.{first, extensions_of}
 use Rattle.apollo_meaning.specs.Faults.Collisions.{Fault}
 use Rattle.apollo_meaning.specs.Faults.TypeFaults.{orphan}
 use Rattle.apollo_meaning.specs.Faults.RootFaults.{schema_orphan}
@@ -21,25 +21,9 @@ use Rattle.apollo_meaning.specs.Completion.ImpliedSchema.{implied_schema, comple
 use Rattle.apollo_meaning.specs.Faults.ListFaults.{found_from, faults_in}
 use Rattle.apollo_meaning.specs.Completion.OrphanNames.{first_name, orphan_names}
 use Rattle.apollo_meaning.specs.Steps.Prefixes.{found_at, found}
-use Rattle.apollo_meaning.proofs.Texts.{same-true}
-use Rattle.apollo_meaning.proofs.FoundLemmas.{found_after-order, found_in-order}
-use Rattle.apollo_meaning.proofs.OrphanLemmas.{no_extension}
-
--- a name is first defined in a front, or else in the rest
-first-append : (xs ys : List ListItem) (n : List ℕ) → first (xs ++ ys) n ≡ option_or (first xs n) (first ys n)
-first-append xs ys n =
-    ap (λ l. lookup (same n) (map (λ p. (key_of p, p)) l)) (filter_map-append defined_part xs ys)
-    ∙ ap (lookup (same n)) (map-append (λ p. (key_of p, p)) (filter_map defined_part xs) (filter_map defined_part ys))
-    ∙ among (definitions xs)
-  where
-    among : (es : List (List ℕ × TypePart)) → lookup (same n) (es ++ definitions ys) ≡ option_or (lookup (same n) es) (first ys n)
-    among [] = refl
-    among (e ∷ es) = by (same n e.0) (among es)
-      where
-        by : (b : Bool) → lookup (same n) (es ++ definitions ys) ≡ option_or (lookup (same n) es) (first ys n)
-            → cond b (Some e.1) (lookup (same n) (es ++ definitions ys)) ≡ option_or (cond b (Some e.1) (lookup (same n) es)) (first ys n)
-        by true rest = refl
-        by false rest = rest
+use Rattle.graphql_nodes.proofs.Texts.{same-true}
+use Rattle.apollo_meaning.proofs.Faults.FoundLemmas.{found_after-order, found_in-order}
+use Rattle.apollo_meaning.proofs.Completion.OrphanLemmas.{no_extension}
 
 -- the extensions of a name have it
 extensions_of-own : (n : List ℕ) (ps : List TypePart) → AllByRecursion (λ p. same n (key_of p) ≡ true) (filter (λ p. same n (key_of p)) ps)

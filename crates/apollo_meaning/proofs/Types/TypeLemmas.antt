@@ -2,21 +2,20 @@
 use Rattle.std.proofs.Common.{◌≡◌, ℕ, ◌+◌, Bool, true, false, cond, List, [], ◌∷◌, ◌++◌, length, map, Option, Some, None, filter, refl, sym, ap, subst, ◌∙◌, append_assoc}
 use Rattle.std.specs.List.{filter_map}
 use Rattle.std.specs.Option.{option_map, option_or}
-use Rattle.std.specs.Map.{lookup}
-use Rattle.std.proofs.lemmas.List.{append-nil, map-append}
+use Rattle.std.proofs.lemmas.List.{append-nil}
 use Rattle.std.proofs.lemmas.List.Elements.{filter_map-append}
 use Rattle.graphql_nodes.specs.declared.type_kind.TypeKind.{TypeKind}
 use Rattle.apollo_component.specs.declared.extension.ComponentOrigin.TheVariants as origins
 use Rattle.apollo_component.specs.EachAfter.{each_after}
 use Rattle.apollo_meaning.specs.Items.Parts.{TypePart, SchemaPart, kind_of, key_of, same_kind}
-use Rattle.apollo_meaning.specs.Items.ListItems.{ListItem, Defined, Extended, SchemaDefined, SchemaExtended, Other, Folding, OfType, OfSchema, defined_part, extended_part}
+use Rattle.apollo_meaning.specs.Items.ListItems.{ListItem, Defined, Extended, SchemaDefined, SchemaExtended, Other, Folding, OfType, OfSchema, extended_part}
 use Rattle.graphql_nodes.specs.SameText.{same}
-use Rattle.apollo_meaning.specs.Items.Named.{named, definitions, first, extensions_of, of_kind}
+use Rattle.apollo_meaning.specs.Items.Named.{first, extensions_of, of_kind}
 use Rattle.apollo_meaning.specs.Steps.Prefixes.{types_folded_at, schemas_folded_at, folded_at, folded}
 use Rattle.apollo_meaning.specs.Types.Components.{Sourced}
 use Rattle.apollo_meaning.specs.Types.Meaning.{type_from, extension_part, numbered, sourced, parts, type_of}
-use Rattle.apollo_meaning.proofs.Texts.{same-true, same-is}
-use Rattle.apollo_meaning.proofs.ItemLemmas.{first-push_definition, folded-push, sourced-append}
+use Rattle.graphql_nodes.proofs.Texts.{same-true, same-is}
+use Rattle.apollo_meaning.proofs.Items.ItemLemmas.{first-push_definition, folded-push, sourced-append, first-append}
 
 -- each part has the name
 abbrev pub Own : List ℕ → List TypePart → Type 0
@@ -96,17 +95,13 @@ pub Apart-append : (n : List ℕ) (ps qs : List TypePart) → Apart n ps → Apa
 Apart-append n [] qs a b = b
 Apart-append n (p ∷ ps) qs a b = (a.0, Apart-append n ps qs a.1 b)
 
--- a look-up that finds nothing finds nothing in a front
-lookup-front : {V : Type 0} (n : List ℕ) (es fs : List (List ℕ × V)) → lookup (same n) (es ++ fs) ≡ None → lookup (same n) es ≡ None
-lookup-front n [] fs none = refl
-lookup-front n (e ∷ es) fs none = by (same n e.0) refl (lookup-front n es fs)
-  where
-    by : (b : Bool) → same n e.0 ≡ b → (lookup (same n) (es ++ fs) ≡ None → lookup (same n) es ≡ None) → lookup (same n) (e ∷ es) ≡ None
-    by true p rest = let h = rw p at none in cc
-    by false p rest = let h = rw p at none in rw p (rest h)
-
+-- a name that a list doesn't define is not defined in a front of it
 pub first-front : (n : List ℕ) (xs ys : List ListItem) → first (xs ++ ys) n ≡ None → first xs n ≡ None
-first-front n xs ys none = lookup-front n (definitions xs) (definitions ys) (sym (ap (lookup (same n)) (ap named (filter_map-append defined_part xs ys) ∙ map-append (λ p. (key_of p, p)) (filter_map defined_part xs) (filter_map defined_part ys))) ∙ none)
+first-front n xs ys none = by (first xs n) (sym (first-append xs ys n) ∙ none)
+  where
+    by : (o : Option TypePart) → option_or o (first ys n) ≡ None → o ≡ None
+    by None h = refl
+    by (Some p) h = h
 
 -- what is folded at the first definition of a name, at a later one, at an extension without definition and at one of a defined name
 module _ (xs : List ListItem) (p : TypePart) where

@@ -9,16 +9,16 @@ use Rattle.std.proofs.lemmas.Bool.Decides.{nat_tests}
 use Rattle.std.proofs.lemmas.List.{append-nil, map-append}
 use Rattle.std.proofs.lemmas.List.Elements.{filter-append, filter_map-append}
 use Rattle.apollo_component.specs.EachAfter.{each_after}
+use Rattle.apollo_component.proofs.Lists.Ends.{enumerate_from-append, lookup-append, snoc_ind}
 use Rattle.apollo_meaning.specs.Items.Parts.{TypePart, SchemaPart, kind_of, key_of, same_kind}
 use Rattle.apollo_meaning.specs.Items.ListItems.{ListItem, Defined, Extended, SchemaDefined, SchemaExtended, Other, Folding, OfType, OfSchema, extended_part, defined_schema, extended_schema}
 use Rattle.graphql_nodes.specs.SameText.{same}
 use Rattle.apollo_meaning.specs.Items.Named.{first, extensions_of, of_kind, first_schema, schema_extensions}
 use Rattle.apollo_meaning.specs.Steps.Prefixes.{types_folded_at, schemas_folded_at, folded_at, folded}
 use Rattle.apollo_meaning.specs.Order.Places.{Family, types, schemas, Placed, placed_by, definition_places, extension_places, first_place, is_folded, is_met, met_when, folded_when, folding_order}
-use Rattle.apollo_meaning.proofs.Texts.{same-true, same-is, same-flip}
-use Rattle.apollo_meaning.proofs.EachLemmas.{each-append, each-weaken, each-filter, filter-each, filter-fails, moments-push}
-use Rattle.apollo_meaning.proofs.FoldingLemmas.{enumerate_from-append}
-use Rattle.apollo_meaning.proofs.ItemLemmas.{snoc_ind, lookup-push, folded-push}
+use Rattle.graphql_nodes.proofs.Texts.{same-true, same-is, same-flip}
+use Rattle.apollo_component.proofs.Lists.Each.{each-append, each-weaken, each-filter, filter-each, filter-fails, moments-push}
+use Rattle.apollo_meaning.proofs.Items.ItemLemmas.{folded-push}
 
 -- a place below n
 abbrev pub IsBelow : {P : Type 0} → ℕ → Placed P → Type 0
@@ -27,11 +27,6 @@ IsBelow n e = e.0 < n
 -- a part at a place, alone, if there is one
 abbrev pub at_place : {P : Type 0} → ℕ → Option P → List (Placed P)
 at_place i o = option_map_or (λ p. (i, p) ∷ []) o []
-
--- a test that all pass keeps all
-pub all-kept : {X : Type 0} (xs : List X) → xs ≡ filter (λ _. true) xs
-all-kept [] = refl
-all-kept (x ∷ xs) = ap (λ l. x ∷ l) (all-kept xs)
 
 -- what the parts that are chosen add by their places is what they add one after another
 module _ {P Y : Type 0} (which : ListItem → Option P) (test : P → Bool) (at : List P → P → List Y) where
@@ -158,7 +153,7 @@ module _ {P : Type 0} (f : Family P) where
       by None = ap (λ l. lookup (same n) (under f l)) (append-nil (definition_places f xs)) ∙ sym (or-none (first_place f xs n))
       by (Some d) =
           ap (lookup (same n)) (map-append (λ e. (f.key e.1, e)) (definition_places f xs) ((length xs, d) ∷ []))
-          ∙ lookup-push n (f.key d) (length xs, d) (under f (definition_places f xs))
+          ∙ lookup-append (same n) (under f (definition_places f xs)) ((f.key d, (length xs, d)) ∷ [])
 
   -- a first definition stays
   pub first_place-stays : (xs : List ListItem) (x : ListItem) (n : List ℕ) (z : Placed P) → first_place f xs n ≡ Some z → first_place f (xs ++ x ∷ []) n ≡ Some z

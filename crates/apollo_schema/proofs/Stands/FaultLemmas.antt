@@ -11,9 +11,9 @@ use Rattle.apollo_meaning.specs.Types.Meaning.{extension_part, of_type, sourced,
 use Rattle.apollo_meaning.specs.Faults.TypeFaults.{part_faults, extension_faults, further_definition}
 use Rattle.apollo_meaning.specs.Steps.Joining.{joining_faults, type_begun_faults}
 use Rattle.apollo_meaning.specs.Steps.Prefixes.{found_at, folded}
-use Rattle.apollo_meaning.proofs.TypeLemmas.{type_foldings}
+use Rattle.apollo_meaning.proofs.Types.TypeLemmas.{type_foldings}
 use Rattle.apollo_folding.proofs.JoiningLemmas.{joining-one}
-use Rattle.apollo_meaning.proofs.PartLemmas.{of_name}
+use Rattle.apollo_meaning.proofs.Items.PartLemmas.{of_name}
 
 -- the folded extensions of a name, their origins forgotten
 sourced-parts : (n : List ℕ) (start : ℕ) (fs : List Folding) → map (λ (s : Sourced). s.1) (sourced n start fs) ≡ filter (λ p. same n (key_of p)) (type_foldings fs)

@@ -12,7 +12,7 @@ use Rattle.graphql_nodes.specs.declared.operation_type.OperationType.{OperationT
 use Rattle.graphql_nodes.specs.declared.operation_type.OperationType.TheVariants.{Query, Mutation, Subscription}
 use Rattle.apollo_component.specs.FirstOfEach.{first_of_each, later_of_each}
 use Rattle.apollo_component.specs.EachAfter.{each_after}
-use Rattle.apollo_component.proofs.EachAfterLemmas.{each_after-append, each_after-start}
+use Rattle.apollo_component.proofs.Lists.EachAfter.{each_after-append, each_after-start}
 use Rattle.apollo_component.proofs.LaterLemmas.{saying, said, said-later, length-first_later}
 use Rattle.apollo_meaning.specs.declared.collision.Collection.{Collection}
 use Rattle.apollo_meaning.specs.declared.build_error.BuildError.TheVariants as errors
@@ -25,8 +25,8 @@ use Rattle.apollo_meaning.specs.Faults.RootFaults.{root_fault, root_faults, same
 use Rattle.apollo_meaning.specs.Steps.Joining.{schema_joining_faults}
 use Rattle.apollo_meaning.specs.Order.Places.{schemas, Placed, extension_places, first_place}
 use Rattle.apollo_meaning.specs.Faults.ListFaults.{found_of_schema}
-use Rattle.apollo_meaning.proofs.KeptLemmas.{entry_laws}
-use Rattle.apollo_meaning.proofs.FoundLemmas.{schema_faults_with-joining}
+use Rattle.apollo_meaning.proofs.Faults.KeptLemmas.{entry_laws}
+use Rattle.apollo_meaning.proofs.Faults.FoundLemmas.{schema_faults_with-joining}
 
 abbrev names : List Entry → List NameView
 names = map (λ e. e.0)

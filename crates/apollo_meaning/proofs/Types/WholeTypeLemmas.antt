@@ -4,7 +4,7 @@ use Rattle.std.specs.List.{filter_map, flat_map}
 use Rattle.std.specs.Option.{option_map_or}
 use Rattle.std.proofs.lemmas.List.Elements.{filter_agree}
 use Rattle.apollo_component.specs.EachAfter.{each_after}
-use Rattle.apollo_component.proofs.EachAfterLemmas.{each_after-start}
+use Rattle.apollo_component.proofs.Lists.EachAfter.{each_after-start}
 use Rattle.apollo_meaning.specs.Items.Parts.{TypePart, kind_of, key_of, same_kind}
 use Rattle.apollo_meaning.specs.Items.ListItems.{ListItem, extended_part}
 use Rattle.graphql_nodes.specs.SameText.{same}
@@ -14,9 +14,9 @@ use Rattle.apollo_meaning.specs.Faults.Collisions.{Fault}
 use Rattle.apollo_meaning.specs.Faults.TypeFaults.{part_faults, extension_faults}
 use Rattle.apollo_meaning.specs.Faults.TypeComponents.{joined_faults}
 use Rattle.apollo_meaning.specs.Faults.ListFaults.{faults_of_extension, found_of_type}
-use Rattle.apollo_meaning.proofs.Texts.{same-true}
-use Rattle.apollo_meaning.proofs.EachLemmas.{each-filter, flat_map-each}
-use Rattle.apollo_meaning.proofs.PlaceLemmas.{IsBelow, placed-after, extensions-below}
+use Rattle.graphql_nodes.proofs.Texts.{same-true}
+use Rattle.apollo_component.proofs.Lists.Each.{each-filter, flat_map-each}
+use Rattle.apollo_meaning.proofs.Order.PlaceLemmas.{IsBelow, placed-after, extensions-below}
 
 module _ (d : TypePart) where
   -- an extension of the name and of the kind of this definition

@@ -6,8 +6,8 @@ use Rattle.std.proofs.lemmas.Bool.Decides.{nat_tests}
 use Rattle.std.proofs.lemmas.List.Elements.{All-from_recursion}
 use Rattle.apollo_meaning.specs.Items.ListItems.{ListItem}
 use Rattle.apollo_meaning.specs.Order.Places.{Family, Placed, extension_places, first_place, is_met}
-use Rattle.apollo_meaning.proofs.EachLemmas.{each-weaken}
-use Rattle.apollo_meaning.proofs.PlaceLemmas.{IsBelow, extensions-below, first_place-below}
+use Rattle.apollo_component.proofs.Lists.Each.{each-weaken}
+use Rattle.apollo_meaning.proofs.Order.PlaceLemmas.{IsBelow, extensions-below, first_place-below}
 
 -- a number stands once in a row of numbers, or not at all
 none-past : (m a n : ℕ) → m < a → filter (λ i. m == i) (range_with_len a n) ≡ []

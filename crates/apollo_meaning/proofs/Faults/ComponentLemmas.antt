@@ -13,7 +13,7 @@ use Rattle.graphql_nodes.specs.NameView.{NameView}
 use Rattle.graphql_nodes.specs.SameText.{same_text}
 use Rattle.apollo_component.specs.FirstOfEach.{first_of_each, later_of_each}
 use Rattle.apollo_component.specs.EachAfter.{each_after}
-use Rattle.apollo_component.proofs.EachAfterLemmas.{each_after-append}
+use Rattle.apollo_component.proofs.Lists.EachAfter.{each_after-append}
 use Rattle.apollo_component.proofs.LaterLemmas.{saying, said, said-later}
 use Rattle.apollo_meaning.specs.declared.collision.Collection.{Collection}
 use Rattle.apollo_meaning.specs.declared.collision.Collection.TheVariants as c
@@ -22,7 +22,7 @@ use Rattle.apollo_meaning.specs.Types.Components.{body_interfaces, body_members,
 use Rattle.apollo_meaning.specs.Faults.Collisions.{Fault, Entry, collision, collision_at, collisions, same_name}
 use Rattle.apollo_meaning.specs.Faults.TypeFaults.{name_entries, field_entries, value_entries, input_field_entries, body_faults, part_faults}
 use Rattle.apollo_meaning.specs.Faults.TypeComponents.{TypeComponent, component_in, body_components, components_of, what_is_held, same_component, dropped_from_type, joined_faults}
-use Rattle.apollo_meaning.proofs.DroppedLemmas.{same_name_laws}
+use Rattle.apollo_meaning.proofs.Faults.DroppedLemmas.{same_name_laws}
 
 -- two equivalences at once
 module _ {X : Type 0} (p q : X → X → Bool) (one : IsEquivalence p) (two : IsEquivalence q) where

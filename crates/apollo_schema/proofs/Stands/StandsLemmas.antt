@@ -28,15 +28,15 @@ use Rattle.apollo_meaning.specs.Completion.Adoption.{schema_orphans, orphans_of}
 use Rattle.apollo_meaning.specs.Steps.Joining.{joining_faults}
 use Rattle.apollo_meaning.specs.Steps.Prefixes.{types_folded_at, schemas_folded_at, folded_at, folded, found_at, found, waited_at, waited}
 use Rattle.apollo_schema.specs.Stands.{Stands}
-use Rattle.apollo_meaning.proofs.Texts.{same-true, same-is}
+use Rattle.graphql_nodes.proofs.Texts.{same-true, same-is}
 use Rattle.apollo_folding.proofs.NameTables.{lookup-put, keys-put, lookup-write}
-use Rattle.apollo_meaning.proofs.ItemLemmas.{parts-extended, first-push_undefined, first_schema-push_undefined, schema_extensions-push_unextended, folded-push, found-push, waited-push}
-use Rattle.apollo_schema.proofs.SchemaLemmas.{schema_of-same}
-use Rattle.apollo_schema.proofs.FaultLemmas.{found_at-new, found_at-again, found_at-early, found_at-late, parts-forget}
-use Rattle.apollo_meaning.proofs.OrphanLemmas.{waited-early, waited-late}
-use Rattle.apollo_meaning.proofs.FoldingLemmas.{type_kind-from}
-use Rattle.apollo_meaning.proofs.TypeLemmas.{Own, Apart, Own-named, Own-of_kind, Apart-own, types_folded_at-new, types_folded_at-again, types_folded_at-early, types_folded_at-late, type_of-same, type_of-more, type_of-new}
-use Rattle.apollo_schema.proofs.WaitingLemmas.{orphans_of-undefined, type_names-new, type_names-again, type_names-undefined, first-again, first-other, first-own, orphans_of-new, orphans_of-again, orphans_of-late, orphans_of-early, orphans_of-neither}
+use Rattle.apollo_meaning.proofs.Items.ItemLemmas.{parts-extended, first-push_undefined, first_schema-push_undefined, schema_extensions-push_unextended, folded-push, found-push, waited-push}
+use Rattle.apollo_schema.proofs.Stands.SchemaLemmas.{schema_of-same}
+use Rattle.apollo_schema.proofs.Stands.FaultLemmas.{found_at-new, found_at-again, found_at-early, found_at-late, parts-forget}
+use Rattle.apollo_meaning.proofs.Completion.OrphanLemmas.{waited-early, waited-late}
+use Rattle.apollo_meaning.proofs.Order.FoldingLemmas.{type_kind-from}
+use Rattle.apollo_meaning.proofs.Types.TypeLemmas.{Own, Apart, Own-named, Own-of_kind, Apart-own, types_folded_at-new, types_folded_at-again, types_folded_at-early, types_folded_at-late, type_of-same, type_of-more, type_of-new}
+use Rattle.apollo_schema.proofs.Stands.WaitingLemmas.{orphans_of-undefined, type_names-new, type_names-again, type_names-undefined, first-again, first-other, first-own, orphans_of-new, orphans_of-again, orphans_of-late, orphans_of-early, orphans_of-neither}
 
 pub length-map : {A B : Type 0} (f : A → B) (xs : List A) → length (map f xs) ≡ length xs
 length-map f [] = refl

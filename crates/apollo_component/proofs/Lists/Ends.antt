@@ -1,0 +1,52 @@
+-- What becomes of a list with more elements at its end.
+use Rattle.std.proofs.Common.{◌≡◌, ℕ, ◌+◌, ◌<◌, Bool, true, false, cond, List, [], ◌∷◌, ◌++◌, length, zero, suc, Option, Some, None, filter, slice_get, refl, sym, ap, subst, ◌∙◌, append_assoc, arith}
+use Rattle.std.specs.List.{filter_map, cons_option, enumerate_from}
+use Rattle.std.specs.Option.{option_or}
+use Rattle.std.specs.Map.{lookup}
+use Rattle.std.proofs.lemmas.List.{append-nil}
+use Rattle.std.proofs.lemmas.List.Elements.{filter_map-append}
+
+-- what holds of the empty list, and of a list with one more element if it holds of the list, holds of each list
+pub snoc_ind : {X : Type 0} (P : List X → Type 0) → P [] → ((xs : List X) (x : X) → P xs → P (xs ++ x ∷ [])) → (xs : List X) → P xs
+snoc_ind {X} P base step xs = go [] xs base
+  where
+    go : (before ys : List X) → P before → P (before ++ ys)
+    go before [] h = subst P (sym (append-nil before)) h
+    go before (y ∷ ys) h = subst P (append_assoc before (y ∷ []) ys) (go (before ++ y ∷ []) ys (step before y h))
+
+-- numbers go on
+pub enumerate_from-append : {X : Type 0} (n : ℕ) (xs ys : List X) → enumerate_from n (xs ++ ys) ≡ enumerate_from n xs ++ enumerate_from (n + length xs) ys
+enumerate_from-append n [] ys = grind arith
+enumerate_from-append n (x ∷ xs) ys = grind (arith, enumerate_from-append (n + 1) xs ys)
+
+-- what is left out adds nothing
+pub filter_map-push_none : {X Y : Type 0} (which : X → Option Y) (xs : List X) (x : X) → which x ≡ None → filter_map which (xs ++ x ∷ []) ≡ filter_map which xs
+filter_map-push_none which xs x none = filter_map-append which xs (x ∷ []) ∙ ap (λ o. filter_map which xs ++ cons_option o []) none ∙ append-nil (filter_map which xs)
+
+-- a test that all pass keeps all
+pub all-kept : {X : Type 0} (xs : List X) → xs ≡ filter (λ _. true) xs
+all-kept [] = refl
+all-kept (x ∷ xs) = ap (λ l. x ∷ l) (all-kept xs)
+
+-- what stands under a key in a front, or else in the rest
+pub lookup-append : {K V : Type 0} (test : K → Bool) (es fs : List (K × V)) → lookup test (es ++ fs) ≡ option_or (lookup test es) (lookup test fs)
+lookup-append test [] fs = refl
+lookup-append test (e ∷ es) fs = by (test e.0) (lookup-append test es fs)
+  where
+    by : (b : Bool) → lookup test (es ++ fs) ≡ option_or (lookup test es) (lookup test fs) → cond b (Some e.1) (lookup test (es ++ fs)) ≡ option_or (cond b (Some e.1) (lookup test es)) (lookup test fs)
+    by true rest = refl
+    by false rest = rest
+
+-- the first element, with one more; the elements of a front; and the last one
+pub slice_get-push : {X : Type 0} (l : List X) (x : X) → slice_get (l ++ x ∷ []) 0 ≡ option_or (slice_get l 0) (Some x)
+slice_get-push [] x = refl
+slice_get-push (y ∷ l) x = refl
+
+pub slice_get-front : {X : Type 0} (xs ys : List X) (i : ℕ) → i < length xs → slice_get (xs ++ ys) i ≡ slice_get xs i
+slice_get-front [] ys i lt = absurd (omega (arith, lt))
+slice_get-front (x ∷ xs) ys zero lt = refl
+slice_get-front (x ∷ xs) ys (suc i) lt = slice_get-front xs ys i (omega (arith, lt))
+
+pub slice_get-last : {X : Type 0} (xs : List X) (x : X) → slice_get (xs ++ x ∷ []) (length xs) ≡ Some x
+slice_get-last [] x = refl
+slice_get-last (y ∷ ys) x = slice_get-last ys x

@@ -1,0 +1,4 @@
+pub mod ComponentLemmas
+pub mod DroppedLemmas
+pub mod FoundLemmas
+pub mod KeptLemmas

@@ -1,0 +1,4 @@
+pub mod FoldingLemmas
+pub mod LongerLemmas
+pub mod OnceLemmas
+pub mod PlaceLemmas

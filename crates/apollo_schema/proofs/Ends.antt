@@ -1,0 +1,3 @@
+pub mod EndLemmas
+pub mod OrphanNameLemmas
+pub mod OutcomeLemmas
