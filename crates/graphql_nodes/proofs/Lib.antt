@@ -1,2 +1,6 @@
+pub mod Comparisons
 pub mod KeySetClones
+pub mod NameEquality
+pub mod PlaceEquality
+pub mod TableEquality
 pub mod TableLemmas
