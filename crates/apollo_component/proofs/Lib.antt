@@ -1,2 +1,3 @@
+pub mod ComponentEquality
 pub mod FirstOfEachLemmas
 pub mod LaterLemmas

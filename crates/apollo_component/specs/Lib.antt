@@ -1,2 +1,3 @@
+pub mod BareComponents
 pub mod Extensions
 pub mod FirstOfEach
