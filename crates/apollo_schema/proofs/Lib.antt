@@ -5,6 +5,7 @@ pub mod FaultLemmas
 pub mod OrphanNameLemmas
 pub mod OutcomeLemmas
 pub mod RoleLemmas
+pub mod SchemaEquality
 pub mod SchemaLemmas
 pub mod SchemaStandsLemmas
 pub mod StandsLemmas
