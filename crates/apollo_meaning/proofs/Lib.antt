@@ -2,6 +2,7 @@ pub mod CompletionLemmas
 pub mod ComponentLemmas
 pub mod DroppedLemmas
 pub mod EachLemmas
+pub mod ErrorEquality
 pub mod FoldingLemmas
 pub mod FoundLemmas
 pub mod ItemLemmas
