@@ -1,3 +1,4 @@
+pub mod ComponentEquality
 pub mod FirstOfEachLemmas
 pub mod LaterLemmas
 pub mod Lists

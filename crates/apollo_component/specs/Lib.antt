@@ -1,3 +1,4 @@
+pub mod BareComponents
 pub mod EachAfter
 pub mod Extensions
 pub mod FirstOfEach

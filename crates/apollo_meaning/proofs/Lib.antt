@@ -1,4 +1,5 @@
 pub mod Completion
+pub mod ErrorEquality
 pub mod Faults
 pub mod Items
 pub mod Order

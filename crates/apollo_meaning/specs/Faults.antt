@@ -1,3 +1,4 @@
+pub mod BareErrors
 pub mod Collisions
 pub mod ListFaults
 pub mod OtherFaults

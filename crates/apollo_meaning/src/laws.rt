@@ -1,4 +1,4 @@
-//! Laws of the definitions, for those who build on them.
+//! Laws of the definitions, for those who build on them; and what `==` answers at the errors of a build.
 ghost use Rattle.std.specs.Prelude.{◌≡◌, ◌≤◌, ◌+◌, ℕ, Bool, List, [], ◌∷◌, ◌++◌, None, Some, true, false, length, codes, map, filter, filter_map, option_map, All};
 ghost use Rattle.std.specs.List.{range_with_len};
 ghost use Rattle.std.specs.Option.{option_map_or};
@@ -27,6 +27,10 @@ ghost use Rattle.apollo_types.specs.TypeWriteOut.{write_type};
 ghost use Rattle.apollo_component.specs.FirstOfEach.{first_of_each, later_of_each, same_key};
 ghost use Rattle.graphql_nodes.specs.NameView.{NameView};
 ghost use Rattle.graphql_nodes.specs.SameText.{same_text};
+ghost use Rattle.graphql_nodes.specs.Comparing.{ComparesBy};
+ghost use Rattle.apollo_meaning.specs.Faults.BareErrors.{bare_build_error};
+
+use crate::build_error::BuildError;
 
 /// The extensions that are folded for a name are those of its kind, in the order of the list, whatever stands between
 /// them: GraphQL specification of October 2021, section 3.4.3.
@@ -174,4 +178,10 @@ pub fn schema_extensions_that_wait()
 pub fn built_in_scalar_redefined()
     ensures ignored { faults_of false (added false built_in_int ++ added true int_again) ≡ [] }
     ensures refused { faults_of false (added false built_in_int ++ added false int_again) ≡ redefinition_fault }
+{}
+
+/// Errors of a build are equal exactly where they are one without the locations of the names in them. The places of what
+/// is kept are compared: `previous_location` and `def_location`.
+pub fn equality_of_build_errors()
+    ensures { ComparesBy ⟦<BuildError as PartialEq>⟧.eq bare_build_error }
 {}

@@ -2,6 +2,7 @@ pub mod BuildAnswers
 pub mod BuilderHolds
 pub mod BuilderStands
 pub mod Built
+pub mod EqualSchemas
 pub mod MeantSchema
 pub mod NamesLeft
 pub mod SchemaWriteOut

@@ -1,11 +1,26 @@
-//! Laws of the definitions, for those who build on them.
-ghost use Rattle.std.specs.Prelude.{◌⊎◌, List};
+//! Laws of the definitions, for those who build on them; and what `==` answers at schemas and at the errors of builders.
+ghost use Rattle.std.specs.Prelude.{◌⊎◌, ◌↔◌, List, IsTrue};
 ghost use Rattle.apollo_meaning.specs.Items.ListItems.{Added};
 ghost use Rattle.apollo_schema.specs.BuilderStands.{StandsFor, HasFailed, first_number};
+ghost use Rattle.apollo_schema.specs.EqualSchemas.{AreEqualSchemas};
 ghost use Rattle.graphql_nodes.specs.Clones.{IsExact};
+ghost use Rattle.graphql_nodes.specs.Comparing.{ComparesBy};
 
 use crate::schema::Schema;
 use crate::schema_builder::SchemaBuilder;
+use apollo_folding::builder_error::BuilderError;
+
+/// Two schemas are equal exactly where their definitions are and they have equal types and equal directive definitions
+/// under each name, in any order: places, origins and sources are left out. GraphQL specification of October 2021,
+/// section 3.
+pub fn equality_of_schemas()
+    ensures { (a b : Schema) → IsTrue (⟦<Schema as PartialEq>⟧.eq a b) ↔ AreEqualSchemas a b }
+{}
+
+/// The errors of builders are equal exactly where they are one.
+pub fn equality_of_builder_errors()
+    ensures { ComparesBy ⟦<BuilderError as PartialEq>⟧.eq (λ error. error) }
+{}
 
 /// Each clone of a schema is the original, with its sources and every location and origin.
 pub fn clones_of_schemas_are_exact()

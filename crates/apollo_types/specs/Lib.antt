@@ -1,3 +1,4 @@
+pub mod BareTypes
 pub mod EnumWriteOut
 pub mod InputObjectWriteOut
 pub mod InterfaceWriteOut

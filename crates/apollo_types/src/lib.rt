@@ -5,6 +5,7 @@ pub mod enum_type;
 pub mod extended_type;
 pub mod input_object_type;
 pub mod interface_type;
+pub mod laws;
 pub mod object_type;
 pub mod scalar_type;
 pub mod schema_definition;

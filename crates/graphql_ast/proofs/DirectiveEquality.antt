@@ -7,7 +7,7 @@ use Rattle.graphql_ast.specs.declared.directive.DirectiveList.{DirectiveList}
 use Rattle.graphql_ast.specs.contracts.directive.ArgumentPartialEq.TheImpl as argument
 use Rattle.graphql_ast.specs.contracts.directive.DirectivePartialEq.TheImpl as directive
 use Rattle.graphql_ast.specs.contracts.directive.DirectiveListPartialEq.TheImpl as list
-use Rattle.graphql_ast.proofs.Comparisons.{Compares, of_part, and_then, made, names, nodes, lists}
+use Rattle.graphql_nodes.proofs.Comparisons.{Compares, of_part, and_then, made, names, nodes, lists}
 use Rattle.graphql_ast.proofs.ValueEquality.{values}
 
 pub arguments : Compares argument.ghosts.eq bare_argument

@@ -12,7 +12,7 @@ use Rattle.graphql_ast.specs.contracts.operation.OperationDefinitionPartialEq.Th
 use Rattle.graphql_ast.specs.contracts.operation.FragmentDefinitionPartialEq.TheImpl as fragment_definition
 use Rattle.graphql_ast.specs.contracts.definition.DefinitionPartialEq.TheImpl as definition
 use Rattle.graphql_ast.specs.contracts.document.DocumentPartialEq.TheImpl as document
-use Rattle.graphql_ast.proofs.Comparisons.{Compares, At, of_part, and_then, made, names, nodes, lists, options}
+use Rattle.graphql_nodes.proofs.Comparisons.{Compares, At, of_part, and_then, made, names, nodes, lists, options}
 use Rattle.graphql_ast.proofs.ValueEquality.{values}
 use Rattle.graphql_ast.proofs.TypeEquality.{types}
 use Rattle.graphql_ast.proofs.DirectiveEquality.{directive_lists}

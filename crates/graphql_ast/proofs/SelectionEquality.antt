@@ -5,7 +5,8 @@ use lib.Pointwise.{pointwise}
 use denote.Hole.Compared.{compared_is}
 use Rattle.graphql_nodes.specs.NameView.{NameView}
 use Rattle.graphql_nodes.specs.NodeView.{NodeView}
-use Rattle.graphql_ast.specs.Bare.{bare_name, bare_node, bare_argument, bare_directive_list}
+use Rattle.graphql_nodes.specs.Comparing.{bare_name, bare_node}
+use Rattle.graphql_ast.specs.Bare.{bare_argument, bare_directive_list}
 use Rattle.graphql_ast.specs.BareSelections.{bare_selection, bare_field, bare_inline_fragment, bare_fragment_spread, selection_step, field_step, inline_step}
 use Rattle.graphql_ast.specs.declared.directive.Argument.{Argument}
 use Rattle.graphql_ast.specs.declared.selection.FragmentSpread.{FragmentSpread}
@@ -23,7 +24,7 @@ use Rattle.graphql_ast.specs.contracts.selection.SelectionPartialEq.TheImpl as i
 use Rattle.graphql_ast.specs.contracts.selection.SelectionPartialEq.TheImpl.Laws as laws
 use Rattle.graphql_ast.specs.contracts.selection.FieldPartialEq.TheImpl as field
 use Rattle.graphql_ast.specs.contracts.selection.InlineFragmentPartialEq.TheImpl as inline
-use Rattle.graphql_ast.proofs.Comparisons.{At, Compares, both_true, and_true, of_part, and_then, made, names, nodes, lists, options, name_at, node_at, list_at, rolled}
+use Rattle.graphql_nodes.proofs.Comparisons.{At, Compares, both_true, and_true, of_part, and_then, made, names, nodes, lists, options, name_at, node_at, list_at, rolled}
 use Rattle.graphql_ast.proofs.DirectiveEquality.{arguments, directive_lists}
 
 pub fragment_spreads : Compares spread.ghosts.eq bare_fragment_spread

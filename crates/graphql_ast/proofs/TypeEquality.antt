@@ -3,7 +3,8 @@ use Rattle.std.proofs.Common.{rules, ◌≡◌, Bool, true, false, ap, subst, na
 use lib.Pointwise.{pointwise}
 use denote.Hole.Compared.{compared, compared_is}
 use Rattle.graphql_nodes.specs.NameView.{NameView}
-use Rattle.graphql_ast.specs.Bare.{bare_name, bare_type, type_step}
+use Rattle.graphql_nodes.specs.Comparing.{bare_name}
+use Rattle.graphql_ast.specs.Bare.{bare_type, type_step}
 use Rattle.graphql_ast.specs.declared.type_reference.Type.TheBlock as block
 use Rattle.graphql_ast.specs.declared.type_reference.Type.{«Type» as TypeReference, roll-Type, out-Type, fold-roll-Type, ind-Type, the_lemmas}
 use Rattle.graphql_ast.specs.declared.type_reference.Type.TheViews.{out-roll-Type, roll-out-Type}
@@ -11,7 +12,7 @@ use Rattle.graphql_ast.specs.declared.type_reference.Type.TheFolds.{map-Type}
 use Rattle.graphql_ast.specs.declared.type_reference.Type.TheOpen.{Type-F}
 use Rattle.graphql_ast.specs.contracts.type_reference.TypePartialEq.TheImpl as impl
 use Rattle.graphql_ast.specs.contracts.type_reference.TypePartialEq.TheImpl.Laws as laws
-use Rattle.graphql_ast.proofs.Comparisons.{At, Compares, name_at, rolled}
+use Rattle.graphql_nodes.proofs.Comparisons.{At, Compares, name_at, rolled}
 
 -- what `==` answers
 unfoldable pub type_eq : TypeReference → TypeReference → Bool

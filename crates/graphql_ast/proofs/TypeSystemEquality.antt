@@ -44,7 +44,7 @@ use Rattle.graphql_ast.specs.contracts.type_system.InterfaceTypeExtensionPartial
 use Rattle.graphql_ast.specs.contracts.type_system.UnionTypeExtensionPartialEq.TheImpl as union_type_extension
 use Rattle.graphql_ast.specs.contracts.type_system.EnumTypeExtensionPartialEq.TheImpl as enum_type_extension
 use Rattle.graphql_ast.specs.contracts.type_system.InputObjectTypeExtensionPartialEq.TheImpl as input_object_type_extension
-use Rattle.graphql_ast.proofs.Comparisons.{Compares, own, of_part, and_then, made, names, nodes, lists, options, pairs, flags, kinds}
+use Rattle.graphql_nodes.proofs.Comparisons.{Compares, own, of_part, and_then, made, names, nodes, lists, options, pairs, flags, kinds}
 use Rattle.graphql_ast.proofs.ValueEquality.{values}
 use Rattle.graphql_ast.proofs.TypeEquality.{types}
 use Rattle.graphql_ast.proofs.DirectiveEquality.{directive_lists}

@@ -5,7 +5,8 @@ use lib.Pointwise.{pointwise, bytes_decides}
 use denote.Hole.Compared.{compared, compared_is}
 use Rattle.graphql_nodes.specs.NameView.{NameView}
 use Rattle.graphql_nodes.specs.NodeView.{NodeView}
-use Rattle.graphql_ast.specs.Bare.{bare_name, bare_node, bare_value, value_step}
+use Rattle.graphql_nodes.specs.Comparing.{bare_name, bare_node}
+use Rattle.graphql_ast.specs.Bare.{bare_value, value_step}
 use Rattle.graphql_ast.specs.declared.value.Value.TheBlock as block
 use Rattle.graphql_ast.specs.declared.value.Value.{Value, roll-Value, out-Value, fold-roll-Value, ind-Value, the_lemmas}
 use Rattle.graphql_ast.specs.declared.value.Value.TheViews.{out-roll-Value, roll-out-Value}
@@ -13,7 +14,7 @@ use Rattle.graphql_ast.specs.declared.value.Value.TheFolds.{map-Value}
 use Rattle.graphql_ast.specs.declared.value.Value.TheOpen.{Value-F}
 use Rattle.graphql_ast.specs.contracts.value.ValuePartialEq.TheImpl as impl
 use Rattle.graphql_ast.specs.contracts.value.ValuePartialEq.TheImpl.Laws as laws
-use Rattle.graphql_ast.proofs.Comparisons.{At, Compares, both_true, and_true, flag_at, name_at, node_at, list_at, rolled}
+use Rattle.graphql_nodes.proofs.Comparisons.{At, Compares, both_true, and_true, flag_at, name_at, node_at, list_at, rolled}
 
 -- what `==` answers
 unfoldable pub value_eq : Value → Value → Bool

@@ -1,8 +1,6 @@
 -- Parts of the syntax tree without their locations. Trees that differ in locations alone have one bare tree.
-use Rattle.std.specs.Prelude.{◌≡◌, None, Bool, map, IsTrue, ◌↔◌}
-use Rattle.graphql_nodes.specs.NameView.{NameView}
-use Rattle.graphql_nodes.specs.NodeView.{NodeView}
-use Rattle.graphql_nodes.specs.declared.name.InvalidNameError.{InvalidNameError}
+use Rattle.std.specs.Prelude.{map}
+use Rattle.graphql_nodes.specs.Comparing.{bare_name, bare_node}
 use Rattle.graphql_ast.specs.declared.value.Value.{Value, fold-Value, roll-Value}
 use Rattle.graphql_ast.specs.declared.value.Value.TheOpen.{Value-F}
 use Rattle.graphql_ast.specs.declared.type_reference.Type.{«Type» as TypeReference, fold-Type, roll-Type}
@@ -10,21 +8,6 @@ use Rattle.graphql_ast.specs.declared.type_reference.Type.TheOpen.{Type-F}
 use Rattle.graphql_ast.specs.declared.directive.Argument.{Argument}
 use Rattle.graphql_ast.specs.declared.directive.Directive.{Directive}
 use Rattle.graphql_ast.specs.declared.directive.DirectiveList.{DirectiveList}
-
--- the test is true exactly where f gives the two one value
-abbrev pub ComparesBy : {A B : Type 0} → (A → A → Bool) → (A → B) → Type 0
-ComparesBy {A} test f = (a b : A) → IsTrue (test a b) ↔ (f a ≡ f b)
-
--- a name, or a shared text
-abbrev pub bare_name : NameView → NameView
-bare_name n = record { text = n.text; location = None }
-
--- the error of a text that is no name
-abbrev pub bare_invalid_name : InvalidNameError → InvalidNameError
-bare_invalid_name e = record { name = e.name; location = None }
-
-abbrev pub bare_node : {A B : Type 0} → (A → B) → NodeView A → NodeView B
-bare_node f n = record { value = f n.value; location = None }
 
 -- one level of a value, where each value inside is bare
 abbrev pub value_step : Value-F Value → Value

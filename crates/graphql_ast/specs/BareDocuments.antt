@@ -1,6 +1,7 @@
 -- Operations, fragments and whole documents without their locations.
 use Rattle.std.specs.Prelude.{[], map, option_map}
-use Rattle.graphql_ast.specs.Bare.{bare_name, bare_node, bare_value, bare_type, bare_directive_list}
+use Rattle.graphql_nodes.specs.Comparing.{bare_name, bare_node}
+use Rattle.graphql_ast.specs.Bare.{bare_value, bare_type, bare_directive_list}
 use Rattle.graphql_ast.specs.BareSelections.{bare_selection}
 use Rattle.graphql_ast.specs.BareTypeSystem.{bare_directive_definition, bare_schema_definition, bare_scalar_type_definition, bare_object_type_definition, bare_interface_type_definition, bare_union_type_definition, bare_enum_type_definition, bare_input_object_type_definition, bare_schema_extension, bare_scalar_type_extension, bare_object_type_extension, bare_interface_type_extension, bare_union_type_extension, bare_enum_type_extension, bare_input_object_type_extension}
 use Rattle.graphql_ast.specs.declared.operation.VariableDefinition.{VariableDefinition}

@@ -1,6 +1,7 @@
 -- Selections without their locations.
 use Rattle.std.specs.Prelude.{map, option_map}
-use Rattle.graphql_ast.specs.Bare.{bare_name, bare_node, bare_argument, bare_directive_list}
+use Rattle.graphql_nodes.specs.Comparing.{bare_name, bare_node}
+use Rattle.graphql_ast.specs.Bare.{bare_argument, bare_directive_list}
 use Rattle.graphql_ast.specs.declared.selection.Selection.{Selection, fold-Selection, roll-Selection}
 use Rattle.graphql_ast.specs.declared.selection.Selection.TheFolds.{fold-Field, fold-InlineFragment}
 use Rattle.graphql_ast.specs.declared.selection.Selection.TheOpen.{Selection-F, Field-F, InlineFragment-F}

@@ -1,7 +1,8 @@
 -- Definitions and extensions of the type system without their locations.
 use Rattle.std.specs.Prelude.{map, option_map}
 use Rattle.graphql_nodes.specs.NameView.{NameView}
-use Rattle.graphql_ast.specs.Bare.{bare_name, bare_node, bare_value, bare_type, bare_directive_list}
+use Rattle.graphql_nodes.specs.Comparing.{bare_name, bare_node}
+use Rattle.graphql_ast.specs.Bare.{bare_value, bare_type, bare_directive_list}
 use Rattle.graphql_nodes.specs.declared.operation_type.OperationType.{OperationType}
 use Rattle.graphql_ast.specs.declared.type_system.FieldDefinition.{FieldDefinition}
 use Rattle.graphql_ast.specs.declared.type_system.InputValueDefinition.{InputValueDefinition}

@@ -3,13 +3,14 @@
 //!
 //! Each law is a function that does nothing. A proof cites it by a call, and finds a clause for each type there.
 //! That equal values have equal hashes is part of each type's `Hash`.
-ghost use Rattle.std.specs.Prelude.{map};
-ghost use Rattle.graphql_ast.specs.Bare.{ComparesBy, bare_name, bare_invalid_name, bare_node, bare_value, bare_type, bare_argument, bare_directive, bare_directive_list};
+ghost use Rattle.graphql_nodes.specs.Comparing.{ComparesBy};
+ghost use Rattle.graphql_ast.specs.Bare.{bare_value, bare_type, bare_argument, bare_directive, bare_directive_list};
 ghost use Rattle.graphql_ast.specs.BareSelections.{bare_selection, bare_field, bare_inline_fragment, bare_fragment_spread};
 ghost use Rattle.graphql_ast.specs.BareTypeSystem.{bare_field_definition, bare_input_value_definition, bare_enum_value_definition, bare_directive_definition, bare_schema_definition, bare_scalar_type_definition, bare_object_type_definition, bare_interface_type_definition, bare_union_type_definition, bare_enum_type_definition, bare_input_object_type_definition, bare_schema_extension, bare_scalar_type_extension, bare_object_type_extension, bare_interface_type_extension, bare_union_type_extension, bare_enum_type_extension, bare_input_object_type_extension};
 ghost use Rattle.graphql_ast.specs.BareDocuments.{bare_variable_definition, bare_operation_definition, bare_fragment_definition, bare_definition, bare_document};
 ghost use Rattle.graphql_nodes.specs.Clones.{IsExact};
 
+use crate::argument::ArgumentByNameError;
 use crate::definition::Definition;
 use crate::directive::{Argument, Directive, DirectiveList};
 use crate::document::Document;
@@ -24,36 +25,21 @@ use crate::type_system::{
     UnionTypeDefinition, UnionTypeExtension,
 };
 use crate::value::Value;
-use graphql_nodes::collections::boxed::Boxed;
 use graphql_nodes::collections::items::Items;
 use graphql_nodes::collections::key_set::KeySet;
-use graphql_nodes::collections::shared::Shared;
 use graphql_nodes::collections::table::Table;
-use graphql_nodes::name::{InvalidNameError, Name};
-use graphql_nodes::node::Node;
-use graphql_nodes::node_str::NodeStr;
+use graphql_nodes::name::InvalidNameError;
 use graphql_nodes::source::SourceFile;
 use std::hash::Hash;
 
-/// Nodes are equal where their values are, lists where their elements are in order, and a box or shared value where
-/// what it holds is.
-pub fn equality_of_containers<T: PartialEq>()
-    ensures node { (f : T → T) → ComparesBy T.eq f → ComparesBy ⟦<Node<T> as PartialEq>⟧.eq (bare_node f) }
-    ensures items { (f : T → T) → ComparesBy T.eq f → ComparesBy ⟦<Items<T> as PartialEq>⟧.eq (map f) }
-    ensures boxed { (f : T → T) → ComparesBy T.eq f → ComparesBy ⟦<Boxed<T> as PartialEq>⟧.eq f }
-    ensures shared { (f : T → T) → ComparesBy T.eq f → ComparesBy ⟦<Shared<T> as PartialEq>⟧.eq f }
-{}
-
-/// Names, texts, values and what is made of them are equal exactly where they are one without their locations.
-pub fn equality_of_names_and_values()
-    ensures name { ComparesBy ⟦<Name as PartialEq>⟧.eq bare_name }
-    ensures node_str { ComparesBy ⟦<NodeStr as PartialEq>⟧.eq bare_name }
-    ensures invalid_name_error { ComparesBy ⟦<InvalidNameError as PartialEq>⟧.eq bare_invalid_name }
+/// Values, type references, arguments and directives are equal exactly where they are one without their locations.
+pub fn equality_of_values_and_directives()
     ensures value { ComparesBy ⟦<Value as PartialEq>⟧.eq bare_value }
     ensures ty { ComparesBy ⟦<Type as PartialEq>⟧.eq bare_type }
     ensures argument { ComparesBy ⟦<Argument as PartialEq>⟧.eq bare_argument }
     ensures directive { ComparesBy ⟦<Directive as PartialEq>⟧.eq bare_directive }
     ensures directive_list { ComparesBy ⟦<DirectiveList as PartialEq>⟧.eq bare_directive_list }
+    ensures argument_by_name_error { ComparesBy ⟦<ArgumentByNameError as PartialEq>⟧.eq (λ error. error) }
 {}
 
 /// Selections are equal exactly where they are one without their locations.

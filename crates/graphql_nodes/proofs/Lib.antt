@@ -1,3 +1,7 @@
+pub mod Comparisons
 pub mod KeySetClones
+pub mod NameEquality
+pub mod PlaceEquality
+pub mod TableEquality
 pub mod TableLemmas
 pub mod Texts

@@ -1,5 +1,6 @@
 pub mod BuiltIn
 pub mod Clones
+pub mod Comparing
 pub mod KeySets
 pub mod KindTexts
 pub mod LocationTexts

@@ -6,6 +6,7 @@
 
 pub mod collections;
 pub mod directive_location;
+pub mod laws;
 pub mod name;
 pub mod named;
 pub mod node;

@@ -1,5 +1,5 @@
-use Rattle.graphql_ast.proofs.Comparisons.{Compares, nodes, lists}
-use Rattle.graphql_ast.proofs.laws.equality_of_containers.Goals as goal
+use Rattle.graphql_nodes.proofs.Comparisons.{Compares, nodes, lists}
+use Rattle.graphql_nodes.proofs.laws.equality_of_containers.Goals as goal
 
 pub returns-clause-node : goal.returns-clause-node
 returns-clause-node g c = λ f t. let w : Compares g.T.PartialEq.eq f = record { at = t } in (nodes w).at

@@ -8,7 +8,7 @@ use denote.Enum.Bare.{Bare, sameb, same_true, true_same}
 use lib.Pointwise.{pointwise, bytes_decides}
 use Rattle.graphql_nodes.specs.NameView.{NameView}
 use Rattle.graphql_nodes.specs.NodeView.{NodeView}
-use Rattle.graphql_ast.specs.Bare.{bare_name, bare_node}
+use Rattle.graphql_nodes.specs.Comparing.{bare_name, bare_node}
 
 -- at two values, the test E is true exactly where f gives them one value
 abbrev pub At : {A B : Type 0} → (A → A → Bool) → (A → B) → A → A → Type 0

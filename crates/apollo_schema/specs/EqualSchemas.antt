@@ -1,0 +1,24 @@
+-- Schemas that are equal: GraphQL specification of October 2021, section 3. Their definitions are equal, and they have
+-- equal types and directive definitions under each name, in any order. Places, origins and sources are left out.
+use Rattle.std.specs.Prelude.{◌≡◌, ℕ, List, Option}
+use Rattle.graphql_nodes.specs.Comparing.{entries_by_text}
+use Rattle.graphql_ast.specs.BareTypeSystem.{bare_directive_definition}
+use Rattle.graphql_ast.specs.declared.type_system.DirectiveDefinition.{DirectiveDefinition}
+use Rattle.apollo_types.specs.BareTypes.{BareType, BareSchemaDefinition, bare_extended_type, bare_schema_definition}
+use Rattle.apollo_schema.specs.declared.schema.Schema.{Schema}
+
+-- what `==` compares of a schema: its definition, and what stands under each name
+pub record BareSchema : Type 0 where
+  pub definition : BareSchemaDefinition
+  pub directive_definitions : List ℕ → Option DirectiveDefinition
+  pub types : List ℕ → Option BareType
+
+abbrev pub bare_schema : Schema → BareSchema
+bare_schema s = record {
+  definition = bare_schema_definition s.schema_definition.value;
+  directive_definitions = entries_by_text (λ d. bare_directive_definition d.value) s.directive_definitions;
+  types = entries_by_text bare_extended_type s.types;
+}
+
+abbrev pub AreEqualSchemas : Schema → Schema → Type 0
+AreEqualSchemas a b = bare_schema a ≡ bare_schema b

@@ -1,0 +1,20 @@
+-- Equality of places and source files.
+use Rattle.std.proofs.Common.{refl}
+use Rattle.graphql_nodes.specs.declared.source.FileId.{FileId}
+use Rattle.graphql_nodes.specs.declared.source.SourceSpan.{SourceSpan}
+use Rattle.graphql_nodes.specs.declared.source.SourceFile.{SourceFile}
+use Rattle.graphql_nodes.specs.contracts.source.FileIdPartialEq.TheImpl as file_id
+use Rattle.graphql_nodes.specs.contracts.source.SourceSpanPartialEq.TheImpl as source_span
+use Rattle.graphql_nodes.specs.contracts.source.SourceFilePartialEq.TheImpl as source_file
+use Rattle.graphql_nodes.proofs.Comparisons.{Compares, of_part, and_then, made, numbers, texts}
+
+pub file_ids : Compares file_id.ghosts.eq (λ (id : FileId). id)
+file_ids = made (λ p. record { 0 = p }) (λ id. id.0) (λ _. refl) (of_part (λ (id : FileId). id.0) numbers)
+
+pub source_spans : Compares source_span.ghosts.eq (λ (s : SourceSpan). s)
+source_spans = made (λ p. record { file = p.0; start = p.1.0; end = p.1.1 }) (λ s. (s.file, (s.start, s.end))) (λ _. refl)
+    (and_then (of_part (λ (s : SourceSpan). s.file) file_ids) (and_then (of_part (λ (s : SourceSpan). s.start) numbers) (of_part (λ (s : SourceSpan). s.end) numbers)))
+
+pub source_files : Compares source_file.ghosts.eq (λ (f : SourceFile). f)
+source_files = made (λ p. record { path = p.0; text = p.1 }) (λ f. (f.path, f.text)) (λ _. refl)
+    (and_then (of_part (λ (f : SourceFile). f.path) texts) (of_part (λ (f : SourceFile). f.text) texts))

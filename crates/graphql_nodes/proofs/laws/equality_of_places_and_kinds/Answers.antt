@@ -1,0 +1,24 @@
+use Rattle.graphql_nodes.specs.contracts.operation_type.OperationType as operation
+use Rattle.graphql_nodes.specs.contracts.type_kind.TypeKind as kind
+use Rattle.graphql_nodes.specs.contracts.directive_location.DirectiveLocation as location
+use Rattle.graphql_nodes.proofs.Comparisons.{kinds}
+use Rattle.graphql_nodes.proofs.PlaceEquality.{file_ids, source_spans, source_files}
+use Rattle.graphql_nodes.proofs.laws.equality_of_places_and_kinds.Goals as goal
+
+pub returns-clause-file_id : goal.returns-clause-file_id
+returns-clause-file_id c = file_ids.at
+
+pub returns-clause-source_span : goal.returns-clause-source_span
+returns-clause-source_span c = source_spans.at
+
+pub returns-clause-source_file : goal.returns-clause-source_file
+returns-clause-source_file c = source_files.at
+
+pub returns-clause-operation_type : goal.returns-clause-operation_type
+returns-clause-operation_type c = (kinds operation.the_type tt).at
+
+pub returns-clause-type_kind : goal.returns-clause-type_kind
+returns-clause-type_kind c = (kinds kind.the_type tt).at
+
+pub returns-clause-directive_location : goal.returns-clause-directive_location
+returns-clause-directive_location c = (kinds location.the_type tt).at
