@@ -1,7 +1,7 @@
 -- What a type reference names: GraphQL specification of October 2021, section 2.11.
 use Rattle.std.specs.Prelude.{Bool, true, false}
 use Rattle.graphql_nodes.specs.NameView.{NameView}
-use Rattle.graphql_ast.specs.declared.type_reference.Type.{«Type» as TypeReference, fold-Type, out-Type}
+use Rattle.graphql_ast.specs.declared.type_reference.Type.{«Type» as TypeReference, NonNullNamed, NonNullList, fold-Type, out-Type}
 use Rattle.graphql_ast.specs.declared.type_reference.Type.TheOpen.{Type-F}
 
 -- the name at one level, where what is inside a list has given its own
@@ -24,3 +24,13 @@ required_step (Type-F.NonNullList n) = true
 -- null is no value of the type
 abbrev pub is_required : TypeReference → Bool
 is_required t = required_step (out-Type t)
+
+abbrev pub non_null_step : Type-F TypeReference → TypeReference
+non_null_step (Type-F.Named n) = NonNullNamed n
+non_null_step (Type-F.NonNullNamed n) = NonNullNamed n
+non_null_step (Type-F.List n) = NonNullList n
+non_null_step (Type-F.NonNullList n) = NonNullList n
+
+-- the type, but that null is no value of it
+abbrev pub made_non_null : TypeReference → TypeReference
+made_non_null t = non_null_step (out-Type t)

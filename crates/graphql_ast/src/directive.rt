@@ -21,6 +21,15 @@ impl Drop for Argument {
     }
 }
 
+impl Argument {
+    /// The argument of this name with this value.
+    pub fn new(name: Name, value: Node<Value>) -> Argument
+        ensures { result ≡ record { name = name; value = value } }
+    {
+        Argument { name, value }
+    }
+}
+
 /// An applied directive.
 #[derive(PartialEq, Eq, Hash, Clone)]
 pub struct Directive {
@@ -34,6 +43,18 @@ impl Drop for Directive {
             name: _,
             arguments: _,
         } = self;
+    }
+}
+
+impl Directive {
+    /// The directive of this name, without arguments.
+    pub fn new(alloc: Global, name: Name) -> Directive
+        ensures { result ≡ record { name = name; arguments = [] } }
+    {
+        Directive {
+            name,
+            arguments: Items::new(alloc),
+        }
     }
 }
 

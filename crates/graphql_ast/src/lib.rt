@@ -7,9 +7,33 @@ pub mod argument;
 pub mod definition;
 pub mod directive;
 pub mod document;
+mod empty_definitions;
+mod from_nodes;
 pub mod laws;
 pub mod operation;
 pub mod selection;
 pub mod type_reference;
 pub mod type_system;
 pub mod value;
+
+pub use crate::argument::ArgumentByNameError;
+pub use crate::definition::Definition;
+pub use crate::directive::{Argument, Directive, DirectiveList};
+pub use crate::document::Document;
+pub use crate::operation::{FragmentDefinition, OperationDefinition, VariableDefinition};
+pub use crate::selection::{Field, FragmentSpread, InlineFragment, Selection};
+pub use crate::type_reference::Type;
+pub use crate::type_system::{
+    DirectiveDefinition, EnumTypeDefinition, EnumTypeExtension, EnumValueDefinition,
+    FieldDefinition, InputObjectTypeDefinition, InputObjectTypeExtension, InputValueDefinition,
+    InterfaceTypeDefinition, InterfaceTypeExtension, ObjectTypeDefinition, ObjectTypeExtension,
+    ScalarTypeDefinition, ScalarTypeExtension, SchemaDefinition, SchemaExtension,
+    UnionTypeDefinition, UnionTypeExtension,
+};
+pub use crate::value::Value;
+pub use graphql_nodes::collections::items::Items;
+pub use graphql_nodes::directive_location::DirectiveLocation;
+pub use graphql_nodes::name::{Name, NamedType};
+pub use graphql_nodes::node::Node;
+pub use graphql_nodes::node_str::NodeStr;
+pub use graphql_nodes::operation_type::OperationType;

@@ -1,4 +1,5 @@
 //! Operations and fragments: GraphQL specification of October 2021, sections 2.3, 2.8 and 2.10.
+ghost use Rattle.std.specs.Prelude.{◌≡◌, [], None};
 
 use crate::directive::DirectiveList;
 use crate::selection::Selection;
@@ -8,6 +9,7 @@ use graphql_nodes::collections::items::Items;
 use graphql_nodes::name::{Name, NamedType};
 use graphql_nodes::node::Node;
 use graphql_nodes::operation_type::OperationType;
+use std::alloc::Global;
 
 /// A query, mutation or subscription, anonymous where it has no name.
 #[derive(PartialEq, Eq, Hash, Clone)]
@@ -31,6 +33,21 @@ impl Drop for OperationDefinition {
     }
 }
 
+impl OperationDefinition {
+    /// An anonymous operation of this type, without variables, directives and selections.
+    pub fn new(alloc: Global, operation_type: OperationType) -> OperationDefinition
+        ensures { result ≡ record { operation_type = operation_type; name = None; variables = []; directives = record { 0 = [] }; selection_set = [] } }
+    {
+        OperationDefinition {
+            operation_type,
+            name: None,
+            variables: Items::new(alloc),
+            directives: DirectiveList::new(alloc),
+            selection_set: Items::new(alloc),
+        }
+    }
+}
+
 /// A variable of an operation.
 #[derive(PartialEq, Eq, Hash, Clone)]
 pub struct VariableDefinition {
@@ -51,6 +68,20 @@ impl Drop for VariableDefinition {
     }
 }
 
+impl VariableDefinition {
+    /// A variable of this name and type, without default value and directives.
+    pub fn new(alloc: Global, name: Name, ty: Node<Type>) -> VariableDefinition
+        ensures { result ≡ record { name = name; ty = ty; default_value = None; directives = record { 0 = [] } } }
+    {
+        VariableDefinition {
+            name,
+            ty,
+            default_value: None,
+            directives: DirectiveList::new(alloc),
+        }
+    }
+}
+
 /// A named fragment.
 #[derive(PartialEq, Eq, Hash, Clone)]
 pub struct FragmentDefinition {
@@ -68,5 +99,19 @@ impl Drop for FragmentDefinition {
             directives: _,
             selection_set: _,
         } = self;
+    }
+}
+
+impl FragmentDefinition {
+    /// A fragment of this name on this type, without directives and selections.
+    pub fn new(alloc: Global, name: Name, type_condition: NamedType) -> FragmentDefinition
+        ensures { result ≡ record { name = name; type_condition = type_condition; directives = record { 0 = [] }; selection_set = [] } }
+    {
+        FragmentDefinition {
+            name,
+            type_condition,
+            directives: DirectiveList::new(alloc),
+            selection_set: Items::new(alloc),
+        }
     }
 }

@@ -1,11 +1,11 @@
 //! Selections: GraphQL specification of October 2021, sections 2.4 to 2.8.
-ghost use Rattle.std.specs.Prelude.{◌≡◌, IfOk};
+ghost use Rattle.std.specs.Prelude.{◌≡◌, IfOk, [], None, Some};
 
 use crate::directive::{Argument, DirectiveList};
 use graphql_nodes::collections::items::Items;
 use graphql_nodes::name::{Name, NamedType};
 use graphql_nodes::node::Node;
-use std::alloc::AllocError;
+use std::alloc::{AllocError, Global};
 
 /// One entry of a selection set.
 #[cycle(selection)]
@@ -40,6 +40,21 @@ impl Drop for Field {
     }
 }
 
+impl Field {
+    /// A field of this name, without alias, arguments, directives and selections.
+    pub fn new(alloc: Global, name: Name) -> Field
+        ensures { result ≡ record { alias = None; name = name; arguments = []; directives = record { 0 = [] }; selection_set = [] } }
+    {
+        Field {
+            alias: None,
+            name,
+            arguments: Items::new(alloc),
+            directives: DirectiveList::new(alloc),
+            selection_set: Items::new(alloc),
+        }
+    }
+}
+
 /// The selections of a named fragment.
 #[derive(PartialEq, Eq, Hash, Clone)]
 pub struct FragmentSpread {
@@ -53,6 +68,18 @@ impl Drop for FragmentSpread {
             fragment_name: _,
             directives: _,
         } = self;
+    }
+}
+
+impl FragmentSpread {
+    /// The selections of the fragment of this name, without directives.
+    pub fn new(alloc: Global, fragment_name: Name) -> FragmentSpread
+        ensures { result ≡ record { fragment_name = fragment_name; directives = record { 0 = [] } } }
+    {
+        FragmentSpread {
+            fragment_name,
+            directives: DirectiveList::new(alloc),
+        }
     }
 }
 
@@ -73,6 +100,30 @@ impl Drop for InlineFragment {
             directives: _,
             selection_set: _,
         } = self;
+    }
+}
+
+impl InlineFragment {
+    /// An inline fragment on this type, without directives and selections.
+    pub fn with_type_condition(alloc: Global, type_condition: NamedType) -> InlineFragment
+        ensures { result ≡ record { type_condition = Some type_condition; directives = record { 0 = [] }; selection_set = [] } }
+    {
+        InlineFragment {
+            type_condition: Some(type_condition),
+            directives: DirectiveList::new(alloc),
+            selection_set: Items::new(alloc),
+        }
+    }
+
+    /// An inline fragment on the type that it stands in, without directives and selections.
+    pub fn without_type_condition(alloc: Global) -> InlineFragment
+        ensures { result ≡ record { type_condition = None; directives = record { 0 = [] }; selection_set = [] } }
+    {
+        InlineFragment {
+            type_condition: None,
+            directives: DirectiveList::new(alloc),
+            selection_set: Items::new(alloc),
+        }
     }
 }
 

@@ -3,7 +3,7 @@ ghost use Rattle.std.specs.Prelude.{◌≡◌, IfOk, ◌↔◌, IsTrue};
 
 use graphql_nodes::collections::boxed::Boxed;
 use graphql_nodes::name::NamedType;
-use std::alloc::AllocError;
+use std::alloc::{AllocError, Global};
 
 /// A reference to a type: a name, or a list of a type, either of which may be non-null.
 #[derive(Drop, PartialEq, Eq, Hash)]
@@ -15,7 +15,33 @@ pub enum Type {
 }
 
 impl Type {
-    ghost use Rattle.graphql_ast.specs.TypeReferences.{inner_name, is_required};
+    ghost use Rattle.graphql_ast.specs.TypeReferences.{inner_name, is_required, made_non_null};
+    ghost use Rattle.graphql_ast.specs.declared.type_reference.Type.{Named, «List» as ListOf};
+
+    /// The type of this name.
+    pub fn named(name: NamedType) -> Type
+        ensures { result ≡ Named name }
+    {
+        Type::Named(name)
+    }
+
+    /// The type of lists of this type. The error is want of memory.
+    pub fn list(self, alloc: Global) -> Result<Type, AllocError>
+        ensures { IfOk result (λ list. list ≡ ListOf self) }
+    {
+        Ok(Type::List(Boxed::new(alloc, self)?))
+    }
+
+    /// The same type without null.
+    pub fn non_null(self) -> Type
+        ensures { result ≡ made_non_null self }
+    {
+        match self {
+            Type::Named(name) => Type::NonNullNamed(name),
+            Type::List(inner) => Type::NonNullList(inner),
+            Type::NonNullNamed(_) | Type::NonNullList(_) => self,
+        }
+    }
 
     /// The name inside all lists.
     pub fn inner_named_type(&self) -> &NamedType
