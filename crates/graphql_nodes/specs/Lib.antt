@@ -1,5 +1,7 @@
+pub mod BoxedLending
 pub mod BuiltIn
 pub mod Clones
+pub mod ItemsLending
 pub mod KeySets
 pub mod KindTexts
 pub mod LocationTexts
