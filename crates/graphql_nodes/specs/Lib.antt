@@ -1,6 +1,8 @@
+pub mod BoxedLending
 pub mod BuiltIn
 pub mod Clones
 pub mod Comparing
+pub mod ItemsLending
 pub mod KeySets
 pub mod KindTexts
 pub mod LocationTexts

@@ -5,6 +5,7 @@ ghost use Rattle.std.specs.Cmp.Rules.{hashing};
 ghost use Rattle.std.specs.Cmp.Lexicographic.{pointwise, slice_cmp, nat_list_eq_equiv, nat_list_cmp_total, texts_ties, texts_po};
 ghost use Rattle.std.specs.Cmp;
 ghost use Rattle.std.specs.Hash as fed;
+ghost use Rattle.std.specs.Fmt.{debug_str};
 ghost use Rattle.std.specs.Ordering.{nat_cmp};
 ghost use Rattle.std.proofs.Common.{rules, refl};
 ghost use Rattle.graphql_nodes.specs.NameSyntax.{IsName, IsNameStart, IsNameContinue};
@@ -39,6 +40,16 @@ pub enum NameError {
     Invalid(#[from] InvalidNameError),
     #[error("out of memory")]
     Memory,
+}
+
+impl From<AllocError> for NameError {
+    ghost use Rattle.graphql_nodes.specs.declared.name.NameError.TheVariants.{Memory};
+
+    ghost from_gives = { λ _ error. error ≡ Memory };
+
+    fn from(_: AllocError) -> NameError {
+        NameError::Memory
+    }
 }
 
 /// A GraphQL name, and the place where it stands. Copies share the text.
@@ -95,18 +106,12 @@ impl Name {
         ensures refused { IfErr result (IsNameRefusal text.now) }
     {
         if !Name::is_valid_syntax(text) {
-            return match Text::from_str(alloc, text) {
-                Ok(name) => Err(NameError::Invalid(InvalidNameError {
-                    name,
-                    location: None,
-                })),
-                Err(_) => Err(NameError::Memory),
-            };
+            return Err(NameError::Invalid(InvalidNameError {
+                name: Text::from_str(alloc, text)?,
+                location: None,
+            }));
         }
-        match Name::new_unchecked(alloc, text) {
-            Ok(name) => Ok(name),
-            Err(_) => Err(NameError::Memory),
-        }
+        Ok(Name::new_unchecked(alloc, text)?)
     }
 
     /// Whether the text is a GraphQL name: a letter or `_`, then any number of letters, digits and `_`.
@@ -222,7 +227,9 @@ impl fmt::Display for Name {
 }
 
 impl fmt::Debug for Name {
+    ghost debug_output = { λ n. debug_str n.text };
+
     fn fmt<W: fmt::Write>(&self, f: &mut fmt::Formatter<W>) -> fmt::Result {
-        fmt::Debug::fmt(&self.shared, f)
+        fmt::Debug::fmt(&self.as_str(), f)
     }
 }

@@ -8,6 +8,7 @@ ghost use Rattle.std.proofs.Common.{rules};
 
 use crate::source::{FileId, SourceSpan};
 use std::alloc::{AllocError, Global};
+use std::fmt;
 use std::hash::{Hash, Hasher};
 use std::marker::Model;
 use std::ops::Deref;
@@ -124,6 +125,14 @@ impl<T: Drop + Clone> Node<T> {
     {
         let held = Rc::make_mut(&mut self.shared)?;
         Ok(&mut held.value)
+    }
+}
+
+impl<T: fmt::Debug> fmt::Debug for Node<T> {
+    ghost debug_output = { λ n. T.debug_output n.value };
+
+    fn fmt<W: fmt::Write>(&self, f: &mut fmt::Formatter<W>) -> fmt::Result {
+        fmt::Debug::fmt(&self.shared.value, f)
     }
 }
 

@@ -5,10 +5,12 @@ ghost use Rattle.std.specs.Cmp.Rules.{hashing};
 ghost use Rattle.std.specs.Cmp.Lexicographic.{pointwise, nat_list_eq_equiv};
 ghost use Rattle.std.specs.Cmp;
 ghost use Rattle.std.specs.Hash as fed;
+ghost use Rattle.std.specs.Fmt.{debug_str};
 ghost use Rattle.std.proofs.Common.{rules};
 
 use crate::source::SourceSpan;
 use std::alloc::{AllocError, Global};
+use std::fmt;
 use std::hash::{Hash, Hasher};
 use std::marker::Model;
 use std::rc::RcStr;
@@ -107,5 +109,13 @@ impl Hash for NodeStr {
 
     fn hash<H: Hasher>(&self, state: &mut H) {
         self.shared.hash(state)
+    }
+}
+
+impl fmt::Debug for NodeStr {
+    ghost debug_output = { λ n. debug_str n.text };
+
+    fn fmt<W: fmt::Write>(&self, f: &mut fmt::Formatter<W>) -> fmt::Result {
+        fmt::Debug::fmt(&self.as_str(), f)
     }
 }

@@ -23,7 +23,7 @@ pub struct SourceSpan {
 }
 
 /// A source file: the path that it was read from, and its text.
-#[derive(PartialEq, Eq, Hash, Clone)]
+#[derive(Debug, PartialEq, Eq, Hash, Clone)]
 pub struct SourceFile {
     pub path: Text,
     pub text: Text,

@@ -7,9 +7,17 @@
 #[cfg(test)]
 mod containers;
 #[cfg(test)]
+mod lists;
+#[cfg(test)]
 mod names;
 #[cfg(test)]
 mod nodes;
+#[cfg(test)]
+mod places;
+#[cfg(test)]
+mod shown;
+#[cfg(test)]
+mod single_values;
 #[cfg(test)]
 mod tables;
 #[cfg(test)]

@@ -1,12 +1,14 @@
 //! Single values behind a pointer, as a type needs them that holds itself.
 ghost use Rattle.std.specs.Prelude.{◌≡◌, IfOk};
+ghost use Rattle.std.specs.Borrow.{sem};
 ghost use Rattle.std.specs.Cmp.Rules.{hashing};
 ghost use Rattle.std.proofs.Common.{rules};
 
 use std::alloc::{AllocError, Global};
+use std::fmt;
 use std::hash::{Hash, Hasher};
 use std::marker::Model;
-use std::ops::Deref;
+use std::ops::{Deref, DerefMut};
 
 /// A `Box` that contracts see as its value.
 pub struct Boxed<T> {
@@ -79,6 +81,36 @@ impl<T> Deref for Boxed<T> {
         ensures { result.now ≡ self.now }
     {
         &self.inner
+    }
+}
+
+impl<T> DerefMut for Boxed<T> {
+    ghost use Rattle.graphql_nodes.specs.BoxedLending.{LendsInner};
+
+    ghost deref_mut_gives = { λ b x. x ≡ b };
+
+    fn deref_mut(&mut self) -> &mut T
+        ensures* writes_back { sem 𝓛 (LendsInner T.row self.entry result) }
+        ensures value { result.now ≡ self.old }
+    {
+        &mut self.inner
+    }
+}
+
+impl<T: Clone + Drop> Clone for Boxed<T> {
+    ghost is_clone = { T.is_clone };
+
+    fn clone(&self) -> Result<Boxed<T>, AllocError> {
+        let value = (*self.inner).clone()?;
+        self.same_allocator(value)
+    }
+}
+
+impl<T: fmt::Debug> fmt::Debug for Boxed<T> {
+    ghost debug_output = { T.debug_output };
+
+    fn fmt<W: fmt::Write>(&self, f: &mut fmt::Formatter<W>) -> fmt::Result {
+        fmt::Debug::fmt(&self.inner, f)
     }
 }
 

@@ -1,5 +1,5 @@
 //! Sets in the order of insertion.
-ghost use Rattle.std.specs.Prelude.{◌≡◌, ◌==◌, ◌<◌, ◌^◌, [], length, slice_get, not, IfOk, IfErr, OnOk, OnErr, true, false};
+ghost use Rattle.std.specs.Prelude.{◌≡◌, ◌==◌, ◌<◌, ◌^◌, [], length, position, slice_get, Some, option_map, IfSome, not, IfOk, IfErr, OnOk, OnErr, true, false};
 ghost use Rattle.std.specs.Cmp;
 ghost use Rattle.std.specs.Option.{option_copied};
 ghost use Rattle.std.specs.Map.Iter.{ShowsInOrder, deref};
@@ -9,6 +9,7 @@ ghost use Rattle.graphql_nodes.specs.KeySets.{set_eq, set_eq_equiv, insert_key, 
 use indexmap::IndexSet;
 use indexmap::set::Iter;
 use std::alloc::{AllocError, AllocFailed, Global};
+use std::fmt;
 use std::hash::Hash;
 use std::marker::Model;
 
@@ -84,6 +85,29 @@ impl<T: Eq + Hash> KeySet<T> {
         self.as_slice().get(index)
     }
 
+    /// The place of the key equal to this one, if there is one.
+    pub fn get_index_of(&self, key: &T) -> Option<usize>
+        ensures { result ≡ position (T.eq key.now) self.now }
+    {
+        self.set.get_index_of(key)
+    }
+
+    /// The place of the key equal to this one, and the key that is there, if there is one.
+    pub fn get_full(&self, key: &T) -> Option<(usize, &T)>
+        ensures place { option_map (λ k. k.0) result ≡ position (T.eq key.now) self.now }
+        ensures key { option_map (λ k. k.1.now) result ≡ find (T.eq key.now) self.now }
+        ensures stored { IfSome result (λ k. slice_get self.now k.0 ≡ Some k.1.now) }
+    {
+        self.set.get_full(key)
+    }
+
+    /// The first key, if there is one.
+    pub fn first(&self) -> Option<&T>
+        ensures { option_copied result ≡ slice_get self.now 0 }
+    {
+        self.set.first()
+    }
+
     /// The keys, in order.
     pub fn as_slice(&self) -> &[T]
         ensures keys { result.now ≡ self.now }
@@ -139,6 +163,12 @@ impl<T: Eq + Hash + Drop> KeySet<T> {
         ensures unique { IsDistinct T.eq self.new }
     {
         self.set.shift_remove(key)
+    }
+}
+
+impl<T: Eq + Hash + fmt::Debug> fmt::Debug for KeySet<T> {
+    fn fmt<W: fmt::Write>(&self, f: &mut fmt::Formatter<W>) -> fmt::Result {
+        fmt::Debug::fmt(&self.set, f)
     }
 }
 

@@ -4,6 +4,7 @@ ghost use Rattle.std.specs.Cmp.Rules.{hashing};
 ghost use Rattle.std.proofs.Common.{rules};
 
 use std::alloc::{AllocError, Global};
+use std::fmt;
 use std::hash::{Hash, Hasher};
 use std::marker::Model;
 use std::ops::Deref;
@@ -65,6 +66,14 @@ impl<T> Deref for Shared<T> {
         ensures { result.now ≡ self.now }
     {
         Rc::as_ref(&self.inner)
+    }
+}
+
+impl<T: fmt::Debug> fmt::Debug for Shared<T> {
+    ghost debug_output = { T.debug_output };
+
+    fn fmt<W: fmt::Write>(&self, f: &mut fmt::Formatter<W>) -> fmt::Result {
+        fmt::Debug::fmt(&self.inner, f)
     }
 }
 

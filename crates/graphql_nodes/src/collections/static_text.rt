@@ -2,13 +2,18 @@
 ghost use Rattle.std.specs.Prelude.{◌≡◌, nat_eq, Some};
 ghost use Rattle.std.specs.Cmp.Lexicographic.{pointwise, nat_list_eq_equiv};
 ghost use Rattle.std.specs.Cmp;
+ghost use Rattle.std.specs.Cmp.Rules.{hashing};
+ghost use Rattle.std.specs.Hash as fed;
+ghost use Rattle.std.specs.Fmt.{debug_str};
+ghost use Rattle.std.proofs.Common.{rules};
 
 use std::alloc::AllocError;
 use std::fmt;
+use std::hash::{Hash, Hasher};
 use std::marker::Model;
 
 /// A `&'static str` that contracts see as its bytes.
-#[derive(Debug, Drop)]
+#[derive(Drop)]
 pub struct StaticText {
     inner: &'static str,
 }
@@ -37,6 +42,14 @@ impl StaticText {
     }
 }
 
+impl From<&'static str> for StaticText {
+    ghost from_gives = { λ text t. t ≡ text.now };
+
+    fn from(text: &'static str) -> StaticText {
+        StaticText::new(text)
+    }
+}
+
 impl Clone for StaticText {
     ghost is_clone = { λ a b. b ≡ a };
 
@@ -59,10 +72,28 @@ impl Eq for StaticText {
     ghost laws = { nat_list_eq_equiv };
 }
 
+impl Hash for StaticText {
+    ghost hash_input = { λ t. fed.str t };
+
+    ghost respects_eq = { Prim.search (hashing, rules) };
+
+    fn hash<H: Hasher>(&self, state: &mut H) {
+        self.inner.hash(state)
+    }
+}
+
 impl fmt::Display for StaticText {
     ghost output = { λ t. Some t };
 
     fn fmt<W: fmt::Write>(&self, f: &mut fmt::Formatter<W>) -> fmt::Result {
         fmt::Display::fmt(self.inner, f)
+    }
+}
+
+impl fmt::Debug for StaticText {
+    ghost debug_output = { debug_str };
+
+    fn fmt<W: fmt::Write>(&self, f: &mut fmt::Formatter<W>) -> fmt::Result {
+        fmt::Debug::fmt(&self.inner, f)
     }
 }

@@ -1,16 +1,17 @@
 //! Maps in the order of insertion.
-ghost use Rattle.std.specs.Prelude.{◌≡◌, ◌==◌, ◌<◌, ◌+◌, ◌^◌, [], ◌∷◌, ◌++◌, length, Some, None, IsSome, IfSome, IfOk, IfErr, OnOk, OnErr, is_some, option_map, if◌then◌else◌};
+ghost use Rattle.std.specs.Prelude.{◌≡◌, ◌==◌, ◌<◌, ◌+◌, ◌^◌, [], ◌∷◌, ◌++◌, length, position, slice_get, Some, None, IsSome, IfSome, IfOk, IfErr, OnOk, OnErr, is_some, option_map, if◌then◌else◌};
 ghost use Rattle.std.specs.Borrow.{sem};
 ghost use Rattle.std.specs.Cmp;
 ghost use Rattle.std.specs.Cmp.{partial_equiv_from_equiv};
 ghost use Rattle.std.specs.HashMap.Eq.{hash_map_eq_symm, hash_map_eq_trans, hash_map_eq_refl};
 ghost use Rattle.std.specs.Map.Iter.{ShowsInOrder, ShowsValuesInOrder, deref, deref_pair};
 ghost use Rattle.std.specs.Option.{option_copied, option_copied_mut};
-ghost use Rattle.graphql_nodes.specs.Tables.{keys_of, values_of, lookup, lookup_key, set_value, remove_entry, insert_entry, as_map, table_eq, HasUniqueKeys, IsTableClone};
+ghost use Rattle.graphql_nodes.specs.Tables.{keys_of, values_of, lookup, lookup_key, set_value, remove_entry, insert_entry, set_value_at, as_map, table_eq, HasUniqueKeys, IsTableClone};
 
 use indexmap::IndexMap;
 use indexmap::map::{Iter, Keys, Values};
 use std::alloc::{AllocError, AllocFailed, Global};
+use std::fmt;
 use std::hash::Hash;
 use std::marker::Model;
 
@@ -37,7 +38,7 @@ impl<K: Eq + Hash, V> Model for Table<K, V> {
 }
 
 impl<K: Eq + Hash, V> Table<K, V> {
-    ghost use Rattle.graphql_nodes.specs.TableLending.{LendsEntry};
+    ghost use Rattle.graphql_nodes.specs.TableLending.{LendsEntry, LendsPlace};
 
     /// No entry.
     pub fn new(alloc: Global) -> Table<K, V>
@@ -120,6 +121,47 @@ impl<K: Eq + Hash, V> Table<K, V> {
         self.map.get_mut(key)
     }
 
+    /// The place of the entry with the key, if there is one.
+    pub fn get_index_of(&self, key: &K) -> Option<usize>
+        ensures { result ≡ position (K.eq key.now) (keys_of self.now) }
+    {
+        self.map.get_index_of(key)
+    }
+
+    /// The place of the entry with the key, the key that is there, and its value, if there is such an entry.
+    pub fn get_full(&self, key: &K) -> Option<(usize, &K, &V)>
+        ensures place { option_map (λ e. e.0) result ≡ position (K.eq key.now) (keys_of self.now) }
+        ensures key { option_map (λ e. e.1.now) result ≡ lookup_key (K.eq key.now) self.now }
+        ensures value { option_map (λ e. e.2.now) result ≡ lookup (K.eq key.now) self.now }
+        ensures entry { IfSome result (λ e. slice_get self.now e.0 ≡ Some (e.1.now, e.2.now)) }
+    {
+        self.map.get_full(key)
+    }
+
+    /// The entry at a place, if there is one.
+    pub fn get_index(&self, index: usize) -> Option<(&K, &V)>
+        ensures { option_map deref_pair result ≡ slice_get self.now index }
+    {
+        self.map.get_index(index)
+    }
+
+    /// The value at a place, to write to, if there is an entry. Its key and the rest of the table stay.
+    #[tactic(auto, using(crate::proofs::TableLemmas::as_found_at))]
+    pub fn get_index_mut(&mut self, index: usize) -> Option<&mut V>
+        ensures* writes_back { sem 𝓛 (LendsPlace K.row V.row K.Hash self.entry index result) }
+        ensures value { option_copied_mut result ≡ slice_get (values_of self.old) index }
+        ensures as_found { IfSome result (λ x. set_value_at self.old index x.now ≡ self.old) }
+    {
+        self.map.get_index_mut(index)
+    }
+
+    /// The first entry, if there is one.
+    pub fn first(&self) -> Option<(&K, &V)>
+        ensures { option_map deref_pair result ≡ slice_get self.now 0 }
+    {
+        self.map.first()
+    }
+
     /// The entries, one by one, in order.
     pub fn iter(&self) -> Iter<'_, K, V>
         ensures rest { result ≡ self.now }
@@ -174,6 +216,12 @@ impl<K: Eq + Hash + Drop, V> Table<K, V> {
         ensures unique { HasUniqueKeys K.eq self.new }
     {
         self.map.shift_remove(key)
+    }
+}
+
+impl<K: Eq + Hash + fmt::Debug, V: fmt::Debug> fmt::Debug for Table<K, V> {
+    fn fmt<W: fmt::Write>(&self, f: &mut fmt::Formatter<W>) -> fmt::Result {
+        fmt::Debug::fmt(&self.map, f)
     }
 }
 

@@ -4,6 +4,7 @@ ghost use Rattle.std.specs.Cmp.Rules.{hashing};
 ghost use Rattle.std.specs.Cmp.Lexicographic.{pointwise, nat_list_eq_equiv};
 ghost use Rattle.std.specs.Cmp;
 ghost use Rattle.std.specs.Hash as fed;
+ghost use Rattle.std.specs.Fmt.{debug_str};
 ghost use Rattle.std.proofs.Common.{rules};
 
 use std::alloc::{AllocError, Global};
@@ -12,7 +13,6 @@ use std::hash::{Hash, Hasher};
 use std::marker::Model;
 
 /// A `String` that contracts see as its bytes.
-#[derive(Debug)]
 pub struct Text {
     inner: String,
 }
@@ -117,5 +117,13 @@ impl fmt::Display for Text {
 
     fn fmt<W: fmt::Write>(&self, f: &mut fmt::Formatter<W>) -> fmt::Result {
         fmt::Display::fmt(&self.inner, f)
+    }
+}
+
+impl fmt::Debug for Text {
+    ghost debug_output = { debug_str };
+
+    fn fmt<W: fmt::Write>(&self, f: &mut fmt::Formatter<W>) -> fmt::Result {
+        fmt::Debug::fmt(&self.inner, f)
     }
 }

@@ -1,0 +1,99 @@
+//! Tables and sets by place.
+
+use crate::shown::is_shown;
+use graphql_nodes::collections::key_set::KeySet;
+use graphql_nodes::collections::table::Table;
+use std::alloc::{AllocError, Global};
+
+/// The table of 5 with `a` and 3 with `b`.
+fn table(alloc: Global) -> Result<Table<i32, char>, AllocError> {
+    let mut table = Table::new(alloc);
+    table.insert(5, 'a')?;
+    table.insert(3, 'b')?;
+    Ok(table)
+}
+
+/// Whether that table reads so by place.
+fn are_entries(table: &Table<i32, char>) -> bool {
+    let entries = (table.first(), table.get_index(1), table.get_index(2));
+    entries == (Some((&5, &'a')), Some((&3, &'b')), None)
+}
+
+/// Whether the keys of that table have these places.
+fn are_places(table: &Table<i32, char>) -> bool {
+    let full = (table.get_full(&3), table.get_full(&9));
+    let places = (table.get_index_of(&3), table.get_index_of(&9));
+    full == (Some((1, &3, &'b')), None) && places == (Some(1), None)
+}
+
+/// Writes `z` to the entry at the place, if there is one.
+fn write_at(table: &mut Table<i32, char>, place: usize) -> bool {
+    match table.get_index_mut(place) {
+        Some(value) => {
+            *value = 'z';
+            true
+        }
+        None => false,
+    }
+}
+
+/// Whether the second entry of that table can be written, and no third.
+fn is_written(table: &mut Table<i32, char>) -> bool {
+    let are_written = (write_at(table, 1), write_at(table, 2));
+    are_written == (true, false) && table.values().eq(['a', 'z'].iter())
+}
+
+/// Whether that table is read and written by place.
+fn is_table_by_place(alloc: Global) -> Result<bool, AllocError> {
+    let mut table = table(alloc)?;
+    Ok(are_entries(&table) && are_places(&table) && is_written(&mut table))
+}
+
+#[test]
+fn tables_by_place(rt: HostRuntime) {
+    assert!(rt; is_table_by_place(rt.alloc()) == Ok(true));
+}
+
+/// The set of 5 and 3.
+fn set(alloc: Global) -> Result<KeySet<i32>, AllocError> {
+    let mut set = KeySet::new(alloc);
+    set.insert(5)?;
+    set.insert(3)?;
+    Ok(set)
+}
+
+/// Whether that set reads so by place.
+fn are_keys(set: &KeySet<i32>) -> bool {
+    let keys = (set.first(), set.get_index(1), set.get_index(2));
+    let places = (set.get_index_of(&3), set.get_index_of(&9));
+    keys == (Some(&5), Some(&3), None) && places == (Some(1), None)
+}
+
+/// Whether the keys of that set are found with their places.
+fn are_found(set: &KeySet<i32>) -> bool {
+    (set.get_full(&3), set.get_full(&9)) == (Some((1, &3)), None)
+}
+
+/// Whether that set is read by place.
+fn is_set_by_place(alloc: Global) -> Result<bool, AllocError> {
+    let set = set(alloc)?;
+    Ok(are_keys(&set) && are_found(&set))
+}
+
+#[test]
+fn sets_by_place(rt: HostRuntime) {
+    assert!(rt; is_set_by_place(rt.alloc()) == Ok(true));
+}
+
+/// Whether that table and that set are shown so.
+fn are_shown(alloc: Global) -> Result<bool, AllocError> {
+    let table = table(alloc)?;
+    let is_table = is_shown(alloc, &table, "{5: 'a', 3: 'b'}");
+    let set = set(alloc)?;
+    Ok(is_table && is_shown(alloc, &set, "{5, 3}"))
+}
+
+#[test]
+fn tables_and_sets_are_shown(rt: HostRuntime) {
+    assert!(rt; are_shown(rt.alloc()) == Ok(true));
+}
