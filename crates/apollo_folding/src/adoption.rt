@@ -18,12 +18,16 @@ use apollo_types::schema_definition::SchemaDefinition;
 use graphql_ast::definition::Definition;
 use graphql_ast::directive::DirectiveList;
 use graphql_ast::type_system as ast;
-use graphql_ast::type_system::SchemaExtension;
+use graphql_ast::type_system::{
+    EnumTypeDefinition, InputObjectTypeDefinition, InterfaceTypeDefinition, ObjectTypeDefinition,
+    ScalarTypeDefinition, SchemaExtension, UnionTypeDefinition,
+};
 use graphql_nodes::collections::items::Items;
 use graphql_nodes::collections::table::Table;
 use graphql_nodes::name::{Name, NamedType};
 use graphql_nodes::node::Node;
 use graphql_nodes::operation_type::OperationType;
+use graphql_nodes::source::SourceSpan;
 use std::alloc::{AllocError, Global};
 
 /// The empty definition of the kind of an extension, with its name and at its place.
@@ -31,65 +35,30 @@ fn empty_definition(alloc: Global, extension: &PartView<'_>) -> Result<Definitio
     ensures { IfOk result (λ made. item_of made ≡ Defined (adopted_part (part_seen extension.now))) }
 {
     let name = extension.name.clone()?;
-    let directives = DirectiveList::new(alloc);
     let place = extension.location;
     match extension.body {
-        BodyView::Scalar => {
-            let empty = ast::ScalarTypeDefinition {
-                description: None,
-                name,
-                directives,
-            };
-            Ok(Definition::ScalarTypeDefinition(Node::new_opt_location(alloc, empty, place)?))
-        }
-        BodyView::Object(_, _) => {
-            let empty = ast::ObjectTypeDefinition {
-                description: None,
-                name,
-                implements_interfaces: Items::new(alloc),
-                directives,
-                fields: Items::new(alloc),
-            };
-            Ok(Definition::ObjectTypeDefinition(Node::new_opt_location(alloc, empty, place)?))
-        }
+        BodyView::Scalar => at_place(alloc, ScalarTypeDefinition::new(alloc, name), place),
+        BodyView::Object(_, _) => at_place(alloc, ObjectTypeDefinition::new(alloc, name), place),
         BodyView::Interface(_, _) => {
-            let empty = ast::InterfaceTypeDefinition {
-                description: None,
-                name,
-                implements_interfaces: Items::new(alloc),
-                directives,
-                fields: Items::new(alloc),
-            };
-            Ok(Definition::InterfaceTypeDefinition(Node::new_opt_location(alloc, empty, place)?))
+            at_place(alloc, InterfaceTypeDefinition::new(alloc, name), place)
         }
-        BodyView::Union(_) => {
-            let empty = ast::UnionTypeDefinition {
-                description: None,
-                name,
-                directives,
-                members: Items::new(alloc),
-            };
-            Ok(Definition::UnionTypeDefinition(Node::new_opt_location(alloc, empty, place)?))
-        }
-        BodyView::Enum(_) => {
-            let empty = ast::EnumTypeDefinition {
-                description: None,
-                name,
-                directives,
-                values: Items::new(alloc),
-            };
-            Ok(Definition::EnumTypeDefinition(Node::new_opt_location(alloc, empty, place)?))
-        }
+        BodyView::Union(_) => at_place(alloc, UnionTypeDefinition::new(alloc, name), place),
+        BodyView::Enum(_) => at_place(alloc, EnumTypeDefinition::new(alloc, name), place),
         BodyView::InputObject(_) => {
-            let empty = ast::InputObjectTypeDefinition {
-                description: None,
-                name,
-                directives,
-                fields: Items::new(alloc),
-            };
-            Ok(Definition::InputObjectTypeDefinition(Node::new_opt_location(alloc, empty, place)?))
+            at_place(alloc, InputObjectTypeDefinition::new(alloc, name), place)
         }
     }
+}
+
+/// What a value becomes that stands at a place.
+fn at_place<T: Drop, D: From<Node<T>>>(
+    alloc: Global,
+    value: T,
+    place: Option<SourceSpan>,
+) -> Result<D, AllocError>
+    ensures { IfOk result (λ made. D.from_gives (record { value = value; location = place }) made) }
+{
+    Ok(D::from(Node::new_opt_location(alloc, value, place)?))
 }
 
 /// Adds the empty definition of the first of these that extends a type.
