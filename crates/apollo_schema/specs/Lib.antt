@@ -5,6 +5,5 @@ pub mod Built
 pub mod MeantSchema
 pub mod NamesLeft
 pub mod SchemaWriteOut
-pub mod Sources
 pub mod Stands
 pub mod Takes
