@@ -4,7 +4,7 @@ use Rattle.apollo_component.specs.declared.extension.ExtensionSource.{ExtensionS
 use Rattle.apollo_schema.specs.declared.schema_builder.SchemaBuilder.{SchemaBuilder}
 use Rattle.apollo_schema.specs.declared.state.State.{State}
 use Rattle.apollo_schema.specs.declared.state.State.TheVariants.{Open, Failed}
-use Rattle.apollo_schema.specs.Sources.{Files}
+use Rattle.graphql_nodes.specs.Sources.{Files}
 use Rattle.apollo_meaning.specs.Items.ListItems.{Added, added_items}
 use Rattle.apollo_schema.specs.Stands.{StateStands, StateFailed}
 

@@ -6,6 +6,5 @@ pub mod EqualSchemas
 pub mod MeantSchema
 pub mod NamesLeft
 pub mod SchemaWriteOut
-pub mod Sources
 pub mod Stands
 pub mod Takes

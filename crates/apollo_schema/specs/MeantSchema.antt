@@ -7,7 +7,7 @@ use Rattle.apollo_meaning.specs.Order.Places.{folding_order}
 use Rattle.apollo_meaning.specs.Types.Meaning.{AreTypesOf}
 use Rattle.apollo_meaning.specs.Schema.Definition.{schema_of, no_schema}
 use Rattle.apollo_meaning.specs.Directives.{directive_definitions, AreDirectivesOf}
-use Rattle.apollo_schema.specs.Sources.{Files}
+use Rattle.graphql_nodes.specs.Sources.{Files}
 use Rattle.apollo_meaning.specs.Faults.Collisions.{Fault}
 use Rattle.apollo_meaning.specs.Faults.ListFaults.{faults_of}
 use Rattle.apollo_meaning.specs.Schema.Whole.{whole}

@@ -6,7 +6,7 @@ ghost use Rattle.apollo_schema.specs.MeantSchema.{MeansSchema};
 ghost use Rattle.apollo_meaning.specs.Schema.Whole.{folds};
 ghost use Rattle.apollo_schema.specs.BuildAnswers.{IfFaults};
 ghost use Rattle.apollo_built_in.specs.BuiltInTable.{built_in_definitions};
-ghost use Rattle.apollo_schema.specs.Sources.{merged};
+ghost use Rattle.graphql_nodes.specs.Sources.{merged};
 ghost use Rattle.apollo_schema.specs.Stands.{HasStood};
 
 use crate::build_failure::BuildFailure;

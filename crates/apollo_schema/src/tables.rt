@@ -14,7 +14,7 @@ ghost use Rattle.apollo_folding.specs.Refusals.{RefusedAs};
 ghost use Rattle.apollo_folding.specs.Views.{part_seen, definition_seen};
 ghost use Rattle.apollo_schema.specs.Stands.{Stands};
 ghost use Rattle.apollo_schema.specs.Takes.{Takes, SpentBy, with_schema};
-ghost use Rattle.apollo_schema.specs.Sources.{merged};
+ghost use Rattle.graphql_nodes.specs.Sources.{merged};
 
 mod completion;
 mod copy;
@@ -41,7 +41,7 @@ use graphql_nodes::collections::static_text::StaticText;
 use graphql_nodes::collections::table::Table;
 use graphql_nodes::name::Name;
 use graphql_nodes::node::Node;
-use graphql_nodes::source::SourceMap;
+use graphql_nodes::source::{SourceMap, merge_sources};
 use graphql_nodes::type_kind::TypeKind;
 use std::alloc::{AllocError, Global};
 use std::mem;
@@ -260,17 +260,6 @@ impl Tables {
         Ok(())
     }
 
-    /// Takes sources in order. A later file of a number takes the place of the earlier.
-    fn take_sources(&mut self, sources: &SourceMap) -> Result<(), BuilderError>
-        ensures merged { OnOk result (self.new ≡ record self.old { sources = merged self.old.sources sources.now }) }
-        ensures refused { IfErr result (λ error. error ≡ BuilderError.Memory) }
-    {
-        for (file, source) in sources.iter() {
-            self.sources.insert(*file, source.clone()?)?;
-        }
-        Ok(())
-    }
-
     /// Takes a document: its definitions, and then its sources.
     pub fn take_document(&mut self, document: &Document, ignores: bool) -> Result<(), BuilderError>
         ensures stands { OnOk result (Takes self.old (added_items (added ignores document.now.definitions)) self.new) }
@@ -278,7 +267,7 @@ impl Tables {
         ensures sources { OnOk result (self.new.sources ≡ merged self.old.sources document.now.sources) }
     {
         self.take(document.definitions.as_slice(), ignores)?;
-        self.take_sources(&document.sources)?;
+        merge_sources(&mut self.sources, &document.sources)?;
         Ok(())
     }
 }

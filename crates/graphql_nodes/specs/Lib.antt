@@ -13,6 +13,7 @@ pub mod NodeLending
 pub mod NodeView
 pub mod OperationTexts
 pub mod SameText
+pub mod Sources
 pub mod TableLending
 pub mod Tables
 pub mod formers

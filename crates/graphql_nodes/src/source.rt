@@ -1,9 +1,11 @@
 //! Source files, and places in them.
-ghost use Rattle.std.specs.Prelude.{◌≡◌, IfOk};
+ghost use Rattle.std.specs.Prelude.{◌≡◌, IfOk, OnOk, OnErr};
+ghost use Rattle.graphql_nodes.specs.Sources.{merged};
 
 use crate::collections::shared::Shared;
 use crate::collections::table::Table;
 use crate::collections::text::Text;
+use std::alloc::AllocError;
 
 /// The number of a source file.
 #[derive(Clone, Copy, Debug, PartialEq, Eq, PartialOrd, Ord, Hash)]
@@ -37,3 +39,14 @@ impl Drop for SourceFile {
 
 /// The source files of a document, by their numbers.
 pub type SourceMap = Table<FileId, Shared<SourceFile>>;
+
+/// Adds the files of other sources, in order. A later file of a number takes the place of the earlier.
+///
+/// After want of memory the sources are as they were.
+pub fn merge_sources(sources: &mut SourceMap, more: &SourceMap) -> Result<(), AllocError>
+    ensures merged { OnOk result (sources.new ≡ merged sources.old more.now) }
+    ensures err { OnErr result (sources.new ≡ sources.old) }
+{
+    let mut copies = more.clone()?;
+    sources.append(&mut copies)
+}

@@ -19,6 +19,8 @@ mod shown;
 #[cfg(test)]
 mod single_values;
 #[cfg(test)]
+mod sources;
+#[cfg(test)]
 mod tables;
 #[cfg(test)]
 mod texts;

@@ -49,6 +49,24 @@ fn is_table_by_place(alloc: Global) -> Result<bool, AllocError> {
     Ok(are_entries(&table) && are_places(&table) && is_written(&mut table))
 }
 
+/// Whether the second table's value of 3 takes the place of the first one's, and the second is left empty.
+fn are_joined(first: &mut Table<i32, char>, second: &mut Table<i32, char>) -> bool {
+    let is_joined = write_at(second, 1) && first.append(second).is_ok();
+    is_joined && first.values().eq(['a', 'z'].iter()) && second.is_empty()
+}
+
+/// Whether two tables are joined.
+fn is_append(alloc: Global) -> Result<bool, AllocError> {
+    let mut first = table(alloc)?;
+    let mut second = table(alloc)?;
+    Ok(are_joined(&mut first, &mut second))
+}
+
+#[test]
+fn append(rt: HostRuntime) {
+    assert!(rt; is_append(rt.alloc()) == Ok(true));
+}
+
 #[test]
 fn tables_by_place(rt: HostRuntime) {
     assert!(rt; is_table_by_place(rt.alloc()) == Ok(true));

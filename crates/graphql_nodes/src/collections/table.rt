@@ -6,7 +6,7 @@ ghost use Rattle.std.specs.Cmp.{partial_equiv_from_equiv};
 ghost use Rattle.std.specs.HashMap.Eq.{hash_map_eq_symm, hash_map_eq_trans, hash_map_eq_refl};
 ghost use Rattle.std.specs.Map.Iter.{ShowsInOrder, ShowsValuesInOrder, deref, deref_pair};
 ghost use Rattle.std.specs.Option.{option_copied, option_copied_mut};
-ghost use Rattle.graphql_nodes.specs.Tables.{keys_of, values_of, lookup, lookup_key, set_value, remove_entry, insert_entry, set_value_at, as_map, table_eq, HasUniqueKeys, IsTableClone};
+ghost use Rattle.graphql_nodes.specs.Tables.{keys_of, values_of, lookup, lookup_key, set_value, remove_entry, insert_entry, insert_all, set_value_at, as_map, table_eq, HasUniqueKeys, IsTableClone};
 
 use indexmap::IndexMap;
 use indexmap::map::{Iter, Keys, Values};
@@ -207,6 +207,21 @@ impl<K: Eq + Hash + Drop, V> Table<K, V> {
         ensures unique { HasUniqueKeys K.eq self.new }
     {
         self.map.insert(key, value)
+    }
+
+    /// Inserts each entry of the other table in turn, as [`insert`](Table::insert) does. The other table is then empty.
+    ///
+    /// After want of memory both tables are as they were.
+    pub fn append(&mut self, other: &mut Table<K, V>) -> Result<(), AllocError>
+    where
+        V: Drop,
+        ensures entries { OnOk result (self.new ≡ insert_all K.eq self.old other.old) }
+        ensures emptied { OnOk result (other.new ≡ []) }
+        ensures err { OnErr result (self.new ≡ self.old) }
+        ensures other_err { OnErr result (other.new ≡ other.old) }
+        ensures unique { OnOk result (HasUniqueKeys K.eq self.new) }
+    {
+        self.map.append(&mut other.map)
     }
 
     /// Takes out the entry with the key. Those after it move up. Answers its value.

@@ -1,4 +1,4 @@
-use Rattle.std.proofs.Common.{◌≡◌, ◌+◌, ◌^◌, ◌≤◌, List, ◌++◌, length, sym, subst}
+use Rattle.std.proofs.Common.{◌≡◌, ◌+◌, ◌^◌, ◌≤◌, List, ◌++◌, length, subst}
 use Rattle.std.proofs.lemmas.Result.{err_from_is_err_and}
 use Rattle.graphql_ast.specs.declared.definition.Definition.{Definition}
 use Rattle.apollo_meaning.specs.Items.ListItems.{added, added_items}
@@ -12,7 +12,7 @@ returns-clause-stands c = λ start xs was.
     let t = c.take.new.self in
     let all : c.as_slice.result.now ≡ c.args.document.now.definitions = c.as_slice.ensures in
     let stands = subst (λ (l : List Definition). Stands start (xs ++ added_items (added c.args.ignores l)) t) all (c.in_ok-take.ensures.stands start xs was) in
-    subst (Stands start (xs ++ added_items (added c.args.ignores c.args.document.now.definitions))) (sym c.in_ok-take_sources.ensures.merged) (record { definition = stands.definition; orphans = stands.orphans; types = stands.types; directives = stands.directives; waiting = stands.waiting; names = stands.names; faults = stands.faults; next = stands.next })
+    record { definition = stands.definition; orphans = stands.orphans; types = stands.types; directives = stands.directives; waiting = stands.waiting; names = stands.names; faults = stands.faults; next = stands.next }
 
 pub returns-in_err-take-clause-refused : goal.returns-in_err-take-clause-refused
 returns-in_err-take-clause-refused c =

@@ -1,7 +1,6 @@
 -- The source files of several documents.
-use Rattle.std.specs.Prelude.{List, fold}
-use Rattle.indexmap.specs.IndexMap.{insert_entry}
-use Rattle.std.specs.Prelude.{Bool, nat_eq}
+use Rattle.std.specs.Prelude.{Bool, List, nat_eq}
+use Rattle.graphql_nodes.specs.Tables.{insert_all}
 use Rattle.graphql_nodes.specs.declared.source.FileId.{FileId}
 use Rattle.graphql_nodes.specs.declared.source.SourceFile.{SourceFile}
 
@@ -13,4 +12,4 @@ same_file a b = nat_eq a.0 b.0
 
 -- more files after these: a later file of a number takes the place of the earlier
 abbrev pub merged : Files → Files → Files
-merged files more = fold (λ done e. insert_entry same_file done e.0 e.1) files more
+merged files more = insert_all same_file files more
