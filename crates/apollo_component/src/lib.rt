@@ -6,3 +6,7 @@ pub mod directive_list;
 pub mod extension;
 pub mod laws;
 pub mod named;
+
+pub use crate::component::{Component, ComponentName};
+pub use crate::directive_list::DirectiveList;
+pub use crate::extension::{ComponentOrigin, ExtensionId, ExtensionSource, IdsSpent};

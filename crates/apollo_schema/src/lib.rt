@@ -27,3 +27,17 @@ pub use apollo_types::object_type::ObjectType;
 pub use apollo_types::scalar_type::ScalarType;
 pub use apollo_types::schema_definition::SchemaDefinition;
 pub use apollo_types::union_type::UnionType;
+pub use graphql_ast::directive::Directive;
+pub use graphql_ast::type_reference::Type;
+pub use graphql_ast::type_system::{
+    DirectiveDefinition, EnumValueDefinition, FieldDefinition, InputValueDefinition,
+};
+pub use graphql_ast::value::Value;
+pub use graphql_nodes::collections::items::Items;
+pub use graphql_nodes::collections::key_set::KeySet;
+pub use graphql_nodes::collections::table::Table;
+pub use graphql_nodes::directive_location::DirectiveLocation;
+pub use graphql_nodes::name::{Name, NamedType};
+pub use graphql_nodes::node::Node;
+pub use graphql_nodes::node_str::NodeStr;
+pub use graphql_nodes::operation_type::OperationType;

@@ -11,3 +11,12 @@ pub mod scalar_type;
 pub mod schema_definition;
 pub mod union_type;
 mod write_out;
+
+pub use crate::enum_type::EnumType;
+pub use crate::extended_type::ExtendedType;
+pub use crate::input_object_type::InputObjectType;
+pub use crate::interface_type::InterfaceType;
+pub use crate::object_type::ObjectType;
+pub use crate::scalar_type::ScalarType;
+pub use crate::schema_definition::SchemaDefinition;
+pub use crate::union_type::UnionType;

@@ -37,56 +37,35 @@ pub enum Definition {
     InputObjectTypeExtension(Node<InputObjectTypeExtension>),
 }
 
+/// What a copy of the node becomes. The error is want of memory.
+fn copied<T: Drop, D: From<Node<T>>>(node: &Node<T>) -> Result<D, AllocError>
+    ensures { IfOk result (λ made. D.from_gives node.now made) }
+{
+    Ok(D::from(node.clone()?))
+}
+
 impl Clone for Definition {
     ghost is_clone = { λ a b. b ≡ a };
 
     fn clone(&self) -> Result<Definition, AllocError> {
         match self {
-            Definition::OperationDefinition(node) => Ok(Definition::OperationDefinition(
-                node.clone()?,
-            )),
-            Definition::FragmentDefinition(node) => Ok(Definition::FragmentDefinition(
-                node.clone()?,
-            )),
-            Definition::DirectiveDefinition(node) => Ok(Definition::DirectiveDefinition(
-                node.clone()?,
-            )),
-            Definition::SchemaDefinition(node) => Ok(Definition::SchemaDefinition(node.clone()?)),
-            Definition::ScalarTypeDefinition(node) => Ok(Definition::ScalarTypeDefinition(
-                node.clone()?,
-            )),
-            Definition::ObjectTypeDefinition(node) => Ok(Definition::ObjectTypeDefinition(
-                node.clone()?,
-            )),
-            Definition::InterfaceTypeDefinition(node) => Ok(Definition::InterfaceTypeDefinition(
-                node.clone()?,
-            )),
-            Definition::UnionTypeDefinition(node) => Ok(Definition::UnionTypeDefinition(
-                node.clone()?,
-            )),
-            Definition::EnumTypeDefinition(node) => Ok(Definition::EnumTypeDefinition(
-                node.clone()?,
-            )),
-            Definition::InputObjectTypeDefinition(node) => Ok(Definition::InputObjectTypeDefinition(
-                node.clone()?,
-            )),
-            Definition::SchemaExtension(node) => Ok(Definition::SchemaExtension(node.clone()?)),
-            Definition::ScalarTypeExtension(node) => Ok(Definition::ScalarTypeExtension(
-                node.clone()?,
-            )),
-            Definition::ObjectTypeExtension(node) => Ok(Definition::ObjectTypeExtension(
-                node.clone()?,
-            )),
-            Definition::InterfaceTypeExtension(node) => Ok(Definition::InterfaceTypeExtension(
-                node.clone()?,
-            )),
-            Definition::UnionTypeExtension(node) => Ok(Definition::UnionTypeExtension(
-                node.clone()?,
-            )),
-            Definition::EnumTypeExtension(node) => Ok(Definition::EnumTypeExtension(node.clone()?)),
-            Definition::InputObjectTypeExtension(node) => Ok(Definition::InputObjectTypeExtension(
-                node.clone()?,
-            )),
+            Definition::OperationDefinition(node) => copied(node),
+            Definition::FragmentDefinition(node) => copied(node),
+            Definition::DirectiveDefinition(node) => copied(node),
+            Definition::SchemaDefinition(node) => copied(node),
+            Definition::ScalarTypeDefinition(node) => copied(node),
+            Definition::ObjectTypeDefinition(node) => copied(node),
+            Definition::InterfaceTypeDefinition(node) => copied(node),
+            Definition::UnionTypeDefinition(node) => copied(node),
+            Definition::EnumTypeDefinition(node) => copied(node),
+            Definition::InputObjectTypeDefinition(node) => copied(node),
+            Definition::SchemaExtension(node) => copied(node),
+            Definition::ScalarTypeExtension(node) => copied(node),
+            Definition::ObjectTypeExtension(node) => copied(node),
+            Definition::InterfaceTypeExtension(node) => copied(node),
+            Definition::UnionTypeExtension(node) => copied(node),
+            Definition::EnumTypeExtension(node) => copied(node),
+            Definition::InputObjectTypeExtension(node) => copied(node),
         }
     }
 }

@@ -1,29 +1,16 @@
 //! Documents and their sources.
 
 use crate::definitions::PLACE;
-use graphql_ast::definition::Definition;
-use graphql_ast::directive::DirectiveList;
-use graphql_ast::document::Document;
-use graphql_ast::type_system::SchemaDefinition;
-use graphql_nodes::collections::items::Items;
-use graphql_nodes::collections::shared::Shared;
-use graphql_nodes::collections::table::Table;
-use graphql_nodes::collections::text::Text;
-use graphql_nodes::node::Node;
-use graphql_nodes::source::{FileId, SourceFile, SourceMap, SourceSpan};
+use graphql_ast::{Definition, Document, SchemaDefinition};
+use graphql_nodes::{FileId, Items, Node, Shared, SourceFile, SourceMap, SourceSpan, Table, Text};
 use likeness::{are_equal, is_copied_so};
 use std::alloc::{AllocError, Global};
 
 /// A definition of the schema at this place.
 fn definitions(alloc: Global, place: Option<SourceSpan>) -> Result<Items<Definition>, AllocError> {
-    let schema = SchemaDefinition {
-        description: None,
-        directives: DirectiveList::new(alloc),
-        root_operations: Items::new(alloc),
-    };
-    let node = Node::new_opt_location(alloc, schema, place)?;
+    let schema = Node::new_opt_location(alloc, SchemaDefinition::new(alloc), place)?;
     let mut definitions = Items::new(alloc);
-    definitions.push(Definition::SchemaDefinition(node))?;
+    definitions.push(schema.into())?;
     Ok(definitions)
 }
 

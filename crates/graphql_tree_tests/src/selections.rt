@@ -2,11 +2,10 @@
 
 use crate::samples::{PLACE, list, name};
 use crate::values::value;
-use graphql_ast::directive::{Argument, Directive, DirectiveList};
-use graphql_ast::selection::{Field, InlineFragment, Selection};
-use graphql_nodes::collections::items::Items;
-use graphql_nodes::node::Node;
-use graphql_nodes::source::SourceSpan;
+use graphql_ast::{
+    Argument, Directive, DirectiveList, Field, InlineFragment, Items, Node, Selection,
+};
+use graphql_nodes::SourceSpan;
 use likeness::{are_made_alike, is_copied_so, is_held_copied, is_made_copied, is_so};
 use std::alloc::{AllocError, Global};
 
@@ -14,7 +13,7 @@ use std::alloc::{AllocError, Global};
 fn argument(alloc: Global, place: Option<SourceSpan>) -> Result<Node<Argument>, AllocError> {
     let value = Node::new_opt_location(alloc, value(alloc, place)?, place)?;
     let name = name(alloc, "where", place)?;
-    Node::new_opt_location(alloc, Argument { name, value }, place)
+    Node::new_opt_location(alloc, Argument::new(name, value), place)
 }
 
 /// The directive `@on(where: ..)`, all at one place.
@@ -31,38 +30,31 @@ fn directives(alloc: Global, place: Option<SourceSpan>) -> Result<DirectiveList,
 
 /// The field `other: key`, all at one place.
 fn field(alloc: Global, place: Option<SourceSpan>) -> Result<Node<Field>, AllocError> {
-    let alias = Some(name(alloc, "other", place)?);
-    let field = Field {
-        alias,
-        name: name(alloc, "key", place)?,
-        arguments: Items::new(alloc),
-        directives: DirectiveList::new(alloc),
-        selection_set: Items::new(alloc),
-    };
+    let alias = name(alloc, "other", place)?;
+    let mut field = Field::new(alloc, name(alloc, "key", place)?);
+    field.alias = Some(alias);
     Node::new_opt_location(alloc, field, place)
 }
 
 /// The selections `{ other: key }`, all at one place.
 fn selections(alloc: Global, place: Option<SourceSpan>) -> Result<Items<Selection>, AllocError> {
-    list(alloc, Selection::Field(field(alloc, place)?))
+    list(alloc, Selection::from(field(alloc, place)?))
 }
 
 /// The fragment `... on T @on(..) { other: key }`, all at one place.
 fn fragment(alloc: Global, place: Option<SourceSpan>) -> Result<Node<InlineFragment>, AllocError> {
     let directives = directives(alloc, place)?;
     let selection_set = selections(alloc, place)?;
-    let type_condition = Some(name(alloc, "T", place)?);
-    let inline = InlineFragment {
-        type_condition,
-        directives,
-        selection_set,
-    };
-    Node::new_opt_location(alloc, inline, place)
+    let ty = name(alloc, "T", place)?;
+    let mut fragment = InlineFragment::with_type_condition(alloc, ty);
+    fragment.directives = directives;
+    fragment.selection_set = selection_set;
+    Node::new_opt_location(alloc, fragment, place)
 }
 
 /// That fragment as a selection.
 fn selection(alloc: Global, place: Option<SourceSpan>) -> Result<Selection, AllocError> {
-    Ok(Selection::InlineFragment(fragment(alloc, place)?))
+    Ok(Selection::from(fragment(alloc, place)?))
 }
 
 #[test]

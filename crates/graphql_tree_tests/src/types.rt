@@ -1,29 +1,35 @@
 //! References to types, and their copies.
 
 use crate::samples::{PLACE, name};
-use graphql_ast::type_reference::Type;
-use graphql_nodes::collections::boxed::Boxed;
+use graphql_ast::Type;
+use graphql_nodes::Boxed;
 use likeness::{are_equal, is_copied_so, is_so};
 use std::alloc::{AllocError, Global};
 
 /// The type `Page!`, at a place.
 fn page(alloc: Global) -> Result<Type, AllocError> {
-    Ok(Type::NonNullNamed(name(alloc, "Page", Some(PLACE))?))
+    Ok(Type::named(name(alloc, "Page", Some(PLACE))?).non_null())
 }
 
 /// The type `[Page!]`.
 fn pages(alloc: Global) -> Result<Type, AllocError> {
-    Ok(Type::List(Boxed::new(alloc, page(alloc)?)?))
+    page(alloc)?.list(alloc)
+}
+
+/// The type `[Page!]`, of the variants.
+fn listed(alloc: Global) -> Result<Type, AllocError> {
+    let page = Type::NonNullNamed(name(alloc, "Page", None)?);
+    Ok(Type::List(Boxed::new(alloc, page)?))
 }
 
 /// The type `[Page!]!`.
 fn all_pages(alloc: Global) -> Result<Type, AllocError> {
-    Ok(Type::NonNullList(Boxed::new(alloc, pages(alloc)?)?))
+    Ok(pages(alloc)?.non_null())
 }
 
 /// The type `Page`.
 fn optional(alloc: Global) -> Result<Type, AllocError> {
-    Ok(Type::Named(name(alloc, "Page", None)?))
+    Ok(Type::named(name(alloc, "Page", None)?))
 }
 
 fn is_optional(ty: &Type) -> bool {
@@ -37,6 +43,7 @@ fn type_references(rt: HostRuntime) {
     assert!(rt; is_so(pages(alloc), is_optional));
     assert!(rt; is_so(all_pages(alloc), Type::is_non_null));
     assert!(rt; is_so(optional(alloc), is_optional));
+    assert!(rt; are_equal(pages(alloc), listed(alloc)) == Some(true));
     assert!(rt; are_equal(optional(alloc), all_pages(alloc)) == Some(false));
 }
 
