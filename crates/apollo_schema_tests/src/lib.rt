@@ -7,6 +7,8 @@ mod accounts;
 #[cfg(test)]
 mod building;
 #[cfg(test)]
+mod by_calls;
+#[cfg(test)]
 mod by_hand;
 #[cfg(test)]
 mod extensions;

@@ -1,0 +1,52 @@
+//! A document made by calls, with the names of callers, and what is written out of its schema.
+
+use apollo_schema::Schema;
+use bench_notation::printing::print;
+use graphql_ast::{Document, FieldDefinition, Name, Node, ObjectTypeDefinition, Type};
+use std::alloc::Global;
+use std::test::Fail;
+
+/// A field of this name and type.
+fn field(alloc: Global, name: &str, ty: Type) -> Result<Node<FieldDefinition>, Fail> {
+    let name = Name::new(alloc, name)?;
+    Ok(Node::new(alloc, FieldDefinition::new(alloc, name, ty))?)
+}
+
+/// The type `Query`, of a title and a list of pages.
+fn query(alloc: Global) -> Result<Node<ObjectTypeDefinition>, Fail> {
+    let title = Type::named(Name::new(alloc, "String")?);
+    let pages = Type::named(Name::new(alloc, "Int")?)
+        .non_null()
+        .list(alloc)?;
+    let mut query = ObjectTypeDefinition::new(alloc, Name::new(alloc, "Query")?);
+    query.fields.push(field(alloc, "title", title)?)?;
+    query.fields.push(field(alloc, "pages", pages)?)?;
+    Ok(Node::new(alloc, query)?)
+}
+
+/// A document of that type alone.
+fn document(alloc: Global) -> Result<Document, Fail> {
+    let mut document = Document::new(alloc);
+    document.definitions.push(query(alloc)?.into())?;
+    Ok(document)
+}
+
+/// What the schema of that document is written out as.
+fn written(alloc: Global) -> Result<String, Fail> {
+    let mut builder = Schema::builder(alloc)?;
+    builder.add_ast(&document(alloc)?)?;
+    match builder.build() {
+        Ok(schema) => Ok(print(alloc, &schema.to_ast(alloc)?)?),
+        Err(_) => Ok(String::new(alloc)),
+    }
+}
+
+#[test]
+fn a_document_made_by_calls_is_built_and_written_out(rt: HostRuntime) -> Result<(), Fail> {
+    let text = written(rt.alloc())?;
+    assert_eq!(rt;
+        text.as_str(),
+        "def object Query\nfield title String\nfield pages [Int!]\n"
+    );
+    Ok(())
+}
