@@ -3,7 +3,9 @@ pub mod BuilderHolds
 pub mod BuilderStands
 pub mod Built
 pub mod EqualSchemas
+pub mod Lookups
 pub mod MeantSchema
+pub mod MetaFields
 pub mod NamesLeft
 pub mod SchemaWriteOut
 pub mod Stands

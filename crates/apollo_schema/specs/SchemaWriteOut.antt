@@ -1,18 +1,14 @@
--- What a schema is written out as, and what a name of it gives: GraphQL specification of October 2021, section 3.3.
-use Rattle.std.specs.Prelude.{List, ◌++◌, Option, None, Some, flat_map, map, filter, drop, if◌then◌else◌}
-use Rattle.graphql_nodes.specs.NameView.{NameView}
+-- What a schema is written out as: GraphQL specification of October 2021, section 3.3.
+use Rattle.std.specs.Prelude.{List, ◌++◌, flat_map, map, filter, drop, if◌then◌else◌}
 use Rattle.graphql_nodes.specs.NodeView.{NodeView}
-use Rattle.graphql_nodes.specs.Tables.{lookup, values_of}
+use Rattle.graphql_nodes.specs.Tables.{values_of}
 use Rattle.graphql_nodes.specs.BuiltIn.{is_built_in}
-use Rattle.graphql_nodes.specs.SameText.{same_text}
 use Rattle.graphql_ast.specs.declared.definition.Definition.{Definition}
 use Rattle.graphql_ast.specs.declared.definition.Definition.TheVariants as ast
 use Rattle.graphql_ast.specs.declared.type_system.DirectiveDefinition.{DirectiveDefinition}
 use Rattle.apollo_types.specs.SchemaDefinitionWriteOut.{write_schema_definition}
 use Rattle.apollo_types.specs.TypeWriteOut.{type_location, write_type}
-use Rattle.apollo_types.specs.declared.object_type.ObjectType.{ObjectType}
 use Rattle.apollo_types.specs.declared.extended_type.ExtendedType.{ExtendedType}
-use Rattle.apollo_types.specs.declared.extended_type.ExtendedType.TheVariants.{Object}
 use Rattle.apollo_meaning.specs.Directives.{is_handed_in}
 use Rattle.apollo_schema.specs.declared.schema.Schema.{Schema}
 
@@ -31,12 +27,3 @@ write_held_schema_definition s = write_schema_definition s.schema_definition.val
 -- the schema definition's part, then the directive definitions, and then the types, each in order
 abbrev pub write_schema : Schema → List Definition
 write_schema s = write_held_schema_definition s ++ write_directives (values_of s.directive_definitions) ++ flat_map write_held_type (values_of s.types)
-
-abbrev pub as_object : Option ExtendedType → Option (NodeView ObjectType)
-as_object None = None
-as_object (Some (Object n)) = Some n
-as_object (Some _) = None
-
--- the object type of a name
-abbrev pub object_at : Schema → NameView → Option (NodeView ObjectType)
-object_at s n = as_object (lookup (same_text n) s.types)

@@ -2,7 +2,9 @@
 #![tactic(auto)]
 
 pub mod build_failure;
+pub mod field_lookup_error;
 pub mod laws;
+pub mod meta_fields;
 pub mod orphan_names;
 pub mod schema;
 pub mod schema_builder;
@@ -11,6 +13,8 @@ mod tables;
 mod write_out;
 
 pub use crate::build_failure::{BuildFailure, WithErrors};
+pub use crate::field_lookup_error::FieldLookupError;
+pub use crate::meta_fields::MetaFields;
 pub use crate::orphan_names::OrphanNames;
 pub use crate::schema::Schema;
 pub use crate::schema_builder::SchemaBuilder;

@@ -2,9 +2,13 @@
 ghost use Rattle.std.specs.Prelude.{◌≡◌, IfOk, option_map};
 ghost use Rattle.std.specs.Option.{option_copied};
 
+mod fields;
+mod subtypes;
+mod types_by_name;
+
+use crate::meta_fields::MetaFields;
 use crate::write_out::{write_directives, write_type};
 use apollo_types::extended_type::ExtendedType;
-use apollo_types::object_type::ObjectType;
 use apollo_types::schema_definition::SchemaDefinition;
 use graphql_ast::definition::Definition;
 use graphql_ast::type_system::DirectiveDefinition;
@@ -27,20 +31,31 @@ pub struct Schema {
     pub schema_definition: Node<SchemaDefinition>,
     pub directive_definitions: Table<Name, Node<DirectiveDefinition>>,
     pub types: Table<NamedType, ExtendedType>,
+    #[derive_where(skip)]
+    meta_fields: MetaFields,
 }
 
 impl Schema {
     ghost use Rattle.apollo_types.specs.SchemaDefinitionWriteOut.{root_of};
-    ghost use Rattle.apollo_schema.specs.SchemaWriteOut.{write_schema, object_at};
+    ghost use Rattle.apollo_schema.specs.SchemaWriteOut.{write_schema};
 
-    /// The object type of this name, if the name's type is one.
-    pub fn get_object(&self, name: &Name) -> Option<&Node<ObjectType>>
-        ensures { option_copied result ≡ object_at self.now name.now }
+    /// The schema of these parts. The error is want of memory.
+    pub fn from_parts(
+        alloc: Global,
+        sources: SourceMap,
+        schema_definition: Node<SchemaDefinition>,
+        directive_definitions: Table<Name, Node<DirectiveDefinition>>,
+        types: Table<NamedType, ExtendedType>,
+    ) -> Result<Schema, AllocError>
+        ensures { IfOk result (λ schema. schema ≡ record { sources = sources; schema_definition = schema_definition; directive_definitions = directive_definitions; types = types; meta_fields = tt }) }
     {
-        match self.types.get(name) {
-            Some(ExtendedType::Object(node)) => Some(node),
-            _ => None,
-        }
+        Ok(Schema {
+            sources,
+            schema_definition,
+            directive_definitions,
+            types,
+            meta_fields: MetaFields::new(alloc)?,
+        })
     }
 
     /// The name of the root of this operation type, if the schema has one (section 3.3.1).

@@ -127,11 +127,17 @@ impl Tables {
                 ExtensionSource::starting_at(before),
             );
         };
-        let schema = Schema {
+        let Ok(schema) = Schema::from_parts(
+            alloc,
             sources,
             schema_definition,
             directive_definitions,
             types,
+        ) else {
+            return (
+                Err(BuildFailure::Memory),
+                ExtensionSource::starting_at(before),
+            );
         };
         if errors.is_empty() {
             return (Ok(schema), ids);

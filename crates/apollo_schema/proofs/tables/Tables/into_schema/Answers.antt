@@ -31,14 +31,19 @@ none-empty [] h = refl
 none-empty (x ∷ l) h = absurd (grind (arith, nat_tests, h))
 
 pub returns-then-is_empty-clause-built : goal.returns-then-is_empty-clause-built
-returns-then-is_empty-clause-built c = λ start adopts xs all. means start adopts xs c.args.self all _ c.in-Ok.ensures refl refl
+returns-then-is_empty-clause-built c =
+    let e = c.in-Ok-from_parts.ensures in
+    λ start adopts xs all. means start adopts xs c.args.self all c.in-Ok-from_parts.schema
+        (ap (λ s. s.schema_definition) e ∙ c.in-Ok.ensures) (ap (λ s. s.types) e) (ap (λ s. s.directive_definitions) e)
 
 pub returns-then-is_empty-clause-faultless : goal.returns-then-is_empty-clause-faultless
 returns-then-is_empty-clause-faultless c = λ start adopts xs all.
     sym all.faults ∙ none-empty c.args.self.errors (sym c.is_empty.ensures ∙ c.if-is_empty.true)
 
 pub returns-clause-faults : goal.returns-clause-faults
-returns-clause-faults c = λ start adopts xs all. (
-  means start adopts xs c.args.self all _ c.in-Ok.ensures refl refl,
-  ((c.into_vec.ensures ∙ all.faults, λ none. true≢false (sym (ap (λ l. length l == 0) (sym c.into_vec.ensures ∙ none)) ∙ sym c.is_empty.ensures ∙ c.if-is_empty.false)), refl),
-)
+returns-clause-faults c =
+    let e = c.in-Ok-from_parts.ensures in
+    λ start adopts xs all. (
+      means start adopts xs c.args.self all c.in-Ok-from_parts.schema (ap (λ s. s.schema_definition) e ∙ c.in-Ok.ensures) (ap (λ s. s.types) e) (ap (λ s. s.directive_definitions) e),
+      ((c.into_vec.ensures ∙ all.faults, λ none. true≢false (sym (ap (λ l. length l == 0) (sym c.into_vec.ensures ∙ none)) ∙ sym c.is_empty.ensures ∙ c.if-is_empty.false)), ap (λ s. s.sources) e),
+    )

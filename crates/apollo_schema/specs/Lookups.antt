@@ -1,0 +1,143 @@
+-- What lookups in a schema answer, over the maps of any schema value alone: GraphQL specification of October 2021, sections
+-- 2, 3.6 to 3.8, 4.1 and 4.2.
+use Rattle.std.specs.Prelude.{◌≡◌, ℕ, Bool, true, false, ◌&&◌, ◌||◌, List, [], ◌∷◌, ◌++◌, map, filter, Option, None, Some, if◌then◌else◌}
+use Rattle.std.specs.List.{find, flat_map}
+use Rattle.std.specs.Option.{option_map_or, option_or}
+use Rattle.graphql_nodes.specs.KeySets.{has_key}
+use Rattle.graphql_nodes.specs.NameView.{NameView}
+use Rattle.graphql_nodes.specs.NodeView.{NodeView}
+use Rattle.graphql_nodes.specs.SameText.{same_text}
+use Rattle.graphql_nodes.specs.Tables.{lookup, lookup_key, keys_of}
+use Rattle.graphql_nodes.specs.declared.operation_type.OperationType.TheVariants.{Query}
+use Rattle.graphql_ast.specs.TypeReferences.{inner_name}
+use Rattle.graphql_ast.specs.declared.type_reference.Type.{«Type» as TypeReference}
+use Rattle.graphql_ast.specs.declared.type_system.FieldDefinition.{FieldDefinition}
+use Rattle.apollo_component.specs.FirstOfEach.{first_of_each}
+use Rattle.apollo_component.specs.declared.component.Component.{Component}
+use Rattle.apollo_component.specs.declared.component.ComponentName.{ComponentName}
+use Rattle.apollo_types.specs.SchemaDefinitionWriteOut.{root_of}
+use Rattle.apollo_types.specs.declared.scalar_type.ScalarType.{ScalarType}
+use Rattle.apollo_types.specs.declared.object_type.ObjectType.{ObjectType}
+use Rattle.apollo_types.specs.declared.interface_type.InterfaceType.{InterfaceType}
+use Rattle.apollo_types.specs.declared.union_type.UnionType.{UnionType}
+use Rattle.apollo_types.specs.declared.enum_type.EnumType.{EnumType}
+use Rattle.apollo_types.specs.declared.input_object_type.InputObjectType.{InputObjectType}
+use Rattle.apollo_types.specs.declared.extended_type.ExtendedType.{ExtendedType}
+use Rattle.apollo_types.specs.declared.extended_type.ExtendedType.TheVariants.{Scalar, Object, Interface, Union, Enum, InputObject}
+use Rattle.apollo_schema.specs.MetaFields.{typename_field, schema_field, type_by_name_field}
+use Rattle.apollo_schema.specs.declared.field_lookup_error.FieldLookupError.{FieldLookupError}
+use Rattle.apollo_schema.specs.declared.field_lookup_error.FieldLookupError.TheVariants.{NoSuchType, NoSuchField}
+use Rattle.apollo_schema.specs.declared.schema.Schema.{Schema}
+
+-- the types of a schema, under their names
+abbrev pub Types : Type 0
+Types = List (NameView × ExtendedType)
+
+-- the type of a name
+abbrev pub type_at : Types → NameView → Option ExtendedType
+type_at types n = lookup (same_text n) types
+
+-- the type of a name, where it is of one kind
+abbrev pub as_scalar : Option ExtendedType → Option (NodeView ScalarType)
+as_scalar None = None
+as_scalar (Some (Scalar n)) = Some n
+as_scalar (Some _) = None
+
+abbrev pub as_object : Option ExtendedType → Option (NodeView ObjectType)
+as_object None = None
+as_object (Some (Object n)) = Some n
+as_object (Some _) = None
+
+abbrev pub as_interface : Option ExtendedType → Option (NodeView InterfaceType)
+as_interface None = None
+as_interface (Some (Interface n)) = Some n
+as_interface (Some _) = None
+
+abbrev pub as_union : Option ExtendedType → Option (NodeView UnionType)
+as_union None = None
+as_union (Some (Union n)) = Some n
+as_union (Some _) = None
+
+abbrev pub as_enum : Option ExtendedType → Option (NodeView EnumType)
+as_enum None = None
+as_enum (Some (Enum n)) = Some n
+as_enum (Some _) = None
+
+abbrev pub as_input_object : Option ExtendedType → Option (NodeView InputObjectType)
+as_input_object None = None
+as_input_object (Some (InputObject n)) = Some n
+as_input_object (Some _) = None
+
+-- a type whose values may be given, and one whose values may be answered (section 3.4.2)
+abbrev pub is_input : ExtendedType → Bool
+is_input (Scalar n) = true
+is_input (Enum n) = true
+is_input (InputObject n) = true
+is_input _ = false
+
+abbrev pub is_output : ExtendedType → Bool
+is_output (InputObject n) = false
+is_output _ = true
+
+-- a reference to such a type; one to a name without a type is neither
+abbrev pub refers_to : (ExtendedType → Bool) → Types → TypeReference → Bool
+refers_to test types ty = option_map_or test (type_at types (inner_name ty)) false
+
+-- the field of this name that a type declares
+abbrev pub declared_field : ExtendedType → NameView → Option (Component FieldDefinition)
+declared_field (Object n) f = lookup (same_text f) n.value.fields
+declared_field (Interface n) f = lookup (same_text f) n.value.fields
+declared_field _ f = None
+
+-- a type that is an object, an interface or a union has `__typename`
+abbrev pub has_typename : ExtendedType → Bool
+has_typename (Object n) = true
+has_typename (Interface n) = true
+has_typename (Union n) = true
+has_typename _ = false
+
+-- the name is that of the root type of queries
+abbrev pub is_query_root : Schema → NameView → Bool
+is_query_root s t = option_map_or (λ root. same_text t root.name) (root_of s.schema_definition.value Query) false
+
+-- the fields that the type of this name has without declaring them: whatever its kind, the root type of queries has two
+abbrev pub meta_fields : Schema → NameView → ExtendedType → List (Component FieldDefinition)
+meta_fields s t type = (if has_typename type then typename_field ∷ [] else []) ++ (if is_query_root s t then schema_field ∷ type_by_name_field ∷ [] else [])
+
+abbrev pub meta_field : Schema → NameView → ExtendedType → NameView → Option (Component FieldDefinition)
+meta_field s t type f = find (λ field. same_text f field.node.value.name) (meta_fields s t type)
+
+-- the field of this name in the type of this name: the one that it declares, or else a meta-field
+abbrev pub field_in : Schema → NameView → NameView → ExtendedType → Option (Component FieldDefinition)
+field_in s t f type = option_or (declared_field type f) (meta_field s t type f)
+
+abbrev pub field_at : Schema → NameView → NameView → Option (Component FieldDefinition)
+field_at s t f = option_map_or (field_in s t f) (type_at s.types t) None
+
+-- the error says whether there is a type of this name: if so, with its key and the type
+abbrev pub IsMissingIn : Types → NameView → FieldLookupError → Type 0
+IsMissingIn types t NoSuchType = type_at types t ≡ None
+IsMissingIn types t (NoSuchField key type) = (lookup_key (same_text t) types ≡ Some key.now) × (type_at types t ≡ Some type.now)
+
+-- the name is among these
+abbrev pub is_listed : NameView → List ComponentName → Bool
+is_listed n names = has_key (λ listed. same_text n listed.name) names
+
+-- the interfaces that a type declares
+abbrev pub interfaces_of : ExtendedType → List ComponentName
+interfaces_of (Object n) = n.value.implements_interfaces
+interfaces_of (Interface n) = n.value.implements_interfaces
+interfaces_of _ = []
+
+-- a type declares an interface
+abbrev pub declares : NameView → ExtendedType → Bool
+declares i type = is_listed i (interfaces_of type)
+
+-- the type of a name is a subtype of an interface if it declares it, and a name is one of a union if that lists it
+abbrev pub is_subtype_of : Option ExtendedType → Types → NameView → NameView → Bool
+is_subtype_of (Some (Interface n)) types a t = option_map_or (declares a) (type_at types t) false
+is_subtype_of (Some (Union n)) types a t = is_listed t n.value.members
+is_subtype_of _ types a t = false
+
+abbrev pub is_subtype : Types → NameView → NameView → Bool
+is_subtype types a t = is_subtype_of (type_at types a) types a t

@@ -1,0 +1,13 @@
+//! Why a field isn't found.
+
+use apollo_types::extended_type::ExtendedType;
+use graphql_nodes::name::NamedType;
+
+/// Why [`Schema::type_field`](crate::schema::Schema::type_field) answers no field.
+#[derive(Clone, Copy, PartialEq, Eq)]
+pub enum FieldLookupError<'schema> {
+    /// The schema has no type of the name.
+    NoSuchType,
+    /// The type, which the schema has under this key, has no field of the name.
+    NoSuchField(&'schema NamedType, &'schema ExtendedType),
+}
