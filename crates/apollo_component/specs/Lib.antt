@@ -1,4 +1,7 @@
+pub mod AppliedDirectives
 pub mod BareComponents
+pub mod ComponentLending
+pub mod DirectivesLending
 pub mod EachAfter
 pub mod Extensions
 pub mod FirstOfEach

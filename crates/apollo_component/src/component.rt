@@ -14,7 +14,7 @@ use graphql_nodes::node::Node;
 use std::alloc::{AllocError, Global};
 use std::fmt;
 use std::hash::{Hash, Hasher};
-use std::ops::Deref;
+use std::ops::{Deref, DerefMut};
 
 /// A part of a type, and the definition or extension that it comes from.
 ///
@@ -74,6 +74,19 @@ impl<T> Deref for Component<T> {
         ensures { result.now ≡ self.now.node }
     {
         &self.node
+    }
+}
+
+impl<T> DerefMut for Component<T> {
+    ghost use Rattle.apollo_component.specs.ComponentLending.{LendsNode};
+
+    ghost deref_mut_gives = { λ component node. node ≡ component.node };
+
+    fn deref_mut(&mut self) -> &mut Node<T>
+        ensures* writes_back { sem 𝓛 (LendsNode T.row self.entry result) }
+        ensures value { result.now ≡ self.old.node }
+    {
+        &mut self.node
     }
 }
 

@@ -1,11 +1,23 @@
 //! The directives of a type, in order: GraphQL specification of October 2021, section 2.12.
-ghost use Rattle.std.specs.Prelude.{◌≡◌, [], ◌∷◌, ◌++◌, OnOk, OnErr};
+ghost use Rattle.std.specs.Prelude.{◌≡◌, ◌<◌, ◌^◌, [], ◌∷◌, ◌++◌, length, filter, find, IfOk, OnOk, OnErr, ⊤};
+ghost use Rattle.std.specs.Borrow.{sem};
+ghost use Rattle.std.specs.List.{list_any};
+ghost use Rattle.std.specs.Option.{option_copied};
+ghost use Rattle.std.specs.Iterator.{DrainsIf, IsFiniteIterable};
+ghost use Rattle.std.specs.Iterator.Runs.{EveryRun, ItemsAre, ItemsMapTo};
+ghost use Rattle.std.specs.Slice.Iter.{iter_rest, iter_steps, iter_mut_rest, iter_mut_steps};
+ghost use Rattle.std.specs.Vec.Iter.{into_iter_items, into_iter_len, into_iter_steps};
+ghost use Rattle.apollo_component.specs.AppliedDirectives.{is_called};
 
 use crate::component::Component;
+use crate::get_all::GetAll;
 use graphql_ast::directive::Directive;
 use graphql_nodes::collections::items::Items;
+use graphql_nodes::name::Name;
 use std::alloc::{AllocError, Global};
-use std::ops::Deref;
+use std::ops::{Deref, DerefMut};
+use std::slice::{Iter, IterMut};
+use std::vec::IntoIter;
 
 /// The directives applied to a type, in order. One directive may stand there more than once.
 #[derive(PartialEq, Eq, Hash, Clone)]
@@ -23,6 +35,38 @@ impl DirectiveList {
         ensures { result.0 ≡ [] }
     {
         DirectiveList(Items::new(alloc))
+    }
+
+    /// The directives that an iterator gives, in order. The error is want of memory.
+    pub fn try_from_iter<U: IntoIterator<Item = Component<Directive>>>(
+        alloc: Global,
+        directives: U,
+    ) -> Result<DirectiveList, AllocError>
+        requires { IsFiniteIterable U.into_iter_gives U.IntoIter.can_next U.IntoIter.remaining directives }
+        ensures { IfOk result (λ list. (it : U.IntoIter) × U.into_iter_gives directives it × DrainsIf U.IntoIter.next_gives ⊤ it list.0) }
+    {
+        Ok(DirectiveList(Items::from_iter(alloc, directives)?))
+    }
+
+    /// The directives of the name, in order. It is best for repeatable directives.
+    pub fn get_all<'a, 'n>(&'a self, name: &'n Name) -> GetAll<'a, 'n>
+        ensures { result ≡ filter (is_called name.now) self.now.0 }
+    {
+        GetAll::new(self.0.as_slice(), name)
+    }
+
+    /// The first directive of the name, if there is one. It is best for directives that aren't repeatable.
+    pub fn get(&self, name: &Name) -> Option<&Component<Directive>>
+        ensures { option_copied result ≡ find (is_called name.now) self.now.0 }
+    {
+        self.0.iter().find(|directive| directive.name == *name)
+    }
+
+    /// Whether there is a directive of the name.
+    pub fn has(&self, name: &Name) -> bool
+        ensures { result ≡ list_any (is_called name.now) self.now.0 }
+    {
+        self.0.iter().any(|directive| directive.name == *name)
     }
 
     /// Adds a directive at the end. After want of memory the list is as it was.
@@ -43,5 +87,73 @@ impl Deref for DirectiveList {
         ensures { result.now ≡ self.now.0 }
     {
         &self.0
+    }
+}
+
+impl DerefMut for DirectiveList {
+    ghost use Rattle.apollo_component.specs.DirectivesLending.{LendsDirectives};
+
+    ghost deref_mut_gives = { λ list items. items ≡ list.0 };
+
+    fn deref_mut(&mut self) -> &mut Items<Component<Directive>>
+        ensures* writes_back { sem 𝓛 (LendsDirectives self.entry result) }
+        ensures value { result.now ≡ self.old.0 }
+    {
+        &mut self.0
+    }
+}
+
+impl IntoIterator for DirectiveList {
+    ghost use Rattle.std.specs.declared.alloc.Global.{Global};
+    ghost use Rattle.graphql_ast.specs.declared.directive.Directive.{Directive};
+    ghost use Rattle.apollo_component.specs.declared.component.Component.{Component};
+
+    type Item = Component<Directive>;
+
+    type IntoIter = IntoIter<Component<Directive>>;
+
+    ghost into_iter_gives = { λ list r. (into_iter_items r ≡ list.0) × (into_iter_len r ≡ length list.0) × (into_iter_len r < 2 ^ 64)
+        × EveryRun (into_iter_steps {X = Component Directive} {Z = Global}) (λ p. ItemsAre p (into_iter_items p.from)) };
+
+    fn into_iter(self) -> IntoIter<Component<Directive>> {
+        let DirectiveList(directives) = self;
+        directives.into_iter()
+    }
+}
+
+impl<'a> IntoIterator for &'a DirectiveList {
+    ghost use Rattle.graphql_ast.specs.declared.directive.Directive.{Directive};
+    ghost use Rattle.apollo_component.specs.declared.component.Component.{Component};
+
+    type Item = &'a Component<Directive>;
+
+    type IntoIter = Iter<'a, Component<Directive>>;
+
+    ghost into_iter_gives = { λ list r. (iter_rest r ≡ list.now.0) × (length (iter_rest r) < 2 ^ 64)
+        × EveryRun (iter_steps {A = Component Directive}) (λ p. ItemsMapTo p (λ y. y.now) (iter_rest p.from)) };
+
+    fn into_iter(self) -> Iter<'a, Component<Directive>> {
+        self.0.iter()
+    }
+}
+
+impl<'a> IntoIterator for &'a mut DirectiveList {
+    ghost use Rattle.graphql_ast.specs.declared.directive.Directive.{Directive};
+    ghost use Rattle.apollo_component.specs.declared.component.Component.{Component};
+    ghost use Rattle.apollo_component.specs.DirectivesLending.{LendsEachDirective};
+
+    type Item = &'a mut Component<Directive>;
+
+    type IntoIter = IterMut<'a, Component<Directive>>;
+
+    ghost into_iter_gives = { λ list r. (iter_mut_rest r ≡ list.now.0) × (length (iter_mut_rest r) < 2 ^ 64)
+        × EveryRun (iter_mut_steps {A = Component Directive}) (λ p. ItemsMapTo p (λ y. y.now) (iter_mut_rest p.from)) };
+
+    fn into_iter(self) -> IterMut<'a, Component<Directive>>
+        ensures* writes_back { sem 𝓛 (LendsEachDirective self.entry result) }
+        ensures into_iter_gives { (iter_mut_rest result ≡ self.old.0) × (length (iter_mut_rest result) < 2 ^ 64)
+            × EveryRun (iter_mut_steps {A = Component Directive}) (λ p. ItemsMapTo p (λ y. y.now) (iter_mut_rest p.from)) }
+    {
+        (&mut self.0).into_iter()
     }
 }

@@ -4,6 +4,7 @@
 pub mod component;
 pub mod directive_list;
 pub mod extension;
+pub mod get_all;
 pub mod laws;
 pub mod named;
 

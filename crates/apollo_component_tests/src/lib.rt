@@ -3,3 +3,5 @@
 
 #[cfg(test)]
 mod components;
+#[cfg(test)]
+mod directives;

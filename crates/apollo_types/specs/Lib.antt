@@ -3,8 +3,10 @@ pub mod EnumWriteOut
 pub mod InputObjectWriteOut
 pub mod InterfaceWriteOut
 pub mod ObjectWriteOut
+pub mod OriginsLeft
 pub mod ScalarWriteOut
 pub mod SchemaDefinitionWriteOut
+pub mod TypeKinds
 pub mod TypeWriteOut
 pub mod UnionWriteOut
 pub mod WriteOut

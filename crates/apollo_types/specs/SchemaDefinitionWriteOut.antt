@@ -2,6 +2,7 @@
 use Rattle.std.specs.Prelude.{ℕ, List, [], ◌∷◌, ◌++◌, map, filter, filter_map, length, Option, None, Some, option_map, is_none, nat_eq, Bool, false, not, ◌&&◌, ◌==◌, if◌then◌else◌}
 use Rattle.std.specs.List.{list_any, list_all}
 use Rattle.std.specs.Option.{option_eq}
+use Rattle.std.specs.Borrow.{Bor}
 use Rattle.std.specs.Cmp.Lexicographic.{pointwise}
 use Rattle.graphql_nodes.specs.NameView.{NameView}
 use Rattle.graphql_nodes.specs.NodeView.{NodeView}
@@ -19,7 +20,7 @@ use Rattle.apollo_component.specs.declared.extension.ComponentOrigin.{ComponentO
 use Rattle.apollo_component.specs.declared.extension.ComponentOrigin.TheVariants as origins
 use Rattle.apollo_component.specs.declared.extension.ExtensionId.{ExtensionId}
 use Rattle.apollo_types.specs.WriteOut.{origin_of, name_origin_of, identities, nodes_of_origin}
-use Rattle.apollo_types.specs.TypeWriteOut.{is_object}
+use Rattle.apollo_types.specs.TypeKinds.{is_object}
 use Rattle.apollo_types.specs.declared.extended_type.ExtendedType.{ExtendedType}
 use Rattle.apollo_types.specs.declared.schema_definition.SchemaDefinition.{SchemaDefinition}
 
@@ -44,6 +45,10 @@ named_root s op = option_map (λ n. (op, n)) (root_of s op)
 -- the roots that are there, in order
 abbrev pub named_roots : SchemaDefinition → List (OperationType × ComponentName)
 named_roots s = filter_map (named_root s) operation_types
+
+-- what an operation type and a reference to its root stand for
+abbrev pub deref_root : OperationType × Bor ComponentName → OperationType × ComponentName
+deref_root r = (r.0, r.1.now)
 
 abbrev pub root_origin_of : OperationType × ComponentName → ComponentOrigin
 root_origin_of r = name_origin_of r.1

@@ -1,16 +1,19 @@
--- What a type of any kind is written out as, what it is called, and its kind: GraphQL specification of October 2021, section 3.4.
-use Rattle.std.specs.Prelude.{List, Option, Bool, true, false}
+-- What a type of any kind is written out as, what it is called, its kind, and what else each kind has: GraphQL
+-- specification of October 2021, section 3.4.
+use Rattle.std.specs.Prelude.{List, Option}
 use Rattle.graphql_nodes.specs.NameView.{NameView}
 use Rattle.graphql_nodes.specs.declared.source.SourceSpan.{SourceSpan}
 use Rattle.graphql_ast.specs.declared.definition.Definition.{Definition}
 use Rattle.graphql_nodes.specs.declared.type_kind.TypeKind.{TypeKind}
 use Rattle.graphql_nodes.specs.declared.type_kind.TypeKind.TheVariants as kinds
-use Rattle.apollo_types.specs.ScalarWriteOut.{write_scalar}
-use Rattle.apollo_types.specs.ObjectWriteOut.{write_object}
-use Rattle.apollo_types.specs.InterfaceWriteOut.{write_interface}
-use Rattle.apollo_types.specs.UnionWriteOut.{write_union}
-use Rattle.apollo_types.specs.EnumWriteOut.{write_enum}
-use Rattle.apollo_types.specs.InputObjectWriteOut.{write_input_object}
+use Rattle.apollo_component.specs.declared.directive_list.DirectiveList.{DirectiveList}
+use Rattle.apollo_component.specs.declared.extension.ComponentOrigin.{ComponentOrigin}
+use Rattle.apollo_types.specs.ScalarWriteOut.{scalar_origins, write_scalar}
+use Rattle.apollo_types.specs.ObjectWriteOut.{object_origins, write_object}
+use Rattle.apollo_types.specs.InterfaceWriteOut.{interface_origins, write_interface}
+use Rattle.apollo_types.specs.UnionWriteOut.{union_origins, write_union}
+use Rattle.apollo_types.specs.EnumWriteOut.{enum_origins, write_enum}
+use Rattle.apollo_types.specs.InputObjectWriteOut.{input_object_origins, write_input_object}
 use Rattle.apollo_types.specs.declared.extended_type.ExtendedType.{ExtendedType}
 use Rattle.apollo_types.specs.declared.extended_type.ExtendedType.TheVariants.{Scalar, Object, Interface, Union, Enum, InputObject}
 
@@ -21,15 +24,6 @@ type_kind (Interface n) = kinds.Interface
 type_kind (Union n) = kinds.Union
 type_kind (Enum n) = kinds.Enum
 type_kind (InputObject n) = kinds.InputObject
-
--- it is an object type
-abbrev pub is_object : ExtendedType → Bool
-is_object (Scalar n) = false
-is_object (Object n) = true
-is_object (Interface n) = false
-is_object (Union n) = false
-is_object (Enum n) = false
-is_object (InputObject n) = false
 
 abbrev pub type_name : ExtendedType → NameView
 type_name (Scalar n) = n.value.name
@@ -46,6 +40,31 @@ type_location (Interface n) = n.location
 type_location (Union n) = n.location
 type_location (Enum n) = n.location
 type_location (InputObject n) = n.location
+
+abbrev pub type_description : ExtendedType → Option NameView
+type_description (Scalar n) = n.value.description
+type_description (Object n) = n.value.description
+type_description (Interface n) = n.value.description
+type_description (Union n) = n.value.description
+type_description (Enum n) = n.value.description
+type_description (InputObject n) = n.value.description
+
+abbrev pub type_directives : ExtendedType → DirectiveList
+type_directives (Scalar n) = n.value.directives
+type_directives (Object n) = n.value.directives
+type_directives (Interface n) = n.value.directives
+type_directives (Union n) = n.value.directives
+type_directives (Enum n) = n.value.directives
+type_directives (InputObject n) = n.value.directives
+
+-- the origins of the components
+abbrev pub type_origins : ExtendedType → List ComponentOrigin
+type_origins (Scalar n) = scalar_origins n.value
+type_origins (Object n) = object_origins n.value
+type_origins (Interface n) = interface_origins n.value
+type_origins (Union n) = union_origins n.value
+type_origins (Enum n) = enum_origins n.value
+type_origins (InputObject n) = input_object_origins n.value
 
 -- the definition, where the type stands, then its extensions
 abbrev pub write_type : ExtendedType → List Definition

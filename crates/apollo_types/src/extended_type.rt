@@ -1,15 +1,22 @@
 //! Types of any kind: GraphQL specification of October 2021, section 3.4.
 ghost use Rattle.std.specs.Prelude.{◌≡◌, IfOk};
+ghost use Rattle.std.specs.Option.{option_copied};
 
 use crate::enum_type::EnumType;
 use crate::input_object_type::InputObjectType;
 use crate::interface_type::InterfaceType;
 use crate::object_type::ObjectType;
+use crate::origins::Origins;
 use crate::scalar_type::ScalarType;
 use crate::union_type::UnionType;
+use crate::write_out::identities_of;
+use apollo_component::directive_list::DirectiveList;
+use apollo_component::extension::ExtensionId;
 use graphql_ast::definition::Definition;
+use graphql_nodes::collections::key_set::KeySet;
 use graphql_nodes::name::Name;
 use graphql_nodes::node::Node;
+use graphql_nodes::node_str::NodeStr;
 use graphql_nodes::source::SourceSpan;
 use graphql_nodes::type_kind::TypeKind;
 use std::alloc::{AllocError, Global};
@@ -42,7 +49,9 @@ impl Clone for ExtendedType {
 
 impl ExtendedType {
     ghost use Rattle.graphql_nodes.specs.BuiltIn.{is_built_in};
-    ghost use Rattle.apollo_types.specs.TypeWriteOut.{write_type, type_kind, is_object, type_name, type_location};
+    ghost use Rattle.apollo_types.specs.TypeKinds.{as_scalar, as_object, as_interface, as_union, as_enum, as_input_object, is_scalar, is_object, is_interface, is_union, is_enum, is_input_object, is_leaf, is_input_type, is_output_type};
+    ghost use Rattle.apollo_types.specs.TypeWriteOut.{write_type, type_kind, type_name, type_location, type_directives, type_description, type_origins};
+    ghost use Rattle.apollo_types.specs.WriteOut.{identities};
 
     /// The kind of the type.
     pub fn kind(&self) -> TypeKind
@@ -58,14 +67,127 @@ impl ExtendedType {
         }
     }
 
+    /// Whether it is a scalar type.
+    pub fn is_scalar(&self) -> bool
+        ensures { result ≡ is_scalar self.now }
+    {
+        matches!(self, ExtendedType::Scalar(_))
+    }
+
     /// Whether it is an object type.
     pub fn is_object(&self) -> bool
         ensures { result ≡ is_object self.now }
     {
+        matches!(self, ExtendedType::Object(_))
+    }
+
+    /// Whether it is an interface type.
+    pub fn is_interface(&self) -> bool
+        ensures { result ≡ is_interface self.now }
+    {
+        matches!(self, ExtendedType::Interface(_))
+    }
+
+    /// Whether it is a union type.
+    pub fn is_union(&self) -> bool
+        ensures { result ≡ is_union self.now }
+    {
+        matches!(self, ExtendedType::Union(_))
+    }
+
+    /// Whether it is an enum type.
+    pub fn is_enum(&self) -> bool
+        ensures { result ≡ is_enum self.now }
+    {
+        matches!(self, ExtendedType::Enum(_))
+    }
+
+    /// Whether it is an input object type.
+    pub fn is_input_object(&self) -> bool
+        ensures { result ≡ is_input_object self.now }
+    {
+        matches!(self, ExtendedType::InputObject(_))
+    }
+
+    /// The type, if it is a scalar type.
+    pub fn as_scalar(&self) -> Option<&ScalarType>
+        ensures { option_copied result ≡ as_scalar self.now }
+    {
         match self {
-            ExtendedType::Object(_) => true,
-            _ => false,
+            ExtendedType::Scalar(node) => Some(node),
+            _ => None,
         }
+    }
+
+    /// The type, if it is an object type.
+    pub fn as_object(&self) -> Option<&ObjectType>
+        ensures { option_copied result ≡ as_object self.now }
+    {
+        match self {
+            ExtendedType::Object(node) => Some(node),
+            _ => None,
+        }
+    }
+
+    /// The type, if it is an interface type.
+    pub fn as_interface(&self) -> Option<&InterfaceType>
+        ensures { option_copied result ≡ as_interface self.now }
+    {
+        match self {
+            ExtendedType::Interface(node) => Some(node),
+            _ => None,
+        }
+    }
+
+    /// The type, if it is a union type.
+    pub fn as_union(&self) -> Option<&UnionType>
+        ensures { option_copied result ≡ as_union self.now }
+    {
+        match self {
+            ExtendedType::Union(node) => Some(node),
+            _ => None,
+        }
+    }
+
+    /// The type, if it is an enum type.
+    pub fn as_enum(&self) -> Option<&EnumType>
+        ensures { option_copied result ≡ as_enum self.now }
+    {
+        match self {
+            ExtendedType::Enum(node) => Some(node),
+            _ => None,
+        }
+    }
+
+    /// The type, if it is an input object type.
+    pub fn as_input_object(&self) -> Option<&InputObjectType>
+        ensures { option_copied result ≡ as_input_object self.now }
+    {
+        match self {
+            ExtendedType::InputObject(node) => Some(node),
+            _ => None,
+        }
+    }
+
+    /// Whether it is a leaf type: a scalar or enum type. Just the fields of other types have selections of their own.
+    pub fn is_leaf(&self) -> bool
+        ensures { result ≡ is_leaf self.now }
+    {
+        matches!(self, ExtendedType::Scalar(_) | ExtendedType::Enum(_))
+    }
+
+    /// Whether an input can be of the type: it is a scalar, enum or input object type (section 3.4.2).
+    pub fn is_input_type(&self) -> bool
+        ensures { result ≡ is_input_type self.now }
+    {
+        self.is_leaf() || self.is_input_object()
+    }
+
+    /// Whether an output can be of the type: it is a scalar, object, interface, union or enum type (section 3.4.2).
+    pub fn is_output_type(&self) -> bool
+        ensures { result ≡ is_output_type self.now }
+    {
+        !self.is_input_object()
     }
 
     /// The name of the type.
@@ -108,6 +230,57 @@ impl ExtendedType {
             ExtendedType::Enum(node) => node.is_built_in(),
             ExtendedType::InputObject(node) => node.is_built_in(),
         }
+    }
+
+    /// The directives applied to the type.
+    pub fn directives(&self) -> &DirectiveList
+        ensures { result.now ≡ type_directives self.now }
+    {
+        match self {
+            ExtendedType::Scalar(node) => &node.directives,
+            ExtendedType::Object(node) => &node.directives,
+            ExtendedType::Interface(node) => &node.directives,
+            ExtendedType::Union(node) => &node.directives,
+            ExtendedType::Enum(node) => &node.directives,
+            ExtendedType::InputObject(node) => &node.directives,
+        }
+    }
+
+    /// The description of the type, if it has one.
+    pub fn description(&self) -> Option<&NodeStr>
+        ensures { option_copied result ≡ type_description self.now }
+    {
+        match self {
+            ExtendedType::Scalar(node) => node.description.as_ref(),
+            ExtendedType::Object(node) => node.description.as_ref(),
+            ExtendedType::Interface(node) => node.description.as_ref(),
+            ExtendedType::Union(node) => node.description.as_ref(),
+            ExtendedType::Enum(node) => node.description.as_ref(),
+            ExtendedType::InputObject(node) => node.description.as_ref(),
+        }
+    }
+
+    /// The origins of the components: those of directives, then interfaces, then fields; or of directives, then members,
+    /// values or input fields.
+    pub fn iter_origins(&self) -> Origins<'_>
+        ensures { result ≡ type_origins self.now }
+    {
+        match self {
+            ExtendedType::Scalar(node) => node.iter_origins(),
+            ExtendedType::Object(node) => node.iter_origins(),
+            ExtendedType::Interface(node) => node.iter_origins(),
+            ExtendedType::Union(node) => node.iter_origins(),
+            ExtendedType::Enum(node) => node.iter_origins(),
+            ExtendedType::InputObject(node) => node.iter_origins(),
+        }
+    }
+
+    /// The identities of the extensions that the components come from, by first appearance among their
+    /// [origins](ExtendedType::iter_origins). The error is want of memory.
+    pub fn extensions(&self, alloc: Global) -> Result<KeySet<ExtensionId>, AllocError>
+        ensures { IfOk result (λ ids. ids ≡ identities (type_origins self.now)) }
+    {
+        identities_of(alloc, self.iter_origins())
     }
 
     /// The type as syntax: its definition, where the type stands, then its extensions. The error is want of memory.

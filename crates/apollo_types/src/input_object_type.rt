@@ -1,9 +1,8 @@
 //! Input object types: GraphQL specification of October 2021, section 3.10.
 ghost use Rattle.std.specs.Prelude.{◌≡◌, IfOk};
 
-use crate::write_out::{
-    WriteOut, add_origins, add_value_origins, nodes_from, values_from, write_out,
-};
+use crate::origins::{Origins, Part};
+use crate::write_out::{WriteOut, identities_of, nodes_from, values_from, write_out};
 use apollo_component::component::Component;
 use apollo_component::directive_list::DirectiveList;
 use apollo_component::extension::{ComponentOrigin, ExtensionId};
@@ -57,15 +56,23 @@ impl InputObjectType {
     ghost use Rattle.apollo_types.specs.WriteOut.{identities};
     ghost use Rattle.apollo_types.specs.InputObjectWriteOut.{input_object_origins, write_input_object};
 
-    /// The identities of the extensions that the components come from, by first appearance among directives, then fields.
-    /// The error is want of memory.
+    /// The origins of the components: those of directives, then fields.
+    pub fn iter_origins(&self) -> Origins<'_>
+        ensures { result ≡ input_object_origins self.now }
+    {
+        Origins::new(
+            &self.directives,
+            Part::Nothing,
+            Part::InputFields(self.fields.values()),
+        )
+    }
+
+    /// The identities of the extensions that the components come from, by first appearance among their
+    /// [origins](InputObjectType::iter_origins). The error is want of memory.
     pub fn extensions(&self, alloc: Global) -> Result<KeySet<ExtensionId>, AllocError>
         ensures { IfOk result (λ ids. ids ≡ identities (input_object_origins self.now)) }
     {
-        let mut ids = KeySet::new(alloc);
-        add_origins(&mut ids, self.directives.as_slice())?;
-        add_value_origins(&mut ids, &self.fields)?;
-        Ok(ids)
+        identities_of(alloc, self.iter_origins())
     }
 
     /// The type as syntax: its definition, at this place, with the components of the definition, then an extension

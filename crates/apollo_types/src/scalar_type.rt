@@ -1,7 +1,8 @@
 //! Scalar types: GraphQL specification of October 2021, section 3.5.
 ghost use Rattle.std.specs.Prelude.{◌≡◌, IfOk};
 
-use crate::write_out::{WriteOut, add_origins, nodes_from, write_out};
+use crate::origins::{Origins, Part};
+use crate::write_out::{WriteOut, identities_of, nodes_from, write_out};
 use apollo_component::directive_list::DirectiveList;
 use apollo_component::extension::{ComponentOrigin, ExtensionId};
 use graphql_ast::definition::Definition;
@@ -13,6 +14,7 @@ use graphql_nodes::node::Node;
 use graphql_nodes::node_str::NodeStr;
 use graphql_nodes::source::SourceSpan;
 use std::alloc::{AllocError, Global};
+use std::hash::Hash;
 
 /// A scalar type. Equality ignores places and origins.
 #[derive(PartialEq, Eq, Hash)]
@@ -48,14 +50,23 @@ impl ScalarType {
     ghost use Rattle.apollo_types.specs.WriteOut.{identities};
     ghost use Rattle.apollo_types.specs.ScalarWriteOut.{scalar_origins, write_scalar};
 
-    /// The identities of the extensions that the components come from, by first appearance among directives.
-    /// The error is want of memory.
+    /// The origins of the components: those of directives.
+    pub fn iter_origins(&self) -> Origins<'_>
+        ensures { result ≡ scalar_origins self.now }
+    {
+        Origins::new(
+            &self.directives,
+            Part::Nothing,
+            Part::Nothing,
+        )
+    }
+
+    /// The identities of the extensions that the components come from, by first appearance among their
+    /// [origins](ScalarType::iter_origins). The error is want of memory.
     pub fn extensions(&self, alloc: Global) -> Result<KeySet<ExtensionId>, AllocError>
         ensures { IfOk result (λ ids. ids ≡ identities (scalar_origins self.now)) }
     {
-        let mut ids = KeySet::new(alloc);
-        add_origins(&mut ids, self.directives.as_slice())?;
-        Ok(ids)
+        identities_of(alloc, self.iter_origins())
     }
 
     /// The type as syntax: its definition, at this place, with the components of the definition, then an extension

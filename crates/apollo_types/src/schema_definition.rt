@@ -4,12 +4,13 @@ ghost use Rattle.std.specs.List.{list_all};
 ghost use Rattle.std.specs.Option.{option_copied};
 ghost use Rattle.graphql_nodes.specs.SameText.{same_text};
 ghost use Rattle.graphql_nodes.specs.Tables.{lookup};
-ghost use Rattle.apollo_component.specs.declared.extension.ComponentOrigin.{ComponentOrigin as Origin};
 ghost use Rattle.apollo_types.specs.WriteOut.{identities};
 ghost use Rattle.apollo_types.specs.SchemaDefinitionWriteOut.{no_schema_definition, operation_types, root_of, root_origin_of, root_node, named_roots, schema_origins, roots_of_origin, is_some_object, has_own_root, has_implied_root, is_implied, is_written, write_schema_definition};
 
 use crate::extended_type::ExtendedType;
-use crate::write_out::{WriteOut, add_origin, add_origins, is_same, nodes_from, write_out};
+use crate::origins::{Origins, Part};
+use crate::root_operations::RootOperations;
+use crate::write_out::{WriteOut, identities_of, is_same, nodes_from, write_out};
 use apollo_component::component::ComponentName;
 use apollo_component::directive_list::DirectiveList;
 use apollo_component::extension::{ComponentOrigin, ExtensionId};
@@ -26,7 +27,7 @@ use graphql_nodes::source::SourceSpan;
 use std::alloc::{AllocError, Global};
 
 /// The operation types, in the order of the roots.
-const OPERATION_TYPES: [OperationType; 3] = [
+pub(crate) const OPERATION_TYPES: [OperationType; 3] = [
     OperationType::Query,
     OperationType::Mutation,
     OperationType::Subscription,
@@ -94,15 +95,27 @@ impl SchemaDefinition {
         }
     }
 
-    /// The identities of the extensions that the components come from, by first appearance among directives, then the
-    /// roots of query, mutation and subscription. The error is want of memory.
+    /// The roots that are named, each beside its operation type: query, mutation, subscription.
+    pub fn iter_root_operations(&self) -> RootOperations<'_>
+        ensures { result ≡ named_roots self.now }
+    {
+        RootOperations::new(self)
+    }
+
+    /// The origins of the components: those of directives, then the roots of query, mutation and subscription.
+    pub fn iter_origins(&self) -> Origins<'_>
+        ensures { result ≡ schema_origins self.now }
+    {
+        let roots = Part::Roots(self.iter_root_operations());
+        Origins::new(&self.directives, Part::Nothing, roots)
+    }
+
+    /// The identities of the extensions that the components come from, by first appearance among their
+    /// [origins](SchemaDefinition::iter_origins). The error is want of memory.
     pub fn extensions(&self, alloc: Global) -> Result<KeySet<ExtensionId>, AllocError>
         ensures { IfOk result (λ ids. ids ≡ identities (schema_origins self.now)) }
     {
-        let mut ids = KeySet::new(alloc);
-        add_origins(&mut ids, self.directives.as_slice())?;
-        self.add_root_origins(&mut ids)?;
-        Ok(ids)
+        identities_of(alloc, self.iter_origins())
     }
 
     /// The definition as syntax: a schema definition, at this place, with the components of the definition, then an
@@ -131,18 +144,6 @@ impl SchemaDefinition {
         Ok(written)
     }
 
-    /// Adds the identities of the roots, in order.
-    fn add_root_origins(&self, ids: &mut KeySet<ExtensionId>) -> Result<(), AllocError>
-        ensures { OnOk result ((os : List Origin) → ids.old ≡ identities os → ids.new ≡ identities (os ++ map root_origin_of (named_roots self.now))) }
-    {
-        for operation_type in OPERATION_TYPES {
-            if let Some(root) = self.root_operation(operation_type) {
-                add_origin(ids, root.origin)?;
-            }
-        }
-        Ok(())
-    }
-
     /// The roots of one origin, in order.
     fn roots_from(
         &self,
@@ -152,11 +153,9 @@ impl SchemaDefinition {
         ensures { IfOk result (λ roots. roots ≡ roots_of_origin origin (named_roots self.now)) }
     {
         let mut roots = Items::new(alloc);
-        for operation_type in OPERATION_TYPES {
-            if let Some(root) = self.root_operation(operation_type) {
-                if is_same(origin, root.origin) {
-                    push_root(alloc, &mut roots, operation_type, root)?;
-                }
+        for (operation_type, root) in self.iter_root_operations() {
+            if is_same(origin, root.origin) {
+                push_root(alloc, &mut roots, operation_type, root)?;
             }
         }
         Ok(roots)
@@ -166,11 +165,9 @@ impl SchemaDefinition {
     fn has_own_root(&self) -> bool
         ensures { result ≡ has_own_root self.now }
     {
-        for operation_type in OPERATION_TYPES {
-            if let Some(root) = self.root_operation(operation_type) {
-                if is_same(ComponentOrigin::Definition, root.origin) {
-                    return true;
-                }
+        for (_, root) in self.iter_root_operations() {
+            if is_same(ComponentOrigin::Definition, root.origin) {
+                return true;
             }
         }
         false

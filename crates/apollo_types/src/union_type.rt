@@ -1,9 +1,8 @@
 //! Union types: GraphQL specification of October 2021, section 3.8.
 ghost use Rattle.std.specs.Prelude.{◌≡◌, IfOk};
 
-use crate::write_out::{
-    WriteOut, add_name_origins, add_origins, names_from, nodes_from, write_out,
-};
+use crate::origins::{Origins, Part};
+use crate::write_out::{WriteOut, identities_of, names_from, nodes_from, write_out};
 use apollo_component::component::ComponentName;
 use apollo_component::directive_list::DirectiveList;
 use apollo_component::extension::{ComponentOrigin, ExtensionId};
@@ -54,15 +53,23 @@ impl UnionType {
     ghost use Rattle.apollo_types.specs.WriteOut.{identities};
     ghost use Rattle.apollo_types.specs.UnionWriteOut.{union_origins, write_union};
 
-    /// The identities of the extensions that the components come from, by first appearance among directives, then members.
-    /// The error is want of memory.
+    /// The origins of the components: those of directives, then members.
+    pub fn iter_origins(&self) -> Origins<'_>
+        ensures { result ≡ union_origins self.now }
+    {
+        Origins::new(
+            &self.directives,
+            Part::Names(self.members.as_slice().iter()),
+            Part::Nothing,
+        )
+    }
+
+    /// The identities of the extensions that the components come from, by first appearance among their
+    /// [origins](UnionType::iter_origins). The error is want of memory.
     pub fn extensions(&self, alloc: Global) -> Result<KeySet<ExtensionId>, AllocError>
         ensures { IfOk result (λ ids. ids ≡ identities (union_origins self.now)) }
     {
-        let mut ids = KeySet::new(alloc);
-        add_origins(&mut ids, self.directives.as_slice())?;
-        add_name_origins(&mut ids, self.members.as_slice())?;
-        Ok(ids)
+        identities_of(alloc, self.iter_origins())
     }
 
     /// The type as syntax: its definition, at this place, with the components of the definition, then an extension

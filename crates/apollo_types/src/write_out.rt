@@ -5,6 +5,7 @@ ghost use Rattle.apollo_component.specs.declared.extension.ComponentOrigin.{Comp
 ghost use Rattle.graphql_nodes.specs.Tables.{values_of};
 ghost use Rattle.apollo_types.specs.WriteOut.{origin_of, name_origin_of, identities, nodes_of_origin, names_of_origin, written_as};
 
+use crate::origins::Origins;
 use apollo_component::component::{Component, ComponentName};
 use apollo_component::extension::{ComponentOrigin, ExtensionId};
 use apollo_component::named::add_key;
@@ -66,7 +67,7 @@ pub fn write_out<T: WriteOut>(
 }
 
 /// Adds the identity of an origin, if it is an extension and new.
-pub fn add_origin(ids: &mut KeySet<ExtensionId>, origin: ComponentOrigin) -> Result<(), AllocError>
+fn add_origin(ids: &mut KeySet<ExtensionId>, origin: ComponentOrigin) -> Result<(), AllocError>
     ensures { OnOk result ((os : List Origin) → ids.old ≡ identities os → ids.new ≡ identities (os ++ origin ∷ [])) }
 {
     if let ComponentOrigin::Extension(id) = origin {
@@ -75,43 +76,18 @@ pub fn add_origin(ids: &mut KeySet<ExtensionId>, origin: ComponentOrigin) -> Res
     Ok(())
 }
 
-/// Adds the identities of components, in order.
-pub fn add_origins<T>(
-    ids: &mut KeySet<ExtensionId>,
-    components: &[Component<T>],
-) -> Result<(), AllocError>
-    ensures { OnOk result ((os : List Origin) → ids.old ≡ identities os → ids.new ≡ identities (os ++ map origin_of components.now)) }
+/// The identities of the extensions among these origins, by first appearance.
+pub fn identities_of(
+    alloc: Global,
+    origins: Origins<'_>,
+) -> Result<KeySet<ExtensionId>, AllocError>
+    ensures { IfOk result (λ ids. ids ≡ identities origins) }
 {
-    for component in components {
-        add_origin(ids, component.origin)?;
+    let mut ids = KeySet::new(alloc);
+    for origin in origins {
+        add_origin(&mut ids, *origin)?;
     }
-    Ok(())
-}
-
-/// Adds the identities of names, in order.
-pub fn add_name_origins(
-    ids: &mut KeySet<ExtensionId>,
-    names: &[ComponentName],
-) -> Result<(), AllocError>
-    ensures { OnOk result ((os : List Origin) → ids.old ≡ identities os → ids.new ≡ identities (os ++ map name_origin_of names.now)) }
-{
-    for name in names {
-        add_origin(ids, name.origin)?;
-    }
-    Ok(())
-}
-
-/// Adds the identities of a table's components, in order.
-pub fn add_value_origins<T>(
-    ids: &mut KeySet<ExtensionId>,
-    table: &Table<Name, Component<T>>,
-) -> Result<(), AllocError>
-    ensures { OnOk result ((os : List Origin) → ids.old ≡ identities os → ids.new ≡ identities (os ++ map origin_of (values_of table.now))) }
-{
-    for component in table.values() {
-        add_origin(ids, component.origin)?;
-    }
-    Ok(())
+    Ok(ids)
 }
 
 /// Whether two origins are one.

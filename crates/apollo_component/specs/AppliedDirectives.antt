@@ -1,0 +1,10 @@
+-- The applied directives of one name: GraphQL specification of October 2021, section 2.12.
+use Rattle.std.specs.Prelude.{Bool}
+use Rattle.graphql_nodes.specs.NameView.{NameView}
+use Rattle.graphql_nodes.specs.SameText.{same_text}
+use Rattle.graphql_ast.specs.declared.directive.Directive.{Directive}
+use Rattle.apollo_component.specs.declared.component.Component.{Component}
+
+-- the directive has this name
+abbrev pub is_called : NameView → Component Directive → Bool
+is_called name directive = same_text directive.node.value.name name

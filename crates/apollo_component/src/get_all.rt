@@ -1,0 +1,68 @@
+//! The directives of one name.
+ghost use Rattle.std.specs.Prelude.{◌≡◌, filter, length};
+ghost use Rattle.std.specs.Iterator.{at_most};
+ghost use Rattle.std.specs.Map.Iter.{TakesFirst, deref};
+ghost use Rattle.apollo_component.specs.AppliedDirectives.{is_called};
+
+use crate::component::Component;
+use graphql_ast::directive::Directive;
+use graphql_nodes::name::Name;
+use std::iter::FusedIterator;
+use std::marker::Model;
+use std::slice::Iter;
+
+/// The directives of one name that a list has, in order. Contracts see the list of those that are still to come.
+#[derive(Drop)]
+pub struct GetAll<'a, 'n> {
+    directives: Iter<'a, Component<Directive>>,
+    name: &'n Name,
+}
+
+impl<'a, 'n> Model for GetAll<'a, 'n> {
+    ghost use Rattle.std.specs.Prelude.{List, filter};
+    ghost use Rattle.std.specs.Coded.{coded_list};
+    ghost use Rattle.std.specs.Slice.Iter.{iter_rest};
+    ghost use Rattle.graphql_ast.specs.declared.directive.Directive.{Directive};
+    ghost use Rattle.graphql_ast.specs.contracts.directive.Directive as directive;
+    ghost use Rattle.apollo_component.specs.declared.component.Component.{Component};
+    ghost use Rattle.apollo_component.specs.contracts.component.Component as component;
+    ghost use Rattle.apollo_component.specs.AppliedDirectives.{is_called};
+
+    ghost Value = { List (Component Directive) };
+
+    ghost coded = { coded_list (component.the_row directive.the_row).coded };
+
+    ghost view = { λ all. filter (is_called all.name.now) (iter_rest all.directives) };
+}
+
+impl<'a, 'n> GetAll<'a, 'n> {
+    /// Those of the name among these directives.
+    pub(crate) fn new(directives: &'a [Component<Directive>], name: &'n Name) -> GetAll<'a, 'n>
+        ensures { result ≡ filter (is_called name.now) directives.now }
+    {
+        GetAll {
+            directives: directives.iter(),
+            name,
+        }
+    }
+}
+
+impl<'a, 'n> Iterator for GetAll<'a, 'n> {
+    type Item = &'a Component<Directive>;
+
+    ghost next_gives = { TakesFirst deref };
+
+    ghost remaining = { λ left. at_most (length left) };
+
+    /// The next directive of the name, if there is one.
+    fn next(&mut self) -> Option<&'a Component<Directive>> {
+        while let Some(directive) = self.directives.next() {
+            if directive.name == *self.name {
+                return Some(directive);
+            }
+        }
+        None
+    }
+}
+
+impl<'a, 'n> FusedIterator for GetAll<'a, 'n> {}
