@@ -12,7 +12,7 @@ use Rattle.apollo_meaning.specs.Faults.RootFaults.{schema_faults, further_schema
 use Rattle.apollo_meaning.specs.Completion.Adoption.{extended_names, orphans_of, schema_orphans, with_adopted}
 use Rattle.apollo_meaning.specs.Directives.{directive_definitions}
 use Rattle.apollo_meaning.specs.Order.Places.{Placed, types, schemas, extension_places, first_place, is_folded, met_when}
-use Rattle.apollo_meaning.specs.Completion.ImpliedSchema.{implied_schema, completed}
+use Rattle.apollo_meaning.specs.Completion.ImpliedSchema.{implied_schema}
 use Rattle.apollo_meaning.specs.Faults.OtherFaults.{other_faults}
 
 -- what is wrong with the definition at a place: the first one of its name, or of the schema, may repeat components, and a
@@ -50,15 +50,18 @@ found_when xs i =
 abbrev pub found_from : ℕ → ℕ → List ListItem → List Fault
 found_from i n xs = flat_map (found_when xs) (range_with_len i n)
 
--- the faults of a list in three phases: what is found moment by moment, with the adopted types last; the extensions whose
--- name has no definition, by name; what is found at the implied schema definition, and the extensions of the schema that
--- have none
+-- the faults of these items and an implied schema definition after them, in three phases: what is found moment by moment;
+-- the extensions whose name has no definition, by name; what is found at the implied schema definition, and the extensions
+-- of the schema that have none
+abbrev pub faults_with : List ListItem → List ListItem → List Fault
+faults_with xs implied =
+    found_from 0 (length xs) xs
+    ++ (map orphan (flat_map (orphans_of xs) (extended_names xs))
+    ++ (found_from (length xs) (length implied) (xs ++ implied) ++ map schema_orphan (schema_orphans (xs ++ implied))))
+
+-- the faults of a list, with the adopted types last
 abbrev pub faults_in : Bool → List ListItem → List Fault
-faults_in adopts xs =
-    found_from 0 (length (with_adopted adopts xs)) (with_adopted adopts xs)
-    ++ (map orphan (flat_map (orphans_of (with_adopted adopts xs)) (extended_names (with_adopted adopts xs)))
-    ++ (found_from (length (with_adopted adopts xs)) (length (implied_schema adopts (with_adopted adopts xs))) (completed adopts xs)
-    ++ map schema_orphan (schema_orphans (completed adopts xs))))
+faults_in adopts xs = faults_with (with_adopted adopts xs) (implied_schema adopts (with_adopted adopts xs))
 
 -- the faults of a list, in order of discovery
 abbrev pub faults_of : Bool → List Added → List Fault
