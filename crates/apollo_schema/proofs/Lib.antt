@@ -1,5 +1,7 @@
 pub mod BuiltInLemmas
 pub mod CloneLemmas
 pub mod Ends
+pub mod ImplementerLemmas
 pub mod SchemaEquality
 pub mod Stands
+pub mod SubtypeLemmas

@@ -3,10 +3,13 @@ pub mod BuilderHolds
 pub mod BuilderStands
 pub mod Built
 pub mod EqualSchemas
+pub mod ImplementerNames
+pub mod Implementers
 pub mod Lookups
 pub mod MeantSchema
 pub mod MetaFields
 pub mod NamesLeft
+pub mod Noted
 pub mod SchemaWriteOut
 pub mod Stands
 pub mod Takes

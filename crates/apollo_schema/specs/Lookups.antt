@@ -1,18 +1,17 @@
 -- What lookups in a schema answer, over the maps of any schema value alone: GraphQL specification of October 2021, sections
 -- 2, 3.6 to 3.8, 4.1 and 4.2.
-use Rattle.std.specs.Prelude.{◌≡◌, ℕ, Bool, true, false, ◌&&◌, ◌||◌, List, [], ◌∷◌, ◌++◌, map, filter, Option, None, Some, if◌then◌else◌}
-use Rattle.std.specs.List.{find, flat_map}
+use Rattle.std.specs.Prelude.{◌≡◌, Bool, true, false, List, [], ◌∷◌, ◌++◌, Option, None, Some, if◌then◌else◌}
+use Rattle.std.specs.List.{find}
 use Rattle.std.specs.Option.{option_map_or, option_or}
 use Rattle.graphql_nodes.specs.KeySets.{has_key}
 use Rattle.graphql_nodes.specs.NameView.{NameView}
 use Rattle.graphql_nodes.specs.NodeView.{NodeView}
 use Rattle.graphql_nodes.specs.SameText.{same_text}
-use Rattle.graphql_nodes.specs.Tables.{lookup, lookup_key, keys_of}
+use Rattle.graphql_nodes.specs.Tables.{lookup, lookup_key}
 use Rattle.graphql_nodes.specs.declared.operation_type.OperationType.TheVariants.{Query}
 use Rattle.graphql_ast.specs.TypeReferences.{inner_name}
 use Rattle.graphql_ast.specs.declared.type_reference.Type.{«Type» as TypeReference}
 use Rattle.graphql_ast.specs.declared.type_system.FieldDefinition.{FieldDefinition}
-use Rattle.apollo_component.specs.FirstOfEach.{first_of_each}
 use Rattle.apollo_component.specs.declared.component.Component.{Component}
 use Rattle.apollo_component.specs.declared.component.ComponentName.{ComponentName}
 use Rattle.apollo_types.specs.SchemaDefinitionWriteOut.{root_of}

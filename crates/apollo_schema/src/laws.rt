@@ -1,10 +1,15 @@
 //! Laws of the definitions, for those who build on them; and what `==` answers at schemas and at the errors of builders.
-ghost use Rattle.std.specs.Prelude.{◌⊎◌, ◌↔◌, List, IsTrue};
+ghost use Rattle.std.specs.Prelude.{◌⊎◌, ◌↔◌, List, IsTrue, IsSome};
 ghost use Rattle.apollo_meaning.specs.Items.ListItems.{Added};
 ghost use Rattle.apollo_schema.specs.BuilderStands.{StandsFor, HasFailed, first_number};
 ghost use Rattle.apollo_schema.specs.EqualSchemas.{AreEqualSchemas};
+ghost use Rattle.apollo_schema.specs.Implementers.{is_implementer};
+ghost use Rattle.apollo_schema.specs.Lookups.{Types, type_at, as_interface, is_subtype};
 ghost use Rattle.graphql_nodes.specs.Clones.{IsExact};
 ghost use Rattle.graphql_nodes.specs.Comparing.{ComparesBy};
+ghost use Rattle.graphql_nodes.specs.NameView.{NameView};
+ghost use Rattle.graphql_nodes.specs.SameText.{same_text};
+ghost use Rattle.graphql_nodes.specs.Tables.{HasUniqueKeys};
 
 use crate::schema::Schema;
 use crate::schema_builder::SchemaBuilder;
@@ -25,6 +30,13 @@ pub fn equality_of_builder_errors()
 /// Each clone of a schema is the original, with its sources and every location and origin.
 pub fn clones_of_schemas_are_exact()
     ensures { IsExact ⟦<Schema as Clone>⟧.is_clone }
+{}
+
+/// A type is a subtype of an interface exactly where it is among the interface's implementers, for any types of which no
+/// two have one name, as those of every table. GraphQL specification of October 2021, sections 3.6 and 3.7.
+pub fn implementers()
+    ensures { (types : Types) → HasUniqueKeys same_text types → (i t : NameView) → IsSome (as_interface (type_at types i))
+        → IsTrue (is_subtype types i t) ↔ IsTrue (is_implementer types i t) }
 {}
 
 /// Every builder stands for some list, with its extensions numbered from the builder's first number, or a call was

@@ -3,6 +3,7 @@
 
 pub mod build_failure;
 pub mod field_lookup_error;
+pub mod implementers;
 pub mod laws;
 pub mod meta_fields;
 pub mod orphan_names;
@@ -14,6 +15,7 @@ mod write_out;
 
 pub use crate::build_failure::{BuildFailure, WithErrors};
 pub use crate::field_lookup_error::FieldLookupError;
+pub use crate::implementers::{Implementers, ImplementersIter};
 pub use crate::meta_fields::MetaFields;
 pub use crate::orphan_names::OrphanNames;
 pub use crate::schema::Schema;

@@ -3,6 +3,7 @@ ghost use Rattle.std.specs.Prelude.{◌≡◌, IfOk, option_map};
 ghost use Rattle.std.specs.Option.{option_copied};
 
 mod fields;
+mod implementers_map;
 mod subtypes;
 mod types_by_name;
 

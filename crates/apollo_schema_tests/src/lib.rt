@@ -15,6 +15,8 @@ mod extensions;
 #[cfg(test)]
 mod faults;
 #[cfg(test)]
+mod lookups;
+#[cfg(test)]
 mod no_documents;
 #[cfg(test)]
 mod reading;

@@ -12,7 +12,11 @@ use graphql_nodes::name::Name;
 fn is_listed(name: &Name, names: &KeySet<ComponentName>) -> bool
     ensures { result ≡ is_listed name.now names.now }
 {
-    names.as_slice().iter().any(|listed| *name == listed.name)
+    // The key shares the name's text, and takes no memory. A text that can't be shared once more is compared with each.
+    match ComponentName::from_name(name) {
+        Ok(key) => names.contains(&key),
+        Err(_) => names.as_slice().iter().any(|listed| *name == listed.name),
+    }
 }
 
 /// Whether the type declares the interface of this name.

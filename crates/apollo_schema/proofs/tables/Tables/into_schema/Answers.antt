@@ -34,7 +34,7 @@ pub returns-then-is_empty-clause-built : goal.returns-then-is_empty-clause-built
 returns-then-is_empty-clause-built c =
     let e = c.in-Ok-from_parts.ensures in
     λ start adopts xs all. means start adopts xs c.args.self all c.in-Ok-from_parts.schema
-        (ap (λ s. s.schema_definition) e ∙ c.in-Ok.ensures) (ap (λ s. s.types) e) (ap (λ s. s.directive_definitions) e)
+    (ap (λ s. s.schema_definition) e ∙ c.in-Ok.ensures) (ap (λ s. s.types) e) (ap (λ s. s.directive_definitions) e)
 
 pub returns-then-is_empty-clause-faultless : goal.returns-then-is_empty-clause-faultless
 returns-then-is_empty-clause-faultless c = λ start adopts xs all.

@@ -1,0 +1,311 @@
+-- What `implementers_map` makes of types, one after another.
+use Rattle.std.proofs.Common.{◌≡◌, ℕ, Bool, true, false, cond, not, ◌||◌, ◌&&◌, List, [], ◌∷◌, ◌++◌, Some, None, is_some, map, filter, refl, sym, ap, ◌∙◌, append_assoc, true≢false}
+use Rattle.std.specs.Prelude.{unwrap_or}
+use Rattle.std.specs.List.{list_any, flat_map, IsDistinct, AllByRecursion}
+use Rattle.std.specs.Map.{lookup, keys_of, set_value}
+use Rattle.std.specs.Cmp.{IsEquivalence, on_equiv}
+use Rattle.std.specs.Cmp.Lexicographic.{nat_list_eq_equiv}
+use Rattle.std.proofs.lemmas.List.{append-nil, map-append}
+use Rattle.std.proofs.lemmas.List.Elements.{filter-append}
+use Rattle.std.proofs.lemmas.List.Folds.{list_any-append}
+use Rattle.std.proofs.lemmas.Grind.{flat_map-append}
+use Rattle.indexmap.specs.IndexMap.{insert_entry}
+use Rattle.indexmap.specs.IndexSet.{insert_key}
+use Rattle.graphql_nodes.specs.NameView.{NameView}
+use Rattle.graphql_nodes.specs.SameText.{same_text}
+use Rattle.graphql_nodes.proofs.Texts.{same-true, same-flip, same-refl}
+use Rattle.apollo_component.specs.FirstOfEach.{first_of_each}
+use Rattle.apollo_component.specs.declared.component.ComponentName.{ComponentName}
+use Rattle.apollo_component.proofs.FirstOfEachLemmas.{first_of_each-push_new, first_of_each-push_old, list_any-first_of_each}
+use Rattle.apollo_component.proofs.Lists.Each.{each-filter, each-weaken}
+use Rattle.apollo_types.specs.TypeWriteOut.{is_object}
+use Rattle.apollo_types.specs.declared.extended_type.ExtendedType.{ExtendedType}
+use Rattle.apollo_types.specs.declared.extended_type.ExtendedType.TheVariants.{Scalar, Object, Interface, Union, Enum, InputObject}
+use Rattle.apollo_schema.specs.Lookups.{Types, interfaces_of, is_listed, declares}
+use Rattle.apollo_schema.specs.Implementers.{is_interface, names_declared, implementers_of, implementers_map}
+use Rattle.apollo_schema.specs.Noted.{no_implementers, with_name, noted, noted_under}
+use Rattle.apollo_schema.specs.declared.implementers.Implementers.{Implementers}
+
+-- neither of two tests passes
+pub neither : (a b : Bool) → (a || b) ≡ false → (a ≡ false) × (b ≡ false)
+neither true b h = absurd (true≢false h)
+neither false b h = (refl, h)
+
+module _ {K : Type 0} (same : K → K → Bool) where
+  apart : (x : K) (ks : List K) → AllByRecursion (λ k. same x k ≡ false) (filter (λ k. not (same x k)) ks)
+  apart x [] = tt
+  apart x (k ∷ ks) = by (same x k) refl (apart x ks)
+    where
+      by : (b : Bool) → same x k ≡ b → AllByRecursion (λ k. same x k ≡ false) (filter (λ k. not (same x k)) ks)
+          → AllByRecursion (λ k. same x k ≡ false) (cond (not b) (k ∷ filter (λ k. not (same x k)) ks) (filter (λ k. not (same x k)) ks))
+      by true e rest = rest
+      by false e rest = (e, rest)
+
+  filter-distinct : (p : K → Bool) (ks : List K) → IsDistinct same ks → IsDistinct same (filter p ks)
+  unfolding IsDistinct
+  filter-distinct p [] d = tt
+  filter-distinct p (k ∷ ks) d = by (p k) (filter-distinct p ks d.1)
+    where
+      by : (b : Bool) → IsDistinct same (filter p ks) → IsDistinct same (cond b (k ∷ filter p ks) (filter p ks))
+      by true rest = (each-weaken (λ y. (same k y ≡ false) × (p y ≡ true)) (λ y. same k y ≡ false) (λ y h. h.0) (filter p ks) (each-filter (λ y. same k y ≡ false) p ks d.0), rest)
+      by false rest = rest
+
+  first_of_each-distinct : (xs : List K) → IsDistinct same (first_of_each same xs)
+  unfolding IsDistinct
+  first_of_each-distinct [] = tt
+  first_of_each-distinct (x ∷ xs) = (apart x (first_of_each same xs), filter-distinct (λ y. not (same x y)) (first_of_each same xs) (first_of_each-distinct xs))
+
+-- a table that has at each key what f gives of it
+abbrev tabled : {K V : Type 0} → (K → V) → List K → List (K × V)
+tabled f ks = map (λ k. (k, f k)) ks
+
+module _ {K : Type 0} (same : K → K → Bool) (laws : IsEquivalence same) where
+  -- one more thing, if it is new, is what insertion adds
+  first_of_each-insert : (xs : List K) (x : K) → first_of_each same (xs ++ x ∷ []) ≡ insert_key same (first_of_each same xs) x
+  first_of_each-insert xs x = by (list_any (same x) xs) refl
+    where
+      by : (b : Bool) → list_any (same x) xs ≡ b → first_of_each same (xs ++ x ∷ []) ≡ insert_key same (first_of_each same xs) x
+      by true e = first_of_each-push_old same laws xs x e ∙ sym (ap (λ c. cond c (first_of_each same xs) (first_of_each same xs ++ x ∷ [])) (list_any-first_of_each same laws x xs ∙ e))
+      by false e = first_of_each-push_new same laws xs x e ∙ sym (ap (λ c. cond c (first_of_each same xs) (first_of_each same xs ++ x ∷ [])) (list_any-first_of_each same laws x xs ∙ e))
+
+  module _ {V : Type 0} where
+    tabled-apart : (f g : K → V) (c : K) → ((k : K) → same c k ≡ false → f k ≡ g k) → (ks : List K) → AllByRecursion (λ k. same c k ≡ false) ks → tabled f ks ≡ tabled g ks
+    tabled-apart f g c agree [] a = refl
+    tabled-apart f g c agree (k ∷ ks) a = ap (λ v. (k, v) ∷ tabled f ks) (agree k a.0) ∙ ap (λ l. (k, g k) ∷ l) (tabled-apart f g c agree ks a.1)
+
+    -- the table with another value at one key is that of what gives it there, and the same elsewhere
+    tabled-insert : (f g : K → V) (c : K) → ((k : K) → same c k ≡ false → f k ≡ g k) → ((k : K) → same c k ≡ true → g k ≡ g c) → (ks : List K) → IsDistinct same ks
+        → insert_entry same (tabled f ks) c (g c) ≡ tabled g (insert_key same ks c)
+    unfolding IsDistinct
+    tabled-insert f g c agree one [] d = refl
+    tabled-insert f g c agree one (k ∷ ks) d = by (same c k) refl (list_any (same c) ks) (tabled-insert f g c agree one ks d.1)
+      where
+        others : same c k ≡ true → AllByRecursion (λ y. same c y ≡ false) ks
+        others p = each-weaken (λ y. same k y ≡ false) (λ y. same c y ≡ false) (λ y h. laws.congr c k y p ∙ h) ks d.0
+
+        by : (b : Bool) → same c k ≡ b → (e : Bool) → insert_entry same (tabled f ks) c (g c) ≡ tabled g (cond e ks (ks ++ c ∷ []))
+            → cond b ((k, g c) ∷ tabled f ks) ((k, f k) ∷ insert_entry same (tabled f ks) c (g c)) ≡ tabled g (cond (b || e) (k ∷ ks) ((k ∷ ks) ++ c ∷ []))
+        by true p e rest = ap (λ v. (k, v) ∷ tabled f ks) (sym (one k p)) ∙ ap (λ l. (k, g k) ∷ l) (tabled-apart f g c agree ks (others p))
+        by false p true rest = ap (λ v. (k, v) ∷ insert_entry same (tabled f ks) c (g c)) (agree k p) ∙ ap (λ l. (k, g k) ∷ l) rest
+        by false p false rest = ap (λ v. (k, v) ∷ insert_entry same (tabled f ks) c (g c)) (agree k p) ∙ ap (λ l. (k, g k) ∷ l) rest
+
+    -- what stands at a key of the table
+    pub lookup-tabled : (f : K → V) (c : K) → ((k : K) → same c k ≡ true → f k ≡ f c) → (ks : List K) → lookup (same c) (tabled f ks) ≡ cond (list_any (same c) ks) (Some (f c)) None
+    lookup-tabled f c one [] = refl
+    lookup-tabled f c one (k ∷ ks) = by (same c k) refl (lookup-tabled f c one ks)
+      where
+        by : (b : Bool) → same c k ≡ b → lookup (same c) (tabled f ks) ≡ cond (list_any (same c) ks) (Some (f c)) None
+            → cond b (Some (f k)) (lookup (same c) (tabled f ks)) ≡ cond (b || list_any (same c) ks) (Some (f c)) None
+        by true p rest = ap Some (one k p)
+        by false p rest = rest
+
+pub names_equiv : IsEquivalence same_text
+names_equiv = on_equiv (λ (n : NameView). n.text) nat_list_eq_equiv
+
+abbrev names_of : List ComponentName → List NameView
+names_of cs = map (λ c. c.name) cs
+
+-- a name is listed where it is one of the names
+pub listed-names : (i : NameView) (cs : List ComponentName) → list_any (same_text i) (map (λ c. c.name) cs) ≡ is_listed i cs
+listed-names i [] = refl
+listed-names i (c ∷ cs) = ap (λ b. same_text i c.name || b) (listed-names i cs)
+
+listed-push : (i : NameView) (cs : List ComponentName) (c : ComponentName) → is_listed i (cs ++ c ∷ []) ≡ (is_listed i cs || same_text i c.name)
+listed-push i [] c = or_false (same_text i c.name)
+  where
+    or_false : (b : Bool) → (b || false) ≡ b
+    or_false true = refl
+    or_false false = refl
+listed-push i (d ∷ cs) c = by (same_text i d.name) (listed-push i cs c)
+  where
+    by : (b : Bool) → is_listed i (cs ++ c ∷ []) ≡ (is_listed i cs || same_text i c.name) → (b || is_listed i (cs ++ c ∷ [])) ≡ ((b || is_listed i cs) || same_text i c.name)
+    by true rest = refl
+    by false rest = rest
+
+-- where no type declares an interface, none of any kind does
+pub none-declares : (kind : ExtendedType → Bool) (types : Types) (i : NameView) → list_any (same_text i) (flat_map (λ e. names_declared e.1) types) ≡ false → filter (λ e. kind e.1 && declares i e.1) types ≡ []
+none-declares kind [] i none = refl
+none-declares kind (e ∷ types) i none =
+    let parts = neither (list_any (same_text i) (names_declared e.1)) (list_any (same_text i) (flat_map (λ e. names_declared e.1) types)) (sym (list_any-append (same_text i) (names_declared e.1) (flat_map (λ e. names_declared e.1) types)) ∙ none) in
+    by (kind e.1) (sym (listed-names i (interfaces_of e.1)) ∙ parts.0) (none-declares kind types i parts.1)
+  where
+    by : (b : Bool) → declares i e.1 ≡ false → filter (λ e. kind e.1 && declares i e.1) types ≡ [] → cond (b && declares i e.1) (e ∷ filter (λ e. kind e.1 && declares i e.1) types) (filter (λ e. kind e.1 && declares i e.1) types) ≡ []
+    by true none done = ap (λ c. cond c (e ∷ filter (λ e. kind e.1 && declares i e.1) types) (filter (λ e. kind e.1 && declares i e.1) types)) none ∙ done
+    by false none done = done
+
+-- all names of interfaces that types declare
+abbrev raw : Types → List NameView
+raw types = flat_map (λ e. names_declared e.1) types
+
+-- the keys of the types of one kind that declare an interface
+abbrev keys_declaring : (ExtendedType → Bool) → Types → NameView → List NameView
+keys_declaring kind types i = keys_of (filter (λ e. kind e.1 && declares i e.1) types)
+
+-- one name, or none
+abbrev one_if : Bool → NameView → List NameView
+one_if b k = cond b (k ∷ []) []
+
+-- the implementers of an interface among types and one more, of which these interfaces were noted
+abbrev value : Types → Bool → NameView → List ComponentName → NameView → Implementers
+value types is_object_type k cs i = record {
+  objects = first_of_each same_text (keys_declaring is_object types i ++ one_if (is_object_type && is_listed i cs) k);
+  interfaces = first_of_each same_text (keys_declaring is_interface types i ++ one_if (not is_object_type && is_listed i cs) k);
+}
+
+abbrev grown : Types → Bool → NameView → List ComponentName → List (NameView × Implementers)
+grown types is_object_type k cs = tabled (value types is_object_type k cs) (first_of_each same_text (raw types ++ names_of cs))
+
+-- a name that is noted once more stays
+put : (ks : List NameView) (listed : Bool) (k : NameView) → insert_key same_text (first_of_each same_text (ks ++ one_if listed k)) k ≡ first_of_each same_text (ks ++ k ∷ [])
+put ks false k = ap (λ l. insert_key same_text (first_of_each same_text l) k) (append-nil ks) ∙ sym (first_of_each-insert same_text names_equiv ks k)
+put ks true k = sym (first_of_each-insert same_text names_equiv (ks ++ k ∷ []) k) ∙ first_of_each-push_old same_text names_equiv (ks ++ k ∷ []) k there
+  where
+    or_true : (b : Bool) → (b || true) ≡ true
+    or_true true = refl
+    or_true false = refl
+
+    there : list_any (same_text k) (ks ++ k ∷ []) ≡ true
+    there = list_any-append (same_text k) ks (k ∷ []) ∙ ap (λ b. list_any (same_text k) ks || (b || false)) (same-refl k.text) ∙ or_true (list_any (same_text k) ks)
+
+module _ (types : Types) (k : NameView) where
+  -- the same text gives the same implementers
+  value-text : (o : Bool) (cs : List ComponentName) (c i : NameView) → same_text c i ≡ true → value types o k cs i ≡ value types o k cs c
+  value-text o cs c i e = ap (λ (t : List ℕ). value types o k cs (record { text = t; location = None })) (sym (same-true c.text i.text e))
+
+  -- another interface noted changes no other
+  value-other : (o : Bool) (cs : List ComponentName) (c : ComponentName) (i : NameView) → same_text c.name i ≡ false → value types o k cs i ≡ value types o k (cs ++ c ∷ []) i
+  value-other o cs c i e = sym (ap at (listed-push i cs c ∙ ap (λ b. is_listed i cs || b) (same-flip c.name.text i.text e) ∙ or_false (is_listed i cs)))
+    where
+      or_false : (b : Bool) → (b || false) ≡ b
+      or_false true = refl
+      or_false false = refl
+
+      at : Bool → Implementers
+      at = λ b. record {
+        objects = first_of_each same_text (keys_declaring is_object types i ++ one_if (o && b) k);
+        interfaces = first_of_each same_text (keys_declaring is_interface types i ++ one_if (not o && b) k);
+      }
+
+  -- the name noted under the interface
+  value-own : (o : Bool) (cs : List ComponentName) (c : ComponentName) → with_name o k (value types o k cs c.name) ≡ value types o k (cs ++ c ∷ []) c.name
+  value-own o cs c = by o ∙ sym (ap (at o) listed)
+    where
+      or_true : (b : Bool) → (b || true) ≡ true
+      or_true true = refl
+      or_true false = refl
+
+      listed : is_listed c.name (cs ++ c ∷ []) ≡ true
+      listed = listed-push c.name cs c ∙ ap (λ b. is_listed c.name cs || b) (same-refl c.name.text) ∙ or_true (is_listed c.name cs)
+
+      at : Bool → Bool → Implementers
+      at = λ o b. record {
+        objects = first_of_each same_text (keys_declaring is_object types c.name ++ one_if (o && b) k);
+        interfaces = first_of_each same_text (keys_declaring is_interface types c.name ++ one_if (not o && b) k);
+      }
+
+      by : (o : Bool) → with_name o k (value types o k cs c.name) ≡ at o true
+      by true = ap (λ (l : List NameView). record { objects = l; interfaces = first_of_each same_text (keys_declaring is_interface types c.name ++ []) }) (put (keys_declaring is_object types c.name) (is_listed c.name cs) k)
+      by false = ap (λ (l : List NameView). record { objects = first_of_each same_text (keys_declaring is_object types c.name ++ []); interfaces = l }) (put (keys_declaring is_interface types c.name) (is_listed c.name cs) k)
+
+  -- nothing was noted under a name that no type declares
+  value-none : (o : Bool) (cs : List ComponentName) (i : NameView) → list_any (same_text i) (raw types ++ names_of cs) ≡ false → value types o k cs i ≡ no_implementers
+  value-none o cs i none = by o (none-declares is_object types i parts.0) (none-declares is_interface types i parts.0) (sym (listed-names i cs) ∙ parts.1)
+    where
+      parts : (list_any (same_text i) (raw types) ≡ false) × (list_any (same_text i) (names_of cs) ≡ false)
+      parts = neither (list_any (same_text i) (raw types)) (list_any (same_text i) (names_of cs)) (sym (list_any-append (same_text i) (raw types) (names_of cs)) ∙ none)
+
+      at : Types → Types → Bool → Bool → Implementers
+      at = λ os is b c. record {
+        objects = first_of_each same_text (keys_of os ++ one_if b k);
+        interfaces = first_of_each same_text (keys_of is ++ one_if c k);
+      }
+
+      by : (o : Bool) → filter (λ e. is_object e.1 && declares i e.1) types ≡ [] → filter (λ e. is_interface e.1 && declares i e.1) types ≡ [] → is_listed i cs ≡ false → value types o k cs i ≡ no_implementers
+      by true os is l = (λ j. at (os j) (is j) (l j) false)
+      by false os is l = (λ j. at (os j) (is j) false (l j))
+
+  -- one more interface noted
+  grown-push : (o : Bool) (cs : List ComponentName) (c : ComponentName) → noted o k (grown types o k cs) c ≡ grown types o k (cs ++ c ∷ [])
+  grown-push o cs c =
+      ap (λ m. insert_entry same_text (grown types o k cs) c.name (with_name o k m)) was
+      ∙ ap (λ v. insert_entry same_text (grown types o k cs) c.name v) (value-own o cs c)
+      ∙ tabled-insert same_text names_equiv (value types o k cs) (value types o k (cs ++ c ∷ [])) c.name (value-other o cs c) (value-text o (cs ++ c ∷ []) c.name) (first_of_each same_text before) (first_of_each-distinct same_text before)
+      ∙ ap (tabled (value types o k (cs ++ c ∷ []))) (sym (first_of_each-insert same_text names_equiv before c.name) ∙ ap (first_of_each same_text) after)
+    where
+      before : List NameView
+      before = raw types ++ names_of cs
+
+      after : before ++ c.name ∷ [] ≡ raw types ++ names_of (cs ++ c ∷ [])
+      after = append_assoc (raw types) (names_of cs) (c.name ∷ []) ∙ ap (λ l. raw types ++ l) (sym (map-append (λ d. d.name) cs (c ∷ [])))
+
+      was : unwrap_or (lookup (same_text c.name) (grown types o k cs)) no_implementers ≡ value types o k cs c.name
+      was = ap (λ found. unwrap_or found no_implementers) (lookup-tabled same_text names_equiv (value types o k cs) c.name (value-text o cs c.name) (first_of_each same_text before)) ∙ by (list_any (same_text c.name) (first_of_each same_text before)) refl
+        where
+          by : (b : Bool) → list_any (same_text c.name) (first_of_each same_text before) ≡ b → unwrap_or (cond b (Some (value types o k cs c.name)) None) no_implementers ≡ value types o k cs c.name
+          by true e = refl
+          by false e = sym (value-none o cs c.name (sym (list_any-first_of_each same_text names_equiv c.name before) ∙ e))
+
+  -- more interfaces noted, one after another
+  grown-more : (o : Bool) (cs more : List ComponentName) → noted_under o k (grown types o k cs) more ≡ grown types o k (cs ++ more)
+  grown-more o cs [] = ap (grown types o k) (sym (append-nil cs))
+  grown-more o cs (c ∷ more) = ap (λ m. noted_under o k m more) (grown-push o cs c) ∙ grown-more o (cs ++ c ∷ []) more ∙ ap (grown types o k) (append_assoc cs (c ∷ []) more)
+
+  -- none is noted yet
+  grown-start : (o : Bool) → implementers_map types ≡ grown types o k []
+  grown-start o = (λ j. tabled (λ i. by i o j) (first_of_each same_text (sym (append-nil (raw types)) j)))
+    where
+      by : (i : NameView) (o : Bool) → implementers_of types i ≡ value types o k [] i
+      by i true = (λ j. record { objects = first_of_each same_text (sym (append-nil (keys_declaring is_object types i)) j); interfaces = first_of_each same_text (sym (append-nil (keys_declaring is_interface types i)) j) })
+      by i false = (λ j. record { objects = first_of_each same_text (sym (append-nil (keys_declaring is_object types i)) j); interfaces = first_of_each same_text (sym (append-nil (keys_declaring is_interface types i)) j) })
+
+  -- all are: the types with one more
+  grown-end : (o : Bool) (ty : ExtendedType) → ((i : NameView) → (is_object ty && declares i ty) ≡ (o && declares i ty)) → ((i : NameView) → (is_interface ty && declares i ty) ≡ (not o && declares i ty))
+      → grown types o k (interfaces_of ty) ≡ implementers_map (types ++ (k, ty) ∷ [])
+  grown-end o ty objects interfaces = (λ j. tabled (λ i. by i j) (first_of_each same_text (names j)))
+    where
+      names : raw types ++ names_of (interfaces_of ty) ≡ raw (types ++ (k, ty) ∷ [])
+      names = ap (λ l. raw types ++ l) (sym (append-nil (names_of (interfaces_of ty)))) ∙ sym (flat_map-append (λ e. names_declared e.1) types ((k, ty) ∷ []))
+
+      key-of-one : (b : Bool) → one_if b k ≡ keys_of (cond b ((k, ty) ∷ []) [])
+      key-of-one true = refl
+      key-of-one false = refl
+
+      keys : (kind : ExtendedType → Bool) (i : NameView) → keys_declaring kind types i ++ one_if (kind ty && declares i ty) k ≡ keys_declaring kind (types ++ (k, ty) ∷ []) i
+      keys kind i =
+          ap (λ l. keys_declaring kind types i ++ l) (key-of-one (kind ty && declares i ty))
+          ∙ sym (map-append (λ e. e.0) (filter (λ e. kind e.1 && declares i e.1) types) (cond (kind ty && declares i ty) ((k, ty) ∷ []) []))
+          ∙ ap keys_of (sym (filter-append (λ e. kind e.1 && declares i e.1) types ((k, ty) ∷ [])))
+
+      by : (i : NameView) → value types o k (interfaces_of ty) i ≡ implementers_of (types ++ (k, ty) ∷ []) i
+      by i =
+          let os = ap (λ b. keys_declaring is_object types i ++ one_if b k) (sym (objects i)) ∙ keys is_object i in
+          let is = ap (λ b. keys_declaring is_interface types i ++ one_if b k) (sym (interfaces i)) ∙ keys is_interface i in
+          (λ j. record { objects = first_of_each same_text (os j); interfaces = first_of_each same_text (is j) })
+
+  -- a type noted under each interface that it declares
+  pub implementers_map-push : (ty : ExtendedType) → noted_under (is_object ty) k (implementers_map types) (interfaces_of ty) ≡ implementers_map (types ++ (k, ty) ∷ [])
+  implementers_map-push ty =
+      ap (λ m. noted_under (is_object ty) k m (interfaces_of ty)) (grown-start (is_object ty))
+      ∙ grown-more (is_object ty) [] (interfaces_of ty)
+      ∙ grown-end (is_object ty) ty (λ i. refl) (interface ty)
+    where
+      interface : (ty : ExtendedType) (i : NameView) → (is_interface ty && declares i ty) ≡ (not (is_object ty) && declares i ty)
+      interface (Scalar n) i = refl
+      interface (Object n) i = refl
+      interface (Interface n) i = refl
+      interface (Union n) i = refl
+      interface (Enum n) i = refl
+      interface (InputObject n) i = refl
+
+-- a name noted where the interface's implementers stand
+pub noted-found : (o : Bool) (k : NameView) (map : List (NameView × Implementers)) (i : ComponentName) (m : Implementers) → lookup (same_text i.name) map ≡ Some m → set_value (same_text i.name) map (with_name o k m) ≡ noted o k map i
+noted-found o k map i m there = written map there ∙ ap (λ found. insert_entry same_text map i.name (with_name o k (unwrap_or found no_implementers))) (sym there)
+  where
+    written : (es : List (NameView × Implementers)) → lookup (same_text i.name) es ≡ Some m → set_value (same_text i.name) es (with_name o k m) ≡ insert_entry same_text es i.name (with_name o k m)
+    written [] h = absurd (true≢false (sym (ap is_some h)))
+    written (e ∷ es) h = by (same_text i.name e.0) h (written es)
+      where
+        by : (b : Bool) → cond b (Some e.1) (lookup (same_text i.name) es) ≡ Some m → (lookup (same_text i.name) es ≡ Some m → set_value (same_text i.name) es (with_name o k m) ≡ insert_entry same_text es i.name (with_name o k m))
+            → cond b ((e.0, with_name o k m) ∷ es) (e ∷ set_value (same_text i.name) es (with_name o k m)) ≡ cond b ((e.0, with_name o k m) ∷ es) (e ∷ insert_entry same_text es i.name (with_name o k m))
+        by true h rest = refl
+        by false h rest = ap (λ l. e ∷ l) (rest h)

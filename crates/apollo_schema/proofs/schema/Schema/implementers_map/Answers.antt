@@ -1,0 +1,19 @@
+use Rattle.std.proofs.Common.{[], ◌∷◌, map, sym, ap, ◌∙◌}
+use Rattle.std.specs.Map.Iter.{deref_pair}
+use Rattle.std.proofs.lemmas.List.{map-append}
+use Rattle.apollo_types.specs.TypeWriteOut.{is_object}
+use Rattle.apollo_schema.specs.Implementers.{implementers_map}
+use Rattle.apollo_schema.specs.Lookups.{interfaces_of}
+use Rattle.apollo_schema.specs.Noted.{noted_under}
+use Rattle.apollo_schema.proofs.ImplementerLemmas.{implementers_map-push}
+use Rattle.apollo_schema.proofs.schema.Schema.implementers_map.Goals as goal
+
+pub loop-name-preserved : goal.loop-name-preserved
+loop-name-preserved c =
+    let k = c.in-Some.name.now in
+    let ty = c.in-Some.ty.now in
+    let done = c.loop-name.yielded in
+    c.in_ok-note_type.ensures
+    ∙ ap (λ m. noted_under (is_object ty) k m (interfaces_of ty)) c.loop-name.invariant
+    ∙ implementers_map-push (map deref_pair done) k ty
+    ∙ ap implementers_map (sym (map-append deref_pair done ((c.in-Some.name, c.in-Some.ty) ∷ [])))

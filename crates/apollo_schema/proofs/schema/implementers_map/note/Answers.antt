@@ -1,0 +1,16 @@
+use Rattle.std.proofs.Common.{◌≡◌, Some, sym, ap, ◌∙◌}
+use Rattle.std.specs.Map.{lookup, set_value}
+use Rattle.std.specs.Option.{option_copied_mut}
+use Rattle.graphql_nodes.specs.SameText.{same_text}
+use Rattle.apollo_schema.proofs.ImplementerLemmas.{noted-found}
+use Rattle.apollo_schema.proofs.schema.implementers_map.note.Goals as goal
+
+pub returns-in-Some : goal.returns-in-Some
+returns-in-Some c =
+    let map = c.args.map.now in
+    let i = c.args.interface.now in
+    let m = c.in-Some.implementers.now in
+    let there : lookup (same_text i.name) map ≡ Some m = sym c.get_mut.ensures.value ∙ ap option_copied_mut c.in-Some.is in
+    c.get_mut.follows.holds c.add.new.self
+    ∙ ap (set_value (same_text i.name) map) c.in_ok-add.ensures
+    ∙ noted-found c.args.is_object c.args.name.now map i m there

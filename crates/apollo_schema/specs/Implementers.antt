@@ -1,0 +1,46 @@
+-- The types that implement interfaces, over the types of any schema value alone: GraphQL specification of October 2021,
+-- sections 3.6 and 3.7.
+use Rattle.std.specs.Prelude.{Bool, true, false, ◌&&◌, ◌||◌, List, map, filter, Option, None, Some}
+use Rattle.std.specs.List.{flat_map}
+use Rattle.graphql_nodes.specs.KeySets.{has_key}
+use Rattle.graphql_nodes.specs.NameView.{NameView}
+use Rattle.graphql_nodes.specs.SameText.{same_text}
+use Rattle.graphql_nodes.specs.Tables.{lookup, keys_of}
+use Rattle.apollo_component.specs.FirstOfEach.{first_of_each}
+use Rattle.apollo_types.specs.TypeWriteOut.{is_object}
+use Rattle.apollo_types.specs.declared.extended_type.ExtendedType.{ExtendedType}
+use Rattle.apollo_types.specs.declared.extended_type.ExtendedType.TheVariants.{Interface}
+use Rattle.apollo_schema.specs.Lookups.{Types, interfaces_of, declares}
+use Rattle.apollo_schema.specs.declared.implementers.Implementers.{Implementers}
+
+abbrev pub is_interface : ExtendedType → Bool
+is_interface (Interface n) = true
+is_interface _ = false
+
+-- the names of the interfaces that a type declares
+abbrev pub names_declared : ExtendedType → List NameView
+names_declared type = map (λ listed. listed.name) (interfaces_of type)
+
+-- the names of the interfaces that types declare, each where it stands first
+abbrev pub interfaces_declared : Types → List NameView
+interfaces_declared types = first_of_each same_text (flat_map (λ e. names_declared e.1) types)
+
+-- the keys of the types of one kind that declare an interface, in order
+abbrev pub declaring : (ExtendedType → Bool) → Types → NameView → List NameView
+declaring kind types i = first_of_each same_text (keys_of (filter (λ e. kind e.1 && declares i e.1) types))
+
+-- the object types and the interface types that declare an interface: no type does through another
+abbrev pub implementers_of : Types → NameView → Implementers
+implementers_of types i = record { objects = declaring is_object types i; interfaces = declaring is_interface types i }
+
+-- under each name that is declared, the types that declare it
+abbrev pub implementers_map : Types → List (NameView × Implementers)
+implementers_map types = map (λ i. (i, implementers_of types i)) (interfaces_declared types)
+
+-- a name is one of an interface's implementers
+abbrev pub is_among : NameView → Option Implementers → Bool
+is_among t None = false
+is_among t (Some m) = has_key (same_text t) m.objects || has_key (same_text t) m.interfaces
+
+abbrev pub is_implementer : Types → NameView → NameView → Bool
+is_implementer types i t = is_among t (lookup (same_text i) (implementers_map types))

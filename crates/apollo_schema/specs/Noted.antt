@@ -1,0 +1,24 @@
+-- What a step of `implementers_map` does.
+use Rattle.std.specs.Prelude.{Bool, true, false, List, [], unwrap_or, fold}
+use Rattle.graphql_nodes.specs.KeySets.{insert_key}
+use Rattle.graphql_nodes.specs.NameView.{NameView}
+use Rattle.graphql_nodes.specs.SameText.{same_text}
+use Rattle.graphql_nodes.specs.Tables.{lookup, insert_entry}
+use Rattle.apollo_component.specs.declared.component.ComponentName.{ComponentName}
+use Rattle.apollo_schema.specs.declared.implementers.Implementers.{Implementers}
+
+abbrev pub no_implementers : Implementers
+no_implementers = record { objects = []; interfaces = [] }
+
+-- the object types, or else the interface types, with one more name
+abbrev pub with_name : Bool → NameView → Implementers → Implementers
+with_name true name m = record m { objects = insert_key same_text m.objects name }
+with_name false name m = record m { interfaces = insert_key same_text m.interfaces name }
+
+-- the table with the name noted under one interface
+abbrev pub noted : Bool → NameView → List (NameView × Implementers) → ComponentName → List (NameView × Implementers)
+noted is_object name map i = insert_entry same_text map i.name (with_name is_object name (unwrap_or (lookup (same_text i.name) map) no_implementers))
+
+-- and under several, one after another
+abbrev pub noted_under : Bool → NameView → List (NameView × Implementers) → List ComponentName → List (NameView × Implementers)
+noted_under is_object name map interfaces = fold (noted is_object name) map interfaces

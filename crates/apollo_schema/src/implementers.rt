@@ -1,0 +1,97 @@
+//! The types that implement an interface: GraphQL specification of October 2021, sections 3.6 and 3.7.
+ghost use Rattle.std.specs.Prelude.{◌≡◌, ◌++◌, OnOk};
+ghost use Rattle.std.specs.Iterator.{YieldsFirstRef, item_count};
+ghost use Rattle.apollo_schema.specs.ImplementerNames.{names_left};
+ghost use Rattle.apollo_schema.specs.Noted.{no_implementers, with_name};
+
+use graphql_nodes::collections::key_set::KeySet;
+use graphql_nodes::name::Name;
+use indexmap::set::Iter;
+use std::alloc::{AllocError, Global};
+use std::iter::FusedIterator;
+
+/// The names of the object types and of the interface types that declare an interface.
+#[derive(PartialEq, Eq)]
+pub struct Implementers {
+    pub objects: KeySet<Name>,
+    pub interfaces: KeySet<Name>,
+}
+
+impl Drop for Implementers {
+    fn drop(self) {
+        let Self {
+            objects: _,
+            interfaces: _,
+        } = self;
+    }
+}
+
+impl Clone for Implementers {
+    ghost is_clone = { λ a b. b ≡ a };
+
+    fn clone(&self) -> Result<Implementers, AllocError> {
+        Ok(Implementers {
+            objects: self.objects.clone()?,
+            interfaces: self.interfaces.clone()?,
+        })
+    }
+}
+
+impl Implementers {
+    /// No name.
+    pub fn new(alloc: Global) -> Implementers
+        ensures { result ≡ no_implementers }
+    {
+        Implementers {
+            objects: KeySet::new(alloc),
+            interfaces: KeySet::new(alloc),
+        }
+    }
+
+    /// The names, one by one: those of object types, and then those of interface types.
+    pub fn iter(&self) -> ImplementersIter<'_>
+        ensures { names_left result ≡ self.now.objects ++ self.now.interfaces }
+    {
+        ImplementersIter {
+            objects: self.objects.iter(),
+            interfaces: self.interfaces.iter(),
+        }
+    }
+
+    /// Adds the name of an object type, or else of an interface type. The error is want of memory.
+    pub(crate) fn add(&mut self, name: &Name, is_object: bool) -> Result<(), AllocError>
+        ensures { OnOk result (self.new ≡ with_name is_object name.now self.old) }
+    {
+        if is_object {
+            self.objects.insert(name.clone()?)?;
+        } else {
+            self.interfaces.insert(name.clone()?)?;
+        }
+        Ok(())
+    }
+}
+
+/// The names of object types, and then those of interface types.
+#[derive(Drop)]
+pub struct ImplementersIter<'a> {
+    objects: Iter<'a, Name>,
+    interfaces: Iter<'a, Name>,
+}
+
+impl<'a> Iterator for ImplementersIter<'a> {
+    type Item = &'a Name;
+
+    ghost next_gives = { YieldsFirstRef names_left };
+
+    ghost remaining = { item_count names_left };
+
+    /// The next name.
+    fn next(&mut self) -> Option<&'a Name> {
+        match self.objects.next() {
+            Some(name) => Some(name),
+            None => self.interfaces.next(),
+        }
+    }
+}
+
+impl<'a> FusedIterator for ImplementersIter<'a> {}
