@@ -7,7 +7,7 @@ ghost use Rattle.std.specs.Iterator.{DrainsIf, IsFiniteIterable};
 ghost use Rattle.std.specs.Iterator.Runs.{EveryRun, ItemsAre, ItemsMapTo};
 ghost use Rattle.std.specs.Slice.Iter.{iter_rest, iter_steps, iter_mut_rest, iter_mut_steps};
 ghost use Rattle.std.specs.Vec.Iter.{into_iter_items, into_iter_len, into_iter_steps};
-ghost use Rattle.apollo_component.specs.AppliedDirectives.{is_called};
+ghost use Rattle.apollo_component.specs.AppliedDirectives.{is_called, DirectivesInOrder};
 
 use crate::component::Component;
 use crate::get_all::GetAll;
@@ -50,7 +50,8 @@ impl DirectiveList {
 
     /// The directives of the name, in order. It is best for repeatable directives.
     pub fn get_all<'a, 'n>(&'a self, name: &'n Name) -> GetAll<'a, 'n>
-        ensures { result ≡ filter (is_called name.now) self.now.0 }
+        ensures rest { result ≡ filter (is_called name.now) self.now.0 }
+        ensures runs { DirectivesInOrder }
     {
         GetAll::new(self.0.as_slice(), name)
     }

@@ -2,7 +2,7 @@
 ghost use Rattle.std.specs.Prelude.{◌≡◌, filter, length};
 ghost use Rattle.std.specs.Iterator.{at_most};
 ghost use Rattle.std.specs.Map.Iter.{TakesFirst, deref};
-ghost use Rattle.apollo_component.specs.AppliedDirectives.{is_called};
+ghost use Rattle.apollo_component.specs.AppliedDirectives.{is_called, DirectivesInOrder};
 
 use crate::component::Component;
 use graphql_ast::directive::Directive;
@@ -38,7 +38,8 @@ impl<'a, 'n> Model for GetAll<'a, 'n> {
 impl<'a, 'n> GetAll<'a, 'n> {
     /// Those of the name among these directives.
     pub(crate) fn new(directives: &'a [Component<Directive>], name: &'n Name) -> GetAll<'a, 'n>
-        ensures { result ≡ filter (is_called name.now) directives.now }
+        ensures rest { result ≡ filter (is_called name.now) directives.now }
+        ensures runs { DirectivesInOrder }
     {
         GetAll {
             directives: directives.iter(),

@@ -30,12 +30,7 @@ fn directive(alloc: Global, text: &str, start: u32) -> Result<Component<Directiv
 }
 
 /// Puts the directive of this name at this place last.
-fn add(
-    alloc: Global,
-    list: &mut DirectiveList,
-    text: &str,
-    start: u32,
-) -> Result<(), AllocError> {
+fn add(alloc: Global, list: &mut DirectiveList, text: &str, start: u32) -> Result<(), AllocError> {
     list.push(directive(alloc, text, start)?)
 }
 
@@ -62,7 +57,9 @@ fn is_a_found(list: &DirectiveList, a: &Name) -> bool {
         all.next().is_none(),
         all.next().is_none(),
     );
-    list.has(a) && list.get(a).and_then(start_of) == Some(1) && found == (Some(1), Some(3), true, true)
+    list.has(a)
+        && list.get(a).and_then(start_of) == Some(1)
+        && found == (Some(1), Some(3), true, true)
 }
 
 /// Whether there is nothing of the name.

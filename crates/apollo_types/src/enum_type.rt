@@ -51,12 +51,14 @@ impl Clone for EnumType {
 }
 
 impl EnumType {
+    ghost use Rattle.apollo_types.specs.OriginsLeft.{OriginsInOrder};
     ghost use Rattle.apollo_types.specs.WriteOut.{identities};
     ghost use Rattle.apollo_types.specs.EnumWriteOut.{enum_origins, write_enum};
 
     /// The origins of the components: those of directives, then values.
     pub fn iter_origins(&self) -> Origins<'_>
-        ensures { result ≡ enum_origins self.now }
+        ensures rest { result ≡ enum_origins self.now }
+        ensures runs { OriginsInOrder }
     {
         Origins::new(
             &self.directives,

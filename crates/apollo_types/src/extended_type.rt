@@ -51,6 +51,7 @@ impl ExtendedType {
     ghost use Rattle.graphql_nodes.specs.BuiltIn.{is_built_in};
     ghost use Rattle.apollo_types.specs.TypeKinds.{as_scalar, as_object, as_interface, as_union, as_enum, as_input_object, is_scalar, is_object, is_interface, is_union, is_enum, is_input_object, is_leaf, is_input_type, is_output_type};
     ghost use Rattle.apollo_types.specs.TypeWriteOut.{write_type, type_kind, type_name, type_location, type_directives, type_description, type_origins};
+    ghost use Rattle.apollo_types.specs.OriginsLeft.{OriginsInOrder};
     ghost use Rattle.apollo_types.specs.WriteOut.{identities};
 
     /// The kind of the type.
@@ -263,7 +264,8 @@ impl ExtendedType {
     /// The origins of the components: those of directives, then interfaces, then fields; or of directives, then members,
     /// values or input fields.
     pub fn iter_origins(&self) -> Origins<'_>
-        ensures { result ≡ type_origins self.now }
+        ensures rest { result ≡ type_origins self.now }
+        ensures runs { OriginsInOrder }
     {
         match self {
             ExtendedType::Scalar(node) => node.iter_origins(),

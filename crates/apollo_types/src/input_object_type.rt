@@ -53,12 +53,14 @@ impl Clone for InputObjectType {
 }
 
 impl InputObjectType {
+    ghost use Rattle.apollo_types.specs.OriginsLeft.{OriginsInOrder};
     ghost use Rattle.apollo_types.specs.WriteOut.{identities};
     ghost use Rattle.apollo_types.specs.InputObjectWriteOut.{input_object_origins, write_input_object};
 
     /// The origins of the components: those of directives, then fields.
     pub fn iter_origins(&self) -> Origins<'_>
-        ensures { result ≡ input_object_origins self.now }
+        ensures rest { result ≡ input_object_origins self.now }
+        ensures runs { OriginsInOrder }
     {
         Origins::new(
             &self.directives,

@@ -54,12 +54,14 @@ impl Clone for InterfaceType {
 }
 
 impl InterfaceType {
+    ghost use Rattle.apollo_types.specs.OriginsLeft.{OriginsInOrder};
     ghost use Rattle.apollo_types.specs.WriteOut.{identities};
     ghost use Rattle.apollo_types.specs.InterfaceWriteOut.{interface_origins, write_interface};
 
     /// The origins of the components: those of directives, then interfaces, then fields.
     pub fn iter_origins(&self) -> Origins<'_>
-        ensures { result ≡ interface_origins self.now }
+        ensures rest { result ≡ interface_origins self.now }
+        ensures runs { OriginsInOrder }
     {
         Origins::new(
             &self.directives,

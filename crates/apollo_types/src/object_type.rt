@@ -54,12 +54,14 @@ impl Clone for ObjectType {
 }
 
 impl ObjectType {
+    ghost use Rattle.apollo_types.specs.OriginsLeft.{OriginsInOrder};
     ghost use Rattle.apollo_types.specs.WriteOut.{identities};
     ghost use Rattle.apollo_types.specs.ObjectWriteOut.{object_origins, write_object};
 
     /// The origins of the components: those of directives, then interfaces, then fields.
     pub fn iter_origins(&self) -> Origins<'_>
-        ensures { result ≡ object_origins self.now }
+        ensures rest { result ≡ object_origins self.now }
+        ensures runs { OriginsInOrder }
     {
         Origins::new(
             &self.directives,

@@ -2,7 +2,7 @@
 ghost use Rattle.std.specs.Prelude.{◌≡◌, ◌++◌, length, map};
 ghost use Rattle.std.specs.Iterator.{at_most};
 ghost use Rattle.std.specs.Map.Iter.{TakesFirst, deref};
-ghost use Rattle.apollo_types.specs.OriginsLeft.{part_origins};
+ghost use Rattle.apollo_types.specs.OriginsLeft.{part_origins, OriginsInOrder};
 ghost use Rattle.apollo_types.specs.WriteOut.{origin_of};
 
 use crate::root_operations::RootOperations;
@@ -48,9 +48,7 @@ impl<'a> Part<'a> {
 }
 
 /// The origin of the next component of a table, if there is one.
-fn next_of_value<'a, T>(
-    values: &mut Values<'a, Name, Component<T>>,
-) -> Option<&'a ComponentOrigin>
+fn next_of_value<'a, T>(values: &mut Values<'a, Name, Component<T>>) -> Option<&'a ComponentOrigin>
     ensures { TakesFirst deref (map origin_of values.old) result (map origin_of values.new) }
 {
     Some(&values.next()?.origin)
@@ -88,7 +86,8 @@ impl<'a> Origins<'a> {
         names: Part<'a>,
         values: Part<'a>,
     ) -> Origins<'a>
-        ensures { result ≡ (map origin_of directives.now.0 ++ part_origins names) ++ part_origins values }
+        ensures rest { result ≡ (map origin_of directives.now.0 ++ part_origins names.entry) ++ part_origins values.entry }
+        ensures runs { OriginsInOrder }
     {
         Origins {
             directives: directives.iter(),

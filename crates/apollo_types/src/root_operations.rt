@@ -2,6 +2,7 @@
 ghost use Rattle.std.specs.Prelude.{◌≡◌, length};
 ghost use Rattle.std.specs.Iterator.{at_most};
 ghost use Rattle.std.specs.Map.Iter.{TakesFirst};
+ghost use Rattle.apollo_types.specs.OriginsLeft.{RootsInOrder};
 ghost use Rattle.apollo_types.specs.SchemaDefinitionWriteOut.{named_roots, deref_root};
 
 use crate::schema_definition::{OPERATION_TYPES, SchemaDefinition};
@@ -35,7 +36,8 @@ impl<'a> Model for RootOperations<'a> {
 impl<'a> RootOperations<'a> {
     /// The roots of this definition.
     pub(crate) fn new(definition: &'a SchemaDefinition) -> RootOperations<'a>
-        ensures { result ≡ named_roots definition.now }
+        ensures rest { result ≡ named_roots definition.now }
+        ensures runs { RootsInOrder }
     {
         RootOperations {
             definition,

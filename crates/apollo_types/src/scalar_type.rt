@@ -47,18 +47,16 @@ impl Clone for ScalarType {
 }
 
 impl ScalarType {
+    ghost use Rattle.apollo_types.specs.OriginsLeft.{OriginsInOrder};
     ghost use Rattle.apollo_types.specs.WriteOut.{identities};
     ghost use Rattle.apollo_types.specs.ScalarWriteOut.{scalar_origins, write_scalar};
 
     /// The origins of the components: those of directives.
     pub fn iter_origins(&self) -> Origins<'_>
-        ensures { result ≡ scalar_origins self.now }
+        ensures rest { result ≡ scalar_origins self.now }
+        ensures runs { OriginsInOrder }
     {
-        Origins::new(
-            &self.directives,
-            Part::Nothing,
-            Part::Nothing,
-        )
+        Origins::new(&self.directives, Part::Nothing, Part::Nothing)
     }
 
     /// The identities of the extensions that the components come from, by first appearance among their

@@ -4,6 +4,7 @@ ghost use Rattle.std.specs.List.{list_all};
 ghost use Rattle.std.specs.Option.{option_copied};
 ghost use Rattle.graphql_nodes.specs.SameText.{same_text};
 ghost use Rattle.graphql_nodes.specs.Tables.{lookup};
+ghost use Rattle.apollo_types.specs.OriginsLeft.{OriginsInOrder, RootsInOrder};
 ghost use Rattle.apollo_types.specs.WriteOut.{identities};
 ghost use Rattle.apollo_types.specs.SchemaDefinitionWriteOut.{no_schema_definition, operation_types, root_of, root_origin_of, root_node, named_roots, schema_origins, roots_of_origin, is_some_object, has_own_root, has_implied_root, is_implied, is_written, write_schema_definition};
 
@@ -97,14 +98,16 @@ impl SchemaDefinition {
 
     /// The roots that are named, each beside its operation type: query, mutation, subscription.
     pub fn iter_root_operations(&self) -> RootOperations<'_>
-        ensures { result ≡ named_roots self.now }
+        ensures rest { result ≡ named_roots self.now }
+        ensures runs { RootsInOrder }
     {
         RootOperations::new(self)
     }
 
     /// The origins of the components: those of directives, then the roots of query, mutation and subscription.
     pub fn iter_origins(&self) -> Origins<'_>
-        ensures { result ≡ schema_origins self.now }
+        ensures rest { result ≡ schema_origins self.now }
+        ensures runs { OriginsInOrder }
     {
         let roots = Part::Roots(self.iter_root_operations());
         Origins::new(&self.directives, Part::Nothing, roots)

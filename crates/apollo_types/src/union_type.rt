@@ -50,12 +50,14 @@ impl Clone for UnionType {
 }
 
 impl UnionType {
+    ghost use Rattle.apollo_types.specs.OriginsLeft.{OriginsInOrder};
     ghost use Rattle.apollo_types.specs.WriteOut.{identities};
     ghost use Rattle.apollo_types.specs.UnionWriteOut.{union_origins, write_union};
 
     /// The origins of the components: those of directives, then members.
     pub fn iter_origins(&self) -> Origins<'_>
-        ensures { result ≡ union_origins self.now }
+        ensures rest { result ≡ union_origins self.now }
+        ensures runs { OriginsInOrder }
     {
         Origins::new(
             &self.directives,

@@ -77,11 +77,8 @@ fn add_origin(ids: &mut KeySet<ExtensionId>, origin: ComponentOrigin) -> Result<
 }
 
 /// The identities of the extensions among these origins, by first appearance.
-pub fn identities_of(
-    alloc: Global,
-    origins: Origins<'_>,
-) -> Result<KeySet<ExtensionId>, AllocError>
-    ensures { IfOk result (λ ids. ids ≡ identities origins) }
+pub fn identities_of(alloc: Global, origins: Origins<'_>) -> Result<KeySet<ExtensionId>, AllocError>
+    ensures { IfOk result (λ ids. ids ≡ identities origins.entry) }
 {
     let mut ids = KeySet::new(alloc);
     for origin in origins {
