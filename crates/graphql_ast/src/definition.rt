@@ -16,7 +16,7 @@ use graphql_nodes::type_kind::TypeKind;
 use std::alloc::AllocError;
 
 /// A definition or extension of a document.
-#[derive(Drop, PartialEq, Eq, Hash)]
+#[derive(Debug, Drop, PartialEq, Eq, Hash)]
 pub enum Definition {
     OperationDefinition(Node<OperationDefinition>),
     FragmentDefinition(Node<FragmentDefinition>),

@@ -9,7 +9,7 @@ use std::alloc::{AllocError, Global};
 use std::ops::Deref;
 
 /// An argument: a name with a value.
-#[derive(PartialEq, Eq, Hash, Clone)]
+#[derive(Debug, PartialEq, Eq, Hash, Clone)]
 pub struct Argument {
     pub name: Name,
     pub value: Node<Value>,
@@ -31,7 +31,7 @@ impl Argument {
 }
 
 /// An applied directive.
-#[derive(PartialEq, Eq, Hash, Clone)]
+#[derive(Debug, PartialEq, Eq, Hash, Clone)]
 pub struct Directive {
     pub name: Name,
     pub arguments: Items<Node<Argument>>,
@@ -59,7 +59,7 @@ impl Directive {
 }
 
 /// The directives applied to a definition, in order.
-#[derive(PartialEq, Eq, Hash, Clone)]
+#[derive(Debug, PartialEq, Eq, Hash, Clone)]
 pub struct DirectiveList(pub Items<Node<Directive>>);
 
 impl Drop for DirectiveList {

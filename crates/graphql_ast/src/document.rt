@@ -10,10 +10,10 @@ use std::alloc::Global;
 /// The definitions of a document, in order, and the files that they come from.
 ///
 /// Documents are equal where their definitions are: the sources are left out.
-#[derive(Drop, Clone)]
+#[derive(Debug, Drop, Clone)]
 #[derive_where(PartialEq, Eq)]
 pub struct Document {
-    #[derive_where(skip)]
+    #[derive_where(skip(EqHashOrd))]
     pub sources: SourceMap,
     pub definitions: Items<Definition>,
 }

@@ -12,7 +12,7 @@ use graphql_nodes::operation_type::OperationType;
 use std::alloc::Global;
 
 /// A query, mutation or subscription, anonymous where it has no name.
-#[derive(PartialEq, Eq, Hash, Clone)]
+#[derive(Debug, PartialEq, Eq, Hash, Clone)]
 pub struct OperationDefinition {
     pub operation_type: OperationType,
     pub name: Option<Name>,
@@ -49,7 +49,7 @@ impl OperationDefinition {
 }
 
 /// A variable of an operation.
-#[derive(PartialEq, Eq, Hash, Clone)]
+#[derive(Debug, PartialEq, Eq, Hash, Clone)]
 pub struct VariableDefinition {
     pub name: Name,
     pub ty: Node<Type>,
@@ -83,7 +83,7 @@ impl VariableDefinition {
 }
 
 /// A named fragment.
-#[derive(PartialEq, Eq, Hash, Clone)]
+#[derive(Debug, PartialEq, Eq, Hash, Clone)]
 pub struct FragmentDefinition {
     pub name: Name,
     pub type_condition: NamedType,

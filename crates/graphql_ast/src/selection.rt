@@ -9,7 +9,7 @@ use std::alloc::{AllocError, Global};
 
 /// One entry of a selection set.
 #[cycle(selection)]
-#[derive(Drop, PartialEq, Eq, Hash)]
+#[derive(Debug, Drop, PartialEq, Eq, Hash)]
 pub enum Selection {
     Field(Node<Field>),
     FragmentSpread(Node<FragmentSpread>),
@@ -18,7 +18,7 @@ pub enum Selection {
 
 /// A selected field.
 #[cycle(selection)]
-#[derive(PartialEq, Eq, Hash)]
+#[derive(Debug, PartialEq, Eq, Hash)]
 pub struct Field {
     pub alias: Option<Name>,
     pub name: Name,
@@ -56,7 +56,7 @@ impl Field {
 }
 
 /// The selections of a named fragment.
-#[derive(PartialEq, Eq, Hash, Clone)]
+#[derive(Debug, PartialEq, Eq, Hash, Clone)]
 pub struct FragmentSpread {
     pub fragment_name: Name,
     pub directives: DirectiveList,
@@ -85,7 +85,7 @@ impl FragmentSpread {
 
 /// Selections under a type condition, if there is one, and directives of their own.
 #[cycle(selection)]
-#[derive(PartialEq, Eq, Hash)]
+#[derive(Debug, PartialEq, Eq, Hash)]
 pub struct InlineFragment {
     pub type_condition: Option<NamedType>,
     pub directives: DirectiveList,

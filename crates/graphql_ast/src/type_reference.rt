@@ -6,7 +6,7 @@ use graphql_nodes::name::NamedType;
 use std::alloc::{AllocError, Global};
 
 /// A reference to a type: a name, or a list of a type, either of which may be non-null.
-#[derive(Drop, PartialEq, Eq, Hash)]
+#[derive(Debug, Drop, PartialEq, Eq, Hash)]
 pub enum Type {
     Named(NamedType),
     NonNullNamed(NamedType),

@@ -12,7 +12,7 @@ use graphql_nodes::node_str::NodeStr;
 use graphql_nodes::operation_type::OperationType;
 
 /// A field of an object or interface type (section 3.6).
-#[derive(PartialEq, Eq, Hash, Clone)]
+#[derive(Debug, PartialEq, Eq, Hash, Clone)]
 pub struct FieldDefinition {
     pub description: Option<NodeStr>,
     pub name: Name,
@@ -34,7 +34,7 @@ impl Drop for FieldDefinition {
 }
 
 /// An argument of a field or directive (section 3.6.1), or a field of an input object type (section 3.10).
-#[derive(PartialEq, Eq, Hash, Clone)]
+#[derive(Debug, PartialEq, Eq, Hash, Clone)]
 pub struct InputValueDefinition {
     pub description: Option<NodeStr>,
     pub name: Name,
@@ -56,7 +56,7 @@ impl Drop for InputValueDefinition {
 }
 
 /// A value of an enum type (section 3.9).
-#[derive(PartialEq, Eq, Hash, Clone)]
+#[derive(Debug, PartialEq, Eq, Hash, Clone)]
 pub struct EnumValueDefinition {
     pub description: Option<NodeStr>,
     pub value: Name,
@@ -74,7 +74,7 @@ impl Drop for EnumValueDefinition {
 }
 
 /// The definition of a directive (section 3.13).
-#[derive(PartialEq, Eq, Hash, Clone)]
+#[derive(Debug, PartialEq, Eq, Hash, Clone)]
 pub struct DirectiveDefinition {
     pub description: Option<NodeStr>,
     pub name: Name,
@@ -96,7 +96,7 @@ impl Drop for DirectiveDefinition {
 }
 
 /// The definition of the schema, which names its root types (section 3.3).
-#[derive(PartialEq, Eq, Hash, Clone)]
+#[derive(Debug, PartialEq, Eq, Hash, Clone)]
 pub struct SchemaDefinition {
     pub description: Option<NodeStr>,
     pub directives: DirectiveList,
@@ -114,7 +114,7 @@ impl Drop for SchemaDefinition {
 }
 
 /// The definition of a scalar type (section 3.5).
-#[derive(PartialEq, Eq, Hash, Clone)]
+#[derive(Debug, PartialEq, Eq, Hash, Clone)]
 pub struct ScalarTypeDefinition {
     pub description: Option<NodeStr>,
     pub name: Name,
@@ -132,7 +132,7 @@ impl Drop for ScalarTypeDefinition {
 }
 
 /// The definition of an object type (section 3.6).
-#[derive(PartialEq, Eq, Hash, Clone)]
+#[derive(Debug, PartialEq, Eq, Hash, Clone)]
 pub struct ObjectTypeDefinition {
     pub description: Option<NodeStr>,
     pub name: Name,
@@ -154,7 +154,7 @@ impl Drop for ObjectTypeDefinition {
 }
 
 /// The definition of an interface type (section 3.7).
-#[derive(PartialEq, Eq, Hash, Clone)]
+#[derive(Debug, PartialEq, Eq, Hash, Clone)]
 pub struct InterfaceTypeDefinition {
     pub description: Option<NodeStr>,
     pub name: Name,
@@ -176,7 +176,7 @@ impl Drop for InterfaceTypeDefinition {
 }
 
 /// The definition of a union type (section 3.8).
-#[derive(PartialEq, Eq, Hash, Clone)]
+#[derive(Debug, PartialEq, Eq, Hash, Clone)]
 pub struct UnionTypeDefinition {
     pub description: Option<NodeStr>,
     pub name: Name,
@@ -196,7 +196,7 @@ impl Drop for UnionTypeDefinition {
 }
 
 /// The definition of an enum type (section 3.9).
-#[derive(PartialEq, Eq, Hash, Clone)]
+#[derive(Debug, PartialEq, Eq, Hash, Clone)]
 pub struct EnumTypeDefinition {
     pub description: Option<NodeStr>,
     pub name: Name,
@@ -216,7 +216,7 @@ impl Drop for EnumTypeDefinition {
 }
 
 /// The definition of an input object type (section 3.10).
-#[derive(PartialEq, Eq, Hash, Clone)]
+#[derive(Debug, PartialEq, Eq, Hash, Clone)]
 pub struct InputObjectTypeDefinition {
     pub description: Option<NodeStr>,
     pub name: Name,
@@ -236,7 +236,7 @@ impl Drop for InputObjectTypeDefinition {
 }
 
 /// An extension of the schema (section 3.3.2).
-#[derive(PartialEq, Eq, Hash, Clone)]
+#[derive(Debug, PartialEq, Eq, Hash, Clone)]
 pub struct SchemaExtension {
     pub directives: DirectiveList,
     pub root_operations: Items<Node<(OperationType, NamedType)>>,
@@ -252,7 +252,7 @@ impl Drop for SchemaExtension {
 }
 
 /// An extension of a scalar type (section 3.5.6).
-#[derive(PartialEq, Eq, Hash, Clone)]
+#[derive(Debug, PartialEq, Eq, Hash, Clone)]
 pub struct ScalarTypeExtension {
     pub name: Name,
     pub directives: DirectiveList,
@@ -268,7 +268,7 @@ impl Drop for ScalarTypeExtension {
 }
 
 /// An extension of an object type (section 3.6.3).
-#[derive(PartialEq, Eq, Hash, Clone)]
+#[derive(Debug, PartialEq, Eq, Hash, Clone)]
 pub struct ObjectTypeExtension {
     pub name: Name,
     pub implements_interfaces: Items<Name>,
@@ -288,7 +288,7 @@ impl Drop for ObjectTypeExtension {
 }
 
 /// An extension of an interface type (section 3.7.1).
-#[derive(PartialEq, Eq, Hash, Clone)]
+#[derive(Debug, PartialEq, Eq, Hash, Clone)]
 pub struct InterfaceTypeExtension {
     pub name: Name,
     pub implements_interfaces: Items<Name>,
@@ -308,7 +308,7 @@ impl Drop for InterfaceTypeExtension {
 }
 
 /// An extension of a union type (section 3.8.1).
-#[derive(PartialEq, Eq, Hash, Clone)]
+#[derive(Debug, PartialEq, Eq, Hash, Clone)]
 pub struct UnionTypeExtension {
     pub name: Name,
     pub directives: DirectiveList,
@@ -326,7 +326,7 @@ impl Drop for UnionTypeExtension {
 }
 
 /// An extension of an enum type (section 3.9.1).
-#[derive(PartialEq, Eq, Hash, Clone)]
+#[derive(Debug, PartialEq, Eq, Hash, Clone)]
 pub struct EnumTypeExtension {
     pub name: Name,
     pub directives: DirectiveList,
@@ -344,7 +344,7 @@ impl Drop for EnumTypeExtension {
 }
 
 /// An extension of an input object type (section 3.10.1).
-#[derive(PartialEq, Eq, Hash, Clone)]
+#[derive(Debug, PartialEq, Eq, Hash, Clone)]
 pub struct InputObjectTypeExtension {
     pub name: Name,
     pub directives: DirectiveList,

@@ -8,7 +8,7 @@ use graphql_nodes::node::Node;
 use std::alloc::AllocError;
 
 /// An input value. Numbers are their texts.
-#[derive(Drop, PartialEq, Eq, Hash)]
+#[derive(Debug, Drop, PartialEq, Eq, Hash)]
 pub enum Value {
     Null,
     Enum(Name),
