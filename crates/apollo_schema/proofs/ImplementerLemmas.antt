@@ -18,11 +18,11 @@ use Rattle.apollo_component.specs.FirstOfEach.{first_of_each}
 use Rattle.apollo_component.specs.declared.component.ComponentName.{ComponentName}
 use Rattle.apollo_component.proofs.FirstOfEachLemmas.{first_of_each-push_new, first_of_each-push_old, list_any-first_of_each}
 use Rattle.apollo_component.proofs.Lists.Each.{each-filter, each-weaken}
-use Rattle.apollo_types.specs.TypeWriteOut.{is_object}
+use Rattle.apollo_types.specs.TypeKinds.{is_object, is_interface}
 use Rattle.apollo_types.specs.declared.extended_type.ExtendedType.{ExtendedType}
 use Rattle.apollo_types.specs.declared.extended_type.ExtendedType.TheVariants.{Scalar, Object, Interface, Union, Enum, InputObject}
 use Rattle.apollo_schema.specs.Lookups.{Types, interfaces_of, is_listed, declares}
-use Rattle.apollo_schema.specs.Implementers.{is_interface, names_declared, implementers_of, implementers_map}
+use Rattle.apollo_schema.specs.Implementers.{names_declared, implementers_of, implementers_map}
 use Rattle.apollo_schema.specs.Noted.{no_implementers, with_name, noted, noted_under}
 use Rattle.apollo_schema.specs.declared.implementers.Implementers.{Implementers}
 

@@ -12,11 +12,11 @@ use Rattle.graphql_nodes.specs.Tables.{HasUniqueKeys}
 use Rattle.graphql_nodes.proofs.Texts.{same-true}
 use Rattle.apollo_component.specs.FirstOfEach.{first_of_each}
 use Rattle.apollo_component.proofs.FirstOfEachLemmas.{is_some-lookup, list_any-first_of_each}
-use Rattle.apollo_types.specs.TypeWriteOut.{is_object}
+use Rattle.apollo_types.specs.TypeKinds.{is_object, is_interface}
 use Rattle.apollo_types.specs.declared.extended_type.ExtendedType.{ExtendedType}
 use Rattle.apollo_types.specs.declared.extended_type.ExtendedType.TheVariants.{Scalar, Object, Interface, Union, Enum, InputObject}
-use Rattle.apollo_schema.specs.Lookups.{Types, type_at, as_interface, declares, interfaces_of, is_subtype, is_subtype_of}
-use Rattle.apollo_schema.specs.Implementers.{is_interface, names_declared, implementers_of, is_among, is_implementer}
+use Rattle.apollo_schema.specs.Lookups.{Types, type_at, interface_node, declares, interfaces_of, is_subtype, is_subtype_of}
+use Rattle.apollo_schema.specs.Implementers.{names_declared, implementers_of, is_among, is_implementer}
 use Rattle.apollo_schema.proofs.ImplementerLemmas.{names_equiv, neither, listed-names, lookup-tabled}
 
 -- where no type declares an interface, the type of a name doesn't
@@ -84,10 +84,10 @@ implementer-declares types unique i t =
     by false e = ap (λ b. is_among t (cond b (Some (implementers_of types i)) None)) (declared ∙ e) ∙ sym (undeclared types (same_text t) i e)
 
 -- and there it is a subtype
-pub subtype-implementer : (types : Types) → HasUniqueKeys same_text types → (i t : NameView) → is_some (as_interface (type_at types i)) ≡ true → is_subtype types i t ≡ is_implementer types i t
+pub subtype-implementer : (types : Types) → HasUniqueKeys same_text types → (i t : NameView) → is_some (interface_node (type_at types i)) ≡ true → is_subtype types i t ≡ is_implementer types i t
 subtype-implementer types unique i t interface = by (type_at types i) interface ∙ sym (implementer-declares types unique i t)
   where
-    by : (found : Option ExtendedType) → is_some (as_interface found) ≡ true → is_subtype_of found types i t ≡ option_map_or (declares i) (type_at types t) false
+    by : (found : Option ExtendedType) → is_some (interface_node found) ≡ true → is_subtype_of found types i t ≡ option_map_or (declares i) (type_at types t) false
     by None h = absurd (true≢false (sym h))
     by (Some (Scalar n)) h = absurd (true≢false (sym h))
     by (Some (Object n)) h = absurd (true≢false (sym h))

@@ -7,15 +7,10 @@ use Rattle.graphql_nodes.specs.NameView.{NameView}
 use Rattle.graphql_nodes.specs.SameText.{same_text}
 use Rattle.graphql_nodes.specs.Tables.{lookup, keys_of}
 use Rattle.apollo_component.specs.FirstOfEach.{first_of_each}
-use Rattle.apollo_types.specs.TypeWriteOut.{is_object}
+use Rattle.apollo_types.specs.TypeKinds.{is_object, is_interface}
 use Rattle.apollo_types.specs.declared.extended_type.ExtendedType.{ExtendedType}
-use Rattle.apollo_types.specs.declared.extended_type.ExtendedType.TheVariants.{Interface}
 use Rattle.apollo_schema.specs.Lookups.{Types, interfaces_of, declares}
 use Rattle.apollo_schema.specs.declared.implementers.Implementers.{Implementers}
-
-abbrev pub is_interface : ExtendedType → Bool
-is_interface (Interface n) = true
-is_interface _ = false
 
 -- the names of the interfaces that a type declares
 abbrev pub names_declared : ExtendedType → List NameView

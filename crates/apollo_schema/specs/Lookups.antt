@@ -37,48 +37,37 @@ abbrev pub type_at : Types → NameView → Option ExtendedType
 type_at types n = lookup (same_text n) types
 
 -- the type of a name, where it is of one kind
-abbrev pub as_scalar : Option ExtendedType → Option (NodeView ScalarType)
-as_scalar None = None
-as_scalar (Some (Scalar n)) = Some n
-as_scalar (Some _) = None
+abbrev pub scalar_node : Option ExtendedType → Option (NodeView ScalarType)
+scalar_node None = None
+scalar_node (Some (Scalar n)) = Some n
+scalar_node (Some _) = None
 
-abbrev pub as_object : Option ExtendedType → Option (NodeView ObjectType)
-as_object None = None
-as_object (Some (Object n)) = Some n
-as_object (Some _) = None
+abbrev pub object_node : Option ExtendedType → Option (NodeView ObjectType)
+object_node None = None
+object_node (Some (Object n)) = Some n
+object_node (Some _) = None
 
-abbrev pub as_interface : Option ExtendedType → Option (NodeView InterfaceType)
-as_interface None = None
-as_interface (Some (Interface n)) = Some n
-as_interface (Some _) = None
+abbrev pub interface_node : Option ExtendedType → Option (NodeView InterfaceType)
+interface_node None = None
+interface_node (Some (Interface n)) = Some n
+interface_node (Some _) = None
 
-abbrev pub as_union : Option ExtendedType → Option (NodeView UnionType)
-as_union None = None
-as_union (Some (Union n)) = Some n
-as_union (Some _) = None
+abbrev pub union_node : Option ExtendedType → Option (NodeView UnionType)
+union_node None = None
+union_node (Some (Union n)) = Some n
+union_node (Some _) = None
 
-abbrev pub as_enum : Option ExtendedType → Option (NodeView EnumType)
-as_enum None = None
-as_enum (Some (Enum n)) = Some n
-as_enum (Some _) = None
+abbrev pub enum_node : Option ExtendedType → Option (NodeView EnumType)
+enum_node None = None
+enum_node (Some (Enum n)) = Some n
+enum_node (Some _) = None
 
-abbrev pub as_input_object : Option ExtendedType → Option (NodeView InputObjectType)
-as_input_object None = None
-as_input_object (Some (InputObject n)) = Some n
-as_input_object (Some _) = None
+abbrev pub input_object_node : Option ExtendedType → Option (NodeView InputObjectType)
+input_object_node None = None
+input_object_node (Some (InputObject n)) = Some n
+input_object_node (Some _) = None
 
--- a type whose values may be given, and one whose values may be answered (section 3.4.2)
-abbrev pub is_input : ExtendedType → Bool
-is_input (Scalar n) = true
-is_input (Enum n) = true
-is_input (InputObject n) = true
-is_input _ = false
-
-abbrev pub is_output : ExtendedType → Bool
-is_output (InputObject n) = false
-is_output _ = true
-
--- a reference to such a type; one to a name without a type is neither
+-- a reference to a type that passes; one to a name without a type is none
 abbrev pub refers_to : (ExtendedType → Bool) → Types → TypeReference → Bool
 refers_to test types ty = option_map_or test (type_at types (inner_name ty)) false
 

@@ -4,7 +4,7 @@ ghost use Rattle.apollo_meaning.specs.Items.ListItems.{Added};
 ghost use Rattle.apollo_schema.specs.BuilderStands.{StandsFor, HasFailed, first_number};
 ghost use Rattle.apollo_schema.specs.EqualSchemas.{AreEqualSchemas};
 ghost use Rattle.apollo_schema.specs.Implementers.{is_implementer};
-ghost use Rattle.apollo_schema.specs.Lookups.{Types, type_at, as_interface, is_subtype};
+ghost use Rattle.apollo_schema.specs.Lookups.{Types, type_at, interface_node, is_subtype};
 ghost use Rattle.graphql_nodes.specs.Clones.{IsExact};
 ghost use Rattle.graphql_nodes.specs.Comparing.{ComparesBy};
 ghost use Rattle.graphql_nodes.specs.NameView.{NameView};
@@ -35,7 +35,7 @@ pub fn clones_of_schemas_are_exact()
 /// A type is a subtype of an interface exactly where it is among the interface's implementers, for any types of which no
 /// two have one name, as those of every table. GraphQL specification of October 2021, sections 3.6 and 3.7.
 pub fn implementers()
-    ensures { (types : Types) → HasUniqueKeys same_text types → (i t : NameView) → IsSome (as_interface (type_at types i))
+    ensures { (types : Types) → HasUniqueKeys same_text types → (i t : NameView) → IsSome (interface_node (type_at types i))
         → IsTrue (is_subtype types i t) ↔ IsTrue (is_implementer types i t) }
 {}
 

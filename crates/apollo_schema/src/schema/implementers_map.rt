@@ -1,6 +1,6 @@
 //! Which types implement which interfaces: GraphQL specification of October 2021, sections 3.6 and 3.7.
 ghost use Rattle.std.specs.Prelude.{◌≡◌, IfOk, OnOk};
-ghost use Rattle.apollo_types.specs.TypeWriteOut.{is_object};
+ghost use Rattle.apollo_types.specs.TypeKinds.{is_object};
 ghost use Rattle.apollo_schema.specs.Implementers.{implementers_map};
 ghost use Rattle.apollo_schema.specs.Lookups.{interfaces_of};
 ghost use Rattle.apollo_schema.specs.Noted.{noted, noted_under};

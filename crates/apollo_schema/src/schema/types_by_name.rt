@@ -1,7 +1,8 @@
 //! Types by name, and references to types: GraphQL specification of October 2021, section 3.4.
 ghost use Rattle.std.specs.Prelude.{◌≡◌};
 ghost use Rattle.std.specs.Option.{option_copied};
-ghost use Rattle.apollo_schema.specs.Lookups.{type_at, as_scalar, as_object, as_interface, as_union, as_enum, as_input_object, is_input, is_output, refers_to};
+ghost use Rattle.apollo_types.specs.TypeKinds.{is_input_type, is_output_type};
+ghost use Rattle.apollo_schema.specs.Lookups.{type_at, scalar_node, object_node, interface_node, union_node, enum_node, input_object_node, refers_to};
 
 use super::Schema;
 use apollo_types::enum_type::EnumType;
@@ -18,7 +19,7 @@ use graphql_nodes::node::Node;
 impl Schema {
     /// The scalar type of this name, if the name's type is one.
     pub fn get_scalar(&self, name: &Name) -> Option<&Node<ScalarType>>
-        ensures { option_copied result ≡ as_scalar (type_at self.now.types name.now) }
+        ensures { option_copied result ≡ scalar_node (type_at self.now.types name.now) }
     {
         match self.types.get(name) {
             Some(ExtendedType::Scalar(node)) => Some(node),
@@ -28,7 +29,7 @@ impl Schema {
 
     /// The object type of this name, if the name's type is one.
     pub fn get_object(&self, name: &Name) -> Option<&Node<ObjectType>>
-        ensures { option_copied result ≡ as_object (type_at self.now.types name.now) }
+        ensures { option_copied result ≡ object_node (type_at self.now.types name.now) }
     {
         match self.types.get(name) {
             Some(ExtendedType::Object(node)) => Some(node),
@@ -38,7 +39,7 @@ impl Schema {
 
     /// The interface type of this name, if the name's type is one.
     pub fn get_interface(&self, name: &Name) -> Option<&Node<InterfaceType>>
-        ensures { option_copied result ≡ as_interface (type_at self.now.types name.now) }
+        ensures { option_copied result ≡ interface_node (type_at self.now.types name.now) }
     {
         match self.types.get(name) {
             Some(ExtendedType::Interface(node)) => Some(node),
@@ -48,7 +49,7 @@ impl Schema {
 
     /// The union type of this name, if the name's type is one.
     pub fn get_union(&self, name: &Name) -> Option<&Node<UnionType>>
-        ensures { option_copied result ≡ as_union (type_at self.now.types name.now) }
+        ensures { option_copied result ≡ union_node (type_at self.now.types name.now) }
     {
         match self.types.get(name) {
             Some(ExtendedType::Union(node)) => Some(node),
@@ -58,7 +59,7 @@ impl Schema {
 
     /// The enum type of this name, if the name's type is one.
     pub fn get_enum(&self, name: &Name) -> Option<&Node<EnumType>>
-        ensures { option_copied result ≡ as_enum (type_at self.now.types name.now) }
+        ensures { option_copied result ≡ enum_node (type_at self.now.types name.now) }
     {
         match self.types.get(name) {
             Some(ExtendedType::Enum(node)) => Some(node),
@@ -68,7 +69,7 @@ impl Schema {
 
     /// The input object type of this name, if the name's type is one.
     pub fn get_input_object(&self, name: &Name) -> Option<&Node<InputObjectType>>
-        ensures { option_copied result ≡ as_input_object (type_at self.now.types name.now) }
+        ensures { option_copied result ≡ input_object_node (type_at self.now.types name.now) }
     {
         match self.types.get(name) {
             Some(ExtendedType::InputObject(node)) => Some(node),
@@ -79,22 +80,22 @@ impl Schema {
     /// Whether the type inside all lists is a scalar, an enum or an input object (section 3.4.2). A name without a type is
     /// none.
     pub fn is_input_type(&self, ty: &Type) -> bool
-        ensures { result ≡ refers_to is_input self.now.types ty.now }
+        ensures { result ≡ refers_to is_input_type self.now.types ty.now }
     {
-        matches!(
-            self.types.get(ty.inner_named_type()),
-            Some(ExtendedType::Scalar(_) | ExtendedType::Enum(_) | ExtendedType::InputObject(_))
-        )
+        match self.types.get(ty.inner_named_type()) {
+            Some(ty) => ty.is_input_type(),
+            None => false,
+        }
     }
 
     /// Whether the type inside all lists is a scalar, an object, an interface, a union or an enum (section 3.4.2). A name
     /// without a type is none.
     pub fn is_output_type(&self, ty: &Type) -> bool
-        ensures { result ≡ refers_to is_output self.now.types ty.now }
+        ensures { result ≡ refers_to is_output_type self.now.types ty.now }
     {
         match self.types.get(ty.inner_named_type()) {
-            Some(ExtendedType::InputObject(_)) | None => false,
-            Some(_) => true,
+            Some(ty) => ty.is_output_type(),
+            None => false,
         }
     }
 }

@@ -1,7 +1,7 @@
 use Rattle.std.proofs.Common.{[], ◌∷◌, map, sym, ap, ◌∙◌}
 use Rattle.std.specs.Map.Iter.{deref_pair}
 use Rattle.std.proofs.lemmas.List.{map-append}
-use Rattle.apollo_types.specs.TypeWriteOut.{is_object}
+use Rattle.apollo_types.specs.TypeKinds.{is_object}
 use Rattle.apollo_schema.specs.Implementers.{implementers_map}
 use Rattle.apollo_schema.specs.Lookups.{interfaces_of}
 use Rattle.apollo_schema.specs.Noted.{noted_under}
