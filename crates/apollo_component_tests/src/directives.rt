@@ -9,7 +9,7 @@ use graphql_nodes::source::{FileId, SourceSpan};
 use std::alloc::{AllocError, Global};
 
 /// The place that begins there.
-fn place(start: u32) -> SourceSpan {
+fn place(start: usize) -> SourceSpan {
     SourceSpan {
         file: FileId(5),
         start,
@@ -23,14 +23,19 @@ fn name(alloc: Global, text: &str) -> Result<Name, AllocError> {
 }
 
 /// The directive of this name, at this place.
-fn directive(alloc: Global, text: &str, start: u32) -> Result<Component<Directive>, AllocError> {
+fn directive(alloc: Global, text: &str, start: usize) -> Result<Component<Directive>, AllocError> {
     let directive = Directive::new(alloc, name(alloc, text)?);
     let node = Node::new_opt_location(alloc, directive, Some(place(start)))?;
     Ok(Component::from(node))
 }
 
 /// Puts the directive of this name at this place last.
-fn add(alloc: Global, list: &mut DirectiveList, text: &str, start: u32) -> Result<(), AllocError> {
+fn add(
+    alloc: Global,
+    list: &mut DirectiveList,
+    text: &str,
+    start: usize,
+) -> Result<(), AllocError> {
     list.push(directive(alloc, text, start)?)
 }
 
@@ -44,7 +49,7 @@ fn list(alloc: Global) -> Result<DirectiveList, AllocError> {
 }
 
 /// Where the directive begins.
-fn start_of(directive: &Component<Directive>) -> Option<u32> {
+fn start_of(directive: &Component<Directive>) -> Option<usize> {
     directive.location().map(|place| place.start)
 }
 
