@@ -94,6 +94,7 @@ fn type_by_name(alloc: Global) -> Result<Component<FieldDefinition>, AllocError>
 
 impl MetaFields {
     /// The three definitions. The error is want of memory.
+    /// No clause: each value of the type holds the three.
     pub fn new(alloc: Global) -> Result<MetaFields, AllocError> {
         let typename = non_null(alloc, "String")?;
         let schema = non_null(alloc, "__Schema")?;
