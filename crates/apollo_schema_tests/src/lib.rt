@@ -5,6 +5,8 @@
 #[cfg(test)]
 mod accounts;
 #[cfg(test)]
+mod asking;
+#[cfg(test)]
 mod building;
 #[cfg(test)]
 mod by_calls;
@@ -22,3 +24,5 @@ mod no_documents;
 mod reading;
 #[cfg(test)]
 mod roots;
+#[cfg(test)]
+mod types;
