@@ -8,7 +8,7 @@ use std::alloc::{AllocError, Global};
 use std::ops::Deref;
 
 /// The directives applied to a type, in order. One directive may stand there more than once.
-#[derive(PartialEq, Eq, Hash, Clone)]
+#[derive(Debug, PartialEq, Eq, Hash, Clone)]
 pub struct DirectiveList(pub Items<Component<Directive>>);
 
 impl Drop for DirectiveList {

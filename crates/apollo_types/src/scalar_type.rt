@@ -15,7 +15,7 @@ use graphql_nodes::source::SourceSpan;
 use std::alloc::{AllocError, Global};
 
 /// A scalar type. Equality ignores places and origins.
-#[derive(PartialEq, Eq, Hash)]
+#[derive(Debug, PartialEq, Eq, Hash)]
 pub struct ScalarType {
     pub description: Option<NodeStr>,
     pub name: Name,
