@@ -19,6 +19,7 @@ use std::ops::{Deref, DerefMut};
 /// A part of a type, and the definition or extension that it comes from.
 ///
 /// Components are equal and hashed by their values: origins and places are left out.
+#[derive(Debug)]
 pub struct Component<T> {
     pub origin: ComponentOrigin,
     pub node: Node<T>,
@@ -128,6 +129,7 @@ impl<T: Drop> Clone for Component<T> {
 /// A name that a type lists, as an interface or a union member, and the definition or extension that it comes from.
 ///
 /// Component names are equal and hashed by their texts: origins and places are left out.
+#[derive(Debug)]
 pub struct ComponentName {
     pub origin: ComponentOrigin,
     pub name: Name,

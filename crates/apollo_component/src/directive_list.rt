@@ -20,7 +20,7 @@ use std::slice::{Iter, IterMut};
 use std::vec::IntoIter;
 
 /// The directives applied to a type, in order. One directive may stand there more than once.
-#[derive(PartialEq, Eq, Hash, Clone)]
+#[derive(Debug, PartialEq, Eq, Hash, Clone)]
 pub struct DirectiveList(pub Items<Component<Directive>>);
 
 impl Drop for DirectiveList {

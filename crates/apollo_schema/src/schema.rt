@@ -25,9 +25,9 @@ use std::alloc::{AllocError, Global};
 /// Schemas are equal where their definitions are, and their types and directive definitions in any order: places, origins
 /// and sources are left out.
 #[derive(Drop, Clone)]
-#[derive_where(PartialEq, Eq)]
+#[derive_where(Debug, PartialEq, Eq)]
 pub struct Schema {
-    #[derive_where(skip)]
+    #[derive_where(skip(EqHashOrd))]
     pub sources: SourceMap,
     pub schema_definition: Node<SchemaDefinition>,
     pub directive_definitions: Table<Name, Node<DirectiveDefinition>>,

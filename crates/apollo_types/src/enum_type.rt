@@ -18,7 +18,7 @@ use graphql_nodes::source::SourceSpan;
 use std::alloc::{AllocError, Global};
 
 /// An enum type. Equality ignores places and origins, and the order of values.
-#[derive(PartialEq, Eq)]
+#[derive(Debug, PartialEq, Eq)]
 pub struct EnumType {
     pub description: Option<NodeStr>,
     pub name: Name,

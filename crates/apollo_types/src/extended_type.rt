@@ -22,7 +22,7 @@ use graphql_nodes::type_kind::TypeKind;
 use std::alloc::{AllocError, Global};
 
 /// A type of a schema, by its kind.
-#[derive(Drop, PartialEq, Eq)]
+#[derive(Debug, Drop, PartialEq, Eq)]
 pub enum ExtendedType {
     Scalar(Node<ScalarType>),
     Object(Node<ObjectType>),

@@ -20,7 +20,7 @@ use graphql_nodes::source::SourceSpan;
 use std::alloc::{AllocError, Global};
 
 /// An input object type. Equality ignores places and origins, and the order of fields.
-#[derive(PartialEq, Eq)]
+#[derive(Debug, PartialEq, Eq)]
 pub struct InputObjectType {
     pub description: Option<NodeStr>,
     pub name: Name,

@@ -18,7 +18,7 @@ use graphql_nodes::source::SourceSpan;
 use std::alloc::{AllocError, Global};
 
 /// An object type. Equality ignores places and origins, and the order of interfaces and fields.
-#[derive(PartialEq, Eq)]
+#[derive(Debug, PartialEq, Eq)]
 pub struct ObjectType {
     pub description: Option<NodeStr>,
     pub name: Name,

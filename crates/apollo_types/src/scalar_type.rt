@@ -17,7 +17,7 @@ use std::alloc::{AllocError, Global};
 use std::hash::Hash;
 
 /// A scalar type. Equality ignores places and origins.
-#[derive(PartialEq, Eq, Hash)]
+#[derive(Debug, PartialEq, Eq, Hash)]
 pub struct ScalarType {
     pub description: Option<NodeStr>,
     pub name: Name,

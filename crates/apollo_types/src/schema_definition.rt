@@ -36,7 +36,7 @@ pub(crate) const OPERATION_TYPES: [OperationType; 3] = [
 
 /// The definition of a schema, and its extensions (section 3.3): the root of each operation type, which is the name of an
 /// object type. Equality ignores places and origins.
-#[derive(PartialEq, Eq)]
+#[derive(Debug, PartialEq, Eq)]
 pub struct SchemaDefinition {
     pub description: Option<NodeStr>,
     pub directives: DirectiveList,

@@ -17,7 +17,7 @@ use graphql_nodes::source::SourceSpan;
 use std::alloc::{AllocError, Global};
 
 /// A union type. Equality ignores places and origins, and the order of members.
-#[derive(PartialEq, Eq)]
+#[derive(Debug, PartialEq, Eq)]
 pub struct UnionType {
     pub description: Option<NodeStr>,
     pub name: Name,
