@@ -4,6 +4,7 @@ pub mod Bare
 pub mod BareDocuments
 pub mod BareSelections
 pub mod BareTypeSystem
+pub mod DefinitionParts
 pub mod DefinitionTexts
 pub mod Definitions
 pub mod TypeReferences

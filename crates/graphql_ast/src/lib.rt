@@ -5,6 +5,7 @@
 
 pub mod argument;
 pub mod definition;
+pub mod definition_parts;
 pub mod directive;
 pub mod document;
 mod empty_definitions;
@@ -18,6 +19,7 @@ pub mod value;
 
 pub use crate::argument::ArgumentByNameError;
 pub use crate::definition::Definition;
+pub use crate::definition_parts::{DefinitionPart, DefinitionParts};
 pub use crate::directive::{Argument, Directive, DirectiveList};
 pub use crate::document::Document;
 pub use crate::operation::{FragmentDefinition, OperationDefinition, VariableDefinition};

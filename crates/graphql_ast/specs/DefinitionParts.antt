@@ -1,0 +1,93 @@
+-- What definitions and extensions of the type system are made of, whatever their kind: GraphQL specification of October
+-- 2021, sections 3.3 and 3.5 to 3.10.
+use Rattle.std.specs.Prelude.{List, [], ◌∷◌, ◌++◌, filter_map, Option, None, Some}
+use Rattle.graphql_nodes.specs.NameView.{NameView}
+use Rattle.graphql_nodes.specs.NodeView.{NodeView}
+use Rattle.graphql_nodes.specs.declared.operation_type.OperationType.{OperationType}
+use Rattle.graphql_nodes.specs.declared.source.SourceSpan.{SourceSpan}
+use Rattle.graphql_nodes.specs.declared.type_kind.TypeKind.{TypeKind}
+use Rattle.graphql_nodes.specs.declared.type_kind.TypeKind.TheVariants as k
+use Rattle.graphql_ast.specs.declared.definition.Definition.{Definition}
+use Rattle.graphql_ast.specs.declared.definition.Definition.TheVariants as d
+use Rattle.graphql_ast.specs.declared.definition_parts.DefinitionPart.{DefinitionPart}
+use Rattle.graphql_ast.specs.declared.definition_parts.DefinitionPart.TheVariants as p
+use Rattle.graphql_ast.specs.declared.definition_parts.DefinitionParts.{DefinitionParts}
+use Rattle.graphql_ast.specs.declared.directive.Directive.{Directive}
+use Rattle.graphql_ast.specs.declared.type_system.EnumValueDefinition.{EnumValueDefinition}
+use Rattle.graphql_ast.specs.declared.type_system.FieldDefinition.{FieldDefinition}
+use Rattle.graphql_ast.specs.declared.type_system.InputValueDefinition.{InputValueDefinition}
+
+-- what a part is, if it is of this sort
+abbrev pub directive_in : DefinitionPart → Option (NodeView Directive)
+directive_in (p.Directive directive) = Some directive
+directive_in _ = None
+
+abbrev pub name_in : DefinitionPart → Option NameView
+name_in (p.Name name) = Some name
+name_in _ = None
+
+abbrev pub field_in : DefinitionPart → Option (NodeView FieldDefinition)
+field_in (p.Field field) = Some field
+field_in _ = None
+
+abbrev pub value_in : DefinitionPart → Option (NodeView EnumValueDefinition)
+value_in (p.EnumValue value) = Some value
+value_in _ = None
+
+abbrev pub input_field_in : DefinitionPart → Option (NodeView InputValueDefinition)
+input_field_in (p.InputField field) = Some field
+input_field_in _ = None
+
+abbrev pub root_in : DefinitionPart → Option (NodeView (OperationType × NameView))
+root_in (p.Root root) = Some root
+root_in _ = None
+
+-- these parts, each sort in order
+abbrev pub parts_of : List DefinitionPart → DefinitionParts
+parts_of parts = record {
+  directives = record { 0 = filter_map directive_in parts };
+  names = filter_map name_in parts;
+  fields = filter_map field_in parts;
+  values = filter_map value_in parts;
+  input_fields = filter_map input_field_in parts;
+  roots = filter_map root_in parts;
+}
+
+-- no part
+abbrev pub no_parts : DefinitionParts
+no_parts = parts_of []
+
+-- one part more, the last of its sort
+abbrev pub with_part : DefinitionPart → DefinitionParts → DefinitionParts
+with_part (p.Directive directive) parts = record parts { directives = record { 0 = parts.directives.0 ++ directive ∷ [] } }
+with_part (p.Name name) parts = record parts { names = parts.names ++ name ∷ [] }
+with_part (p.Field field) parts = record parts { fields = parts.fields ++ field ∷ [] }
+with_part (p.EnumValue value) parts = record parts { values = parts.values ++ value ∷ [] }
+with_part (p.InputField field) parts = record parts { input_fields = parts.input_fields ++ field ∷ [] }
+with_part (p.Root root) parts = record parts { roots = parts.roots ++ root ∷ [] }
+
+-- the definition of a type of this kind
+abbrev pub type_definition : TypeKind → Option NameView → NameView → DefinitionParts → Option SourceSpan → Definition
+type_definition k.Scalar description name parts place = d.ScalarTypeDefinition (record { value = record { description = description; name = name; directives = parts.directives }; location = place })
+type_definition k.Object description name parts place = d.ObjectTypeDefinition (record { value = record { description = description; name = name; implements_interfaces = parts.names; directives = parts.directives; fields = parts.fields }; location = place })
+type_definition k.Interface description name parts place = d.InterfaceTypeDefinition (record { value = record { description = description; name = name; implements_interfaces = parts.names; directives = parts.directives; fields = parts.fields }; location = place })
+type_definition k.Union description name parts place = d.UnionTypeDefinition (record { value = record { description = description; name = name; directives = parts.directives; members = parts.names }; location = place })
+type_definition k.Enum description name parts place = d.EnumTypeDefinition (record { value = record { description = description; name = name; directives = parts.directives; values = parts.values }; location = place })
+type_definition k.InputObject description name parts place = d.InputObjectTypeDefinition (record { value = record { description = description; name = name; directives = parts.directives; fields = parts.input_fields }; location = place })
+
+-- the extension of a type of this kind
+abbrev pub type_extension : TypeKind → NameView → DefinitionParts → Option SourceSpan → Definition
+type_extension k.Scalar name parts place = d.ScalarTypeExtension (record { value = record { name = name; directives = parts.directives }; location = place })
+type_extension k.Object name parts place = d.ObjectTypeExtension (record { value = record { name = name; implements_interfaces = parts.names; directives = parts.directives; fields = parts.fields }; location = place })
+type_extension k.Interface name parts place = d.InterfaceTypeExtension (record { value = record { name = name; implements_interfaces = parts.names; directives = parts.directives; fields = parts.fields }; location = place })
+type_extension k.Union name parts place = d.UnionTypeExtension (record { value = record { name = name; directives = parts.directives; members = parts.names }; location = place })
+type_extension k.Enum name parts place = d.EnumTypeExtension (record { value = record { name = name; directives = parts.directives; values = parts.values }; location = place })
+type_extension k.InputObject name parts place = d.InputObjectTypeExtension (record { value = record { name = name; directives = parts.directives; fields = parts.input_fields }; location = place })
+
+-- the definition of the schema
+abbrev pub schema_definition : Option NameView → DefinitionParts → Option SourceSpan → Definition
+schema_definition description parts place = d.SchemaDefinition (record { value = record { description = description; directives = parts.directives; root_operations = parts.roots }; location = place })
+
+-- an extension of the schema
+abbrev pub schema_extension : DefinitionParts → Option SourceSpan → Definition
+schema_extension parts place = d.SchemaExtension (record { value = record { directives = parts.directives; root_operations = parts.roots }; location = place })
