@@ -2,4 +2,6 @@ pub mod ComponentEquality
 pub mod FirstOfEachLemmas
 pub mod LaterLemmas
 pub mod Lists
+pub mod Tabled
 pub mod Walks
+pub mod WriteOutLemmas

@@ -5,3 +5,4 @@ pub mod DirectivesLending
 pub mod EachAfter
 pub mod Extensions
 pub mod FirstOfEach
+pub mod WriteOut

@@ -7,7 +7,9 @@ pub mod extension;
 pub mod get_all;
 pub mod laws;
 pub mod named;
+pub mod parts_by_origin;
 
 pub use crate::component::{Component, ComponentName};
 pub use crate::directive_list::DirectiveList;
 pub use crate::extension::{ComponentOrigin, ExtensionId, ExtensionSource, IdsSpent};
+pub use crate::parts_by_origin::PartsByOrigin;

@@ -18,7 +18,7 @@ use Rattle.apollo_component.specs.EachAfter.{each_after}
 use Rattle.apollo_component.proofs.Lists.EachAfter.{each_after-push, each_after-start}
 use Rattle.apollo_component.specs.declared.component.ComponentName.{ComponentName}
 use Rattle.apollo_component.specs.declared.extension.ComponentOrigin.{ComponentOrigin}
-use Rattle.apollo_types.specs.SchemaDefinitionWriteOut.{root_of}
+use Rattle.apollo_types.specs.SchemaRoots.{root_of}
 use Rattle.apollo_types.specs.declared.schema_definition.SchemaDefinition.{SchemaDefinition}
 use Rattle.apollo_component.proofs.Lists.Ends.{enumerate_from-append}
 use Rattle.apollo_meaning.specs.declared.build_error.BuildError.TheVariants as errors

@@ -12,22 +12,19 @@ ghost use Rattle.apollo_folding.specs.Views.{part_seen};
 ghost use Rattle.apollo_folding.specs.HeldRoots.{held_root, held_roots};
 ghost use Rattle.apollo_meaning.specs.Schema.Definition.{no_schema};
 
-use crate::views::{BodyView, ItemView, PartView};
+use crate::views::{ItemView, PartView};
 use apollo_types::extended_type::ExtendedType;
 use apollo_types::schema_definition::SchemaDefinition;
 use graphql_ast::definition::Definition;
+use graphql_ast::definition_parts::DefinitionParts;
 use graphql_ast::directive::DirectiveList;
 use graphql_ast::type_system as ast;
-use graphql_ast::type_system::{
-    EnumTypeDefinition, InputObjectTypeDefinition, InterfaceTypeDefinition, ObjectTypeDefinition,
-    ScalarTypeDefinition, SchemaExtension, UnionTypeDefinition,
-};
+use graphql_ast::type_system::SchemaExtension;
 use graphql_nodes::collections::items::Items;
 use graphql_nodes::collections::table::Table;
 use graphql_nodes::name::{Name, NamedType};
 use graphql_nodes::node::Node;
 use graphql_nodes::operation_type::OperationType;
-use graphql_nodes::source::SourceSpan;
 use std::alloc::{AllocError, Global};
 
 /// The empty definition of the kind of an extension, with its name and at its place.
@@ -35,30 +32,9 @@ fn empty_definition(alloc: Global, extension: &PartView<'_>) -> Result<Definitio
     ensures { IfOk result (λ made. item_of made ≡ Defined (adopted_part (part_seen extension.now))) }
 {
     let name = extension.name.clone()?;
-    let place = extension.location;
-    match extension.body {
-        BodyView::Scalar => at_place(alloc, ScalarTypeDefinition::new(alloc, name), place),
-        BodyView::Object(_, _) => at_place(alloc, ObjectTypeDefinition::new(alloc, name), place),
-        BodyView::Interface(_, _) => {
-            at_place(alloc, InterfaceTypeDefinition::new(alloc, name), place)
-        }
-        BodyView::Union(_) => at_place(alloc, UnionTypeDefinition::new(alloc, name), place),
-        BodyView::Enum(_) => at_place(alloc, EnumTypeDefinition::new(alloc, name), place),
-        BodyView::InputObject(_) => {
-            at_place(alloc, InputObjectTypeDefinition::new(alloc, name), place)
-        }
-    }
-}
-
-/// What a value becomes that stands at a place.
-fn at_place<T: Drop, D: From<Node<T>>>(
-    alloc: Global,
-    value: T,
-    place: Option<SourceSpan>,
-) -> Result<D, AllocError>
-    ensures { IfOk result (λ made. D.from_gives (record { value = value; location = place }) made) }
-{
-    Ok(D::from(Node::new_opt_location(alloc, value, place)?))
+    let parts = DefinitionParts::new(alloc);
+    let made = parts.into_definition(alloc, extension.kind(), None, name, extension.location)?;
+    Ok(made)
 }
 
 /// Adds the empty definition of the first of these that extends a type.

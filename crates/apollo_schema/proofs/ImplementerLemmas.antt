@@ -17,7 +17,7 @@ use Rattle.graphql_nodes.proofs.Texts.{same-true, same-flip, same-refl}
 use Rattle.apollo_component.specs.FirstOfEach.{first_of_each}
 use Rattle.apollo_component.specs.declared.component.ComponentName.{ComponentName}
 use Rattle.apollo_component.proofs.FirstOfEachLemmas.{first_of_each-push_new, first_of_each-push_old, list_any-first_of_each}
-use Rattle.apollo_component.proofs.Lists.Each.{each-filter, each-weaken}
+use Rattle.apollo_component.proofs.Tabled.{tabled, first_of_each-distinct, first_of_each-insert, tabled-insert, lookup-tabled, insert_entry-found}
 use Rattle.apollo_types.specs.TypeKinds.{is_object, is_interface}
 use Rattle.apollo_types.specs.declared.extended_type.ExtendedType.{ExtendedType}
 use Rattle.apollo_types.specs.declared.extended_type.ExtendedType.TheVariants.{Scalar, Object, Interface, Union, Enum, InputObject}
@@ -30,74 +30,6 @@ use Rattle.apollo_schema.specs.declared.implementers.Implementers.{Implementers}
 pub neither : (a b : Bool) → (a || b) ≡ false → (a ≡ false) × (b ≡ false)
 neither true b h = absurd (true≢false h)
 neither false b h = (refl, h)
-
-module _ {K : Type 0} (same : K → K → Bool) where
-  apart : (x : K) (ks : List K) → AllByRecursion (λ k. same x k ≡ false) (filter (λ k. not (same x k)) ks)
-  apart x [] = tt
-  apart x (k ∷ ks) = by (same x k) refl (apart x ks)
-    where
-      by : (b : Bool) → same x k ≡ b → AllByRecursion (λ k. same x k ≡ false) (filter (λ k. not (same x k)) ks)
-          → AllByRecursion (λ k. same x k ≡ false) (cond (not b) (k ∷ filter (λ k. not (same x k)) ks) (filter (λ k. not (same x k)) ks))
-      by true e rest = rest
-      by false e rest = (e, rest)
-
-  filter-distinct : (p : K → Bool) (ks : List K) → IsDistinct same ks → IsDistinct same (filter p ks)
-  unfolding IsDistinct
-  filter-distinct p [] d = tt
-  filter-distinct p (k ∷ ks) d = by (p k) (filter-distinct p ks d.1)
-    where
-      by : (b : Bool) → IsDistinct same (filter p ks) → IsDistinct same (cond b (k ∷ filter p ks) (filter p ks))
-      by true rest = (each-weaken (λ y. (same k y ≡ false) × (p y ≡ true)) (λ y. same k y ≡ false) (λ y h. h.0) (filter p ks) (each-filter (λ y. same k y ≡ false) p ks d.0), rest)
-      by false rest = rest
-
-  first_of_each-distinct : (xs : List K) → IsDistinct same (first_of_each same xs)
-  unfolding IsDistinct
-  first_of_each-distinct [] = tt
-  first_of_each-distinct (x ∷ xs) = (apart x (first_of_each same xs), filter-distinct (λ y. not (same x y)) (first_of_each same xs) (first_of_each-distinct xs))
-
--- a table that has at each key what f gives of it
-abbrev tabled : {K V : Type 0} → (K → V) → List K → List (K × V)
-tabled f ks = map (λ k. (k, f k)) ks
-
-module _ {K : Type 0} (same : K → K → Bool) (laws : IsEquivalence same) where
-  -- one more thing, if it is new, is what insertion adds
-  first_of_each-insert : (xs : List K) (x : K) → first_of_each same (xs ++ x ∷ []) ≡ insert_key same (first_of_each same xs) x
-  first_of_each-insert xs x = by (list_any (same x) xs) refl
-    where
-      by : (b : Bool) → list_any (same x) xs ≡ b → first_of_each same (xs ++ x ∷ []) ≡ insert_key same (first_of_each same xs) x
-      by true e = first_of_each-push_old same laws xs x e ∙ sym (ap (λ c. cond c (first_of_each same xs) (first_of_each same xs ++ x ∷ [])) (list_any-first_of_each same laws x xs ∙ e))
-      by false e = first_of_each-push_new same laws xs x e ∙ sym (ap (λ c. cond c (first_of_each same xs) (first_of_each same xs ++ x ∷ [])) (list_any-first_of_each same laws x xs ∙ e))
-
-  module _ {V : Type 0} where
-    tabled-apart : (f g : K → V) (c : K) → ((k : K) → same c k ≡ false → f k ≡ g k) → (ks : List K) → AllByRecursion (λ k. same c k ≡ false) ks → tabled f ks ≡ tabled g ks
-    tabled-apart f g c agree [] a = refl
-    tabled-apart f g c agree (k ∷ ks) a = ap (λ v. (k, v) ∷ tabled f ks) (agree k a.0) ∙ ap (λ l. (k, g k) ∷ l) (tabled-apart f g c agree ks a.1)
-
-    -- the table with another value at one key is that of what gives it there, and the same elsewhere
-    tabled-insert : (f g : K → V) (c : K) → ((k : K) → same c k ≡ false → f k ≡ g k) → ((k : K) → same c k ≡ true → g k ≡ g c) → (ks : List K) → IsDistinct same ks
-        → insert_entry same (tabled f ks) c (g c) ≡ tabled g (insert_key same ks c)
-    unfolding IsDistinct
-    tabled-insert f g c agree one [] d = refl
-    tabled-insert f g c agree one (k ∷ ks) d = by (same c k) refl (list_any (same c) ks) (tabled-insert f g c agree one ks d.1)
-      where
-        others : same c k ≡ true → AllByRecursion (λ y. same c y ≡ false) ks
-        others p = each-weaken (λ y. same k y ≡ false) (λ y. same c y ≡ false) (λ y h. laws.congr c k y p ∙ h) ks d.0
-
-        by : (b : Bool) → same c k ≡ b → (e : Bool) → insert_entry same (tabled f ks) c (g c) ≡ tabled g (cond e ks (ks ++ c ∷ []))
-            → cond b ((k, g c) ∷ tabled f ks) ((k, f k) ∷ insert_entry same (tabled f ks) c (g c)) ≡ tabled g (cond (b || e) (k ∷ ks) ((k ∷ ks) ++ c ∷ []))
-        by true p e rest = ap (λ v. (k, v) ∷ tabled f ks) (sym (one k p)) ∙ ap (λ l. (k, g k) ∷ l) (tabled-apart f g c agree ks (others p))
-        by false p true rest = ap (λ v. (k, v) ∷ insert_entry same (tabled f ks) c (g c)) (agree k p) ∙ ap (λ l. (k, g k) ∷ l) rest
-        by false p false rest = ap (λ v. (k, v) ∷ insert_entry same (tabled f ks) c (g c)) (agree k p) ∙ ap (λ l. (k, g k) ∷ l) rest
-
-    -- what stands at a key of the table
-    pub lookup-tabled : (f : K → V) (c : K) → ((k : K) → same c k ≡ true → f k ≡ f c) → (ks : List K) → lookup (same c) (tabled f ks) ≡ cond (list_any (same c) ks) (Some (f c)) None
-    lookup-tabled f c one [] = refl
-    lookup-tabled f c one (k ∷ ks) = by (same c k) refl (lookup-tabled f c one ks)
-      where
-        by : (b : Bool) → same c k ≡ b → lookup (same c) (tabled f ks) ≡ cond (list_any (same c) ks) (Some (f c)) None
-            → cond b (Some (f k)) (lookup (same c) (tabled f ks)) ≡ cond (b || list_any (same c) ks) (Some (f c)) None
-        by true p rest = ap Some (one k p)
-        by false p rest = rest
 
 pub names_equiv : IsEquivalence same_text
 names_equiv = on_equiv (λ (n : NameView). n.text) nat_list_eq_equiv
@@ -299,13 +231,4 @@ module _ (types : Types) (k : NameView) where
 
 -- a name noted where the interface's implementers stand
 pub noted-found : (o : Bool) (k : NameView) (map : List (NameView × Implementers)) (i : ComponentName) (m : Implementers) → lookup (same_text i.name) map ≡ Some m → set_value (same_text i.name) map (with_name o k m) ≡ noted o k map i
-noted-found o k map i m there = written map there ∙ ap (λ found. insert_entry same_text map i.name (with_name o k (unwrap_or found no_implementers))) (sym there)
-  where
-    written : (es : List (NameView × Implementers)) → lookup (same_text i.name) es ≡ Some m → set_value (same_text i.name) es (with_name o k m) ≡ insert_entry same_text es i.name (with_name o k m)
-    written [] h = absurd (true≢false (sym (ap is_some h)))
-    written (e ∷ es) h = by (same_text i.name e.0) h (written es)
-      where
-        by : (b : Bool) → cond b (Some e.1) (lookup (same_text i.name) es) ≡ Some m → (lookup (same_text i.name) es ≡ Some m → set_value (same_text i.name) es (with_name o k m) ≡ insert_entry same_text es i.name (with_name o k m))
-            → cond b ((e.0, with_name o k m) ∷ es) (e ∷ set_value (same_text i.name) es (with_name o k m)) ≡ cond b ((e.0, with_name o k m) ∷ es) (e ∷ insert_entry same_text es i.name (with_name o k m))
-        by true h rest = refl
-        by false h rest = ap (λ l. e ∷ l) (rest h)
+noted-found o k map i m there = insert_entry-found same_text map i.name m (with_name o k m) there ∙ ap (λ found. insert_entry same_text map i.name (with_name o k (unwrap_or found no_implementers))) (sym there)

@@ -14,7 +14,7 @@ use Rattle.graphql_ast.specs.declared.type_reference.Type.{«Type» as TypeRefer
 use Rattle.graphql_ast.specs.declared.type_system.FieldDefinition.{FieldDefinition}
 use Rattle.apollo_component.specs.declared.component.Component.{Component}
 use Rattle.apollo_component.specs.declared.component.ComponentName.{ComponentName}
-use Rattle.apollo_types.specs.SchemaDefinitionWriteOut.{root_of}
+use Rattle.apollo_types.specs.SchemaRoots.{root_of}
 use Rattle.apollo_types.specs.declared.scalar_type.ScalarType.{ScalarType}
 use Rattle.apollo_types.specs.declared.object_type.ObjectType.{ObjectType}
 use Rattle.apollo_types.specs.declared.interface_type.InterfaceType.{InterfaceType}

@@ -37,7 +37,7 @@ pub struct Schema {
 }
 
 impl Schema {
-    ghost use Rattle.apollo_types.specs.SchemaDefinitionWriteOut.{root_of};
+    ghost use Rattle.apollo_types.specs.SchemaRoots.{root_of};
     ghost use Rattle.apollo_schema.specs.SchemaWriteOut.{write_schema};
 
     /// The schema of these parts. The error is want of memory.

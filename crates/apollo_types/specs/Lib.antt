@@ -1,12 +1,6 @@
 pub mod BareTypes
-pub mod EnumWriteOut
-pub mod InputObjectWriteOut
-pub mod InterfaceWriteOut
-pub mod ObjectWriteOut
-pub mod OriginsLeft
-pub mod ScalarWriteOut
+pub mod Components
 pub mod SchemaDefinitionWriteOut
+pub mod SchemaRoots
 pub mod TypeKinds
 pub mod TypeWriteOut
-pub mod UnionWriteOut
-pub mod WriteOut

@@ -1,19 +1,20 @@
--- What a type of any kind is written out as, what it is called, its kind, and what else each kind has: GraphQL
--- specification of October 2021, section 3.4.
-use Rattle.std.specs.Prelude.{List, Option}
+-- What types are written out as: GraphQL specification of October 2021, sections 3.4.3 and 3.5 to 3.10.
+use Rattle.std.specs.Prelude.{List, ◌++◌, map, Option}
 use Rattle.graphql_nodes.specs.NameView.{NameView}
+use Rattle.graphql_nodes.specs.Tables.{values_of}
 use Rattle.graphql_nodes.specs.declared.source.SourceSpan.{SourceSpan}
-use Rattle.graphql_ast.specs.declared.definition.Definition.{Definition}
 use Rattle.graphql_nodes.specs.declared.type_kind.TypeKind.{TypeKind}
 use Rattle.graphql_nodes.specs.declared.type_kind.TypeKind.TheVariants as kinds
+use Rattle.graphql_ast.specs.declared.definition.Definition.{Definition}
+use Rattle.apollo_component.specs.WriteOut.{SourcedPart, by_origin, written_type}
 use Rattle.apollo_component.specs.declared.directive_list.DirectiveList.{DirectiveList}
-use Rattle.apollo_component.specs.declared.extension.ComponentOrigin.{ComponentOrigin}
-use Rattle.apollo_types.specs.ScalarWriteOut.{scalar_origins, write_scalar}
-use Rattle.apollo_types.specs.ObjectWriteOut.{object_origins, write_object}
-use Rattle.apollo_types.specs.InterfaceWriteOut.{interface_origins, write_interface}
-use Rattle.apollo_types.specs.UnionWriteOut.{union_origins, write_union}
-use Rattle.apollo_types.specs.EnumWriteOut.{enum_origins, write_enum}
-use Rattle.apollo_types.specs.InputObjectWriteOut.{input_object_origins, write_input_object}
+use Rattle.apollo_types.specs.Components.{of_directive, of_name, of_field, of_value, of_input_field}
+use Rattle.apollo_types.specs.declared.scalar_type.ScalarType.{ScalarType}
+use Rattle.apollo_types.specs.declared.object_type.ObjectType.{ObjectType}
+use Rattle.apollo_types.specs.declared.interface_type.InterfaceType.{InterfaceType}
+use Rattle.apollo_types.specs.declared.union_type.UnionType.{UnionType}
+use Rattle.apollo_types.specs.declared.enum_type.EnumType.{EnumType}
+use Rattle.apollo_types.specs.declared.input_object_type.InputObjectType.{InputObjectType}
 use Rattle.apollo_types.specs.declared.extended_type.ExtendedType.{ExtendedType}
 use Rattle.apollo_types.specs.declared.extended_type.ExtendedType.TheVariants.{Scalar, Object, Interface, Union, Enum, InputObject}
 
@@ -57,20 +58,53 @@ type_directives (Union n) = n.value.directives
 type_directives (Enum n) = n.value.directives
 type_directives (InputObject n) = n.value.directives
 
--- the origins of the components
-abbrev pub type_origins : ExtendedType → List ComponentOrigin
-type_origins (Scalar n) = scalar_origins n.value
-type_origins (Object n) = object_origins n.value
-type_origins (Interface n) = interface_origins n.value
-type_origins (Union n) = union_origins n.value
-type_origins (Enum n) = enum_origins n.value
-type_origins (InputObject n) = input_object_origins n.value
+-- the components of a scalar type: directives; of an object or interface type: directives, interfaces, fields; of a union:
+-- directives, members; of an enum: directives, values; of an input object type: directives, fields
+abbrev pub scalar_components : ScalarType → List SourcedPart
+scalar_components t = map of_directive t.directives.0
+
+abbrev pub object_components : ObjectType → List SourcedPart
+object_components t = (map of_directive t.directives.0 ++ map of_name t.implements_interfaces) ++ map of_field (values_of t.fields)
+
+abbrev pub interface_components : InterfaceType → List SourcedPart
+interface_components t = (map of_directive t.directives.0 ++ map of_name t.implements_interfaces) ++ map of_field (values_of t.fields)
+
+abbrev pub union_components : UnionType → List SourcedPart
+union_components t = map of_directive t.directives.0 ++ map of_name t.members
+
+abbrev pub enum_components : EnumType → List SourcedPart
+enum_components t = map of_directive t.directives.0 ++ map of_value (values_of t.values)
+
+abbrev pub input_object_components : InputObjectType → List SourcedPart
+input_object_components t = map of_directive t.directives.0 ++ map of_input_field (values_of t.fields)
+
+abbrev pub type_components : ExtendedType → List SourcedPart
+type_components (Scalar n) = scalar_components n.value
+type_components (Object n) = object_components n.value
+type_components (Interface n) = interface_components n.value
+type_components (Union n) = union_components n.value
+type_components (Enum n) = enum_components n.value
+type_components (InputObject n) = input_object_components n.value
+
+-- the definition, at this place, then an extension for each identity
+abbrev pub write_scalar : ScalarType → Option SourceSpan → List Definition
+write_scalar t place = written_type kinds.Scalar t.description t.name (by_origin (scalar_components t)) place
+
+abbrev pub write_object : ObjectType → Option SourceSpan → List Definition
+write_object t place = written_type kinds.Object t.description t.name (by_origin (object_components t)) place
+
+abbrev pub write_interface : InterfaceType → Option SourceSpan → List Definition
+write_interface t place = written_type kinds.Interface t.description t.name (by_origin (interface_components t)) place
+
+abbrev pub write_union : UnionType → Option SourceSpan → List Definition
+write_union t place = written_type kinds.Union t.description t.name (by_origin (union_components t)) place
+
+abbrev pub write_enum : EnumType → Option SourceSpan → List Definition
+write_enum t place = written_type kinds.Enum t.description t.name (by_origin (enum_components t)) place
+
+abbrev pub write_input_object : InputObjectType → Option SourceSpan → List Definition
+write_input_object t place = written_type kinds.InputObject t.description t.name (by_origin (input_object_components t)) place
 
 -- the definition, where the type stands, then its extensions
 abbrev pub write_type : ExtendedType → List Definition
-write_type (Scalar n) = write_scalar n.value n.location
-write_type (Object n) = write_object n.value n.location
-write_type (Interface n) = write_interface n.value n.location
-write_type (Union n) = write_union n.value n.location
-write_type (Enum n) = write_enum n.value n.location
-write_type (InputObject n) = write_input_object n.value n.location
+write_type t = written_type (type_kind t) (type_description t) (type_name t) (by_origin (type_components t)) (type_location t)

@@ -50,9 +50,9 @@ impl Clone for ExtendedType {
 impl ExtendedType {
     ghost use Rattle.graphql_nodes.specs.BuiltIn.{is_built_in};
     ghost use Rattle.apollo_types.specs.TypeKinds.{as_scalar, as_object, as_interface, as_union, as_enum, as_input_object, is_scalar, is_object, is_interface, is_union, is_enum, is_input_object, is_leaf, is_input_type, is_output_type};
-    ghost use Rattle.apollo_types.specs.TypeWriteOut.{write_type, type_kind, type_name, type_location, type_directives, type_description, type_origins};
-    ghost use Rattle.apollo_types.specs.OriginsLeft.{OriginsInOrder};
-    ghost use Rattle.apollo_types.specs.WriteOut.{identities};
+    ghost use Rattle.apollo_types.specs.TypeWriteOut.{write_type, type_kind, type_name, type_location, type_directives, type_description, type_components};
+    ghost use Rattle.apollo_types.specs.Components.{OriginsInOrder};
+    ghost use Rattle.apollo_component.specs.WriteOut.{origins_in, identities};
 
     /// The kind of the type.
     pub fn kind(&self) -> TypeKind
@@ -264,7 +264,7 @@ impl ExtendedType {
     /// The origins of the components: those of directives, then interfaces, then fields; or of directives, then members,
     /// values or input fields.
     pub fn iter_origins(&self) -> Origins<'_>
-        ensures rest { result ≡ type_origins self.now }
+        ensures rest { result ≡ origins_in (type_components self.now) }
         ensures runs { OriginsInOrder }
     {
         match self {
@@ -280,7 +280,7 @@ impl ExtendedType {
     /// The identities of the extensions that the components come from, by first appearance among their
     /// [origins](ExtendedType::iter_origins). The error is want of memory.
     pub fn extensions(&self, alloc: Global) -> Result<KeySet<ExtensionId>, AllocError>
-        ensures { IfOk result (λ ids. ids ≡ identities (type_origins self.now)) }
+        ensures { IfOk result (λ ids. ids ≡ identities (origins_in (type_components self.now))) }
     {
         identities_of(alloc, self.iter_origins())
     }

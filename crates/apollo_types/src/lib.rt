@@ -1,6 +1,7 @@
 //! The types of a schema, each with the origin of its components, and how they are written out again.
 #![tactic(auto)]
 
+mod components;
 pub mod enum_type;
 pub mod extended_type;
 pub mod input_object_type;

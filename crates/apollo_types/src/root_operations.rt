@@ -2,8 +2,8 @@
 ghost use Rattle.std.specs.Prelude.{◌≡◌, length};
 ghost use Rattle.std.specs.Iterator.{at_most};
 ghost use Rattle.std.specs.Map.Iter.{TakesFirst};
-ghost use Rattle.apollo_types.specs.OriginsLeft.{RootsInOrder};
-ghost use Rattle.apollo_types.specs.SchemaDefinitionWriteOut.{named_roots, deref_root};
+ghost use Rattle.apollo_types.specs.Components.{RootsInOrder};
+ghost use Rattle.apollo_types.specs.SchemaRoots.{named_roots, deref_root};
 
 use crate::schema_definition::{OPERATION_TYPES, SchemaDefinition};
 use apollo_component::component::ComponentName;
@@ -28,7 +28,7 @@ impl<'a> Model for RootOperations<'a> {
 
     ghost Value = { List (OperationType × ComponentName) };
 
-    ghost use Rattle.apollo_types.specs.SchemaDefinitionWriteOut.{named_root};
+    ghost use Rattle.apollo_types.specs.SchemaRoots.{named_root};
 
     ghost view = { λ roots. filter_map (named_root roots.definition.now) (iter_rest roots.operation_types) };
 }

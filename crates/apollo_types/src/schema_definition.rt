@@ -4,24 +4,23 @@ ghost use Rattle.std.specs.List.{list_all};
 ghost use Rattle.std.specs.Option.{option_copied};
 ghost use Rattle.graphql_nodes.specs.SameText.{same_text};
 ghost use Rattle.graphql_nodes.specs.Tables.{lookup};
-ghost use Rattle.apollo_types.specs.OriginsLeft.{OriginsInOrder, RootsInOrder};
-ghost use Rattle.apollo_types.specs.WriteOut.{identities};
-ghost use Rattle.apollo_types.specs.SchemaDefinitionWriteOut.{no_schema_definition, operation_types, root_of, root_origin_of, root_node, named_roots, schema_origins, roots_of_origin, is_some_object, has_own_root, has_implied_root, is_implied, is_written, write_schema_definition};
+ghost use Rattle.apollo_component.specs.WriteOut.{origins_in, identities};
+ghost use Rattle.apollo_types.specs.Components.{ComponentsInOrder, OriginsInOrder, RootsInOrder};
+ghost use Rattle.apollo_types.specs.SchemaRoots.{no_schema_definition, operation_types, root_of, named_roots};
+ghost use Rattle.apollo_types.specs.SchemaDefinitionWriteOut.{schema_components, is_some_object, has_own_root, has_implied_root, is_implied, is_written, write_schema_definition};
 
+use crate::components::{Components, Part};
 use crate::extended_type::ExtendedType;
-use crate::origins::{Origins, Part};
+use crate::origins::Origins;
 use crate::root_operations::RootOperations;
-use crate::write_out::{WriteOut, identities_of, is_same, nodes_from, write_out};
+use crate::write_out::{by_origin, identities_of};
 use apollo_component::component::ComponentName;
 use apollo_component::directive_list::DirectiveList;
 use apollo_component::extension::{ComponentOrigin, ExtensionId};
 use graphql_ast::definition::Definition;
-use graphql_ast::{directive as ast_directive, type_system as ast};
-use graphql_nodes::collections::items::Items;
 use graphql_nodes::collections::key_set::KeySet;
 use graphql_nodes::collections::table::Table;
 use graphql_nodes::name::NamedType;
-use graphql_nodes::node::Node;
 use graphql_nodes::node_str::NodeStr;
 use graphql_nodes::operation_type::OperationType;
 use graphql_nodes::source::SourceSpan;
@@ -104,19 +103,27 @@ impl SchemaDefinition {
         RootOperations::new(self)
     }
 
-    /// The origins of the components: those of directives, then the roots of query, mutation and subscription.
-    pub fn iter_origins(&self) -> Origins<'_>
-        ensures rest { result ≡ schema_origins self.now }
-        ensures runs { OriginsInOrder }
+    /// The components: directives, roots.
+    fn components(&self) -> Components<'_>
+        ensures rest { result ≡ schema_components self.now }
+        ensures runs { ComponentsInOrder }
     {
         let roots = Part::Roots(self.iter_root_operations());
-        Origins::new(&self.directives, Part::Nothing, roots)
+        Components::new(&self.directives, Part::Nothing, roots)
+    }
+
+    /// The origins of the components: those of directives, then the roots of query, mutation and subscription.
+    pub fn iter_origins(&self) -> Origins<'_>
+        ensures rest { result ≡ origins_in (schema_components self.now) }
+        ensures runs { OriginsInOrder }
+    {
+        Origins::new(self.components())
     }
 
     /// The identities of the extensions that the components come from, by first appearance among their
     /// [origins](SchemaDefinition::iter_origins). The error is want of memory.
     pub fn extensions(&self, alloc: Global) -> Result<KeySet<ExtensionId>, AllocError>
-        ensures { IfOk result (λ ids. ids ≡ identities (schema_origins self.now)) }
+        ensures { IfOk result (λ ids. ids ≡ identities (origins_in (schema_components self.now))) }
     {
         identities_of(alloc, self.iter_origins())
     }
@@ -140,28 +147,10 @@ impl SchemaDefinition {
     ) -> Result<Vec<Definition>, AllocError>
         ensures { IfOk result (λ written. written.items ≡ write_schema_definition self.now location types.now) }
     {
-        let mut written = write_out(self, alloc, location)?;
-        if !self.is_written(alloc, types)? {
-            let _definition = written.remove(0);
-        }
+        let is_written = self.is_written(alloc, types)?;
+        let parts = by_origin(alloc, self.components())?;
+        let written = parts.into_schema(alloc, is_written, self.description.clone()?, location)?;
         Ok(written)
-    }
-
-    /// The roots of one origin, in order.
-    fn roots_from(
-        &self,
-        alloc: Global,
-        origin: ComponentOrigin,
-    ) -> Result<Items<Node<(OperationType, NamedType)>>, AllocError>
-        ensures { IfOk result (λ roots. roots ≡ roots_of_origin origin (named_roots self.now)) }
-    {
-        let mut roots = Items::new(alloc);
-        for (operation_type, root) in self.iter_root_operations() {
-            if is_same(origin, root.origin) {
-                push_root(alloc, &mut roots, operation_type, root)?;
-            }
-        }
-        Ok(roots)
     }
 
     /// Whether a root is of the definition.
@@ -169,7 +158,7 @@ impl SchemaDefinition {
         ensures { result ≡ has_own_root self.now }
     {
         for (_, root) in self.iter_root_operations() {
-            if is_same(ComponentOrigin::Definition, root.origin) {
+            if root.origin == ComponentOrigin::Definition {
                 return true;
             }
         }
@@ -238,20 +227,6 @@ impl SchemaDefinition {
     }
 }
 
-/// Adds a root as syntax at the end, where its name stands. The error is want of memory.
-fn push_root(
-    alloc: Global,
-    roots: &mut Items<Node<(OperationType, NamedType)>>,
-    operation_type: OperationType,
-    root: &ComponentName,
-) -> Result<(), AllocError>
-    ensures { OnOk result (roots.new ≡ roots.old ++ root_node (operation_type, root.now) ∷ []) }
-{
-    let value = (operation_type, root.name.clone()?);
-    roots.push(Node::new_opt_location(alloc, value, root.name.location())?)?;
-    Ok(())
-}
-
 /// Whether an object type has this name.
 fn has_object(types: &Table<NamedType, ExtendedType>, name: &NamedType) -> bool
     ensures { result ≡ is_some_object (lookup (same_text name.now) types.now) }
@@ -259,52 +234,5 @@ fn has_object(types: &Table<NamedType, ExtendedType>, name: &NamedType) -> bool
     match types.get(name) {
         Some(ty) => ty.is_object(),
         None => false,
-    }
-}
-
-impl WriteOut for SchemaDefinition {
-    ghost use Rattle.apollo_types.specs.SchemaDefinitionWriteOut.{schema_origins, schema_definition_part, schema_extension_part};
-
-    ghost origins = { schema_origins };
-
-    ghost definition = { schema_definition_part };
-
-    ghost extension = { schema_extension_part };
-
-    fn identities(&self, alloc: Global) -> Result<KeySet<ExtensionId>, AllocError> {
-        self.extensions(alloc)
-    }
-
-    fn definition(
-        &self,
-        alloc: Global,
-        location: Option<SourceSpan>,
-    ) -> Result<Definition, AllocError> {
-        let origin = ComponentOrigin::Definition;
-        let definition = ast::SchemaDefinition {
-            description: self.description.clone()?,
-            directives: ast_directive::DirectiveList(nodes_from(
-                alloc,
-                self.directives.as_slice(),
-                origin,
-            )?),
-            root_operations: self.roots_from(alloc, origin)?,
-        };
-        let node = Node::new_opt_location(alloc, definition, location)?;
-        Ok(Definition::SchemaDefinition(node))
-    }
-
-    fn extension(&self, alloc: Global, id: ExtensionId) -> Result<Definition, AllocError> {
-        let origin = ComponentOrigin::Extension(id);
-        let extension = ast::SchemaExtension {
-            directives: ast_directive::DirectiveList(nodes_from(
-                alloc,
-                self.directives.as_slice(),
-                origin,
-            )?),
-            root_operations: self.roots_from(alloc, origin)?,
-        };
-        let node = id.same_location(alloc, extension)?;
-        Ok(Definition::SchemaExtension(node))
     }
 }

@@ -1,70 +1,20 @@
-//! The parts of the write-out that the kinds of types share.
-ghost use Rattle.std.specs.Prelude.{◌≡◌, List, [], ◌∷◌, ◌++◌, map, IfOk, OnOk};
-ghost use Rattle.apollo_component.specs.Extensions.{same_origin};
+//! Types, and the schema's definition, as syntax.
+ghost use Rattle.std.specs.Prelude.{◌≡◌, List, ◌∷◌, [], ◌++◌, IfOk, OnOk};
+ghost use Rattle.apollo_component.specs.WriteOut.{identities, by_origin, written_type};
 ghost use Rattle.apollo_component.specs.declared.extension.ComponentOrigin.{ComponentOrigin as Origin};
-ghost use Rattle.graphql_nodes.specs.Tables.{values_of};
-ghost use Rattle.apollo_types.specs.WriteOut.{origin_of, name_origin_of, identities, nodes_of_origin, names_of_origin, written_as};
 
+use crate::components::Components;
 use crate::origins::Origins;
-use apollo_component::component::{Component, ComponentName};
 use apollo_component::extension::{ComponentOrigin, ExtensionId};
 use apollo_component::named::add_key;
+use apollo_component::parts_by_origin::PartsByOrigin;
 use graphql_ast::definition::Definition;
-use graphql_nodes::collections::items::Items;
 use graphql_nodes::collections::key_set::KeySet;
-use graphql_nodes::collections::table::Table;
 use graphql_nodes::name::Name;
-use graphql_nodes::node::Node;
+use graphql_nodes::node_str::NodeStr;
 use graphql_nodes::source::SourceSpan;
+use graphql_nodes::type_kind::TypeKind;
 use std::alloc::{AllocError, Global};
-
-/// A type or the like that is written out as a definition, and an extension for each identity of its components.
-pub trait WriteOut {
-    ghost use Rattle.std.specs.Prelude.{List, Option};
-    ghost use Rattle.graphql_nodes.specs.declared.source.SourceSpan.{SourceSpan};
-    ghost use Rattle.graphql_ast.specs.declared.definition.Definition.{Definition};
-    ghost use Rattle.apollo_component.specs.declared.extension.ComponentOrigin.{ComponentOrigin};
-    ghost use Rattle.apollo_component.specs.declared.extension.ExtensionId.{ExtensionId};
-
-    ghost origins: { Self → List ComponentOrigin };
-
-    ghost definition: { Self → Option SourceSpan → Definition };
-
-    ghost extension: { Self → ExtensionId → Definition };
-
-    /// The identities of the extensions, by first appearance.
-    fn identities(&self, alloc: Global) -> Result<KeySet<ExtensionId>, AllocError>
-        ensures { IfOk result (λ ids. ids ≡ identities (origins self.now)) };
-
-    /// The definition, at this place.
-    fn definition(
-        &self,
-        alloc: Global,
-        location: Option<SourceSpan>,
-    ) -> Result<Definition, AllocError>
-        ensures { IfOk result (λ written. written ≡ definition self.now location) };
-
-    /// The extension of this identity.
-    fn extension(&self, alloc: Global, id: ExtensionId) -> Result<Definition, AllocError>
-        ensures { IfOk result (λ written. written ≡ extension self.now id) };
-}
-
-/// The definition, then an extension for each identity.
-pub fn write_out<T: WriteOut>(
-    ty: &T,
-    alloc: Global,
-    location: Option<SourceSpan>,
-) -> Result<Vec<Definition>, AllocError>
-    ensures { IfOk result (λ written. written.items ≡ written_as (T.origins ty.now) (T.definition ty.now location) (T.extension ty.now)) }
-{
-    let ids = ty.identities(alloc)?;
-    let mut written = Vec::new(alloc);
-    written.push(ty.definition(alloc, location)?)?;
-    for id in ids.as_slice() {
-        written.push(ty.extension(alloc, *id)?)?;
-    }
-    Ok(written)
-}
 
 /// Adds the identity of an origin, if it is an extension and new.
 fn add_origin(ids: &mut KeySet<ExtensionId>, origin: ComponentOrigin) -> Result<(), AllocError>
@@ -77,7 +27,10 @@ fn add_origin(ids: &mut KeySet<ExtensionId>, origin: ComponentOrigin) -> Result<
 }
 
 /// The identities of the extensions among these origins, by first appearance.
-pub fn identities_of(alloc: Global, origins: Origins<'_>) -> Result<KeySet<ExtensionId>, AllocError>
+pub(crate) fn identities_of(
+    alloc: Global,
+    origins: Origins<'_>,
+) -> Result<KeySet<ExtensionId>, AllocError>
     ensures { IfOk result (λ ids. ids ≡ identities origins.entry) }
 {
     let mut ids = KeySet::new(alloc);
@@ -87,60 +40,32 @@ pub fn identities_of(alloc: Global, origins: Origins<'_>) -> Result<KeySet<Exten
     Ok(ids)
 }
 
-/// Whether two origins are one.
-pub fn is_same(a: ComponentOrigin, b: ComponentOrigin) -> bool
-    ensures { result ≡ same_origin a b }
-{
-    a == b
-}
-
-/// The nodes of the components of one origin, in order.
-pub fn nodes_from<T: Drop>(
+/// The components under their origins, by one pass through them.
+pub(crate) fn by_origin(
     alloc: Global,
-    components: &[Component<T>],
-    origin: ComponentOrigin,
-) -> Result<Items<Node<T>>, AllocError>
-    ensures { IfOk result (λ nodes. nodes ≡ nodes_of_origin origin components.now) }
+    components: Components<'_>,
+) -> Result<PartsByOrigin, AllocError>
+    ensures { IfOk result (λ parts. parts ≡ by_origin components.entry) }
 {
-    let mut nodes = Items::new(alloc);
+    let mut parts = PartsByOrigin::new(alloc);
     for component in components {
-        if is_same(origin, component.origin) {
-            nodes.push(component.node.clone()?)?;
-        }
+        parts.add(alloc, *component.origin(), component.to_part(alloc)?)?;
     }
-    Ok(nodes)
+    Ok(parts)
 }
 
-/// The nodes of the components of a table that are of one origin, in order.
-pub fn values_from<T: Drop>(
+/// The type that these components make, as syntax: its definition, at this place, then its extensions.
+pub(crate) fn write_type(
     alloc: Global,
-    table: &Table<Name, Component<T>>,
-    origin: ComponentOrigin,
-) -> Result<Items<Node<T>>, AllocError>
-    ensures { IfOk result (λ nodes. nodes ≡ nodes_of_origin origin (values_of table.now)) }
+    kind: TypeKind,
+    description: &Option<NodeStr>,
+    name: &Name,
+    components: Components<'_>,
+    location: Option<SourceSpan>,
+) -> Result<Vec<Definition>, AllocError>
+    ensures { IfOk result (λ written. written.items ≡ written_type kind description.now name.now (by_origin components.entry) location) }
 {
-    let mut nodes = Items::new(alloc);
-    for component in table.values() {
-        if is_same(origin, component.origin) {
-            nodes.push(component.node.clone()?)?;
-        }
-    }
-    Ok(nodes)
-}
-
-/// The names of one origin, in order.
-pub fn names_from(
-    alloc: Global,
-    names: &[ComponentName],
-    origin: ComponentOrigin,
-) -> Result<Items<Name>, AllocError>
-    ensures { IfOk result (λ kept. kept ≡ names_of_origin origin names.now) }
-{
-    let mut kept = Items::new(alloc);
-    for name in names {
-        if is_same(origin, name.origin) {
-            kept.push(name.name.clone()?)?;
-        }
-    }
-    Ok(kept)
+    let parts = by_origin(alloc, components)?;
+    let written = parts.into_type(alloc, kind, description.clone()?, name, location)?;
+    Ok(written)
 }

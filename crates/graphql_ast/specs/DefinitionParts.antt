@@ -57,14 +57,21 @@ parts_of parts = record {
 abbrev pub no_parts : DefinitionParts
 no_parts = parts_of []
 
+-- one more at the end, if there is one
+abbrev pub with_some : {X : Type 0} → Option X → List X → List X
+with_some None xs = xs
+with_some (Some x) xs = xs ++ x ∷ []
+
 -- one part more, the last of its sort
 abbrev pub with_part : DefinitionPart → DefinitionParts → DefinitionParts
-with_part (p.Directive directive) parts = record parts { directives = record { 0 = parts.directives.0 ++ directive ∷ [] } }
-with_part (p.Name name) parts = record parts { names = parts.names ++ name ∷ [] }
-with_part (p.Field field) parts = record parts { fields = parts.fields ++ field ∷ [] }
-with_part (p.EnumValue value) parts = record parts { values = parts.values ++ value ∷ [] }
-with_part (p.InputField field) parts = record parts { input_fields = parts.input_fields ++ field ∷ [] }
-with_part (p.Root root) parts = record parts { roots = parts.roots ++ root ∷ [] }
+with_part part parts = record {
+  directives = record { 0 = with_some (directive_in part) parts.directives.0 };
+  names = with_some (name_in part) parts.names;
+  fields = with_some (field_in part) parts.fields;
+  values = with_some (value_in part) parts.values;
+  input_fields = with_some (input_field_in part) parts.input_fields;
+  roots = with_some (root_in part) parts.roots;
+}
 
 -- the definition of a type of this kind
 abbrev pub type_definition : TypeKind → Option NameView → NameView → DefinitionParts → Option SourceSpan → Definition

@@ -4,7 +4,7 @@ ghost use Rattle.std.specs.Prelude.{◌≡◌, ◌≤◌, List, [], ◌∷◌, �
 ghost use Rattle.std.specs.Option.{option_or};
 ghost use Rattle.apollo_component.specs.Extensions.{next_number};
 ghost use Rattle.apollo_component.specs.declared.extension.ComponentOrigin.TheVariants as origins;
-ghost use Rattle.apollo_types.specs.SchemaDefinitionWriteOut.{root_of};
+ghost use Rattle.apollo_types.specs.SchemaRoots.{root_of};
 ghost use Rattle.apollo_types.specs.declared.schema_definition.SchemaDefinition.{SchemaDefinition as AnyDefinition};
 ghost use Rattle.apollo_meaning.specs.Items.Parts.{schema_definition_part, schema_extension_part};
 ghost use Rattle.apollo_meaning.specs.Types.Components.{component_name};

@@ -13,7 +13,7 @@ use Rattle.apollo_component.specs.declared.component.Component.{Component}
 use Rattle.apollo_component.specs.declared.component.ComponentName.{ComponentName}
 use Rattle.apollo_component.specs.declared.extension.ComponentOrigin.{ComponentOrigin}
 use Rattle.apollo_types.specs.declared.schema_definition.SchemaDefinition.{SchemaDefinition}
-use Rattle.apollo_types.specs.SchemaDefinitionWriteOut.{no_schema_definition}
+use Rattle.apollo_types.specs.SchemaRoots.{no_schema_definition}
 use Rattle.apollo_meaning.specs.Items.Parts.{SchemaPart}
 use Rattle.apollo_meaning.specs.Items.ListItems.{ListItem, Folding, OfType, OfSchema}
 use Rattle.apollo_meaning.specs.Items.Named.{first_schema}

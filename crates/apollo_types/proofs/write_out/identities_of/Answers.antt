@@ -1,7 +1,7 @@
 use Rattle.std.proofs.Common.{ap, ◌∙◌}
 use Rattle.std.proofs.lemmas.Map.Iter.{iter_end}
 use Rattle.std.specs.Map.Iter.{deref}
-use Rattle.apollo_types.specs.WriteOut.{identities}
+use Rattle.apollo_component.specs.WriteOut.{identities}
 use Rattle.apollo_types.proofs.write_out.identities_of.Goals as goal
 
 pub returns : goal.returns

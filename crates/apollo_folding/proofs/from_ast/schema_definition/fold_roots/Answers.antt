@@ -1,6 +1,6 @@
 use Rattle.std.proofs.Common.{◌≡◌, ◌++◌, map, take, sym, ap, ◌∙◌, append_assoc, arith}
 use Rattle.std.proofs.lemmas.List.{take_all}
-use Rattle.apollo_types.specs.SchemaDefinitionWriteOut.{root_of}
+use Rattle.apollo_types.specs.SchemaRoots.{root_of}
 use Rattle.apollo_meaning.specs.Types.Components.{component_name}
 use Rattle.apollo_folding.specs.RootTables.{named_root, first_named, with_roots, put_root, held_fault, held_faults}
 use Rattle.apollo_meaning.proofs.Faults.KeptLemmas.{map-turn}

@@ -1,6 +1,6 @@
 use Rattle.std.proofs.Common.{◌≡◌, filter_map, length}
 use Rattle.std.specs.Slice.Iter.{iter_rest}
-use Rattle.apollo_types.specs.SchemaDefinitionWriteOut.{named_root}
+use Rattle.apollo_types.specs.SchemaRoots.{named_root}
 use Rattle.apollo_types.proofs.root_operations.RootOperationsIterator.next.Given as goal
 
 abbrev pub invariant-loop-operation_type : goal.invariant-loop-operation_type

@@ -1,0 +1,89 @@
+-- Tables that have at each key what a function gives of it.
+use Rattle.std.proofs.Common.{◌≡◌, Bool, true, false, cond, not, ◌||◌, List, [], ◌∷◌, ◌++◌, Some, None, is_some, map, filter, refl, sym, ap, ◌∙◌, true≢false}
+use Rattle.std.specs.List.{list_any, IsDistinct, AllByRecursion}
+use Rattle.std.specs.Map.{lookup, set_value}
+use Rattle.std.specs.Cmp.{IsEquivalence}
+use Rattle.indexmap.specs.IndexMap.{insert_entry}
+use Rattle.indexmap.specs.IndexSet.{insert_key}
+use Rattle.apollo_component.specs.FirstOfEach.{first_of_each}
+use Rattle.apollo_component.proofs.FirstOfEachLemmas.{first_of_each-push_new, first_of_each-push_old, list_any-first_of_each}
+use Rattle.apollo_component.proofs.Lists.Each.{each-filter, each-weaken}
+
+module _ {K : Type 0} (same : K → K → Bool) where
+  apart : (x : K) (ks : List K) → AllByRecursion (λ k. same x k ≡ false) (filter (λ k. not (same x k)) ks)
+  apart x [] = tt
+  apart x (k ∷ ks) = by (same x k) refl (apart x ks)
+    where
+      by : (b : Bool) → same x k ≡ b → AllByRecursion (λ k. same x k ≡ false) (filter (λ k. not (same x k)) ks)
+          → AllByRecursion (λ k. same x k ≡ false) (cond (not b) (k ∷ filter (λ k. not (same x k)) ks) (filter (λ k. not (same x k)) ks))
+      by true e rest = rest
+      by false e rest = (e, rest)
+
+  filter-distinct : (p : K → Bool) (ks : List K) → IsDistinct same ks → IsDistinct same (filter p ks)
+  unfolding IsDistinct
+  filter-distinct p [] d = tt
+  filter-distinct p (k ∷ ks) d = by (p k) (filter-distinct p ks d.1)
+    where
+      by : (b : Bool) → IsDistinct same (filter p ks) → IsDistinct same (cond b (k ∷ filter p ks) (filter p ks))
+      by true rest = (each-weaken (λ y. (same k y ≡ false) × (p y ≡ true)) (λ y. same k y ≡ false) (λ y h. h.0) (filter p ks) (each-filter (λ y. same k y ≡ false) p ks d.0), rest)
+      by false rest = rest
+
+  -- those that are left differ
+  pub first_of_each-distinct : (xs : List K) → IsDistinct same (first_of_each same xs)
+  unfolding IsDistinct
+  first_of_each-distinct [] = tt
+  first_of_each-distinct (x ∷ xs) = (apart x (first_of_each same xs), filter-distinct (λ y. not (same x y)) (first_of_each same xs) (first_of_each-distinct xs))
+
+-- a table that has at each key what f gives of it
+abbrev pub tabled : {K V : Type 0} → (K → V) → List K → List (K × V)
+tabled f ks = map (λ k. (k, f k)) ks
+
+module _ {K : Type 0} (same : K → K → Bool) (laws : IsEquivalence same) where
+  -- one more thing, if it is new, is what insertion adds
+  pub first_of_each-insert : (xs : List K) (x : K) → first_of_each same (xs ++ x ∷ []) ≡ insert_key same (first_of_each same xs) x
+  first_of_each-insert xs x = by (list_any (same x) xs) refl
+    where
+      by : (b : Bool) → list_any (same x) xs ≡ b → first_of_each same (xs ++ x ∷ []) ≡ insert_key same (first_of_each same xs) x
+      by true e = first_of_each-push_old same laws xs x e ∙ sym (ap (λ c. cond c (first_of_each same xs) (first_of_each same xs ++ x ∷ [])) (list_any-first_of_each same laws x xs ∙ e))
+      by false e = first_of_each-push_new same laws xs x e ∙ sym (ap (λ c. cond c (first_of_each same xs) (first_of_each same xs ++ x ∷ [])) (list_any-first_of_each same laws x xs ∙ e))
+
+  module _ {V : Type 0} where
+    tabled-apart : (f g : K → V) (c : K) → ((k : K) → same c k ≡ false → f k ≡ g k) → (ks : List K) → AllByRecursion (λ k. same c k ≡ false) ks → tabled f ks ≡ tabled g ks
+    tabled-apart f g c agree [] a = refl
+    tabled-apart f g c agree (k ∷ ks) a = ap (λ v. (k, v) ∷ tabled f ks) (agree k a.0) ∙ ap (λ l. (k, g k) ∷ l) (tabled-apart f g c agree ks a.1)
+
+    -- the table with another value at one key is that of what gives it there, and the same elsewhere
+    pub tabled-insert : (f g : K → V) (c : K) → ((k : K) → same c k ≡ false → f k ≡ g k) → ((k : K) → same c k ≡ true → g k ≡ g c) → (ks : List K) → IsDistinct same ks
+        → insert_entry same (tabled f ks) c (g c) ≡ tabled g (insert_key same ks c)
+    unfolding IsDistinct
+    tabled-insert f g c agree one [] d = refl
+    tabled-insert f g c agree one (k ∷ ks) d = by (same c k) refl (list_any (same c) ks) (tabled-insert f g c agree one ks d.1)
+      where
+        others : same c k ≡ true → AllByRecursion (λ y. same c y ≡ false) ks
+        others p = each-weaken (λ y. same k y ≡ false) (λ y. same c y ≡ false) (λ y h. laws.congr c k y p ∙ h) ks d.0
+
+        by : (b : Bool) → same c k ≡ b → (e : Bool) → insert_entry same (tabled f ks) c (g c) ≡ tabled g (cond e ks (ks ++ c ∷ []))
+            → cond b ((k, g c) ∷ tabled f ks) ((k, f k) ∷ insert_entry same (tabled f ks) c (g c)) ≡ tabled g (cond (b || e) (k ∷ ks) ((k ∷ ks) ++ c ∷ []))
+        by true p e rest = ap (λ v. (k, v) ∷ tabled f ks) (sym (one k p)) ∙ ap (λ l. (k, g k) ∷ l) (tabled-apart f g c agree ks (others p))
+        by false p true rest = ap (λ v. (k, v) ∷ insert_entry same (tabled f ks) c (g c)) (agree k p) ∙ ap (λ l. (k, g k) ∷ l) rest
+        by false p false rest = ap (λ v. (k, v) ∷ insert_entry same (tabled f ks) c (g c)) (agree k p) ∙ ap (λ l. (k, g k) ∷ l) rest
+
+    -- what stands at a key of the table
+    pub lookup-tabled : (f : K → V) (c : K) → ((k : K) → same c k ≡ true → f k ≡ f c) → (ks : List K) → lookup (same c) (tabled f ks) ≡ cond (list_any (same c) ks) (Some (f c)) None
+    lookup-tabled f c one [] = refl
+    lookup-tabled f c one (k ∷ ks) = by (same c k) refl (lookup-tabled f c one ks)
+      where
+        by : (b : Bool) → same c k ≡ b → lookup (same c) (tabled f ks) ≡ cond (list_any (same c) ks) (Some (f c)) None
+            → cond b (Some (f k)) (lookup (same c) (tabled f ks)) ≡ cond (b || list_any (same c) ks) (Some (f c)) None
+        by true p rest = ap Some (one k p)
+        by false p rest = rest
+
+-- a value written where a key is found is what insertion puts there
+pub insert_entry-found : {K V : Type 0} (eq : K → K → Bool) (es : List (K × V)) (k : K) (v w : V) → lookup (eq k) es ≡ Some v → set_value (eq k) es w ≡ insert_entry eq es k w
+insert_entry-found eq [] k v w h = absurd (true≢false (sym (ap is_some h)))
+insert_entry-found eq (e ∷ es) k v w h = by (eq k e.0) h (insert_entry-found eq es k v w)
+  where
+    by : (b : Bool) → cond b (Some e.1) (lookup (eq k) es) ≡ Some v → (lookup (eq k) es ≡ Some v → set_value (eq k) es w ≡ insert_entry eq es k w)
+        → cond b ((e.0, w) ∷ es) (e ∷ set_value (eq k) es w) ≡ cond b ((e.0, w) ∷ es) (e ∷ insert_entry eq es k w)
+    by true h rest = refl
+    by false h rest = ap (λ l. e ∷ l) (rest h)

@@ -1,0 +1,48 @@
+-- What types and the schema's definition are written out as: the identities of their extensions, and what is of one
+-- origin. GraphQL specification of October 2021, sections 3.3 and 3.4.3.
+use Rattle.std.specs.Prelude.{List, [], ◌∷◌, ◌++◌, map, filter, Bool, Option, if◌then◌else◌}
+use Rattle.std.specs.List.{filter_map}
+use Rattle.graphql_nodes.specs.NameView.{NameView}
+use Rattle.graphql_nodes.specs.declared.source.SourceSpan.{SourceSpan}
+use Rattle.graphql_nodes.specs.declared.type_kind.TypeKind.{TypeKind}
+use Rattle.graphql_ast.specs.DefinitionParts.{parts_of, type_definition, type_extension, schema_definition, schema_extension}
+use Rattle.graphql_ast.specs.declared.definition.Definition.{Definition}
+use Rattle.graphql_ast.specs.declared.definition_parts.DefinitionPart.{DefinitionPart}
+use Rattle.graphql_ast.specs.declared.definition_parts.DefinitionParts.{DefinitionParts}
+use Rattle.apollo_component.specs.Extensions.{id_of, place_of, same_id, same_origin}
+use Rattle.apollo_component.specs.FirstOfEach.{first_of_each}
+use Rattle.apollo_component.specs.declared.extension.ComponentOrigin.{ComponentOrigin}
+use Rattle.apollo_component.specs.declared.extension.ComponentOrigin.TheVariants as origins
+use Rattle.apollo_component.specs.declared.extension.ExtensionId.{ExtensionId}
+use Rattle.apollo_component.specs.declared.parts_by_origin.PartsByOrigin.{PartsByOrigin}
+
+-- a component: the definition or extension that it comes from, and what it is there
+abbrev pub SourcedPart : Type 0
+SourcedPart = ComponentOrigin × DefinitionPart
+
+abbrev pub origins_in : List SourcedPart → List ComponentOrigin
+origins_in = map (λ c. c.0)
+
+-- the distinct identities of extensions among these origins, by first appearance
+abbrev pub identities : List ComponentOrigin → List ExtensionId
+identities os = first_of_each same_id (filter_map id_of os)
+
+-- the parts of one origin
+abbrev pub of_origin : ComponentOrigin → List SourcedPart → DefinitionParts
+of_origin origin cs = parts_of (map (λ c. c.1) (filter (λ c. same_origin origin c.0) cs))
+
+-- the identities of the extensions that these come from, each with its parts
+abbrev pub of_extensions : List SourcedPart → List (ExtensionId × DefinitionParts)
+of_extensions cs = map (λ e. (e, of_origin (origins.Extension e) cs)) (identities (origins_in cs))
+
+-- the parts of the definition, and those of each extension
+abbrev pub by_origin : List SourcedPart → PartsByOrigin
+by_origin cs = record { definition = of_origin origins.Definition cs; extensions = of_extensions cs }
+
+-- the definition of a type, at this place, then its extensions, each where it stands
+abbrev pub written_type : TypeKind → Option NameView → NameView → PartsByOrigin → Option SourceSpan → List Definition
+written_type kind description name parts place = type_definition kind description name parts.definition place ∷ map (λ e. type_extension kind name e.1 (place_of e.0)) parts.extensions
+
+-- the definition of the schema, at this place, if it is written, then its extensions, each where it stands
+abbrev pub written_schema : Bool → Option NameView → PartsByOrigin → Option SourceSpan → List Definition
+written_schema is_written description parts place = (if is_written then schema_definition description parts.definition place ∷ [] else []) ++ map (λ e. schema_extension e.1 (place_of e.0)) parts.extensions

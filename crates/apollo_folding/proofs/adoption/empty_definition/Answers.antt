@@ -1,0 +1,30 @@
+use Rattle.std.proofs.Common.{◌≡◌, None, refl, ap, ◌∙◌, rules}
+use Rattle.graphql_ast.specs.DefinitionParts.{no_parts, type_definition}
+use Rattle.apollo_meaning.specs.Completion.Adoption.{adopted_part}
+use Rattle.apollo_meaning.specs.Items.ListItems.{Defined, item_of}
+use Rattle.apollo_meaning.specs.Items.Parts.{kind_of}
+use Rattle.apollo_folding.specs.Views.{part_seen}
+use Rattle.apollo_folding.specs.declared.views.BodyView.{BodyView}
+use Rattle.apollo_folding.specs.declared.views.BodyView.TheVariants as bodies
+use Rattle.apollo_folding.specs.declared.views.PartView.{PartView}
+use Rattle.apollo_folding.proofs.adoption.empty_definition.Goals as goal
+
+-- no part makes an empty body of each kind
+empty : (v : PartView) → item_of (type_definition (kind_of (part_seen v)) None v.name.now no_parts v.location) ≡ Defined (adopted_part (part_seen v))
+empty v = by v.body
+  where
+    by : (b : BodyView) → item_of (type_definition (kind_of (part_seen (record v { body = b }))) None v.name.now no_parts v.location) ≡ Defined (adopted_part (part_seen (record v { body = b })))
+    by bodies.Scalar = refl
+    by (bodies.Object interfaces fields) = refl
+    by (bodies.Interface interfaces fields) = refl
+    by (bodies.Union members) = refl
+    by (bodies.Enum values) = refl
+    by (bodies.InputObject fields) = refl
+
+pub returns : goal.returns
+returns c =
+    let v = c.args.extension.now in
+    let name : c.in_ok-name.field-0 ≡ v.name.now = search rules in
+    ap item_of c.in_ok-made.ensures
+    ∙ (λ i. item_of (type_definition (c.kind.ensures i) None (name i) (c.new-parts.ensures i) v.location))
+    ∙ empty v

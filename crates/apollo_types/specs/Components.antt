@@ -1,0 +1,74 @@
+-- The components of types and of a schema's definition, each with its origin, in order: GraphQL specification of October
+-- 2021, sections 3.3 and 3.5 to 3.10.
+use Rattle.std.specs.Prelude.{List, [], ◌++◌, map}
+use Rattle.std.specs.Map.Iter.{ShowsInOrder, deref}
+use Rattle.std.specs.Slice.Iter.{iter_rest}
+use Rattle.graphql_nodes.specs.NameView.{NameView}
+use Rattle.graphql_nodes.specs.NodeView.{NodeView}
+use Rattle.graphql_nodes.specs.Tables.{values_of}
+use Rattle.graphql_nodes.specs.declared.operation_type.OperationType.{OperationType}
+use Rattle.graphql_ast.specs.declared.definition_parts.DefinitionPart.TheVariants as parts
+use Rattle.graphql_ast.specs.declared.directive.Directive.{Directive}
+use Rattle.graphql_ast.specs.declared.type_system.EnumValueDefinition.{EnumValueDefinition}
+use Rattle.graphql_ast.specs.declared.type_system.FieldDefinition.{FieldDefinition}
+use Rattle.graphql_ast.specs.declared.type_system.InputValueDefinition.{InputValueDefinition}
+use Rattle.apollo_component.specs.WriteOut.{SourcedPart}
+use Rattle.apollo_component.specs.declared.component.Component.{Component}
+use Rattle.apollo_component.specs.declared.component.ComponentName.{ComponentName}
+use Rattle.apollo_component.specs.declared.extension.ComponentOrigin.{ComponentOrigin}
+use Rattle.apollo_types.specs.SchemaRoots.{deref_root}
+use Rattle.apollo_types.specs.declared.components.ComponentRef.{ComponentRef}
+use Rattle.apollo_types.specs.declared.components.ComponentRef.TheVariants as refs
+use Rattle.apollo_types.specs.declared.components.Part.{Part}
+use Rattle.apollo_types.specs.declared.components.Part.TheVariants.{Nothing, Names, Fields, EnumValues, InputFields, Roots}
+
+-- a directive, an interface or member, a field, an enum value, an input field
+abbrev pub of_directive : Component Directive → SourcedPart
+of_directive c = (c.origin, parts.Directive c.node)
+
+abbrev pub of_name : ComponentName → SourcedPart
+of_name c = (c.origin, parts.Name c.name)
+
+abbrev pub of_field : Component FieldDefinition → SourcedPart
+of_field c = (c.origin, parts.Field c.node)
+
+abbrev pub of_value : Component EnumValueDefinition → SourcedPart
+of_value c = (c.origin, parts.EnumValue c.node)
+
+abbrev pub of_input_field : Component InputValueDefinition → SourcedPart
+of_input_field c = (c.origin, parts.InputField c.node)
+
+-- a root as syntax, where its name stands
+abbrev pub root_node : OperationType × ComponentName → NodeView (OperationType × NameView)
+root_node r = record { value = (r.0, r.1.name); location = r.1.name.location }
+
+abbrev pub of_root : OperationType × ComponentName → SourcedPart
+of_root r = (r.1.origin, parts.Root (root_node r))
+
+-- what a reference to a component shows
+abbrev pub component_seen : ComponentRef → SourcedPart
+component_seen (refs.Directive c) = of_directive c.now
+component_seen (refs.Name c) = of_name c.now
+component_seen (refs.Field c) = of_field c.now
+component_seen (refs.EnumValue c) = of_value c.now
+component_seen (refs.InputField c) = of_input_field c.now
+component_seen (refs.Root operation c) = of_root (operation, c.now)
+
+-- what is left of one collection
+abbrev pub part_components : Part → List SourcedPart
+part_components Nothing = []
+part_components (Names names) = map of_name (iter_rest names)
+part_components (Fields fields) = map of_field fields
+part_components (EnumValues values) = map of_value values
+part_components (InputFields fields) = map of_input_field fields
+part_components (Roots roots) = map of_root roots
+
+-- each run of `next` of an iterator of components, of origins, of roots shows what was left, in order
+abbrev pub ComponentsInOrder : Type 0
+ComponentsInOrder = ShowsInOrder component_seen
+
+abbrev pub OriginsInOrder : Type 0
+OriginsInOrder = ShowsInOrder (deref {X = ComponentOrigin})
+
+abbrev pub RootsInOrder : Type 0
+RootsInOrder = ShowsInOrder deref_root

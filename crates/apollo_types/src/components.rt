@@ -1,0 +1,163 @@
+//! The components of a type or of a schema's definition, one by one.
+ghost use Rattle.std.specs.Prelude.{◌≡◌, ◌++◌, length, map, IfOk};
+ghost use Rattle.std.specs.Iterator.{at_most};
+ghost use Rattle.std.specs.Map.Iter.{TakesFirst};
+ghost use Rattle.apollo_types.specs.Components.{of_directive, of_field, of_value, of_input_field, component_seen, part_components, ComponentsInOrder};
+
+use crate::root_operations::RootOperations;
+use apollo_component::component::{Component, ComponentName};
+use apollo_component::directive_list::DirectiveList;
+use apollo_component::extension::ComponentOrigin;
+use graphql_ast::definition_parts::DefinitionPart;
+use graphql_ast::directive::Directive;
+use graphql_ast::type_system::{EnumValueDefinition, FieldDefinition, InputValueDefinition};
+use graphql_nodes::name::Name;
+use graphql_nodes::node::Node;
+use graphql_nodes::operation_type::OperationType;
+use indexmap::map::Values;
+use std::alloc::{AllocError, Global};
+use std::iter::FusedIterator;
+use std::marker::Model;
+use std::slice::Iter;
+
+/// A component.
+#[derive(Clone, Copy)]
+pub(crate) enum ComponentRef<'a> {
+    Directive(&'a Component<Directive>),
+    /// An interface or a member of a union.
+    Name(&'a ComponentName),
+    Field(&'a Component<FieldDefinition>),
+    EnumValue(&'a Component<EnumValueDefinition>),
+    InputField(&'a Component<InputValueDefinition>),
+    Root(OperationType, &'a ComponentName),
+}
+
+impl<'a> ComponentRef<'a> {
+    /// The definition or extension that it comes from.
+    pub(crate) fn origin(self) -> &'a ComponentOrigin
+        ensures { result.now ≡ (component_seen self.entry).0 }
+    {
+        match self {
+            ComponentRef::Directive(directive) => &directive.origin,
+            ComponentRef::Name(name) => &name.origin,
+            ComponentRef::Field(field) => &field.origin,
+            ComponentRef::EnumValue(value) => &value.origin,
+            ComponentRef::InputField(field) => &field.origin,
+            ComponentRef::Root(_, name) => &name.origin,
+        }
+    }
+
+    /// What it is there. A root stands where its name does. The error is want of memory.
+    pub(crate) fn to_part(self, alloc: Global) -> Result<DefinitionPart, AllocError>
+        ensures { IfOk result (λ part. part ≡ (component_seen self.entry).1) }
+    {
+        match self {
+            ComponentRef::Directive(directive) => {
+                Ok(DefinitionPart::Directive(directive.node.clone()?))
+            }
+            ComponentRef::Name(name) => Ok(DefinitionPart::Name(name.name.clone()?)),
+            ComponentRef::Field(field) => Ok(DefinitionPart::Field(field.node.clone()?)),
+            ComponentRef::EnumValue(value) => Ok(DefinitionPart::EnumValue(value.node.clone()?)),
+            ComponentRef::InputField(field) => Ok(DefinitionPart::InputField(field.node.clone()?)),
+            ComponentRef::Root(operation_type, name) => {
+                let root = (operation_type, name.name.clone()?);
+                let node = Node::new_opt_location(alloc, root, name.name.location())?;
+                Ok(DefinitionPart::Root(node))
+            }
+        }
+    }
+}
+
+/// What is left of one collection of components.
+#[derive(Drop)]
+pub(crate) enum Part<'a> {
+    Nothing,
+    Names(Iter<'a, ComponentName>),
+    Fields(Values<'a, Name, Component<FieldDefinition>>),
+    EnumValues(Values<'a, Name, Component<EnumValueDefinition>>),
+    InputFields(Values<'a, Name, Component<InputValueDefinition>>),
+    Roots(RootOperations<'a>),
+}
+
+impl<'a> Part<'a> {
+    /// The next component, if there is one.
+    fn next(&mut self) -> Option<ComponentRef<'a>>
+        ensures { TakesFirst component_seen (part_components self.old) result (part_components self.new) }
+    {
+        match self {
+            Part::Nothing => None,
+            Part::Names(names) => Some(ComponentRef::Name(names.next()?)),
+            Part::Fields(fields) => Some(ComponentRef::Field(fields.next()?)),
+            Part::EnumValues(values) => Some(ComponentRef::EnumValue(values.next()?)),
+            Part::InputFields(fields) => Some(ComponentRef::InputField(fields.next()?)),
+            Part::Roots(roots) => {
+                let (operation_type, root) = roots.next()?;
+                Some(ComponentRef::Root(operation_type, root))
+            }
+        }
+    }
+}
+
+/// The components of a type or of a schema's definition, in order: directives, then names that it lists, then what stands
+/// under names, or roots. Contracts see the list of those that are still to come.
+#[derive(Drop)]
+pub(crate) struct Components<'a> {
+    directives: Iter<'a, Component<Directive>>,
+    names: Part<'a>,
+    values: Part<'a>,
+}
+
+impl<'a> Model for Components<'a> {
+    ghost use Rattle.std.specs.Prelude.{List, ◌++◌, map};
+    ghost use Rattle.std.specs.Coded.{coded_list, coded×};
+    ghost use Rattle.std.specs.Slice.Iter.{iter_rest};
+    ghost use Rattle.apollo_component.specs.WriteOut.{SourcedPart};
+    ghost use Rattle.apollo_component.specs.contracts.extension.ComponentOrigin as origin;
+    ghost use Rattle.graphql_ast.specs.contracts.definition_parts.DefinitionPart as part;
+    ghost use Rattle.apollo_types.specs.Components.{of_directive, part_components};
+
+    ghost Value = { List SourcedPart };
+
+    ghost coded = { coded_list (coded× origin.the_row.coded part.the_row.coded) };
+
+    ghost view = { λ it. (map of_directive (iter_rest it.directives) ++ part_components it.names) ++ part_components it.values };
+}
+
+impl<'a> Components<'a> {
+    /// These directives, then these collections.
+    pub(crate) fn new(
+        directives: &'a DirectiveList,
+        names: Part<'a>,
+        values: Part<'a>,
+    ) -> Components<'a>
+        ensures rest { result ≡ (map of_directive directives.now.0 ++ part_components names.entry) ++ part_components values.entry }
+        ensures runs { ComponentsInOrder }
+    {
+        Components {
+            directives: directives.iter(),
+            names,
+            values,
+        }
+    }
+}
+
+impl<'a> Iterator for Components<'a> {
+    type Item = ComponentRef<'a>;
+
+    ghost next_gives = { TakesFirst component_seen };
+
+    ghost remaining = { λ left. at_most (length left) };
+
+    /// The next component, if there is one.
+    fn next(&mut self) -> Option<ComponentRef<'a>> {
+        if let Some(directive) = self.directives.next() {
+            return Some(ComponentRef::Directive(directive));
+        }
+        if let Some(name) = self.names.next() {
+            return Some(name);
+        }
+        self.values.next()
+    }
+}
+
+impl<'a> FusedIterator for Components<'a> {}
