@@ -11,5 +11,4 @@ pub mod printing;
 pub mod reading;
 pub mod refusal;
 pub mod type_notation;
-mod whole_item;
 pub mod words;
