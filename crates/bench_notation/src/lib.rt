@@ -7,6 +7,7 @@ pub mod above;
 mod item;
 pub mod kind_words;
 pub mod line;
+pub mod names;
 pub mod printing;
 pub mod reading;
 pub mod refusal;
