@@ -1,5 +1,9 @@
 -- What components add to the item that is being read.
 use Rattle.std.specs.Prelude.{[], ◌∷◌, ◌++◌, Bool, true, false, Option, None, Some, option_map}
+use Rattle.graphql_ast.specs.DefinitionParts.{no_parts, with_part, type_definition, type_extension, schema_definition, schema_extension}
+use Rattle.graphql_ast.specs.declared.definition_parts.DefinitionPart.{DefinitionPart}
+use Rattle.graphql_ast.specs.declared.definition_parts.DefinitionPart.TheVariants as p
+use Rattle.graphql_ast.specs.declared.definition_parts.DefinitionParts.{DefinitionParts}
 use Rattle.graphql_nodes.specs.NameView.{NameView}
 use Rattle.graphql_nodes.specs.NodeView.{NodeView}
 use Rattle.graphql_nodes.specs.declared.operation_type.OperationType.{OperationType}
@@ -12,6 +16,7 @@ use Rattle.graphql_ast.specs.declared.type_system.EnumValueDefinition.{EnumValue
 use Rattle.graphql_ast.specs.declared.type_system.FieldDefinition.{FieldDefinition}
 use Rattle.graphql_ast.specs.declared.type_system.InputValueDefinition.{InputValueDefinition}
 use Rattle.graphql_ast.specs.declared.definition.Definition.{Definition}
+use Rattle.graphql_ast.specs.declared.definition.Definition.TheVariants as d
 use Rattle.bench_notation.specs.declared.above.Above.{Above}
 use Rattle.bench_notation.specs.declared.above.Above.TheVariants as a
 use Rattle.bench_notation.specs.declared.kind_words.Role.TheVariants as r
@@ -19,10 +24,13 @@ use Rattle.bench_notation.specs.declared.line.Header.{Header}
 use Rattle.bench_notation.specs.declared.line.Header.TheVariants as h
 use Rattle.bench_notation.specs.declared.line.Component.{Component}
 use Rattle.bench_notation.specs.declared.line.Component.TheVariants as c
+use Rattle.bench_notation.specs.declared.item.DirectiveParts.{DirectiveParts}
 use Rattle.bench_notation.specs.declared.item.OpenField.{OpenField}
 use Rattle.bench_notation.specs.declared.item.OpenItem.{OpenItem}
-use Rattle.bench_notation.specs.declared.whole_item.Parts.{Parts}
-use Rattle.bench_notation.specs.WholeItems.{node_at, no_parts, type_definition, type_extension, directive_definition, schema_definition, schema_extension}
+
+-- a node that stands at this place
+abbrev pub node_at : {A : Type 0} → SourceSpan → A → NodeView A
+node_at place value = record { value = value; location = Some place }
 
 -- a directive without arguments
 abbrev pub applied_directive : NameView → SourceSpan → NodeView Directive
@@ -64,9 +72,13 @@ field_node field = node_at field.place record {
 abbrev pub input_field_node : OpenField → NodeView InputValueDefinition
 input_field_node field = input_value field.name field.ty field.directives field.place
 
+-- nothing that a directive's definition alone has
+abbrev pub no_directive_parts : DirectiveParts
+no_directive_parts = record { arguments = []; is_repeatable = false; locations = [] }
+
 -- a header alone
 abbrev pub header_alone : Header → SourceSpan → OpenItem
-header_alone header place = record { place = place; header = header; parts = no_parts; last_field = None }
+header_alone header place = record { place = place; header = header; parts = no_parts; directive = no_directive_parts; last_field = None }
 
 -- what stands above the next line, below this header and this field, if there is one
 abbrev pub above_below : Header → Option OpenField → Above
@@ -79,15 +91,15 @@ abbrev pub is_input_object : Header → Bool
 is_input_object (h.Type role k.InputObject name) = true
 is_input_object _ = false
 
--- a field more, which is one of an input object type or of another
-abbrev pub with_field : Bool → OpenField → Parts → Parts
-with_field true field parts = record parts { inputs = parts.inputs ++ input_field_node field ∷ [] }
-with_field false field parts = record parts { fields = parts.fields ++ field_node field ∷ [] }
+-- a field as a part of an input object type, or of another
+abbrev pub field_part : Bool → OpenField → DefinitionPart
+field_part true field = p.InputField (input_field_node field)
+field_part false field = p.Field (field_node field)
 
 -- a field more, if there is one
-abbrev pub with_last : Bool → Option OpenField → Parts → Parts
+abbrev pub with_last : Bool → Option OpenField → DefinitionParts → DefinitionParts
 with_last is_input None parts = parts
-with_last is_input (Some field) parts = with_field is_input field parts
+with_last is_input (Some field) parts = with_part (field_part is_input field) parts
 
 -- an item whose last field has all of its parts
 abbrev pub field_closed : OpenItem → OpenItem
@@ -103,33 +115,41 @@ with_field_argument argument field = record field { arguments = field.arguments 
 
 -- an argument more of the last field, or where there is none, of the item
 abbrev pub with_argument_below : NodeView InputValueDefinition → Option OpenField → OpenItem → OpenItem
-with_argument_below argument None item = record item { parts = record item.parts { inputs = item.parts.inputs ++ argument ∷ [] } }
+with_argument_below argument None item = record item { directive = record item.directive { arguments = item.directive.arguments ++ argument ∷ [] } }
 with_argument_below argument (Some field) item = record item { last_field = Some (with_field_argument argument field) }
 
 abbrev pub with_argument : NodeView InputValueDefinition → OpenItem → OpenItem
 with_argument argument item = with_argument_below argument item.last_field item
 
+-- an item and one part more
+abbrev pub with_own_part : DefinitionPart → OpenItem → OpenItem
+with_own_part part item = record item { parts = with_part part item.parts }
+
 -- an item and one component more
 abbrev pub with_component : Component → SourceSpan → OpenItem → OpenItem
-with_component (c.Directive name) place item = record item { parts = record item.parts { directives = record { 0 = item.parts.directives.0 ++ applied_directive name place ∷ [] } } }
-with_component (c.Implements name) place item = record item { parts = record item.parts { names = item.parts.names ++ name ∷ [] } }
+with_component (c.Directive name) place item = with_own_part (p.Directive (applied_directive name place)) item
+with_component (c.Implements name) place item = with_own_part (p.Name name) item
 with_component (c.Field name ty) place item = record (field_closed item) { last_field = Some (field_alone name ty place) }
 with_component (c.FieldDirective name) place item = with_field_directive (applied_directive name place) item
 with_component (c.Argument name ty) place item = with_argument (input_value name ty (record { 0 = [] }) place) item
-with_component (c.Member name) place item = record item { parts = record item.parts { names = item.parts.names ++ name ∷ [] } }
-with_component (c.Value name) place item = record item { parts = record item.parts { values = item.parts.values ++ enum_value name place ∷ [] } }
-with_component (c.On location) place item = record item { parts = record item.parts { locations = item.parts.locations ++ location ∷ [] } }
-with_component c.Repeatable place item = record item { parts = record item.parts { is_repeatable = true } }
-with_component (c.Root operation name) place item = record item { parts = record item.parts { roots = item.parts.roots ++ root_operation operation name place ∷ [] } }
+with_component (c.Member name) place item = with_own_part (p.Name name) item
+with_component (c.Value name) place item = with_own_part (p.EnumValue (enum_value name place)) item
+with_component (c.On location) place item = record item { directive = record item.directive { locations = item.directive.locations ++ location ∷ [] } }
+with_component c.Repeatable place item = record item { directive = record item.directive { is_repeatable = true } }
+with_component (c.Root operation name) place item = with_own_part (p.Root (root_operation operation name place)) item
+
+-- the definition of a directive
+abbrev pub directive_definition : NameView → DirectiveParts → SourceSpan → Definition
+directive_definition name parts place = d.DirectiveDefinition (node_at place record { description = None; name = name; arguments = parts.arguments; repeatable = parts.is_repeatable; locations = parts.locations })
 
 -- the definition or extension of a header with these components
-abbrev pub definition_with : Header → Parts → SourceSpan → Definition
-definition_with (h.Type r.Definition kind name) parts place = type_definition kind name parts place
-definition_with (h.Type r.Extension kind name) parts place = type_extension kind name parts place
-definition_with (h.Directive name) parts place = directive_definition name parts place
-definition_with (h.Schema r.Definition) parts place = schema_definition parts place
-definition_with (h.Schema r.Extension) parts place = schema_extension parts place
+abbrev pub definition_with : Header → DefinitionParts → DirectiveParts → SourceSpan → Definition
+definition_with (h.Type r.Definition kind name) parts directive place = type_definition kind None name parts (Some place)
+definition_with (h.Type r.Extension kind name) parts directive place = type_extension kind name parts (Some place)
+definition_with (h.Directive name) parts directive place = directive_definition name directive place
+definition_with (h.Schema r.Definition) parts directive place = schema_definition None parts (Some place)
+definition_with (h.Schema r.Extension) parts directive place = schema_extension parts (Some place)
 
 -- the definition or extension that an item says
 abbrev pub whole_item : OpenItem → Definition
-whole_item item = definition_with item.header (field_closed item).parts item.place
+whole_item item = definition_with item.header (field_closed item).parts item.directive item.place

@@ -5,4 +5,3 @@ pub mod Line
 pub mod Places
 pub mod Refusals
 pub mod Text
-pub mod WholeItems

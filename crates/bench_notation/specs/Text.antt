@@ -20,7 +20,6 @@ use Rattle.graphql_ast.specs.declared.definition.Definition.{Definition}
 use Rattle.graphql_ast.specs.declared.definition.Definition.TheVariants as d
 use Rattle.bench_notation.specs.declared.kind_words.Role.{Role}
 use Rattle.bench_notation.specs.declared.kind_words.Role.TheVariants as r
-use Rattle.bench_notation.specs.declared.printing.Head.{Head}
 use Rattle.bench_notation.specs.HeaderWords.{role_word, schema_word, kind_word}
 
 -- the text at one level, where what is inside a list has given its own
@@ -80,6 +79,10 @@ field_text field = field_line_text field.value.name field.value.ty field.value.d
 abbrev pub input_field_text : NodeView InputValueDefinition → List ℕ
 input_field_text field = field_line_text field.value.name field.value.ty.value field.value.directives.0
 
+-- the fields of an input object, each with its directives
+abbrev pub input_fields_text : List (NodeView InputValueDefinition) → List ℕ
+input_fields_text fields = flat_map input_field_text fields
+
 -- each value of an enum on a line of its own
 abbrev pub values_text : List (NodeView EnumValueDefinition) → List ℕ
 values_text values = flat_map (λ (value : NodeView EnumValueDefinition). named_line (codes "value ") value.value.value) values
@@ -87,10 +90,6 @@ values_text values = flat_map (λ (value : NodeView EnumValueDefinition). named_
 -- the header of a type, then the directives of the type
 abbrev pub head_text : Role → TypeKind → NameView → List (NodeView Directive) → List ℕ
 head_text role kind name directives = role_word role ++ codes " " ++ named_line (kind_word kind ++ codes " ") name ++ directives_text (codes "@ ") directives
-
--- the same of a head
-abbrev pub head_says : Head → List ℕ
-head_says head = head_text head.role head.kind head.name.now head.directives.now.0
 
 -- interfaces, then fields
 abbrev pub fields_text : List NameView → List (NodeView FieldDefinition) → List ℕ
@@ -113,33 +112,57 @@ root_text root = codes "root " ++ operation_text root.value.0 ++ named_line (cod
 abbrev pub roots_text : List (NodeView (OperationType × NameView)) → List ℕ
 roots_text roots = flat_map root_text roots
 
--- the header of the schema, then its directives, then its roots
-abbrev pub schema_text : Role → List (NodeView Directive) → List (NodeView (OperationType × NameView)) → List ℕ
-schema_text role directives roots = schema_word role ++ codes "\n" ++ directives_text (codes "@ ") directives ++ roots_text roots
+-- the header of the schema, then its directives
+abbrev pub schema_head_text : Role → List (NodeView Directive) → List ℕ
+schema_head_text role directives = schema_word role ++ codes "\n" ++ directives_text (codes "@ ") directives
 
--- a directive's definition: its header, then its arguments, then where it may be applied
-abbrev pub directive_text : DirectiveDefinition → List ℕ
-directive_text item = named_line (codes "directive ") item.name ++ arguments_text item.arguments ++ repeatable_text item.repeatable ++ locations_text item.locations
+-- what a directive's definition has: its arguments, then where it may be applied
+abbrev pub directive_body_text : DirectiveDefinition → List ℕ
+directive_body_text item = arguments_text item.arguments ++ repeatable_text item.repeatable ++ locations_text item.locations
 
--- a definition or extension: its header, then the lines below it; nothing for those that the notation does not have
+-- the header of a definition or extension, then its directives; nothing for those that the notation does not have
+abbrev pub header_text : Definition → List ℕ
+header_text (d.OperationDefinition n) = []
+header_text (d.FragmentDefinition n) = []
+header_text (d.DirectiveDefinition n) = named_line (codes "directive ") n.value.name
+header_text (d.SchemaDefinition n) = schema_head_text r.Definition n.value.directives.0
+header_text (d.ScalarTypeDefinition n) = head_text r.Definition k.Scalar n.value.name n.value.directives.0
+header_text (d.ObjectTypeDefinition n) = head_text r.Definition k.Object n.value.name n.value.directives.0
+header_text (d.InterfaceTypeDefinition n) = head_text r.Definition k.Interface n.value.name n.value.directives.0
+header_text (d.UnionTypeDefinition n) = head_text r.Definition k.Union n.value.name n.value.directives.0
+header_text (d.EnumTypeDefinition n) = head_text r.Definition k.Enum n.value.name n.value.directives.0
+header_text (d.InputObjectTypeDefinition n) = head_text r.Definition k.InputObject n.value.name n.value.directives.0
+header_text (d.SchemaExtension n) = schema_head_text r.Extension n.value.directives.0
+header_text (d.ScalarTypeExtension n) = head_text r.Extension k.Scalar n.value.name n.value.directives.0
+header_text (d.ObjectTypeExtension n) = head_text r.Extension k.Object n.value.name n.value.directives.0
+header_text (d.InterfaceTypeExtension n) = head_text r.Extension k.Interface n.value.name n.value.directives.0
+header_text (d.UnionTypeExtension n) = head_text r.Extension k.Union n.value.name n.value.directives.0
+header_text (d.EnumTypeExtension n) = head_text r.Extension k.Enum n.value.name n.value.directives.0
+header_text (d.InputObjectTypeExtension n) = head_text r.Extension k.InputObject n.value.name n.value.directives.0
+
+-- the lines below that
+abbrev pub body_text : Definition → List ℕ
+body_text (d.OperationDefinition n) = []
+body_text (d.FragmentDefinition n) = []
+body_text (d.DirectiveDefinition n) = directive_body_text n.value
+body_text (d.SchemaDefinition n) = roots_text n.value.root_operations
+body_text (d.ScalarTypeDefinition n) = []
+body_text (d.ObjectTypeDefinition n) = fields_text n.value.implements_interfaces n.value.fields
+body_text (d.InterfaceTypeDefinition n) = fields_text n.value.implements_interfaces n.value.fields
+body_text (d.UnionTypeDefinition n) = names_text (codes "member ") n.value.members
+body_text (d.EnumTypeDefinition n) = values_text n.value.values
+body_text (d.InputObjectTypeDefinition n) = input_fields_text n.value.fields
+body_text (d.SchemaExtension n) = roots_text n.value.root_operations
+body_text (d.ScalarTypeExtension n) = []
+body_text (d.ObjectTypeExtension n) = fields_text n.value.implements_interfaces n.value.fields
+body_text (d.InterfaceTypeExtension n) = fields_text n.value.implements_interfaces n.value.fields
+body_text (d.UnionTypeExtension n) = names_text (codes "member ") n.value.members
+body_text (d.EnumTypeExtension n) = values_text n.value.values
+body_text (d.InputObjectTypeExtension n) = input_fields_text n.value.fields
+
+-- a definition or extension: its header, then the lines below it
 abbrev pub definition_text : Definition → List ℕ
-definition_text (d.OperationDefinition n) = []
-definition_text (d.FragmentDefinition n) = []
-definition_text (d.DirectiveDefinition n) = directive_text n.value
-definition_text (d.SchemaDefinition n) = schema_text r.Definition n.value.directives.0 n.value.root_operations
-definition_text (d.ScalarTypeDefinition n) = head_text r.Definition k.Scalar n.value.name n.value.directives.0
-definition_text (d.ObjectTypeDefinition n) = head_text r.Definition k.Object n.value.name n.value.directives.0 ++ fields_text n.value.implements_interfaces n.value.fields
-definition_text (d.InterfaceTypeDefinition n) = head_text r.Definition k.Interface n.value.name n.value.directives.0 ++ fields_text n.value.implements_interfaces n.value.fields
-definition_text (d.UnionTypeDefinition n) = head_text r.Definition k.Union n.value.name n.value.directives.0 ++ names_text (codes "member ") n.value.members
-definition_text (d.EnumTypeDefinition n) = head_text r.Definition k.Enum n.value.name n.value.directives.0 ++ values_text n.value.values
-definition_text (d.InputObjectTypeDefinition n) = head_text r.Definition k.InputObject n.value.name n.value.directives.0 ++ flat_map input_field_text n.value.fields
-definition_text (d.SchemaExtension n) = schema_text r.Extension n.value.directives.0 n.value.root_operations
-definition_text (d.ScalarTypeExtension n) = head_text r.Extension k.Scalar n.value.name n.value.directives.0
-definition_text (d.ObjectTypeExtension n) = head_text r.Extension k.Object n.value.name n.value.directives.0 ++ fields_text n.value.implements_interfaces n.value.fields
-definition_text (d.InterfaceTypeExtension n) = head_text r.Extension k.Interface n.value.name n.value.directives.0 ++ fields_text n.value.implements_interfaces n.value.fields
-definition_text (d.UnionTypeExtension n) = head_text r.Extension k.Union n.value.name n.value.directives.0 ++ names_text (codes "member ") n.value.members
-definition_text (d.EnumTypeExtension n) = head_text r.Extension k.Enum n.value.name n.value.directives.0 ++ values_text n.value.values
-definition_text (d.InputObjectTypeExtension n) = head_text r.Extension k.InputObject n.value.name n.value.directives.0 ++ flat_map input_field_text n.value.fields
+definition_text definition = header_text definition ++ body_text definition
 
 -- definitions, in order
 abbrev pub definitions_text : List Definition → List ℕ

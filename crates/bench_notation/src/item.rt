@@ -1,19 +1,19 @@
 //! What has been read of the definition or extension that is being read.
 ghost use Rattle.std.specs.Prelude.{◌≡◌, IfOk, OnOk, Some};
-ghost use Rattle.bench_notation.specs.Components.{applied_directive, definition_with, enum_value, input_value, is_input_object, root_operation};
+ghost use Rattle.bench_notation.specs.Components.{applied_directive, enum_value, input_value, is_input_object, root_operation};
 
 use crate::above::Above;
 use crate::kind_words::Role;
 use crate::line::{Component, Header};
-use crate::whole_item::{
-    Parts, directive_definition, schema_definition, schema_extension, type_definition,
-    type_extension,
-};
 use graphql_ast::definition::Definition;
+use graphql_ast::definition_parts::{DefinitionPart, DefinitionParts};
 use graphql_ast::directive::{Directive, DirectiveList};
 use graphql_ast::type_reference::Type;
-use graphql_ast::type_system::{EnumValueDefinition, FieldDefinition, InputValueDefinition};
+use graphql_ast::type_system::{
+    DirectiveDefinition, EnumValueDefinition, FieldDefinition, InputValueDefinition,
+};
 use graphql_nodes::collections::items::Items;
+use graphql_nodes::directive_location::DirectiveLocation;
 use graphql_nodes::name::{Name, NamedType};
 use graphql_nodes::node::Node;
 use graphql_nodes::operation_type::OperationType;
@@ -44,7 +44,7 @@ impl Drop for OpenField {
 }
 
 impl OpenField {
-    ghost use Rattle.bench_notation.specs.Components.{field_alone, field_node, input_field_node, with_field};
+    ghost use Rattle.bench_notation.specs.Components.{field_alone, field_node, input_field_node, field_part};
 
     fn new(alloc: Global, name: Name, ty: Type, place: SourceSpan) -> OpenField
         ensures { result ≡ field_alone name ty place }
@@ -93,15 +93,72 @@ impl OpenField {
         input_value(alloc, name, ty, directives, place)
     }
 
-    /// Adds the field to those of an input object type, or of another.
-    fn close_into(self, alloc: Global, is_input: bool, parts: &mut Parts) -> Result<(), AllocError>
-        ensures { OnOk result (parts.new ≡ with_field is_input self parts.old) }
+    /// The field as a part of an input object type, or of another.
+    fn close_as_part(self, alloc: Global, is_input: bool) -> Result<DefinitionPart, AllocError>
+        ensures { IfOk result (λ part. part ≡ field_part is_input self) }
     {
-        if is_input {
-            parts.inputs.push(self.close_as_input(alloc)?)
+        Ok(if is_input {
+            DefinitionPart::InputField(self.close_as_input(alloc)?)
         } else {
-            parts.fields.push(self.close(alloc)?)
+            DefinitionPart::Field(self.close(alloc)?)
+        })
+    }
+}
+
+/// What the definition of a directive has, and no other.
+struct DirectiveParts {
+    arguments: Items<Node<InputValueDefinition>>,
+    /// Whether the directive may be applied again at the same place.
+    is_repeatable: bool,
+    /// The places where the directive may be applied.
+    locations: Items<DirectiveLocation>,
+}
+
+impl Drop for DirectiveParts {
+    fn drop(self) {
+        let Self {
+            arguments: _,
+            is_repeatable: _,
+            locations: _,
+        } = self;
+    }
+}
+
+impl DirectiveParts {
+    ghost use Rattle.bench_notation.specs.Components.{no_directive_parts, directive_definition};
+
+    fn new(alloc: Global) -> DirectiveParts
+        ensures { result ≡ no_directive_parts }
+    {
+        DirectiveParts {
+            arguments: Items::new(alloc),
+            is_repeatable: false,
+            locations: Items::new(alloc),
         }
+    }
+
+    fn into_definition(
+        self,
+        alloc: Global,
+        name: Name,
+        place: SourceSpan,
+    ) -> Result<Definition, AllocError>
+        ensures { IfOk result (λ definition. definition ≡ directive_definition name self place) }
+    {
+        let DirectiveParts {
+            arguments,
+            is_repeatable,
+            locations,
+        } = self;
+        let definition = DirectiveDefinition {
+            description: None,
+            name,
+            arguments,
+            repeatable: is_repeatable,
+            locations,
+        };
+        let definition = Node::new_opt_location(alloc, definition, Some(place))?;
+        Ok(Definition::DirectiveDefinition(definition))
     }
 }
 
@@ -109,8 +166,9 @@ impl OpenField {
 pub struct OpenItem {
     place: SourceSpan,
     header: Header,
-    /// The components, without the last field.
-    parts: Parts,
+    /// The components, without the last field, and without those that a directive's definition alone has.
+    parts: DefinitionParts,
+    directive: DirectiveParts,
     last_field: Option<OpenField>,
 }
 
@@ -120,6 +178,7 @@ impl Drop for OpenItem {
             place: _,
             header: _,
             parts: _,
+            directive: _,
             last_field: _,
         } = self;
     }
@@ -135,7 +194,8 @@ impl OpenItem {
         OpenItem {
             place,
             header,
-            parts: Parts::new(alloc),
+            parts: DefinitionParts::new(alloc),
+            directive: DirectiveParts::new(alloc),
             last_field: None,
         }
     }
@@ -164,9 +224,11 @@ impl OpenItem {
         match component {
             Component::Directive(name) => {
                 let directive = applied_directive(alloc, name, place)?;
-                self.parts.directives.push(directive)
+                self.parts.push(DefinitionPart::Directive(directive))
             }
-            Component::Implements(name) | Component::Member(name) => self.parts.names.push(name),
+            Component::Implements(name) | Component::Member(name) => {
+                self.parts.push(DefinitionPart::Name(name))
+            }
             Component::Field(name, ty) => {
                 self.open_field(alloc, OpenField::new(alloc, name, ty, place))
             }
@@ -180,16 +242,16 @@ impl OpenItem {
             }
             Component::Value(name) => {
                 let value = enum_value(alloc, name, place)?;
-                self.parts.values.push(value)
+                self.parts.push(DefinitionPart::EnumValue(value))
             }
-            Component::On(location) => self.parts.locations.push(location),
+            Component::On(location) => self.directive.locations.push(location),
             Component::Repeatable => {
-                self.parts.is_repeatable = true;
+                self.directive.is_repeatable = true;
                 Ok(())
             }
             Component::Root(operation, name) => {
                 let root = root_operation(alloc, operation, name, place)?;
-                self.parts.roots.push(root)
+                self.parts.push(DefinitionPart::Root(root))
             }
         }
     }
@@ -210,7 +272,7 @@ impl OpenItem {
     {
         match &mut self.last_field {
             Some(field) => field.arguments.push(argument),
-            None => self.parts.inputs.push(argument),
+            None => self.directive.arguments.push(argument),
         }
     }
 
@@ -220,7 +282,7 @@ impl OpenItem {
     {
         let is_input = is_input_object(&self.header);
         match mem::replace(&mut self.last_field, Some(next)) {
-            Some(field) => field.close_into(alloc, is_input, &mut self.parts),
+            Some(field) => self.parts.push(field.close_as_part(alloc, is_input)?),
             None => Ok(()),
         }
     }
@@ -233,12 +295,25 @@ impl OpenItem {
             place,
             header,
             mut parts,
+            directive,
             last_field,
         } = self;
         if let Some(field) = last_field {
-            field.close_into(alloc, is_input_object(&header), &mut parts)?;
+            parts.push(field.close_as_part(alloc, is_input_object(&header))?)?;
         }
-        definition_with(alloc, header, &mut parts, place)
+        match header {
+            Header::Type(Role::Definition, kind, name) => {
+                parts.into_definition(alloc, kind, None, name, Some(place))
+            }
+            Header::Type(Role::Extension, kind, name) => {
+                parts.into_extension(alloc, kind, name, Some(place))
+            }
+            Header::Directive(name) => directive.into_definition(alloc, name, place),
+            Header::Schema(Role::Definition) => {
+                parts.into_schema_definition(alloc, None, Some(place))
+            }
+            Header::Schema(Role::Extension) => parts.into_schema_extension(alloc, Some(place)),
+        }
     }
 }
 
@@ -246,28 +321,6 @@ fn is_input_object(header: &Header) -> bool
     ensures { result ≡ is_input_object header.now }
 {
     matches!(header, Header::Type(_, TypeKind::InputObject, _))
-}
-
-/// The definition or extension of this header with these components.
-fn definition_with(
-    alloc: Global,
-    header: Header,
-    parts: &mut Parts,
-    place: SourceSpan,
-) -> Result<Definition, AllocError>
-    ensures { IfOk result (λ definition. definition ≡ definition_with header parts.old place) }
-{
-    match header {
-        Header::Type(Role::Definition, kind, name) => {
-            type_definition(alloc, kind, name, parts, place)
-        }
-        Header::Type(Role::Extension, kind, name) => {
-            type_extension(alloc, kind, name, parts, place)
-        }
-        Header::Directive(name) => directive_definition(alloc, name, parts, place),
-        Header::Schema(Role::Definition) => schema_definition(alloc, parts, place),
-        Header::Schema(Role::Extension) => schema_extension(alloc, parts, place),
-    }
 }
 
 fn applied_directive(

@@ -11,16 +11,16 @@ ghost use Rattle.bench_notation.specs.Refusals.{SayNoComponent, SayNoLine, SaysN
 
 use crate::above::Above;
 use crate::kind_words::{Role, kind_of_word};
+use crate::names::Names;
 use crate::refusal::{LineError, Reason};
 use crate::type_notation::{MOST_BRACKETS, read_type};
-use crate::words::{read_name, words_of};
+use crate::words::take_words;
 use graphql_ast::type_reference::Type;
 use graphql_nodes::directive_location::DirectiveLocation;
 use graphql_nodes::name::{Name, NamedType};
 use graphql_nodes::operation_type::OperationType;
 use graphql_nodes::source::SourceSpan;
 use graphql_nodes::type_kind::TypeKind;
-use std::alloc::Global;
 
 /// A header line, which begins a definition or an extension.
 #[derive(Drop)]
@@ -69,9 +69,12 @@ pub enum Line {
 }
 
 /// Reads a line. Its names get this place.
-pub fn read_line(
-    alloc: Global,
-    text: &str,
+///
+/// `words` is where its words are put, and what was there is gone.
+pub fn read_line<'a>(
+    names: &mut Names,
+    words: &mut Vec<&'a str>,
+    text: &'a str,
     above: Above,
     place: SourceSpan,
 ) -> Result<Line, LineError>
@@ -82,13 +85,13 @@ pub fn read_line(
     if text.is_empty() {
         return Ok(Line::Empty);
     }
-    let words = words_of(alloc, text)?;
-    read_words(alloc, words.as_slice(), above, place)
+    take_words(words, text)?;
+    read_words(names, words.as_slice(), above, place)
 }
 
 /// The words of a line that is not empty.
 fn read_words(
-    alloc: Global,
+    names: &mut Names,
     words: &[&str],
     above: Above,
     place: SourceSpan,
@@ -105,9 +108,9 @@ fn read_words(
             end_of_words(rest)?;
             Ok(Line::Break)
         }
-        "def" => Ok(Line::Header(read_type_header(alloc, Role::Definition, rest, place)?)),
-        "ext" => Ok(Line::Header(read_type_header(alloc, Role::Extension, rest, place)?)),
-        "directive" => Ok(Line::Header(Header::Directive(only_name(alloc, rest, place)?))),
+        "def" => Ok(Line::Header(read_type_header(names, Role::Definition, rest, place)?)),
+        "ext" => Ok(Line::Header(read_type_header(names, Role::Extension, rest, place)?)),
+        "directive" => Ok(Line::Header(Header::Directive(only_name(names, rest, place)?))),
         "schema" => {
             end_of_words(rest)?;
             Ok(Line::Header(Header::Schema(Role::Definition)))
@@ -116,13 +119,13 @@ fn read_words(
             end_of_words(rest)?;
             Ok(Line::Header(Header::Schema(Role::Extension)))
         }
-        word => Ok(Line::Component(read_component(alloc, word, rest, above, place)?)),
+        word => Ok(Line::Component(read_component(names, word, rest, above, place)?)),
     }
 }
 
 /// A component line, by its first word and the rest of its words.
 fn read_component(
-    alloc: Global,
+    names: &mut Names,
     first: &str,
     rest: &[&str],
     above: Above,
@@ -134,31 +137,31 @@ fn read_component(
 {
     match first {
         "@" => {
-            let name = allowed_name(alloc, above.takes_directives(), rest, place)?;
+            let name = allowed_name(names, above.takes_directives(), rest, place)?;
             Ok(Component::Directive(name))
         }
         "implements" => {
-            let name = allowed_name(alloc, above.is_object_or_interface(), rest, place)?;
+            let name = allowed_name(names, above.is_object_or_interface(), rest, place)?;
             Ok(Component::Implements(name))
         }
         "field" => {
-            let (name, ty) = name_and_type(alloc, above.has_fields(), rest, place)?;
+            let (name, ty) = name_and_type(names, above.has_fields(), rest, place)?;
             Ok(Component::Field(name, ty))
         }
         "field@" => {
-            let name = allowed_name(alloc, above.is_field(), rest, place)?;
+            let name = allowed_name(names, above.is_field(), rest, place)?;
             Ok(Component::FieldDirective(name))
         }
         "arg" => {
-            let (name, ty) = name_and_type(alloc, above.takes_arguments(), rest, place)?;
+            let (name, ty) = name_and_type(names, above.takes_arguments(), rest, place)?;
             Ok(Component::Argument(name, ty))
         }
         "member" => {
-            let name = allowed_name(alloc, above.is_union(), rest, place)?;
+            let name = allowed_name(names, above.is_union(), rest, place)?;
             Ok(Component::Member(name))
         }
         "value" => {
-            let name = allowed_name(alloc, above.is_enum(), rest, place)?;
+            let name = allowed_name(names, above.is_enum(), rest, place)?;
             Ok(Component::Value(name))
         }
         "on" => {
@@ -171,7 +174,7 @@ fn read_component(
             Ok(Component::Repeatable)
         }
         "root" => {
-            let (operation, name) = operation_and_name(alloc, above.is_schema(), rest, place)?;
+            let (operation, name) = operation_and_name(names, above.is_schema(), rest, place)?;
             Ok(Component::Root(operation, name))
         }
         _ => Err(LineError::Refused(Reason::UnknownLine)),
@@ -202,7 +205,7 @@ fn end_of_words(words: &[&str]) -> Result<(), Reason>
 
 /// The words that follow `def` or `ext`.
 fn read_type_header(
-    alloc: Global,
+    names: &mut Names,
     role: Role,
     words: &[&str],
     place: SourceSpan,
@@ -216,12 +219,12 @@ fn read_type_header(
     let Some(kind) = kind_of_word(*kind) else {
         return Err(LineError::Refused(Reason::BadWord));
     };
-    Ok(Header::Type(role, kind, read_name(alloc, *name, place)?))
+    Ok(Header::Type(role, kind, names.read(*name, place)?))
 }
 
 /// The only word that follows, a name, on a line that is allowed here or not.
 fn allowed_name(
-    alloc: Global,
+    names: &mut Names,
     is_allowed: bool,
     words: &[&str],
     place: SourceSpan,
@@ -231,22 +234,22 @@ fn allowed_name(
     ensures refused { IfErr result (WhenRefused ((name : NameView) → AreName place (texts_of words.now) name → ¬ (is_allowed ≡ true))) }
 {
     allow(is_allowed)?;
-    only_name(alloc, words, place)
+    only_name(names, words, place)
 }
 
-fn only_name(alloc: Global, words: &[&str], place: SourceSpan) -> Result<Name, LineError>
+fn only_name(names: &mut Names, words: &[&str], place: SourceSpan) -> Result<Name, LineError>
     ensures says { IfOk result (AreName place (texts_of words.now)) }
     ensures refused { IfErr result (WhenRefused ((name : NameView) → ¬ AreName place (texts_of words.now) name)) }
 {
     let [name] = words else {
         return Err(LineError::Refused(Reason::WrongNumberOfWords));
     };
-    read_name(alloc, *name, place)
+    names.read(*name, place)
 }
 
 /// The two words that follow, a name and a type, on a line that is allowed here or not.
 fn name_and_type(
-    alloc: Global,
+    names: &mut Names,
     is_allowed: bool,
     words: &[&str],
     place: SourceSpan,
@@ -259,8 +262,8 @@ fn name_and_type(
     let [name, ty] = words else {
         return Err(LineError::Refused(Reason::WrongNumberOfWords));
     };
-    let name = read_name(alloc, *name, place)?;
-    let ty = read_type(alloc, *ty, MOST_BRACKETS, place)?;
+    let name = names.read(*name, place)?;
+    let ty = read_type(names, *ty, MOST_BRACKETS, place)?;
     Ok((name, ty))
 }
 
@@ -279,7 +282,7 @@ fn only_location(words: &[&str]) -> Result<DirectiveLocation, Reason>
 
 /// The two words that follow, a kind of operation and a name, on a line that is allowed here or not.
 fn operation_and_name(
-    alloc: Global,
+    names: &mut Names,
     is_allowed: bool,
     words: &[&str],
     place: SourceSpan,
@@ -295,7 +298,7 @@ fn operation_and_name(
     let Some(operation) = operation_of_word(*operation) else {
         return Err(LineError::Refused(Reason::BadWord));
     };
-    Ok((operation, read_name(alloc, *name, place)?))
+    Ok((operation, names.read(*name, place)?))
 }
 
 /// The kind of operation of this word, and none for any other word.

@@ -1,7 +1,7 @@
 //! Definitions as text.
 ghost use Rattle.std.specs.Prelude.{◌≡◌, ◌++◌, OnOk, IfOk, codes, string_bytes};
-ghost use Rattle.std.specs.List.{flat_map};
-ghost use Rattle.bench_notation.specs.Text.{word_line, named_line, typed_line, directives_text, names_text, arguments_text, field_line_text, field_text, input_field_text, values_text, head_says, fields_text, directive_text, root_text, schema_text, definition_text, definitions_text};
+ghost use Rattle.bench_notation.specs.declared.kind_words.Role.{Role};
+ghost use Rattle.bench_notation.specs.Text.{word_line, named_line, typed_line, directives_text, names_text, arguments_text, field_line_text, field_text, fields_text, input_fields_text, values_text, head_text, schema_head_text, header_text, body_text, directive_body_text, root_text, roots_text, definition_text, definitions_text};
 
 use crate::kind_words::{Role, kind_word};
 use crate::type_notation::push_type;
@@ -32,123 +32,159 @@ pub fn print(alloc: Global, definitions: &[Definition]) -> Result<String, AllocE
 fn push_definition(text: &mut String, definition: &Definition) -> Result<(), AllocError>
     ensures { OnOk result (string_bytes text.new ≡ string_bytes text.old ++ definition_text definition.now) }
 {
+    push_header(text, definition)?;
+    push_body(text, definition)
+}
+
+/// The header of a definition or extension, and its own directives.
+fn push_header(text: &mut String, definition: &Definition) -> Result<(), AllocError>
+    ensures { OnOk result (string_bytes text.new ≡ string_bytes text.old ++ header_text definition.now) }
+{
     match definition {
-        Definition::DirectiveDefinition(item) => push_directive_definition(text, item),
+        Definition::DirectiveDefinition(item) => push_named_line(text, "directive ", &item.name),
         Definition::ScalarTypeDefinition(item) => {
-            let head = Head::definition(TypeKind::Scalar, &item.name, &item.directives);
-            push_head(text, head)
+            push_definition_head(text, TypeKind::Scalar, &item.name, &item.directives)
         }
         Definition::ObjectTypeDefinition(item) => {
-            let head = Head::definition(TypeKind::Object, &item.name, &item.directives);
-            push_with_fields(text, head, &item.implements_interfaces, &item.fields)
+            push_definition_head(text, TypeKind::Object, &item.name, &item.directives)
         }
         Definition::InterfaceTypeDefinition(item) => {
-            let head = Head::definition(TypeKind::Interface, &item.name, &item.directives);
-            push_with_fields(text, head, &item.implements_interfaces, &item.fields)
+            push_definition_head(text, TypeKind::Interface, &item.name, &item.directives)
         }
         Definition::UnionTypeDefinition(item) => {
-            let head = Head::definition(TypeKind::Union, &item.name, &item.directives);
-            push_union(text, head, &item.members)
+            push_definition_head(text, TypeKind::Union, &item.name, &item.directives)
         }
         Definition::EnumTypeDefinition(item) => {
-            let head = Head::definition(TypeKind::Enum, &item.name, &item.directives);
-            push_enum(text, head, &item.values)
+            push_definition_head(text, TypeKind::Enum, &item.name, &item.directives)
         }
         Definition::InputObjectTypeDefinition(item) => {
-            let head = Head::definition(TypeKind::InputObject, &item.name, &item.directives);
-            push_input_object(text, head, &item.fields)
+            push_definition_head(text, TypeKind::InputObject, &item.name, &item.directives)
         }
         Definition::ScalarTypeExtension(item) => {
-            let head = Head::extension(TypeKind::Scalar, &item.name, &item.directives);
-            push_head(text, head)
+            push_extension_head(text, TypeKind::Scalar, &item.name, &item.directives)
         }
         Definition::ObjectTypeExtension(item) => {
-            let head = Head::extension(TypeKind::Object, &item.name, &item.directives);
-            push_with_fields(text, head, &item.implements_interfaces, &item.fields)
+            push_extension_head(text, TypeKind::Object, &item.name, &item.directives)
         }
         Definition::InterfaceTypeExtension(item) => {
-            let head = Head::extension(TypeKind::Interface, &item.name, &item.directives);
-            push_with_fields(text, head, &item.implements_interfaces, &item.fields)
+            push_extension_head(text, TypeKind::Interface, &item.name, &item.directives)
         }
         Definition::UnionTypeExtension(item) => {
-            let head = Head::extension(TypeKind::Union, &item.name, &item.directives);
-            push_union(text, head, &item.members)
+            push_extension_head(text, TypeKind::Union, &item.name, &item.directives)
         }
         Definition::EnumTypeExtension(item) => {
-            let head = Head::extension(TypeKind::Enum, &item.name, &item.directives);
-            push_enum(text, head, &item.values)
+            push_extension_head(text, TypeKind::Enum, &item.name, &item.directives)
         }
         Definition::InputObjectTypeExtension(item) => {
-            let head = Head::extension(TypeKind::InputObject, &item.name, &item.directives);
-            push_input_object(text, head, &item.fields)
+            push_extension_head(text, TypeKind::InputObject, &item.name, &item.directives)
         }
         Definition::SchemaDefinition(item) => {
-            let roots = &item.root_operations;
-            push_schema(text, Role::Definition, &item.directives, roots)
+            push_schema_head(text, Role::Definition, &item.directives)
         }
         Definition::SchemaExtension(item) => {
-            let roots = &item.root_operations;
-            push_schema(text, Role::Extension, &item.directives, roots)
+            push_schema_head(text, Role::Extension, &item.directives)
         }
         Definition::OperationDefinition(_) | Definition::FragmentDefinition(_) => Ok(()),
     }
 }
 
-/// What the header of a type says, and the directives of the type.
-#[derive(Drop)]
-struct Head<'a> {
+/// The lines below the header of a definition or extension, and below its own directives.
+fn push_body(text: &mut String, definition: &Definition) -> Result<(), AllocError>
+    ensures { OnOk result (string_bytes text.new ≡ string_bytes text.old ++ body_text definition.now) }
+{
+    match definition {
+        Definition::DirectiveDefinition(item) => push_directive_body(text, item),
+        Definition::ObjectTypeDefinition(item) => {
+            push_fields(text, &item.implements_interfaces, &item.fields)
+        }
+        Definition::ObjectTypeExtension(item) => {
+            push_fields(text, &item.implements_interfaces, &item.fields)
+        }
+        Definition::InterfaceTypeDefinition(item) => {
+            push_fields(text, &item.implements_interfaces, &item.fields)
+        }
+        Definition::InterfaceTypeExtension(item) => {
+            push_fields(text, &item.implements_interfaces, &item.fields)
+        }
+        Definition::UnionTypeDefinition(item) => {
+            push_names(text, "member ", item.members.as_slice())
+        }
+        Definition::UnionTypeExtension(item) => {
+            push_names(text, "member ", item.members.as_slice())
+        }
+        Definition::EnumTypeDefinition(item) => push_values(text, &item.values),
+        Definition::EnumTypeExtension(item) => push_values(text, &item.values),
+        Definition::InputObjectTypeDefinition(item) => push_input_fields(text, &item.fields),
+        Definition::InputObjectTypeExtension(item) => push_input_fields(text, &item.fields),
+        Definition::SchemaDefinition(item) => push_roots(text, &item.root_operations),
+        Definition::SchemaExtension(item) => push_roots(text, &item.root_operations),
+        Definition::ScalarTypeDefinition(_)
+        | Definition::ScalarTypeExtension(_)
+        | Definition::OperationDefinition(_)
+        | Definition::FragmentDefinition(_) => Ok(()),
+    }
+}
+
+fn push_definition_head(
+    text: &mut String,
+    kind: TypeKind,
+    name: &Name,
+    directives: &DirectiveList,
+) -> Result<(), AllocError>
+    ensures { OnOk result (string_bytes text.new ≡ string_bytes text.old ++ head_text Role.Definition kind name.now directives.now.0) }
+{
+    push_head(text, Role::Definition, kind, name, directives)
+}
+
+fn push_extension_head(
+    text: &mut String,
+    kind: TypeKind,
+    name: &Name,
+    directives: &DirectiveList,
+) -> Result<(), AllocError>
+    ensures { OnOk result (string_bytes text.new ≡ string_bytes text.old ++ head_text Role.Extension kind name.now directives.now.0) }
+{
+    push_head(text, Role::Extension, kind, name, directives)
+}
+
+/// The header of a type, and the directives of the type.
+fn push_head(
+    text: &mut String,
     role: Role,
     kind: TypeKind,
-    name: &'a Name,
-    directives: &'a DirectiveList,
-}
-
-impl<'a> Head<'a> {
-    ghost use Rattle.bench_notation.specs.declared.kind_words.Role.{Role};
-
-    fn definition(kind: TypeKind, name: &'a Name, directives: &'a DirectiveList) -> Head<'a>
-        ensures { result ≡ record { role = Role.Definition; kind = kind; name = name.entry; directives = directives.entry } }
-    {
-        Head {
-            role: Role::Definition,
-            kind,
-            name,
-            directives,
-        }
-    }
-
-    fn extension(kind: TypeKind, name: &'a Name, directives: &'a DirectiveList) -> Head<'a>
-        ensures { result ≡ record { role = Role.Extension; kind = kind; name = name.entry; directives = directives.entry } }
-    {
-        Head {
-            role: Role::Extension,
-            kind,
-            name,
-            directives,
-        }
-    }
-}
-
-fn push_head(text: &mut String, head: Head) -> Result<(), AllocError>
-    ensures { OnOk result (string_bytes text.new ≡ string_bytes text.old ++ head_says head.entry) }
+    name: &Name,
+    directives: &DirectiveList,
+) -> Result<(), AllocError>
+    ensures { OnOk result (string_bytes text.new ≡ string_bytes text.old ++ head_text role kind name.now directives.now.0) }
 {
-    text.push_str(head.role.word())?;
+    text.push_str(role.word())?;
     text.push_str(" ")?;
-    text.push_str(kind_word(head.kind))?;
-    push_named_line(text, " ", head.name)?;
-    push_directives(text, "@ ", head.directives.as_slice())
+    text.push_str(kind_word(kind))?;
+    push_named_line(text, " ", name)?;
+    push_directives(text, "@ ", directives.as_slice())
 }
 
-/// An object or interface type.
-fn push_with_fields(
+/// The header of the schema, and its directives.
+fn push_schema_head(
     text: &mut String,
-    head: Head,
+    role: Role,
+    directives: &DirectiveList,
+) -> Result<(), AllocError>
+    ensures { OnOk result (string_bytes text.new ≡ string_bytes text.old ++ schema_head_text role directives.now.0) }
+{
+    text.push_str(role.schema_word())?;
+    text.push_str("\n")?;
+    push_directives(text, "@ ", directives.as_slice())
+}
+
+/// What an object or interface type has.
+fn push_fields(
+    text: &mut String,
     interfaces: &Items<Name>,
     fields: &Items<Node<FieldDefinition>>,
 ) -> Result<(), AllocError>
-    ensures { OnOk result (string_bytes text.new ≡ string_bytes text.old ++ head_says head.entry ++ fields_text interfaces.now fields.now) }
+    ensures { OnOk result (string_bytes text.new ≡ string_bytes text.old ++ fields_text interfaces.now fields.now) }
 {
-    push_head(text, head)?;
     push_names(text, "implements ", interfaces.as_slice())?;
     for field in fields.as_slice() {
         push_field(text, field)?;
@@ -156,48 +192,34 @@ fn push_with_fields(
     Ok(())
 }
 
-fn push_union(text: &mut String, head: Head, members: &Items<Name>) -> Result<(), AllocError>
-    ensures { OnOk result (string_bytes text.new ≡ string_bytes text.old ++ head_says head.entry ++ names_text (codes "member ") members.now) }
-{
-    push_head(text, head)?;
-    push_names(text, "member ", members.as_slice())
-}
-
-fn push_enum(
+fn push_values(
     text: &mut String,
-    head: Head,
     values: &Items<Node<EnumValueDefinition>>,
 ) -> Result<(), AllocError>
-    ensures { OnOk result (string_bytes text.new ≡ string_bytes text.old ++ head_says head.entry ++ values_text values.now) }
+    ensures { OnOk result (string_bytes text.new ≡ string_bytes text.old ++ values_text values.now) }
 {
-    push_head(text, head)?;
     for value in values.as_slice() {
         push_named_line(text, "value ", &value.value)?;
     }
     Ok(())
 }
 
-fn push_input_object(
+fn push_input_fields(
     text: &mut String,
-    head: Head,
     fields: &Items<Node<InputValueDefinition>>,
 ) -> Result<(), AllocError>
-    ensures { OnOk result (string_bytes text.new ≡ string_bytes text.old ++ head_says head.entry ++ flat_map input_field_text fields.now) }
+    ensures { OnOk result (string_bytes text.new ≡ string_bytes text.old ++ input_fields_text fields.now) }
 {
-    push_head(text, head)?;
     for field in fields.as_slice() {
         push_field_line(text, &field.name, &field.ty, field.directives.as_slice())?;
     }
     Ok(())
 }
 
-fn push_directive_definition(
-    text: &mut String,
-    item: &DirectiveDefinition,
-) -> Result<(), AllocError>
-    ensures { OnOk result (string_bytes text.new ≡ string_bytes text.old ++ directive_text item.now) }
+/// What the definition of a directive has.
+fn push_directive_body(text: &mut String, item: &DirectiveDefinition) -> Result<(), AllocError>
+    ensures { OnOk result (string_bytes text.new ≡ string_bytes text.old ++ directive_body_text item.now) }
 {
-    push_named_line(text, "directive ", &item.name)?;
     push_arguments(text, item.arguments.as_slice())?;
     if item.repeatable {
         text.push_str("repeatable\n")?;
@@ -208,18 +230,12 @@ fn push_directive_definition(
     Ok(())
 }
 
-/// The header of the schema, its directives and its roots.
-fn push_schema(
+fn push_roots(
     text: &mut String,
-    role: Role,
-    directives: &DirectiveList,
     roots: &Items<Node<(OperationType, NamedType)>>,
 ) -> Result<(), AllocError>
-    ensures { OnOk result (string_bytes text.new ≡ string_bytes text.old ++ schema_text role directives.now.0 roots.now) }
+    ensures { OnOk result (string_bytes text.new ≡ string_bytes text.old ++ roots_text roots.now) }
 {
-    text.push_str(role.schema_word())?;
-    text.push_str("\n")?;
-    push_directives(text, "@ ", directives.as_slice())?;
     for root in roots.as_slice() {
         push_root(text, root)?;
     }

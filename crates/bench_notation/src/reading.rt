@@ -7,6 +7,7 @@ ghost use Rattle.bench_notation.specs.Refusals.{SaysNothing, WhenRefused};
 use crate::above::Above;
 use crate::item::OpenItem;
 use crate::line::{Line, read_line};
+use crate::names::Names;
 use crate::refusal::{LineError, ReadError, RefusedLine};
 use crate::words::lines_of;
 use graphql_ast::document::Document;
@@ -72,13 +73,19 @@ impl DocumentReader {
     }
 
     /// Takes one more line.
-    fn take_line(&mut self, alloc: Global, text: &str, number: usize) -> Result<(), LineError>
+    fn take_line<'a>(
+        &mut self,
+        names: &mut Names,
+        words: &mut Vec<&'a str>,
+        text: &'a str,
+        number: usize,
+    ) -> Result<(), LineError>
         ensures taken { OnOk result (Takes text.now (line_place number) self.old self.new) }
         ensures refused { IfErr result (WhenRefused (SaysNothing (above_next self.old.item) (line_place number) text.now)) }
     {
         let place = line_place(number);
-        let line = read_line(alloc, text, self.above(), place)?;
-        Ok(self.add(alloc, line, place)?)
+        let line = read_line(names, words, text, self.above(), place)?;
+        Ok(self.add(names.alloc(), line, place)?)
     }
 
     /// Adds what a line says. A component with no header above it adds nothing.
@@ -126,18 +133,20 @@ impl DocumentReader {
 }
 
 /// Reads these lines, the first of which is counted as line 1, and hands out all documents.
-fn read_lines(
+fn read_lines<'a>(
     alloc: Global,
-    lines: &[&str],
+    lines: &[&'a str],
     reader: &mut DocumentReader,
 ) -> Result<Vec<Document>, ReadError>
     ensures read { OnOk result (All IsLine (texts_of lines.now)) }
     ensures said { IfOk result (λ documents. ReadTo 1 (texts_of lines.now) reader.old documents.items) }
     ensures refused { IfErr result (IsReadErrorFrom reader.old (texts_of lines.now)) }
 {
+    let mut names = Names::new(alloc)?;
+    let mut words = Vec::new(alloc);
     for (index, line) in lines.iter().enumerate() {
         let number = index + 1;
-        match reader.take_line(alloc, *line, number) {
+        match reader.take_line(&mut names, &mut words, *line, number) {
             Ok(()) => {}
             Err(LineError::Refused(reason)) => {
                 return Err(ReadError::Refused(RefusedLine { number, reason }));

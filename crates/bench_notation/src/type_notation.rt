@@ -5,12 +5,13 @@ ghost use Rattle.bench_notation.specs.Line.{IsNameAt};
 ghost use Rattle.bench_notation.specs.Refusals.{IsBody, IsNoType, WhenRefused};
 ghost use Rattle.bench_notation.specs.Text.{type_text, opened_brackets};
 
+use crate::names::Names;
 use crate::refusal::{LineError, Reason};
-use crate::words::{after, before, read_name};
+use crate::words::{after, before};
 use graphql_ast::type_reference::Type;
 use graphql_nodes::collections::boxed::Boxed;
 use graphql_nodes::source::SourceSpan;
-use std::alloc::{AllocError, Global};
+use std::alloc::AllocError;
 
 /// How many brackets a type may open.
 pub const MOST_BRACKETS: u8 = 200;
@@ -18,7 +19,7 @@ pub const MOST_BRACKETS: u8 = 200;
 /// The type that a word is, with its name at this place. A word that is no type, or opens more than `brackets`
 /// brackets, is a bad word.
 pub fn read_type(
-    alloc: Global,
+    names: &mut Names,
     word: &str,
     brackets: u8,
     place: SourceSpan,
@@ -30,7 +31,7 @@ pub fn read_type(
 {
     let (body, is_required) = body_of(word);
     let Some(opened) = after(body, "[") else {
-        let name = read_name(alloc, body, place)?;
+        let name = names.read(body, place)?;
         return Ok(if is_required {
             Type::NonNullNamed(name)
         } else {
@@ -43,8 +44,8 @@ pub fn read_type(
     if brackets == 0 {
         return Err(LineError::Refused(Reason::BadWord));
     }
-    let element = read_type(alloc, inner, brackets - 1, place)?;
-    let element = Boxed::new(alloc, element)?;
+    let element = read_type(names, inner, brackets - 1, place)?;
+    let element = Boxed::new(names.alloc(), element)?;
     Ok(if is_required {
         Type::NonNullList(element)
     } else {

@@ -1,12 +1,7 @@
-//! The lines of a text, the words of a line, and names.
-ghost use Rattle.std.specs.Prelude.{◌≡◌, ◌≢◌, ◌++◌, ℕ, List, IfErr, IfOk, MatchOption, Some};
-ghost use Rattle.graphql_nodes.specs.NameSyntax.{IsName};
-ghost use Rattle.bench_notation.specs.Line.{lines_of, texts_of, words_of, IsNameAt};
-ghost use Rattle.bench_notation.specs.Refusals.{WhenRefused};
+//! The lines of a text, the words of a line, and what a word begins or ends with.
+ghost use Rattle.std.specs.Prelude.{◌≡◌, ◌≢◌, ◌++◌, ℕ, List, IfOk, MatchOption, OnOk};
+ghost use Rattle.bench_notation.specs.Line.{lines_of, texts_of, words_of};
 
-use crate::refusal::{LineError, Reason};
-use graphql_nodes::name::Name;
-use graphql_nodes::source::SourceSpan;
 use std::alloc::{AllocError, Global};
 
 /// The lines of a text. Each ends by a line feed, which the last may lack.
@@ -16,11 +11,12 @@ pub fn lines_of(alloc: Global, text: &str) -> Result<Vec<&str>, AllocError>
     text.split('\n').collect(alloc)
 }
 
-/// The words of a line, which stand between its spaces.
-pub fn words_of(alloc: Global, line: &str) -> Result<Vec<&str>, AllocError>
-    ensures { IfOk result (λ words. texts_of words.items ≡ words_of line.now) }
+/// Takes the words of a line, which stand between its spaces, in place of those that were there.
+pub fn take_words<'a>(words: &mut Vec<&'a str>, line: &'a str) -> Result<(), AllocError>
+    ensures { OnOk result (texts_of words.new.items ≡ words_of line.now) }
 {
-    line.split(' ').collect(alloc)
+    words.clear();
+    words.extend(line.split(' '))
 }
 
 /// What follows `prefix` in a text that begins with it, and none in any other.
@@ -35,17 +31,4 @@ pub fn before<'a>(text: &'a str, suffix: &str) -> Option<&'a str>
     ensures { MatchOption result ((front : List ℕ) → text.now ≢ front ++ suffix.now) (λ front. text.now ≡ front.now ++ suffix.now) }
 {
     text.strip_suffix(suffix)
-}
-
-/// The name that a word is, at this place. A word that is no name is a bad word.
-pub fn read_name(alloc: Global, word: &str, place: SourceSpan) -> Result<Name, LineError>
-    ensures text { IfOk result (λ name. name.text ≡ word.now) }
-    ensures name { IfOk result (IsNameAt place) }
-    ensures refused { IfErr result (WhenRefused (¬ IsName word.now)) }
-{
-    if !Name::is_valid_syntax(word) {
-        return Err(LineError::Refused(Reason::BadWord));
-    }
-    let name = Name::new_unchecked(alloc, word)?;
-    Ok(name.with_location(place))
 }

@@ -2,7 +2,7 @@
 use Rattle.std.proofs.Common.{◌≡◌, ◌++◌, string_bytes, take}
 use Rattle.std.specs.List.{flat_map}
 use Rattle.bench_notation.specs.Text.{input_field_text}
-use Rattle.bench_notation.proofs.printing.push_input_object.Given as goal
+use Rattle.bench_notation.proofs.printing.push_input_fields.Given as goal
 
 abbrev pub invariant-loop-field : goal.invariant-loop-field
 invariant-loop-field l = string_bytes l.text ≡ string_bytes l.initial.text ++ flat_map input_field_text (take l.field-index l.field-items)
