@@ -11,3 +11,4 @@ pub mod named;
 pub use crate::component::{Component, ComponentName};
 pub use crate::directive_list::DirectiveList;
 pub use crate::extension::{ComponentOrigin, ExtensionId, ExtensionSource, IdsSpent};
+pub use crate::get_all::GetAll;

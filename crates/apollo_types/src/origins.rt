@@ -1,6 +1,7 @@
 //! The origins of the components of a type or of a schema's definition.
-ghost use Rattle.std.specs.Prelude.{◌≡◌, ◌++◌, length, map};
-ghost use Rattle.std.specs.Iterator.{at_most};
+ghost use Rattle.std.specs.Prelude.{◌≡◌, ◌++◌, length, map, IfSome};
+ghost use Rattle.std.specs.Iterator.{UpTo, at_most};
+ghost use Rattle.std.specs.Iterator.SizeHint.{IsWithinCount, IsExactHint};
 ghost use Rattle.std.specs.Map.Iter.{TakesFirst, deref};
 ghost use Rattle.apollo_types.specs.OriginsLeft.{part_origins, OriginsInOrder};
 ghost use Rattle.apollo_types.specs.WriteOut.{origin_of};
@@ -43,6 +44,20 @@ impl<'a> Part<'a> {
                 let (_, root) = roots.next()?;
                 Some(&root.origin)
             }
+        }
+    }
+
+    /// How many components are left.
+    fn len(&self) -> usize
+        ensures { result ≡ length (part_origins self.now) }
+    {
+        match self {
+            Part::Nothing => 0,
+            Part::Names(names) => names.len(),
+            Part::Fields(fields) => fields.len(),
+            Part::EnumValues(values) => values.len(),
+            Part::InputFields(fields) => fields.len(),
+            Part::Roots(roots) => roots.len(),
         }
     }
 }
@@ -113,6 +128,21 @@ impl<'a> Iterator for Origins<'a> {
             return Some(origin);
         }
         self.values.next_origin()
+    }
+
+    /// How many origins are left, twice; without the second where a `usize` can't say it.
+    fn size_hint(&self) -> (usize, Option<usize>)
+        ensures lower { IsWithinCount result.0 (at_most (length self.now)) }
+        ensures upper { IfSome result.1 (UpTo (at_most (length self.now))) }
+        ensures exact { IsExactHint result (length self.now) }
+    {
+        match self.directives.len().checked_add(self.names.len()) {
+            Some(listed) => {
+                let values = self.values.len();
+                (listed.saturating_add(values), listed.checked_add(values))
+            }
+            None => (usize::MAX, None),
+        }
     }
 }
 
