@@ -12,4 +12,5 @@ pub mod parts_by_origin;
 pub use crate::component::{Component, ComponentName};
 pub use crate::directive_list::DirectiveList;
 pub use crate::extension::{ComponentOrigin, ExtensionId, ExtensionSource, IdsSpent};
+pub use crate::get_all::GetAll;
 pub use crate::parts_by_origin::PartsByOrigin;

@@ -2,6 +2,7 @@ pub mod BuiltInLemmas
 pub mod CloneLemmas
 pub mod Ends
 pub mod ImplementerLemmas
+pub mod LookupEquality
 pub mod SchemaEquality
 pub mod Stands
 pub mod SubtypeLemmas

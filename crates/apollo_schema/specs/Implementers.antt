@@ -1,6 +1,6 @@
 -- The types that implement interfaces, over the types of any schema value alone: GraphQL specification of October 2021,
 -- sections 3.6 and 3.7.
-use Rattle.std.specs.Prelude.{Bool, true, false, ◌&&◌, ◌||◌, List, map, filter, Option, None, Some}
+use Rattle.std.specs.Prelude.{Bool, false, ◌&&◌, ◌||◌, List, map, filter, Option, None, Some}
 use Rattle.std.specs.List.{flat_map}
 use Rattle.graphql_nodes.specs.KeySets.{has_key}
 use Rattle.graphql_nodes.specs.NameView.{NameView}

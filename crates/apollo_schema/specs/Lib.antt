@@ -2,6 +2,7 @@ pub mod BuildAnswers
 pub mod BuilderHolds
 pub mod BuilderStands
 pub mod Built
+pub mod EqualLookups
 pub mod EqualSchemas
 pub mod ImplementerNames
 pub mod Implementers

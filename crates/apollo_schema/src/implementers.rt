@@ -1,6 +1,7 @@
 //! The types that implement an interface: GraphQL specification of October 2021, sections 3.6 and 3.7.
-ghost use Rattle.std.specs.Prelude.{◌≡◌, ◌++◌, OnOk};
-ghost use Rattle.std.specs.Iterator.{YieldsFirstRef, item_count};
+ghost use Rattle.std.specs.Prelude.{◌≡◌, ◌++◌, length, IfSome, OnOk};
+ghost use Rattle.std.specs.Iterator.{YieldsFirstRef, UpTo, item_count};
+ghost use Rattle.std.specs.Iterator.SizeHint.{IsWithinCount, IsExactHint};
 ghost use Rattle.apollo_schema.specs.ImplementerNames.{names_left};
 ghost use Rattle.apollo_schema.specs.Noted.{no_implementers, with_name};
 
@@ -91,6 +92,20 @@ impl<'a> Iterator for ImplementersIter<'a> {
             Some(name) => Some(name),
             None => self.interfaces.next(),
         }
+    }
+
+    /// How many names are left, twice; without the second where a `usize` can't say it.
+    fn size_hint(&self) -> (usize, Option<usize>)
+        ensures lower { IsWithinCount result.0 (item_count names_left self.now) }
+        ensures upper { IfSome result.1 (UpTo (item_count names_left self.now)) }
+        ensures exact { IsExactHint result (length (names_left self.now)) }
+    {
+        let objects = self.objects.len();
+        let interfaces = self.interfaces.len();
+        (
+            objects.saturating_add(interfaces),
+            objects.checked_add(interfaces),
+        )
     }
 }
 

@@ -1,7 +1,9 @@
-//! Laws of the definitions, for those who build on them; and what `==` answers at schemas and at the errors of builders.
+//! Laws of the definitions, for those who build on them; and what `==` answers at schemas, at what lookups answer and at
+//! the errors of builders.
 ghost use Rattle.std.specs.Prelude.{◌⊎◌, ◌↔◌, List, IsTrue, IsSome};
 ghost use Rattle.apollo_meaning.specs.Items.ListItems.{Added};
 ghost use Rattle.apollo_schema.specs.BuilderStands.{StandsFor, HasFailed, first_number};
+ghost use Rattle.apollo_schema.specs.EqualLookups.{bare_implementers, bare_field_lookup_error};
 ghost use Rattle.apollo_schema.specs.EqualSchemas.{AreEqualSchemas};
 ghost use Rattle.apollo_schema.specs.Implementers.{is_implementer};
 ghost use Rattle.apollo_schema.specs.Lookups.{Types, type_at, interface_node, is_subtype};
@@ -11,6 +13,8 @@ ghost use Rattle.graphql_nodes.specs.NameView.{NameView};
 ghost use Rattle.graphql_nodes.specs.SameText.{same_text};
 ghost use Rattle.graphql_nodes.specs.Tables.{HasUniqueKeys};
 
+use crate::field_lookup_error::FieldLookupError;
+use crate::implementers::Implementers;
 use crate::schema::Schema;
 use crate::schema_builder::SchemaBuilder;
 use apollo_folding::builder_error::BuilderError;
@@ -20,6 +24,14 @@ use apollo_folding::builder_error::BuilderError;
 /// section 3.
 pub fn equality_of_schemas()
     ensures { (a b : Schema) → IsTrue (⟦<Schema as PartialEq>⟧.eq a b) ↔ AreEqualSchemas a b }
+{}
+
+/// Implementers are equal exactly where they have the same names of object types and the same of interface types, in any
+/// order; and errors of fields where both say that there is no type, or name one key and equal types. Places and origins
+/// are left out. GraphQL specification of October 2021, sections 3.6 and 3.7.
+pub fn equality_of_lookups<'schema>()
+    ensures implementers { ComparesBy ⟦<Implementers as PartialEq>⟧.eq bare_implementers }
+    ensures field_lookup_error { ComparesBy ⟦<FieldLookupError<'schema> as PartialEq>⟧.eq bare_field_lookup_error }
 {}
 
 /// The errors of builders are equal exactly where they are one.

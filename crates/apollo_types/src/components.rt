@@ -1,6 +1,7 @@
 //! The components of a type or of a schema's definition, one by one.
-ghost use Rattle.std.specs.Prelude.{◌≡◌, ◌++◌, length, map, IfOk};
-ghost use Rattle.std.specs.Iterator.{at_most};
+ghost use Rattle.std.specs.Prelude.{◌≡◌, ◌++◌, length, map, IfOk, IfSome};
+ghost use Rattle.std.specs.Iterator.{UpTo, at_most};
+ghost use Rattle.std.specs.Iterator.SizeHint.{IsWithinCount, IsExactHint};
 ghost use Rattle.std.specs.Map.Iter.{TakesFirst};
 ghost use Rattle.apollo_types.specs.Components.{of_directive, of_field, of_value, of_input_field, component_seen, part_components, ComponentsInOrder};
 
@@ -96,6 +97,20 @@ impl<'a> Part<'a> {
             }
         }
     }
+
+    /// How many components are left.
+    fn len(&self) -> usize
+        ensures { result ≡ length (part_components self.now) }
+    {
+        match self {
+            Part::Nothing => 0,
+            Part::Names(names) => names.len(),
+            Part::Fields(fields) => fields.len(),
+            Part::EnumValues(values) => values.len(),
+            Part::InputFields(fields) => fields.len(),
+            Part::Roots(roots) => roots.len(),
+        }
+    }
 }
 
 /// The components of a type or of a schema's definition, in order: directives, then names that it lists, then what stands
@@ -157,6 +172,21 @@ impl<'a> Iterator for Components<'a> {
             return Some(name);
         }
         self.values.next()
+    }
+
+    /// How many components are left, twice; without the second where a `usize` can't say it.
+    fn size_hint(&self) -> (usize, Option<usize>)
+        ensures lower { IsWithinCount result.0 (at_most (length self.now)) }
+        ensures upper { IfSome result.1 (UpTo (at_most (length self.now))) }
+        ensures exact { IsExactHint result (length self.now) }
+    {
+        match self.directives.len().checked_add(self.names.len()) {
+            Some(listed) => {
+                let values = self.values.len();
+                (listed.saturating_add(values), listed.checked_add(values))
+            }
+            None => (usize::MAX, None),
+        }
     }
 }
 

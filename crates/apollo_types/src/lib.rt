@@ -21,6 +21,8 @@ pub use crate::extended_type::ExtendedType;
 pub use crate::input_object_type::InputObjectType;
 pub use crate::interface_type::InterfaceType;
 pub use crate::object_type::ObjectType;
+pub use crate::origins::Origins;
+pub use crate::root_operations::RootOperations;
 pub use crate::scalar_type::ScalarType;
 pub use crate::schema_definition::SchemaDefinition;
 pub use crate::union_type::UnionType;

@@ -1,6 +1,7 @@
 //! The origins of the components of a type or of a schema's definition.
-ghost use Rattle.std.specs.Prelude.{◌≡◌, length};
-ghost use Rattle.std.specs.Iterator.{at_most};
+ghost use Rattle.std.specs.Prelude.{◌≡◌, length, IfSome};
+ghost use Rattle.std.specs.Iterator.{UpTo, at_most};
+ghost use Rattle.std.specs.Iterator.SizeHint.{IsWithinCount, IsExactHint};
 ghost use Rattle.std.specs.Map.Iter.{TakesFirst, deref};
 ghost use Rattle.apollo_component.specs.WriteOut.{origins_in};
 ghost use Rattle.apollo_types.specs.Components.{OriginsInOrder};
@@ -51,6 +52,15 @@ impl<'a> Iterator for Origins<'a> {
     /// The next origin, if there is one.
     fn next(&mut self) -> Option<&'a ComponentOrigin> {
         Some(self.components.next()?.origin())
+    }
+
+    /// How many origins are left, twice; without the second where a `usize` can't say it.
+    fn size_hint(&self) -> (usize, Option<usize>)
+        ensures lower { IsWithinCount result.0 (at_most (length self.now)) }
+        ensures upper { IfSome result.1 (UpTo (at_most (length self.now))) }
+        ensures exact { IsExactHint result (length self.now) }
+    {
+        self.components.size_hint()
     }
 }
 

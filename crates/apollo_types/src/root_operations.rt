@@ -1,6 +1,7 @@
 //! The roots of a schema's definition.
-ghost use Rattle.std.specs.Prelude.{◌≡◌, length};
-ghost use Rattle.std.specs.Iterator.{at_most};
+ghost use Rattle.std.specs.Prelude.{◌≡◌, ◌≤◌, length, IfSome};
+ghost use Rattle.std.specs.Iterator.{UpTo, at_most};
+ghost use Rattle.std.specs.Iterator.SizeHint.{IsWithinCount, IsExactHint};
 ghost use Rattle.std.specs.Map.Iter.{TakesFirst};
 ghost use Rattle.apollo_types.specs.Components.{RootsInOrder};
 ghost use Rattle.apollo_types.specs.SchemaRoots.{named_roots, deref_root};
@@ -61,6 +62,29 @@ impl<'a> Iterator for RootOperations<'a> {
             }
         }
         None
+    }
+
+    /// How many roots are left, twice.
+    fn size_hint(&self) -> (usize, Option<usize>)
+        ensures lower { IsWithinCount result.0 (at_most (length self.now)) }
+        ensures upper { IfSome result.1 (UpTo (at_most (length self.now))) }
+        ensures exact { IsExactHint result (length self.now) }
+    {
+        let len = self.len();
+        (len, Some(len))
+    }
+}
+
+impl<'a> ExactSizeIterator for RootOperations<'a> {
+    /// How many roots are left.
+    fn len(&self) -> usize {
+        let mut count = 0;
+        for operation_type in self.operation_types.as_slice() {
+            if self.definition.root_operation(*operation_type).is_some() {
+                count += 1;
+            }
+        }
+        count
     }
 }
 
