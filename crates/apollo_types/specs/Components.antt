@@ -1,11 +1,10 @@
 -- The components of types and of a schema's definition, each with its origin, in order: GraphQL specification of October
 -- 2021, sections 3.3 and 3.5 to 3.10.
-use Rattle.std.specs.Prelude.{List, [], ◌++◌, map}
+use Rattle.std.specs.Prelude.{List, [], map}
 use Rattle.std.specs.Map.Iter.{ShowsInOrder, deref}
 use Rattle.std.specs.Slice.Iter.{iter_rest}
 use Rattle.graphql_nodes.specs.NameView.{NameView}
 use Rattle.graphql_nodes.specs.NodeView.{NodeView}
-use Rattle.graphql_nodes.specs.Tables.{values_of}
 use Rattle.graphql_nodes.specs.declared.operation_type.OperationType.{OperationType}
 use Rattle.graphql_ast.specs.declared.definition_parts.DefinitionPart.TheVariants as parts
 use Rattle.graphql_ast.specs.declared.directive.Directive.{Directive}
