@@ -24,7 +24,7 @@ empty v = by v.body
 pub returns : goal.returns
 returns c =
     let v = c.args.extension.now in
-    let name : c.in_ok-name.field-0 ≡ v.name.now = search rules in
+    let name : c.in_ok-name.name ≡ v.name.now = search rules in
     ap item_of c.in_ok-made.ensures
     ∙ (λ i. item_of (type_definition (c.kind.ensures i) None (name i) (c.new-parts.ensures i) v.location))
     ∙ empty v
