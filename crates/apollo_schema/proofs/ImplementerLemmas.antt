@@ -1,7 +1,7 @@
 -- What `implementers_map` makes of types, one after another.
-use Rattle.std.proofs.Common.{◌≡◌, ℕ, Bool, true, false, cond, not, ◌||◌, ◌&&◌, List, [], ◌∷◌, ◌++◌, Some, None, is_some, map, filter, refl, sym, ap, ◌∙◌, append_assoc, true≢false}
+use Rattle.std.proofs.Common.{◌≡◌, ℕ, Bool, true, false, cond, not, ◌||◌, ◌&&◌, List, [], ◌∷◌, ◌++◌, Some, None, map, filter, refl, sym, ap, ◌∙◌, append_assoc, true≢false}
 use Rattle.std.specs.Prelude.{unwrap_or}
-use Rattle.std.specs.List.{list_any, flat_map, IsDistinct, AllByRecursion}
+use Rattle.std.specs.List.{list_any, flat_map}
 use Rattle.std.specs.Map.{lookup, keys_of, set_value}
 use Rattle.std.specs.Cmp.{IsEquivalence, on_equiv}
 use Rattle.std.specs.Cmp.Lexicographic.{nat_list_eq_equiv}
@@ -16,7 +16,7 @@ use Rattle.graphql_nodes.specs.SameText.{same_text}
 use Rattle.graphql_nodes.proofs.Texts.{same-true, same-flip, same-refl}
 use Rattle.apollo_component.specs.FirstOfEach.{first_of_each}
 use Rattle.apollo_component.specs.declared.component.ComponentName.{ComponentName}
-use Rattle.apollo_component.proofs.FirstOfEachLemmas.{first_of_each-push_new, first_of_each-push_old, list_any-first_of_each}
+use Rattle.apollo_component.proofs.FirstOfEachLemmas.{first_of_each-push_old, list_any-first_of_each}
 use Rattle.apollo_component.proofs.Tabled.{tabled, first_of_each-distinct, first_of_each-insert, tabled-insert, lookup-tabled, insert_entry-found}
 use Rattle.apollo_types.specs.TypeKinds.{is_object, is_interface}
 use Rattle.apollo_types.specs.declared.extended_type.ExtendedType.{ExtendedType}

@@ -17,7 +17,8 @@ use Rattle.apollo_types.specs.declared.extended_type.ExtendedType.{ExtendedType}
 use Rattle.apollo_types.specs.declared.extended_type.ExtendedType.TheVariants.{Scalar, Object, Interface, Union, Enum, InputObject}
 use Rattle.apollo_schema.specs.Lookups.{Types, type_at, interface_node, declares, interfaces_of, is_subtype, is_subtype_of}
 use Rattle.apollo_schema.specs.Implementers.{names_declared, implementers_of, is_among, is_implementer}
-use Rattle.apollo_schema.proofs.ImplementerLemmas.{names_equiv, neither, listed-names, lookup-tabled}
+use Rattle.apollo_component.proofs.Tabled.{lookup-tabled}
+use Rattle.apollo_schema.proofs.ImplementerLemmas.{names_equiv, neither, listed-names}
 
 -- where no type declares an interface, the type of a name doesn't
 undeclared : (types : Types) (test : NameView → Bool) (i : NameView) → list_any (same_text i) (flat_map (λ e. names_declared e.1) types) ≡ false → option_map_or (declares i) (lookup test types) false ≡ false

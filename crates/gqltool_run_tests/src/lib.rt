@@ -4,4 +4,6 @@
 #[cfg(test)]
 mod failures;
 #[cfg(test)]
+mod many_extensions;
+#[cfg(test)]
 mod streams;
