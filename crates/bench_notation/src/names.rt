@@ -9,31 +9,33 @@ use graphql_nodes::name::Name;
 use graphql_nodes::source::SourceSpan;
 use std::alloc::{AllocError, Global};
 
-/// How many names are kept at most.
-const SLOTS: usize = 1024;
+/// How many names are at hand at most, so that finding them stays quick.
+const MOST_NAMES: usize = 8192;
 
-/// The names that are at hand. Each has its slot, from which the next name of that slot drives it out.
+/// The names that are at hand. Each has a place that goes by its text, from which the next name of that place drives it
+/// out.
 pub struct Names {
-    slots: Vec<Option<Name>>,
+    kept: Vec<Option<Name>>,
 }
 
 impl Drop for Names {
     fn drop(self) {
-        let Self { slots: _ } = self;
+        let Self { kept: _ } = self;
     }
 }
 
 impl Names {
-    /// No name is at hand yet. The error is want of memory.
-    pub fn new(alloc: Global) -> Result<Names, AllocError> {
-        let mut slots = Vec::with_capacity(alloc, SLOTS)?;
-        slots.resize_with(SLOTS, || None)?;
-        Ok(Names { slots })
+    /// Room for about this many names, none of which is at hand yet. The error is want of memory.
+    pub fn new(alloc: Global, count: usize) -> Result<Names, AllocError> {
+        let count = count.min(MOST_NAMES);
+        let mut kept = Vec::with_capacity(alloc, count)?;
+        kept.resize_with(count, || None)?;
+        Ok(Names { kept })
     }
 
     /// The allocator of the names.
     pub fn alloc(&self) -> Global {
-        *self.slots.allocator()
+        *self.kept.allocator()
     }
 
     /// The name that a word is, at this place. A word that is no name is a bad word.
@@ -52,25 +54,25 @@ impl Names {
     fn shared(&mut self, word: &str) -> Result<Name, AllocError>
         ensures { IfOk result (λ name. name.text ≡ word.now) }
     {
-        let slot = slot_of(word);
-        if let Some(Some(name)) = self.slots.get(slot) {
+        let index = index_of(word, self.kept.len());
+        if let Some(Some(name)) = self.kept.get(index) {
             if name.as_str() == word {
                 return name.clone();
             }
         }
         let name = Name::new_unchecked(self.alloc(), word)?;
-        if let Some(kept) = self.slots.get_mut(slot) {
+        if let Some(kept) = self.kept.get_mut(index) {
             *kept = Some(name.clone()?);
         }
         Ok(name)
     }
 }
 
-/// The slot of a word, by a hash of it (FNV-1a).
-fn slot_of(word: &str) -> usize {
+/// Where a word has its place among this many: a hash of it (FNV-1a), brought down to them.
+fn index_of(word: &str, count: usize) -> usize {
     let mut hash: u32 = 0x811c_9dc5;
     for byte in word.as_bytes() {
         hash = (hash ^ u32::from(*byte)).wrapping_mul(0x0100_0193);
     }
-    (hash ^ (hash >> 16)) as usize % SLOTS
+    (u64::from(hash).wrapping_mul(count as u64) >> 32) as usize
 }
