@@ -12,15 +12,26 @@ use std::alloc::{AllocError, Global};
 /// How many names are at hand at most, so that finding them stays quick.
 const MOST_NAMES: usize = 8192;
 
-/// The names that are at hand. Each has a place that goes by its text, from which the next name of that place drives it
-/// out.
+/// A name that is at hand, with the hash of its text.
+struct Kept {
+    hash: u32,
+    name: Name,
+}
+
+impl Drop for Kept {
+    fn drop(self) {
+        let Self { hash: _, name: _ } = self;
+    }
+}
+
+/// The names that are at hand. Each has a place that goes by its text, and the first name of that place keeps it.
 pub struct Names {
-    kept: Vec<Option<Name>>,
+    places: Vec<Option<Kept>>,
 }
 
 impl Drop for Names {
     fn drop(self) {
-        let Self { kept: _ } = self;
+        let Self { places: _ } = self;
     }
 }
 
@@ -28,14 +39,14 @@ impl Names {
     /// Room for about this many names, none of which is at hand yet. The error is want of memory.
     pub fn new(alloc: Global, count: usize) -> Result<Names, AllocError> {
         let count = count.min(MOST_NAMES);
-        let mut kept = Vec::with_capacity(alloc, count)?;
-        kept.resize_with(count, || None)?;
-        Ok(Names { kept })
+        let mut places = Vec::with_capacity(alloc, count)?;
+        places.resize_with(count, || None)?;
+        Ok(Names { places })
     }
 
     /// The allocator of the names.
     pub fn alloc(&self) -> Global {
-        *self.kept.allocator()
+        *self.places.allocator()
     }
 
     /// The name that a word is, at this place. A word that is no name is a bad word.
@@ -50,29 +61,41 @@ impl Names {
         Ok(self.shared(word)?.with_location(place))
     }
 
-    /// A name of this text, which is at hand from now on.
+    /// A name of this text, which is at hand from now on if its place is free.
     fn shared(&mut self, word: &str) -> Result<Name, AllocError>
         ensures { IfOk result (λ name. name.text ≡ word.now) }
     {
-        let index = index_of(word, self.kept.len());
-        if let Some(Some(name)) = self.kept.get(index) {
-            if name.as_str() == word {
-                return name.clone();
+        let alloc = self.alloc();
+        let hash = hash_of(word);
+        let index = index_of(hash, self.places.len());
+        let Some(place) = self.places.get_mut(index) else {
+            return Name::new_unchecked(alloc, word);
+        };
+        match place {
+            Some(kept) if kept.hash == hash && kept.name.as_str() == word => kept.name.clone(),
+            Some(_) => Name::new_unchecked(alloc, word),
+            None => {
+                let name = Name::new_unchecked(alloc, word)?;
+                *place = Some(Kept {
+                    hash,
+                    name: name.clone()?,
+                });
+                Ok(name)
             }
         }
-        let name = Name::new_unchecked(self.alloc(), word)?;
-        if let Some(kept) = self.kept.get_mut(index) {
-            *kept = Some(name.clone()?);
-        }
-        Ok(name)
     }
 }
 
-/// Where a word has its place among this many: a hash of it (FNV-1a), brought down to them.
-fn index_of(word: &str, count: usize) -> usize {
+/// A hash of a word (FNV-1a).
+fn hash_of(word: &str) -> u32 {
     let mut hash: u32 = 0x811c_9dc5;
     for byte in word.as_bytes() {
         hash = (hash ^ u32::from(*byte)).wrapping_mul(0x0100_0193);
     }
+    hash
+}
+
+/// Where a word of this hash has its place among this many.
+fn index_of(hash: u32, count: usize) -> usize {
     (u64::from(hash).wrapping_mul(count as u64) >> 32) as usize
 }
