@@ -9,31 +9,44 @@ use graphql_nodes::name::Name;
 use graphql_nodes::source::SourceSpan;
 use std::alloc::{AllocError, Global};
 
-/// How many names are kept at most.
-const SLOTS: usize = 1024;
+/// How many names are at hand at most, so that finding them stays quick.
+const MOST_NAMES: usize = 8192;
 
-/// The names that are at hand. Each has its slot, from which the next name of that slot drives it out.
+/// A name that is at hand, with the hash of its text.
+struct Kept {
+    hash: u32,
+    name: Name,
+}
+
+impl Drop for Kept {
+    fn drop(self) {
+        let Self { hash: _, name: _ } = self;
+    }
+}
+
+/// The names that are at hand. Each has a place that goes by its text, and the first name of that place keeps it.
 pub struct Names {
-    slots: Vec<Option<Name>>,
+    places: Vec<Option<Kept>>,
 }
 
 impl Drop for Names {
     fn drop(self) {
-        let Self { slots: _ } = self;
+        let Self { places: _ } = self;
     }
 }
 
 impl Names {
-    /// No name is at hand yet. The error is want of memory.
-    pub fn new(alloc: Global) -> Result<Names, AllocError> {
-        let mut slots = Vec::with_capacity(alloc, SLOTS)?;
-        slots.resize_with(SLOTS, || None)?;
-        Ok(Names { slots })
+    /// Room for about this many names, none of which is at hand yet. The error is want of memory.
+    pub fn new(alloc: Global, count: usize) -> Result<Names, AllocError> {
+        let count = count.min(MOST_NAMES);
+        let mut places = Vec::with_capacity(alloc, count)?;
+        places.resize_with(count, || None)?;
+        Ok(Names { places })
     }
 
     /// The allocator of the names.
     pub fn alloc(&self) -> Global {
-        *self.slots.allocator()
+        *self.places.allocator()
     }
 
     /// The name that a word is, at this place. A word that is no name is a bad word.
@@ -48,29 +61,41 @@ impl Names {
         Ok(self.shared(word)?.with_location(place))
     }
 
-    /// A name of this text, which is at hand from now on.
+    /// A name of this text, which is at hand from now on if its place is free.
     fn shared(&mut self, word: &str) -> Result<Name, AllocError>
         ensures { IfOk result (λ name. name.text ≡ word.now) }
     {
-        let slot = slot_of(word);
-        if let Some(Some(name)) = self.slots.get(slot) {
-            if name.as_str() == word {
-                return name.clone();
+        let alloc = self.alloc();
+        let hash = hash_of(word);
+        let index = index_of(hash, self.places.len());
+        let Some(place) = self.places.get_mut(index) else {
+            return Name::new_unchecked(alloc, word);
+        };
+        match place {
+            Some(kept) if kept.hash == hash && kept.name.as_str() == word => kept.name.clone(),
+            Some(_) => Name::new_unchecked(alloc, word),
+            None => {
+                let name = Name::new_unchecked(alloc, word)?;
+                *place = Some(Kept {
+                    hash,
+                    name: name.clone()?,
+                });
+                Ok(name)
             }
         }
-        let name = Name::new_unchecked(self.alloc(), word)?;
-        if let Some(kept) = self.slots.get_mut(slot) {
-            *kept = Some(name.clone()?);
-        }
-        Ok(name)
     }
 }
 
-/// The slot of a word, by a hash of it (FNV-1a).
-fn slot_of(word: &str) -> usize {
+/// A hash of a word (FNV-1a).
+fn hash_of(word: &str) -> u32 {
     let mut hash: u32 = 0x811c_9dc5;
     for byte in word.as_bytes() {
         hash = (hash ^ u32::from(*byte)).wrapping_mul(0x0100_0193);
     }
-    (hash ^ (hash >> 16)) as usize % SLOTS
+    hash
+}
+
+/// Where a word of this hash has its place among this many.
+fn index_of(hash: u32, count: usize) -> usize {
+    (u64::from(hash).wrapping_mul(count as u64) >> 32) as usize
 }

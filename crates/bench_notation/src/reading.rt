@@ -142,7 +142,7 @@ fn read_lines<'a>(
     ensures said { IfOk result (λ documents. ReadTo 1 (texts_of lines.now) reader.old documents.items) }
     ensures refused { IfErr result (IsReadErrorFrom reader.old (texts_of lines.now)) }
 {
-    let mut names = Names::new(alloc)?;
+    let mut names = Names::new(alloc, lines.len())?;
     let mut words = Vec::new(alloc);
     for (index, line) in lines.iter().enumerate() {
         let number = index + 1;
