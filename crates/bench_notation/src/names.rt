@@ -9,8 +9,8 @@ use graphql_nodes::name::Name;
 use graphql_nodes::source::SourceSpan;
 use std::alloc::{AllocError, Global};
 
-/// How many names are at hand at most, so that finding them stays quick.
-const MOST_NAMES: usize = 8192;
+/// How many names are at hand at most: so few that they stay near in memory.
+const MOST_NAMES: usize = 1024;
 
 /// A name that is at hand, with the hash of its text.
 struct Kept {
