@@ -1,20 +1,11 @@
 //! `gqltool`: schemas and documents from standard input, written to standard output.
 #![tactic(auto)]
 
+use gqltool_run::arguments::words;
 use gqltool_run::running::run;
 use gqltool_run::status::Status;
-use std::alloc::Global;
+use std::io;
 use std::process::ExitCode;
-use std::{env, io};
-
-/// The words after the program's name. Where one of them is not UTF-8 there are none, which no command takes.
-fn words(rt: &HostRuntime, alloc: Global) -> io::Result<Vec<String>> {
-    match env::args(rt) {
-        Ok(arguments) => Ok(arguments.skip(1).collect(alloc)?),
-        Err(error) if error.kind() == io::ErrorKind::InvalidData => Ok(Vec::new(alloc)),
-        Err(error) => Err(error),
-    }
-}
 
 fn run_on_streams(rt: &HostRuntime) -> io::Result<Status> {
     let alloc = rt.alloc();

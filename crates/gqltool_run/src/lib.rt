@@ -2,6 +2,7 @@
 #![tactic(auto)]
 
 pub mod answer;
+pub mod arguments;
 pub mod command;
 pub mod failure;
 mod fault_printing;

@@ -86,7 +86,8 @@ fn answer_command(alloc: Global, command: Command, input: &str) -> Result<Answer
     }
 }
 
-fn write_out<O: Write>(output: &mut O, text: &str) -> io::Result<()>
+/// Writes all of a text, and has it written through.
+pub fn write_out<O: Write>(output: &mut O, text: &str) -> io::Result<()>
     ensures { OnOk result (Appends (O.contents output.old) (O.contents output.new) text.now) }
 {
     output.write_all(text.as_bytes())?;

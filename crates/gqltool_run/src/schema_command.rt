@@ -84,7 +84,7 @@ fn begun(alloc: Global, options: SchemaOptions) -> Result<SchemaBuilder, AllocEr
 /// The schema of the documents, and its faults.
 ///
 /// `Memory` is want of memory; `ExtensionIds` comes only where the extensions folded pass the largest number.
-fn built(
+pub fn built(
     alloc: Global,
     options: SchemaOptions,
     documents: &[Document],

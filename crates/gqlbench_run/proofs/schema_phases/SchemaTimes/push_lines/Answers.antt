@@ -1,0 +1,22 @@
+use Rattle.std.proofs.Common.{◌++◌, [], ◌∷◌, ap, append_assoc, codes, string_bytes, ◌∙◌}
+use Rattle.gqlbench_run.proofs.PhaseLineLemmas.{last-line, lines-above}
+use Rattle.gqlbench_run.proofs.schema_phases.SchemaTimes.push_lines.Goals as goal
+
+pub returns : goal.returns
+returns c =
+    let t = string_bytes c.args.text.now in
+    let a = c.in_ok-push_phase.ensures in
+    let b = c.in_ok-push_phase-2.ensures in
+    let d = c.in_ok-push_phase-3.ensures in
+    let e = c.in_ok-push_phase-4.ensures in
+    let times = c.args.self.now in (
+      a.0 ++ (b.0 ++ (d.0 ++ e.0)),
+      (
+        e.1.0 ∙ ap (λ s. s ++ e.0) (d.1.0 ∙ ap (λ s. s ++ d.0) (b.1.0 ∙ ap (λ s. s ++ b.0) a.1.0))
+            ∙ append_assoc ((t ++ a.0) ++ b.0) d.0 e.0 ∙ append_assoc (t ++ a.0) b.0 (d.0 ++ e.0) ∙ append_assoc t a.0 (b.0 ++ (d.0 ++ e.0)),
+        λ n have. lines-above (codes "schema-build") (codes "to_ast" ∷ codes "rebuild+eq" ∷ codes "drop" ∷ []) n times.build.items a.0 (b.0 ++ (d.0 ++ e.0)) have.build a.1.1
+            (lines-above (codes "to_ast") (codes "rebuild+eq" ∷ codes "drop" ∷ []) n times.write_out.items b.0 (d.0 ++ e.0) have.write_out b.1.1
+            (lines-above (codes "rebuild+eq") (codes "drop" ∷ []) n times.rebuild.items d.0 e.0 have.rebuild d.1.1
+            (last-line (codes "drop") n times.free.items e.0 have.free e.1.1))),
+      ),
+    )

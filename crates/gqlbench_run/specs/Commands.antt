@@ -1,0 +1,42 @@
+-- The commands of the program: their words, and how a run ends.
+use Rattle.std.specs.Prelude.{◌≡◌, ◌<◌, ◌^◌, ℕ, List, [], ◌∷◌, ◌++◌, codes}
+use Rattle.std.specs.Str.Parse.{IsNumeral, digits_value, without_leading_plus}
+use Rattle.gqltool_run.specs.SchemaOptions.{AreOptions}
+use Rattle.gqltool_run.specs.Status.{status_of}
+use Rattle.gqltool_run.specs.declared.status.Status.{Status}
+use Rattle.gqltool_run.specs.declared.status.Status.TheVariants as s
+use Rattle.gqlbench_run.specs.declared.command.Command.{Command}
+use Rattle.gqlbench_run.specs.declared.command.Work.{Work}
+use Rattle.gqlbench_run.specs.declared.command.Work.TheVariants as w
+use Rattle.gqlbench_run.specs.declared.failure.Failure.{Failure}
+use Rattle.gqlbench_run.specs.declared.failure.Failure.TheVariants as f
+
+-- the word of what is timed
+abbrev pub work_word : Work → List ℕ
+work_word w.Schema = codes "schema"
+work_word w.Lookups = codes "lookups"
+
+-- the word is this number of times, in decimal: at least one, and of 64 bits; a plus may stand first
+pub record IsRepeat (word : List ℕ) (repeat : ℕ) : Type 0 where
+  pub digits : IsNumeral 10 (without_leading_plus word)
+  pub value : repeat ≡ digits_value 10 (without_leading_plus word)
+  pub some : 0 < repeat
+  pub fits : repeat < 2 ^ 64
+
+-- the words of a command: what is timed, the options, and how many times
+pub record AreWordsOf (words : List (List ℕ)) (command : Command) : Type 0 where
+  pub options : List (List ℕ)
+  pub repeat : List ℕ
+  pub are : words ≡ work_word command.work ∷ (options ++ repeat ∷ [])
+  pub say : AreOptions options command.options
+  pub times : IsRepeat repeat command.repeat
+
+-- these words are no command
+abbrev pub AreNoCommand : List (List ℕ) → Type 0
+AreNoCommand words = (command : Command) → ¬ AreWordsOf words command
+
+-- how a run ends that has nothing to write
+abbrev pub ending_of : Failure → Status
+ending_of f.Usage = s.Refused
+ending_of (f.Input failure) = status_of failure
+ending_of f.Clock = s.Exhausted

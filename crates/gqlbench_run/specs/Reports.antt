@@ -1,0 +1,100 @@
+-- What the program reports.
+use Rattle.std.specs.Prelude.{◌≡◌, ℕ, Bool, List, [], ◌∷◌, ◌++◌, Option, codes, count_by, decimal, if◌then◌else◌, length}
+use Rattle.std.specs.Io.KnownBytes.{Appends}
+use Rattle.graphql_ast.specs.declared.document.Document.{Document}
+use Rattle.bench_notation.specs.Documents.{AreDocumentsOf}
+use Rattle.apollo_meaning.specs.Faults.ListFaults.{faults_of}
+use Rattle.apollo_schema.specs.MeantSchema.{MeansSchema}
+use Rattle.apollo_schema.specs.SchemaWriteOut.{write_schema}
+use Rattle.apollo_schema.specs.declared.schema.Schema.{Schema}
+use Rattle.gqltool_run.specs.SchemaCommand.{list_of}
+use Rattle.gqltool_run.specs.declared.schema_options.SchemaOptions.{SchemaOptions}
+use Rattle.gqlbench_run.specs.Commands.{AreWordsOf}
+use Rattle.gqlbench_run.specs.LookupQuestions.{field_questions, subtype_questions, has_field, has_subtype}
+use Rattle.gqlbench_run.specs.PhaseLines.{ArePhaseLines}
+use Rattle.gqlbench_run.specs.declared.command.Command.{Command}
+use Rattle.gqlbench_run.specs.declared.command.Work.{Work}
+use Rattle.gqlbench_run.specs.declared.command.Work.TheVariants as w
+use Rattle.gqlbench_run.specs.declared.lookup_phases.LookupTimes.{LookupTimes}
+use Rattle.gqlbench_run.specs.declared.lookup_phases.Questions.{Questions}
+use Rattle.gqlbench_run.specs.declared.schema_phases.SchemaTimes.{SchemaTimes}
+
+-- the phases of the command `schema`, and of `lookups`
+abbrev pub schema_phases : List (List ℕ)
+schema_phases = codes "schema-build" ∷ codes "to_ast" ∷ codes "rebuild+eq" ∷ codes "drop" ∷ []
+
+abbrev pub lookup_phases : List (List ℕ)
+lookup_phases = codes "type_field" ∷ codes "is_subtype" ∷ []
+
+-- each phase has so many times
+pub record HaveTimes (n : ℕ) (times : SchemaTimes) : Type 0 where
+  pub build : length times.build.items ≡ n
+  pub write_out : length times.write_out.items ≡ n
+  pub rebuild : length times.rebuild.items ≡ n
+  pub free : length times.free.items ≡ n
+
+-- the same, and what is there is counted
+pub record HaveLookedUp (schema : Schema) (questions : Questions) (n : ℕ) (times : LookupTimes) : Type 0 where
+  pub type_field : length times.type_field.items ≡ n
+  pub is_subtype : length times.is_subtype.items ≡ n
+  pub fields : times.fields ≡ count_by (has_field schema) questions.fields.items
+  pub subtypes : times.subtypes ≡ count_by (has_subtype schema) questions.subtypes.items
+
+-- how much there is of types, of definitions in the write-out, and of faults
+abbrev pub counts_text : ℕ → ℕ → ℕ → List ℕ
+counts_text types definitions faults = decimal types ++ (codes " types, " ++ (decimal definitions ++ (codes " definitions out, " ++ (decimal faults ++ codes " faults"))))
+
+-- the text counts what the documents mean with these options
+pub record IsCountsText (options : SchemaOptions) (documents : List Document) (text : List ℕ) : Type 0 where
+  pub schema : Schema
+  pub means : MeansSchema 0 options.adopt (list_of options.ignore_built_in documents) schema
+  pub is : text ≡ counts_text (length schema.types) (length (write_schema schema)) (length (faults_of options.adopt (list_of options.ignore_built_in documents)))
+
+-- whether what was built again from write-outs equals what was written out
+abbrev pub rebuilt_text : Bool → List ℕ
+rebuilt_text equal = if equal then codes ", equal when rebuilt\n" else codes ", unequal when rebuilt\n"
+
+-- the text counts what the documents mean, and has a line for each phase
+pub record IsSchemaReport (command : Command) (documents : List Document) (text : List ℕ) : Type 0 where
+  pub counts : List ℕ
+  pub counted : IsCountsText command.options documents counts
+  pub equal : Bool
+  pub lines : List ℕ
+  pub timed : ArePhaseLines schema_phases command.repeat lines
+  pub is : text ≡ counts ++ rebuilt_text equal ++ lines
+
+-- how many calls of each lookup there are, and how many find something
+abbrev pub calls_text : ℕ → ℕ → ℕ → ℕ → List ℕ
+calls_text fields found subtypes subtypes_found = decimal fields ++ (codes " calls of type_field, " ++ (decimal found ++ (codes " found, " ++ (decimal subtypes ++ (codes " calls of is_subtype, " ++ (decimal subtypes_found ++ codes " true\n"))))))
+
+-- the text counts what is asked of the documents' schema and what is there, and has a line for each phase
+pub record IsLookupReport (command : Command) (documents : List Document) (text : List ℕ) : Type 0 where
+  pub schema : Schema
+  pub means : MeansSchema 0 command.options.adopt (list_of command.options.ignore_built_in documents) schema
+  pub lines : List ℕ
+  pub timed : ArePhaseLines lookup_phases command.repeat lines
+  pub is : text ≡ calls_text (length (field_questions schema.types)) (count_by (has_field schema) (field_questions schema.types)) (length (subtype_questions schema.types)) (count_by (has_subtype schema) (subtype_questions schema.types)) ++ lines
+
+-- the text is the report of a command on documents
+abbrev pub IsReportOfWork : Work → Command → List Document → List ℕ → Type 0
+IsReportOfWork w.Schema command documents text = IsSchemaReport command documents text
+IsReportOfWork w.Lookups command documents text = IsLookupReport command documents text
+
+abbrev pub IsReportOf : Command → List Document → List ℕ → Type 0
+IsReportOf command documents text = IsReportOfWork command.work command documents text
+
+-- the text is the report that these words ask for on this input
+pub record IsReportTo (words : List (List ℕ)) (input text : List ℕ) : Type 0 where
+  pub command : Command
+  pub asked : AreWordsOf words command
+  pub documents : List Document
+  pub says : AreDocumentsOf input documents
+  pub reports : IsReportOf command documents text
+
+-- there is a report to these words on this input
+abbrev pub HaveReport : List (List ℕ) → List ℕ → Type 0
+HaveReport words input = (text : List ℕ) × IsReportTo words input text
+
+-- a report to these words on this input is appended
+abbrev pub AppendReport : List (List ℕ) → Option (List ℕ) → Option (List ℕ) → List ℕ → Type 0
+AppendReport words old new input = (text : List ℕ) × (IsReportTo words input text × Appends old new text)

@@ -1,0 +1,58 @@
+//! The commands of the program.
+ghost use Rattle.std.specs.Prelude.{MatchOption, ◌≡◌, ◌≢◌, ℕ};
+ghost use Rattle.bench_notation.specs.Line.{texts_of};
+ghost use Rattle.gqlbench_run.specs.Commands.{AreNoCommand, AreWordsOf, IsRepeat, work_word};
+
+use gqltool_run::schema_options::{SchemaOptions, read_options};
+
+/// What is timed.
+#[derive(Debug, Clone, Copy, PartialEq, Eq)]
+pub enum Work {
+    /// `schema`: a schema built, written out, built again from that, and freed.
+    Schema,
+    /// `lookups`: lookups in a schema that is built once.
+    Lookups,
+}
+
+/// A command of the program, which is what the words after its name say: what is timed, under which options of a build,
+/// and how many times.
+#[derive(Debug, Clone, Copy, PartialEq, Eq)]
+pub struct Command {
+    pub work: Work,
+    pub options: SchemaOptions,
+    pub repeat: usize,
+}
+
+/// The command that these words are. Other words are none.
+pub fn read_command(words: &[&str]) -> Option<Command>
+    ensures { MatchOption result (AreNoCommand (texts_of words.now)) (AreWordsOf (texts_of words.now)) }
+{
+    let (work, rest) = words.split_first()?;
+    let (repeat, options) = rest.split_last()?;
+    Some(Command {
+        work: read_work(*work)?,
+        options: read_options(options)?,
+        repeat: read_repeat(*repeat)?,
+    })
+}
+
+/// What this word has timed. No other word has anything timed.
+fn read_work(word: &str) -> Option<Work>
+    ensures { MatchOption result ((work : Work) → work_word work ≢ word.now) (λ work. work_word work ≡ word.now) }
+{
+    match word {
+        "schema" => Some(Work::Schema),
+        "lookups" => Some(Work::Lookups),
+        _ => None,
+    }
+}
+
+/// How many times this word says: at least once.
+fn read_repeat(word: &str) -> Option<usize>
+    ensures { MatchOption result ((repeat : ℕ) → ¬ IsRepeat word.now repeat) (IsRepeat word.now) }
+{
+    match word.parse::<usize>() {
+        Ok(repeat) if repeat > 0 => Some(repeat),
+        _ => None,
+    }
+}

@@ -1,0 +1,70 @@
+//! Why a run has nothing to write.
+
+use gqltool_run::failure::Failure as InputFailure;
+use gqltool_run::status::Status;
+use std::alloc::AllocError;
+use std::io;
+use thiserror::Error;
+
+/// Why a run has nothing to write.
+#[derive(Debug, Clone, Copy, PartialEq, Eq, Error)]
+pub enum Failure {
+    /// The words are none that the program takes.
+    #[error("usage: gqlbench schema|lookups [--adopt] [--ignore-builtin] REPEAT")]
+    Usage,
+    /// The input is refused, or memory or numbers are wanting, as with `gqltool`.
+    #[error(transparent)]
+    Input(InputFailure),
+    #[error("cannot read the clock")]
+    Clock,
+}
+
+impl From<InputFailure> for Failure {
+    ghost use Rattle.std.specs.Prelude.{◌≡◌};
+    ghost use Rattle.gqlbench_run.specs.declared.failure.Failure.TheVariants.{Input};
+
+    ghost from_gives = { λ failure made. made ≡ Input failure };
+
+    fn from(failure: InputFailure) -> Failure {
+        Failure::Input(failure)
+    }
+}
+
+impl From<AllocError> for Failure {
+    ghost use Rattle.std.specs.Prelude.{◌≡◌};
+    ghost use Rattle.gqlbench_run.specs.declared.failure.Failure.TheVariants.{Input};
+    ghost use Rattle.gqltool_run.specs.declared.failure.Failure.TheVariants.{Memory};
+
+    ghost from_gives = { λ _ made. made ≡ Input Memory };
+
+    fn from(_error: AllocError) -> Failure {
+        Failure::Input(InputFailure::Memory)
+    }
+}
+
+impl From<io::Error> for Failure {
+    ghost use Rattle.std.specs.Prelude.{◌≡◌};
+    ghost use Rattle.gqlbench_run.specs.declared.failure.Failure.TheVariants.{Clock};
+
+    ghost from_gives = { λ _ made. made ≡ Clock };
+
+    fn from(_error: io::Error) -> Failure {
+        Failure::Clock
+    }
+}
+
+impl Failure {
+    ghost use Rattle.std.specs.Prelude.{◌≡◌};
+    ghost use Rattle.gqlbench_run.specs.Commands.{ending_of};
+
+    /// How the run ends.
+    pub fn status(self) -> Status
+        ensures { result ≡ ending_of self }
+    {
+        match self {
+            Failure::Usage => Status::Refused,
+            Failure::Input(failure) => failure.status(),
+            Failure::Clock => Status::Exhausted,
+        }
+    }
+}

@@ -1,0 +1,13 @@
+//! The whole run of the program `gqlbench`: [`run`](running::run).
+#![tactic(auto)]
+
+pub mod command;
+pub mod failure;
+mod lookup_phases;
+mod lookup_questions;
+mod phase;
+mod phase_line;
+mod progress;
+pub mod running;
+mod schema_phases;
+pub mod summary;

@@ -1,0 +1,190 @@
+//! The phases of the command `lookups`: fields by name, and subtypes, in a schema that is built once.
+ghost use Rattle.std.specs.Prelude.{◌≡◌, ◌+◌, ◌++◌, ℕ, List, IfOk, OnOk, count_by, length, string_bytes};
+ghost use Rattle.gqlbench_run.specs.LookupQuestions.{has_field, has_subtype};
+ghost use Rattle.gqlbench_run.specs.Reports.{IsLookupReport, calls_text};
+
+use crate::command::Command;
+use crate::failure::Failure;
+use crate::lookup_questions::{
+    Question, count_fields, count_subtypes, field_questions, subtype_questions,
+};
+use crate::phase::{push_phase, push_time};
+use crate::progress::Progress;
+use apollo_schema::schema::Schema;
+use gqltool_run::schema_command::built;
+use graphql_ast::document::Document;
+use std::alloc::{AllocError, Global};
+use std::io::Write;
+use std::time::{Clock, Instant};
+
+/// What is asked of the schema.
+struct Questions {
+    fields: Vec<Question>,
+    subtypes: Vec<Question>,
+}
+
+impl Drop for Questions {
+    fn drop(self) {
+        let Self {
+            fields: _,
+            subtypes: _,
+        } = self;
+    }
+}
+
+/// The times of each phase, one for each repetition, with how many of the things asked for are there.
+struct LookupTimes {
+    type_field: Vec<u64>,
+    is_subtype: Vec<u64>,
+    fields: usize,
+    subtypes: usize,
+}
+
+impl Drop for LookupTimes {
+    fn drop(self) {
+        let Self {
+            type_field: _,
+            is_subtype: _,
+            fields: _,
+            subtypes: _,
+        } = self;
+    }
+}
+
+/// Times the lookups of fields.
+fn time_fields<C: Clock>(
+    clock: &C,
+    schema: &Schema,
+    questions: &[Question],
+    times: &mut Vec<u64>,
+) -> Result<usize, Failure>
+    ensures times { OnOk result (length times.new.items ≡ length times.old.items + 1) }
+    ensures found { IfOk result (λ found. found ≡ count_by (has_field schema.now) questions.now) }
+{
+    let began = Instant::now(clock)?;
+    let found = count_fields(schema, questions);
+    push_time(clock, began, times)?;
+    Ok(found)
+}
+
+/// Times the questions for subtypes.
+fn time_subtypes<C: Clock>(
+    clock: &C,
+    schema: &Schema,
+    questions: &[Question],
+    times: &mut Vec<u64>,
+) -> Result<usize, Failure>
+    ensures times { OnOk result (length times.new.items ≡ length times.old.items + 1) }
+    ensures found { IfOk result (λ found. found ≡ count_by (has_subtype schema.now) questions.now) }
+{
+    let began = Instant::now(clock)?;
+    let found = count_subtypes(schema, questions);
+    push_time(clock, began, times)?;
+    Ok(found)
+}
+
+impl LookupTimes {
+    ghost use Rattle.gqlbench_run.specs.Reports.{HaveLookedUp, lookup_phases};
+    ghost use Rattle.gqlbench_run.specs.PhaseLines.{ArePhaseLines};
+
+    /// What is there is counted once, before a time is taken.
+    fn new(alloc: Global, schema: &Schema, questions: &Questions) -> LookupTimes
+        ensures { HaveLookedUp schema.now questions.now 0 result }
+    {
+        LookupTimes {
+            type_field: Vec::new(alloc),
+            is_subtype: Vec::new(alloc),
+            fields: count_fields(schema, questions.fields.as_slice()),
+            subtypes: count_subtypes(schema, questions.subtypes.as_slice()),
+        }
+    }
+
+    /// Takes a time of each phase.
+    fn repetition<C: Clock>(
+        &mut self,
+        clock: &C,
+        schema: &Schema,
+        questions: &Questions,
+    ) -> Result<(), Failure>
+        ensures { OnOk result ((n : ℕ) → HaveLookedUp schema.now questions.now n self.old → HaveLookedUp schema.now questions.now (n + 1) self.new) }
+    {
+        let fields = questions.fields.as_slice();
+        self.fields = time_fields(clock, schema, fields, &mut self.type_field)?;
+        let subtypes = questions.subtypes.as_slice();
+        self.subtypes = time_subtypes(clock, schema, subtypes, &mut self.is_subtype)?;
+        Ok(())
+    }
+
+    /// Takes so many times of each phase, and says on `errors` how far it is.
+    fn take<C: Clock, E: Write>(
+        &mut self,
+        clock: &C,
+        schema: &Schema,
+        questions: &Questions,
+        repeat: usize,
+        errors: &mut E,
+    ) -> Result<(), Failure>
+        ensures { OnOk result (HaveLookedUp schema.now questions.now 0 self.old → HaveLookedUp schema.now questions.now repeat self.new) }
+    {
+        let mut progress = Progress::new(clock)?;
+        for done in 0..repeat {
+            self.repetition(clock, schema, questions)?;
+            progress.tell(clock, errors, done + 1, repeat)?;
+        }
+        Ok(())
+    }
+
+    /// Adds the line of each phase.
+    fn push_lines(&mut self, alloc: Global, text: &mut String) -> Result<(), AllocError>
+        ensures { OnOk result ((lines : List ℕ) × ((string_bytes text.new ≡ string_bytes text.old ++ lines) × ((n : ℕ) → length self.old.type_field.items ≡ n → length self.old.is_subtype.items ≡ n → ArePhaseLines lookup_phases n lines))) }
+    {
+        push_phase(alloc, text, "type_field", &mut self.type_field)?;
+        push_phase(alloc, text, "is_subtype", &mut self.is_subtype)?;
+        Ok(())
+    }
+}
+
+fn calls_text(
+    alloc: Global,
+    fields: usize,
+    fields_found: usize,
+    subtypes: usize,
+    subtypes_found: usize,
+) -> Result<String, AllocError>
+    ensures { IfOk result (λ text. string_bytes text ≡ calls_text fields fields_found subtypes subtypes_found) }
+{
+    format!(in alloc;
+        "{fields} calls of type_field, {fields_found} found, {subtypes} calls of is_subtype, {subtypes_found} true\n"
+    )
+}
+
+/// How many calls of each lookup a repetition makes, and how many find something.
+fn calls(alloc: Global, questions: &Questions, times: &LookupTimes) -> Result<String, AllocError>
+    ensures { IfOk result (λ text. string_bytes text ≡ calls_text (length questions.now.fields.items) times.now.fields (length questions.now.subtypes.items) times.now.subtypes) }
+{
+    let fields = questions.fields.as_slice().len();
+    let subtypes = questions.subtypes.as_slice().len();
+    calls_text(alloc, fields, times.fields, subtypes, times.subtypes)
+}
+
+/// The report of the command `lookups` on documents: how much is asked for and found, and the line of each phase.
+pub fn lookup_report<C: Clock, E: Write>(
+    alloc: Global,
+    clock: &C,
+    command: Command,
+    documents: &[Document],
+    errors: &mut E,
+) -> Result<String, Failure>
+    ensures { IfOk result (λ text. IsLookupReport command documents.now (string_bytes text)) }
+{
+    let (schema, _faults) = built(alloc, command.options, documents)?;
+    let questions = Questions {
+        fields: field_questions(alloc, &schema)?,
+        subtypes: subtype_questions(alloc, &schema)?,
+    };
+    let mut times = LookupTimes::new(alloc, &schema, &questions);
+    times.take(clock, &schema, &questions, command.repeat, errors)?;
+    let mut text = calls(alloc, &questions, &times)?;
+    times.push_lines(alloc, &mut text)?;
+    Ok(text)
+}

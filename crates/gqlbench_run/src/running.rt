@@ -1,0 +1,106 @@
+//! The run of the program.
+ghost use Rattle.std.specs.Prelude.{◌≡◌, All, Err, IfOk, IfSome, OnOk, string_bytes};
+ghost use Rattle.bench_notation.specs.Line.{IsLine, lines_of, texts_of};
+ghost use Rattle.bench_notation.specs.Documents.{AreDocumentsOf};
+ghost use Rattle.gqltool_run.specs.Status.{Writes};
+ghost use Rattle.gqlbench_run.specs.Commands.{AreNoCommand};
+ghost use Rattle.gqlbench_run.specs.Reports.{AppendReport, HaveReport, IsReportOf, IsReportTo};
+
+use crate::command::{Command, Work, read_command};
+use crate::failure::Failure;
+use crate::lookup_phases::lookup_report;
+use crate::schema_phases::schema_report;
+use bench_notation::reading::read;
+use gqltool_run::failure::Failure as InputFailure;
+use gqltool_run::input::read_all;
+use gqltool_run::running::write_out;
+use gqltool_run::status::Status;
+use graphql_ast::document::Document;
+use std::alloc::Global;
+use std::io::{Read, Write};
+use std::time::Clock;
+
+/// Runs the program on the words that follow its name: reads the input once, takes the times, and writes the report.
+///
+/// The output is written only once all of it is there. What is wrong is said on `errors`, in one line, and so is how far a
+/// long run is; that it cannot be said there changes nothing. A clock that can't be read ends the run as want of memory
+/// does.
+pub fn run<C: Clock, R: Read, O: Write, E: Write>(
+    alloc: Global,
+    clock: &C,
+    words: &[&str],
+    reader: &mut R,
+    output: &mut O,
+    errors: &mut E,
+) -> Status
+    ensures refused { result ≡ Status.Refused → output.new ≡ output.old }
+    ensures exhausted { result ≡ Status.Exhausted → output.new ≡ output.old }
+    ensures no_faults { result ≡ Status.Faults → ⊥ }
+
+    // What was read, and what is appended to the output.
+    ensures read { Writes result → IfSome (R.remaining reader.old) (λ input. All IsLine (lines_of input)) }
+    ensures means { result ≡ Status.Done → IfSome (R.remaining reader.old) (AppendReport (texts_of words.now) (O.contents output.old) (O.contents output.new)) }
+    ensures not_written { result ≡ Status.NotWritten → IfSome (R.remaining reader.old) (HaveReport (texts_of words.now)) }
+
+    // Words that are no command are refused before anything is read.
+    ensures usage { AreNoCommand (texts_of words.now) → (result ≡ Status.Refused) × (reader.new ≡ reader.old) }
+{
+    let report = match report(alloc, clock, words, reader, errors) {
+        Ok(report) => report,
+        Err(failure) => {
+            let _ = writeln!(errors, "{failure}");
+            return failure.status();
+        }
+    };
+    match write_out(output, report.as_str()) {
+        Ok(()) => Status::Done,
+        Err(_) => {
+            let _ = writeln!(errors, "cannot write output");
+            Status::NotWritten
+        }
+    }
+}
+
+/// The documents of the whole input.
+fn read_documents<R: Read>(alloc: Global, reader: &mut R) -> Result<Vec<Document>, InputFailure>
+    ensures read { OnOk result (IfSome (R.remaining reader.old) (λ input. All IsLine (lines_of input))) }
+    ensures said { IfOk result (λ documents. IfSome (R.remaining reader.old) (λ input. AreDocumentsOf input documents.items)) }
+{
+    let input = read_all(alloc, reader)?;
+    Ok(read(alloc, input.as_str())?)
+}
+
+/// The report that the words ask for. Nothing is read where the words are refused.
+fn report<C: Clock, R: Read, E: Write>(
+    alloc: Global,
+    clock: &C,
+    words: &[&str],
+    reader: &mut R,
+    errors: &mut E,
+) -> Result<String, Failure>
+    ensures read { OnOk result (IfSome (R.remaining reader.old) (λ input. All IsLine (lines_of input))) }
+    ensures means { IfOk result (λ text. IfSome (R.remaining reader.old) (λ input. IsReportTo (texts_of words.now) input (string_bytes text))) }
+    ensures usage { AreNoCommand (texts_of words.now) → (result ≡ Err Failure.Usage) × (reader.new ≡ reader.old) }
+{
+    let Some(command) = read_command(words) else {
+        return Err(Failure::Usage);
+    };
+    let documents = read_documents(alloc, reader)?;
+    report_of(alloc, clock, command, documents.as_slice(), errors)
+}
+
+/// The report of a command on documents.
+fn report_of<C: Clock, E: Write>(
+    alloc: Global,
+    clock: &C,
+    command: Command,
+    documents: &[Document],
+    errors: &mut E,
+) -> Result<String, Failure>
+    ensures { IfOk result (λ text. IsReportOf command documents.now (string_bytes text)) }
+{
+    match command.work {
+        Work::Schema => schema_report(alloc, clock, command, documents, errors),
+        Work::Lookups => lookup_report(alloc, clock, command, documents, errors),
+    }
+}

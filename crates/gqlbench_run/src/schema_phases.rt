@@ -1,0 +1,229 @@
+//! The phases of the command `schema`: a schema built, written out, built again from that, and freed.
+ghost use Rattle.std.specs.Prelude.{◌≡◌, ◌+◌, ◌++◌, ℕ, List, IfOk, OnOk, length, string_bytes};
+ghost use Rattle.graphql_ast.specs.declared.definition.Definition.{Definition};
+ghost use Rattle.apollo_schema.specs.MeantSchema.{MeansSchema};
+ghost use Rattle.gqltool_run.specs.SchemaCommand.{list_of};
+ghost use Rattle.gqlbench_run.specs.Reports.{IsCountsText, IsSchemaReport, counts_text, rebuilt_text};
+
+use crate::command::Command;
+use crate::failure::Failure;
+use crate::phase::{push_phase, push_time};
+use crate::progress::Progress;
+use apollo_meaning::build_error::Faults;
+use apollo_schema::schema::Schema;
+use gqltool_run::schema_command::built;
+use gqltool_run::schema_options::SchemaOptions;
+use graphql_ast::definition::Definition;
+use graphql_ast::document::Document;
+use graphql_nodes::collections::items::Items;
+use std::alloc::{AllocError, Global};
+use std::io::Write;
+use std::slice;
+use std::time::{Clock, Instant};
+
+/// The options under which a write-out is built again: what extends no definition of it gets one.
+const REBUILDING: SchemaOptions = SchemaOptions {
+    adopt: true,
+    ignore_built_in: false,
+};
+
+/// The times of each phase, one for each repetition.
+struct SchemaTimes {
+    build: Vec<u64>,
+    write_out: Vec<u64>,
+    rebuild: Vec<u64>,
+    free: Vec<u64>,
+    /// Whether each schema that was built again equals the first.
+    all_equal: bool,
+}
+
+impl Drop for SchemaTimes {
+    fn drop(self) {
+        let Self {
+            build: _,
+            write_out: _,
+            rebuild: _,
+            free: _,
+            all_equal: _,
+        } = self;
+    }
+}
+
+/// Times a build.
+fn time_build<C: Clock>(
+    alloc: Global,
+    clock: &C,
+    options: SchemaOptions,
+    documents: &[Document],
+    times: &mut Vec<u64>,
+) -> Result<(Schema, Faults), Failure>
+    ensures { OnOk result (length times.new.items ≡ length times.old.items + 1) }
+{
+    let began = Instant::now(clock)?;
+    let built = built(alloc, options, documents)?;
+    push_time(clock, began, times)?;
+    Ok(built)
+}
+
+/// Times a write-out.
+fn time_write_out<C: Clock>(
+    alloc: Global,
+    clock: &C,
+    schema: &Schema,
+    times: &mut Vec<u64>,
+) -> Result<Vec<Definition>, Failure>
+    ensures { OnOk result (length times.new.items ≡ length times.old.items + 1) }
+{
+    let began = Instant::now(clock)?;
+    let written = schema.to_ast(alloc)?;
+    push_time(clock, began, times)?;
+    Ok(written)
+}
+
+/// Times the build of a write-out, with whether it equals the schema that was written out.
+fn time_rebuild<C: Clock>(
+    alloc: Global,
+    clock: &C,
+    schema: &Schema,
+    written: &Document,
+    times: &mut Vec<u64>,
+) -> Result<bool, Failure>
+    ensures { OnOk result (length times.new.items ≡ length times.old.items + 1) }
+{
+    let began = Instant::now(clock)?;
+    let (again, _faults) = built(alloc, REBUILDING, slice::from_ref(written))?;
+    let is_equal = again == *schema;
+    push_time(clock, began, times)?;
+    Ok(is_equal)
+}
+
+/// Times the freeing of a schema, its faults and its write-out.
+fn time_free<C: Clock>(
+    clock: &C,
+    built: (Schema, Faults),
+    written: Document,
+    times: &mut Vec<u64>,
+) -> Result<(), Failure>
+    ensures { OnOk result (length times.new.items ≡ length times.old.items + 1) }
+{
+    let began = Instant::now(clock)?;
+    drop(built);
+    drop(written);
+    push_time(clock, began, times)
+}
+
+impl SchemaTimes {
+    ghost use Rattle.gqlbench_run.specs.Reports.{HaveTimes, schema_phases};
+    ghost use Rattle.gqlbench_run.specs.PhaseLines.{ArePhaseLines};
+
+    fn new(alloc: Global) -> SchemaTimes
+        ensures { HaveTimes 0 result }
+    {
+        SchemaTimes {
+            build: Vec::new(alloc),
+            write_out: Vec::new(alloc),
+            rebuild: Vec::new(alloc),
+            free: Vec::new(alloc),
+            all_equal: true,
+        }
+    }
+
+    /// Takes a time of each phase.
+    fn repetition<C: Clock>(
+        &mut self,
+        alloc: Global,
+        clock: &C,
+        options: SchemaOptions,
+        documents: &[Document],
+    ) -> Result<(), Failure>
+        ensures { OnOk result ((n : ℕ) → HaveTimes n self.old → HaveTimes (n + 1) self.new) }
+    {
+        let built = time_build(alloc, clock, options, documents, &mut self.build)?;
+        let definitions = time_write_out(alloc, clock, &built.0, &mut self.write_out)?;
+        let mut written = Document::new(alloc);
+        written.definitions = Items::from_vec(definitions);
+        let is_equal = time_rebuild(alloc, clock, &built.0, &written, &mut self.rebuild)?;
+        self.all_equal = self.all_equal && is_equal;
+        time_free(clock, built, written, &mut self.free)
+    }
+
+    /// Takes so many times of each phase, and says on `errors` how far it is.
+    fn take<C: Clock, E: Write>(
+        &mut self,
+        alloc: Global,
+        clock: &C,
+        command: Command,
+        documents: &[Document],
+        errors: &mut E,
+    ) -> Result<(), Failure>
+        ensures { OnOk result (HaveTimes 0 self.old → HaveTimes command.repeat self.new) }
+    {
+        let mut progress = Progress::new(clock)?;
+        for done in 0..command.repeat {
+            self.repetition(alloc, clock, command.options, documents)?;
+            progress.tell(clock, errors, done + 1, command.repeat)?;
+        }
+        Ok(())
+    }
+
+    /// Adds the line of each phase.
+    fn push_lines(&mut self, alloc: Global, text: &mut String) -> Result<(), AllocError>
+        ensures { OnOk result ((lines : List ℕ) × ((string_bytes text.new ≡ string_bytes text.old ++ lines) × ((n : ℕ) → HaveTimes n self.old → ArePhaseLines schema_phases n lines))) }
+    {
+        push_phase(alloc, text, "schema-build", &mut self.build)?;
+        push_phase(alloc, text, "to_ast", &mut self.write_out)?;
+        push_phase(alloc, text, "rebuild+eq", &mut self.rebuild)?;
+        push_phase(alloc, text, "drop", &mut self.free)?;
+        Ok(())
+    }
+}
+
+fn counts_text(
+    alloc: Global,
+    types: usize,
+    definitions: usize,
+    faults: usize,
+) -> Result<String, AllocError>
+    ensures { IfOk result (λ text. string_bytes text ≡ counts_text types definitions faults) }
+{
+    format!(in alloc; "{types} types, {definitions} definitions out, {faults} faults")
+}
+
+/// What is built: how many types the schema has, how many definitions are written out, and how many faults there are.
+fn counts(alloc: Global, options: SchemaOptions, documents: &[Document]) -> Result<String, Failure>
+    ensures { IfOk result (λ text. IsCountsText options documents.now (string_bytes text)) }
+{
+    let (schema, faults) = built(alloc, options, documents)?;
+    let written = schema.to_ast(alloc)?;
+    let definitions = written.as_slice().len();
+    let faults = faults.as_slice().len();
+    Ok(counts_text(alloc, schema.types.len(), definitions, faults)?)
+}
+
+fn rebuilt_text(is_equal: bool) -> &'static str
+    ensures { result.now ≡ rebuilt_text is_equal }
+{
+    if is_equal {
+        ", equal when rebuilt\n"
+    } else {
+        ", unequal when rebuilt\n"
+    }
+}
+
+/// The report of the command `schema` on documents: what is built, and the line of each phase.
+pub fn schema_report<C: Clock, E: Write>(
+    alloc: Global,
+    clock: &C,
+    command: Command,
+    documents: &[Document],
+    errors: &mut E,
+) -> Result<String, Failure>
+    ensures { IfOk result (λ text. IsSchemaReport command documents.now (string_bytes text)) }
+{
+    let mut text = counts(alloc, command.options, documents)?;
+    let mut times = SchemaTimes::new(alloc);
+    times.take(alloc, clock, command, documents, errors)?;
+    text.push_str(rebuilt_text(times.all_equal))?;
+    times.push_lines(alloc, &mut text)?;
+    Ok(text)
+}
