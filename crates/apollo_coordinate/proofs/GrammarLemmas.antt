@@ -1,0 +1,207 @@
+-- What the marks of a text say of its form, and that a refused text is outside the grammar.
+use Rattle.std.proofs.Common.{◌≡◌, ◌≢◌, ◌<◌, ◌++◌, ℕ, List, [], ◌∷◌, codes, refl, sym, ap, subst, ◌∙◌, inl, inr, arith}
+use Rattle.std.proofs.lemmas.List.Elements.{All-weaker, All-append, All-cons}
+use Rattle.graphql_nodes.specs.NameSyntax.{IsName, IsNameStart, IsNameContinue}
+use Rattle.graphql_nodes.proofs.Comparisons.{head_same, tail_same}
+use Rattle.apollo_coordinate.specs.CoordinateText.{IsTypeText, IsAttributeText, IsArgumentText, IsFieldArgumentText, IsDirectiveText, IsDirectiveArgumentText, IsCoordinateText}
+use Rattle.apollo_coordinate.specs.Refusals.{Lacks, IsCut, IsNoName, IsNoNames, IsNoAttribute, IsNoDirective, IsNoArgument, IsNoPair, IsNoArgumentOf, IsNoFieldArgument, IsNoDirectiveArgument}
+use Rattle.apollo_coordinate.specs.declared.parse_error.SchemaCoordinateParseError.{SchemaCoordinateParseError}
+use Rattle.apollo_coordinate.specs.declared.parse_error.SchemaCoordinateParseError.TheVariants.{InvalidFormat}
+use Rattle.apollo_coordinate.proofs.MarkLemmas.{no_cut, one_cut}
+
+-- a mark is no part of a name
+abbrev pub IsMark : ℕ → Type 0
+IsMark c = IsNameContinue c → ⊥
+
+pub low_mark : (c : ℕ) → c < 48 → IsMark c
+low_mark c low (inl (inl (inl p))) = omega arith
+low_mark c low (inl (inl (inr p))) = omega arith
+low_mark c low (inl (inr e)) = omega arith
+low_mark c low (inr p) = omega arith
+
+pub middle_mark : (c : ℕ) → 57 < c → c < 65 → IsMark c
+middle_mark c above below (inl (inl (inl p))) = omega arith
+middle_mark c above below (inl (inl (inr p))) = omega arith
+middle_mark c above below (inl (inr e)) = omega arith
+middle_mark c above below (inr p) = omega arith
+
+pub point : IsMark 46
+point = low_mark 46 (omega arith)
+
+pub bracket : IsMark 40
+bracket = low_mark 40 (omega arith)
+
+pub colon : IsMark 58
+colon = middle_mark 58 (omega arith) (omega arith)
+
+pub at_sign : IsMark 64
+at_sign = middle_mark 64 (omega arith) (omega arith)
+
+-- a name has no mark
+pub name_lacks : (mark : ℕ) → IsMark mark → (t : List ℕ) → IsName t → Lacks mark t
+name_lacks mark never [] name = absurd name
+name_lacks mark never (c ∷ cs) name =
+    All-weaker IsNameContinue (λ b. b ≢ mark) (λ b continues same. never (subst IsNameContinue same continues)) (c ∷ cs) (All-cons IsNameContinue c cs (inl name.0) name.1)
+
+-- a text that begins with `@`
+abbrev pub BeginsAt : List ℕ → Type 0
+BeginsAt t = (d : List ℕ) × (t ≡ codes "@" ++ d)
+
+pub name_first : (name more : List ℕ) → IsName name → BeginsAt (name ++ more) → ⊥
+name_first [] more name at = absurd name
+name_first (c ∷ cs) more name at = at_sign (inl (subst IsNameStart (head_same at.1) name.0))
+
+-- what the marks of each form are
+pub type_begins : (t : List ℕ) → IsTypeText t → BeginsAt t → ⊥
+type_begins [] name at = absurd name
+type_begins (c ∷ cs) name at = at_sign (inl (subst IsNameStart (head_same at.1) name.0))
+
+pub attribute_begins : (t : List ℕ) → IsAttributeText t → BeginsAt t → ⊥
+attribute_begins t form at = name_first form.0 (codes "." ++ form.1) form.3 (at.0, sym form.2 ∙ at.1)
+
+empty : (ty a : List ℕ) → [] ≡ ty ++ (codes "." ++ a) → IsName ty → ⊥
+empty [] a e name = absurd name
+empty (c ∷ cs) a e name = cc
+
+pub head_begins : (head more : List ℕ) → IsAttributeText head → BeginsAt (head ++ more) → ⊥
+head_begins [] more form at = empty form.0 form.1 form.2 form.3
+head_begins (c ∷ cs) more form at = attribute_begins (c ∷ cs) form (cs, let first : c ≡ 64 = head_same at.1 in λ i. first i ∷ cs)
+
+pub field_argument_begins : (t : List ℕ) → IsFieldArgumentText t → BeginsAt t → ⊥
+field_argument_begins t form at = head_begins form.0 (codes "(" ++ (form.1 ++ codes ":)")) form.3 (at.0, sym form.2 ∙ at.1)
+
+pub attribute_lacks : (t : List ℕ) → IsAttributeText t → Lacks 40 t
+attribute_lacks t form =
+    let P : ℕ → Type 0 = λ b. b ≢ 40 in
+    subst (Lacks 40) (sym form.2) (All-append P form.0 (46 ∷ form.1) (name_lacks 40 bracket form.0 form.3) (All-cons P 46 form.1 (omega arith) (name_lacks 40 bracket form.1 form.4)))
+
+pub directive_lacks : (t : List ℕ) → IsDirectiveText t → Lacks 40 t
+directive_lacks t form =
+    let P : ℕ → Type 0 = λ b. b ≢ 40 in
+    subst (Lacks 40) (sym form.1) (All-cons P 64 form.0 (omega arith) (name_lacks 40 bracket form.0 form.2))
+
+pub argument_cut : (IsHead : List ℕ → Type 0) (t : List ℕ) → IsArgumentText IsHead t → Lacks 40 t → ⊥
+argument_cut IsHead t form lacks = no_cut 40 form.0 (form.1 ++ codes ":)") (subst (Lacks 40) form.2 lacks)
+
+pub attribute_cut : (t : List ℕ) → IsAttributeText t → Lacks 46 t → ⊥
+attribute_cut t form lacks = no_cut 46 form.0 form.1 (subst (Lacks 46) form.2 lacks)
+
+-- a text of the grammar is of the form that its marks say
+pub only_directive_argument : (t : List ℕ) → BeginsAt t → (Lacks 40 t → ⊥) → IsCoordinateText t → IsDirectiveArgumentText t
+only_directive_argument t at cut (inl form) = absurd (type_begins t form at)
+only_directive_argument t at cut (inr (inl form)) = absurd (attribute_begins t form at)
+only_directive_argument t at cut (inr (inr (inl form))) = absurd (field_argument_begins t form at)
+only_directive_argument t at cut (inr (inr (inr (inl form)))) = absurd (cut (directive_lacks t form))
+only_directive_argument t at cut (inr (inr (inr (inr form)))) = form
+
+pub only_directive : (t : List ℕ) → BeginsAt t → Lacks 40 t → IsCoordinateText t → IsDirectiveText t
+only_directive t at lacks (inl form) = absurd (type_begins t form at)
+only_directive t at lacks (inr (inl form)) = absurd (attribute_begins t form at)
+only_directive t at lacks (inr (inr (inl form))) = absurd (field_argument_begins t form at)
+only_directive t at lacks (inr (inr (inr (inl form)))) = form
+only_directive t at lacks (inr (inr (inr (inr form)))) = absurd (argument_cut IsDirectiveText t form lacks)
+
+pub argument_begins : (t : List ℕ) → IsDirectiveArgumentText t → BeginsAt t
+argument_begins t form = (form.3.0 ++ (codes "(" ++ (form.1 ++ codes ":)")), form.2 ∙ ap (λ (h : List ℕ). h ++ (codes "(" ++ (form.1 ++ codes ":)"))) form.3.1)
+
+pub only_field_argument : (t : List ℕ) → (BeginsAt t → ⊥) → (Lacks 40 t → ⊥) → IsCoordinateText t → IsFieldArgumentText t
+only_field_argument t never cut (inl form) = absurd (cut (name_lacks 40 bracket t form))
+only_field_argument t never cut (inr (inl form)) = absurd (cut (attribute_lacks t form))
+only_field_argument t never cut (inr (inr (inl form))) = form
+only_field_argument t never cut (inr (inr (inr (inl form)))) = absurd (never (form.0, form.1))
+only_field_argument t never cut (inr (inr (inr (inr form)))) = absurd (never (argument_begins t form))
+
+pub only_attribute : (t : List ℕ) → (BeginsAt t → ⊥) → Lacks 40 t → (Lacks 46 t → ⊥) → IsCoordinateText t → IsAttributeText t
+only_attribute t never lacks cut (inl form) = absurd (cut (name_lacks 46 point t form))
+only_attribute t never lacks cut (inr (inl form)) = form
+only_attribute t never lacks cut (inr (inr (inl form))) = absurd (argument_cut IsAttributeText t form lacks)
+only_attribute t never lacks cut (inr (inr (inr (inl form)))) = absurd (never (form.0, form.1))
+only_attribute t never lacks cut (inr (inr (inr (inr form)))) = absurd (never (argument_begins t form))
+
+pub only_type : (t : List ℕ) → (BeginsAt t → ⊥) → Lacks 40 t → Lacks 46 t → IsCoordinateText t → IsTypeText t
+only_type t never lacks whole (inl form) = form
+only_type t never lacks whole (inr (inl form)) = absurd (attribute_cut t form whole)
+only_type t never lacks whole (inr (inr (inl form))) = absurd (argument_cut IsAttributeText t form lacks)
+only_type t never lacks whole (inr (inr (inr (inl form)))) = absurd (never (form.0, form.1))
+only_type t never lacks whole (inr (inr (inr (inr form)))) = absurd (never (argument_begins t form))
+
+-- what a form refuses is outside it
+pub no_names : (ty a : List ℕ) (e : SchemaCoordinateParseError) → IsNoNames ty a e → IsName ty → IsName a → ⊥
+no_names ty a e (inl first) name other = first.0 name
+no_names ty a e (inr second) name other = second.1.0 other
+
+pub no_parts : (ty a : List ℕ) (e : SchemaCoordinateParseError) → Lacks 46 ty → IsNoNames ty a e → IsAttributeText (ty ++ (codes "." ++ a)) → ⊥
+no_parts ty a e lacks none form =
+    let same = one_cut 46 ty a form.0 form.1 lacks (name_lacks 46 point form.0 form.3) form.2 in
+    no_names ty a e none (subst IsName (sym same.0) form.3) (subst IsName (sym same.1) form.4)
+
+pub no_attribute : (t : List ℕ) (e : SchemaCoordinateParseError) → IsNoAttribute t e → IsAttributeText t → ⊥
+no_attribute t e (inl none) form = attribute_cut t form none.0
+no_attribute t e (inr parts) form = no_parts parts.0 parts.1 e parts.2.0 parts.3 (subst IsAttributeText parts.2.1 form)
+
+pub no_directive : (t : List ℕ) (e : SchemaCoordinateParseError) → IsNoDirective t e → IsDirectiveText t → ⊥
+no_directive t e (inl none) form = none.0 form.0 form.1
+no_directive t e (inr name) form = name.2.0 (subst IsName (tail_same (sym form.1 ∙ name.1)) form.2)
+
+pub no_argument : (a : List ℕ) (e : SchemaCoordinateParseError) → IsNoArgument (a ++ codes ":)") e → IsName a → ⊥
+no_argument a e (inl none) name = none.0 a (name_lacks 58 colon a name) refl
+no_argument a e (inr found) name =
+    found.3.0 (subst IsName (one_cut 58 a (codes ")") found.0 (codes ")") (name_lacks 58 colon a name) found.1 found.2).0 name)
+
+-- of what stands round the first `(`
+pub no_pair : (IsHead : List ℕ → Type 0) (IsNoHead : List ℕ → SchemaCoordinateParseError → Type 0)
+    → ((h : List ℕ) → IsHead h → Lacks 40 h) → ((h : List ℕ) (e : SchemaCoordinateParseError) → IsNoHead h e → IsHead h → ⊥)
+    → (head more : List ℕ) (e : SchemaCoordinateParseError) → Lacks 40 head → IsNoPair IsHead IsNoHead head more e → IsArgumentText IsHead (head ++ (codes "(" ++ more)) → ⊥
+no_pair IsHead IsNoHead lacks refuses head more e none (inl first) form =
+    let same = one_cut 40 head more form.0 (form.1 ++ codes ":)") none (lacks form.0 form.3) form.2 in
+    refuses head e first (subst IsHead (sym same.0) form.3)
+no_pair IsHead IsNoHead lacks refuses head more e none (inr second) form =
+    let same = one_cut 40 head more form.0 (form.1 ++ codes ":)") none (lacks form.0 form.3) form.2 in
+    no_argument form.1 e (subst (λ (m : List ℕ). IsNoArgument m e) same.1 second.1) form.4
+
+pub no_argument_of : (IsHead : List ℕ → Type 0) (IsNoHead : List ℕ → SchemaCoordinateParseError → Type 0)
+    → ((h : List ℕ) → IsHead h → Lacks 40 h) → ((h : List ℕ) (e : SchemaCoordinateParseError) → IsNoHead h e → IsHead h → ⊥)
+    → (t : List ℕ) (e : SchemaCoordinateParseError) → IsNoArgumentOf IsHead IsNoHead t e → IsArgumentText IsHead t → ⊥
+no_argument_of IsHead IsNoHead lacks refuses t e (inl none) form = argument_cut IsHead t form none.0
+no_argument_of IsHead IsNoHead lacks refuses t e (inr parts) form =
+    no_pair IsHead IsNoHead lacks refuses parts.0 parts.1 e parts.2.0 parts.3 (subst (IsArgumentText IsHead) parts.2.1 form)
+
+pub no_field_argument : (t : List ℕ) (e : SchemaCoordinateParseError) → IsNoFieldArgument t e → IsFieldArgumentText t → ⊥
+no_field_argument = no_argument_of IsAttributeText IsNoAttribute attribute_lacks no_attribute
+
+pub no_directive_argument : (t : List ℕ) (e : SchemaCoordinateParseError) → IsNoDirectiveArgument t e → IsDirectiveArgumentText t → ⊥
+no_directive_argument = no_argument_of IsDirectiveText IsNoDirective directive_lacks no_directive
+
+-- what the form of a text's marks refuses is outside the grammar
+abbrev pub NotAt : List ℕ → Type 0
+NotAt t = (d : List ℕ) → t ≢ codes "@" ++ d
+
+cut_lacks : (mark : ℕ) (t front back : List ℕ) → IsCut mark t front back → Lacks mark t → ⊥
+cut_lacks mark t front back cut lacks = no_cut mark front back (subst (Lacks mark) cut.1 lacks)
+
+pub outside_directive_argument : (t d head more : List ℕ) (e : SchemaCoordinateParseError) → t ≡ codes "@" ++ d → IsCut 40 t head more → IsNoPair IsDirectiveText IsNoDirective head more e → IsCoordinateText t → ⊥
+outside_directive_argument t d head more e at cut none text =
+    no_pair IsDirectiveText IsNoDirective directive_lacks no_directive head more e cut.0 none
+    (subst IsDirectiveArgumentText cut.1 (only_directive_argument t (d, at) (cut_lacks 40 t head more cut) text))
+
+pub outside_directive : (t d : List ℕ) (e : SchemaCoordinateParseError) → t ≡ codes "@" ++ d → Lacks 40 t → IsNoDirective t e → IsCoordinateText t → ⊥
+outside_directive t d e at lacks none text = no_directive t e none (only_directive t (d, at) lacks text)
+
+pub outside_field_argument : (t head more : List ℕ) (e : SchemaCoordinateParseError) → NotAt t → IsCut 40 t head more → IsNoPair IsAttributeText IsNoAttribute head more e → IsCoordinateText t → ⊥
+outside_field_argument t head more e never cut none text =
+    no_pair IsAttributeText IsNoAttribute attribute_lacks no_attribute head more e cut.0 none
+    (subst IsFieldArgumentText cut.1 (only_field_argument t (λ at. never at.0 at.1) (cut_lacks 40 t head more cut) text))
+
+pub outside_attribute : (t ty a : List ℕ) (e : SchemaCoordinateParseError) → NotAt t → Lacks 40 t → IsCut 46 t ty a → IsNoNames ty a e → IsCoordinateText t → ⊥
+outside_attribute t ty a e never lacks cut none text =
+    no_parts ty a e cut.0 none (subst IsAttributeText cut.1 (only_attribute t (λ at. never at.0 at.1) lacks (cut_lacks 46 t ty a cut) text))
+
+pub outside_type : (t : List ℕ) (e : SchemaCoordinateParseError) → NotAt t → Lacks 40 t → Lacks 46 t → IsNoName t e → IsCoordinateText t → ⊥
+outside_type t e never lacks none refused text = refused.0 (only_type t (λ at. never at.0 at.1) lacks none text)
+
+-- a text without a `:`, or with something else than `)` after the first, is no argument
+pub no_colon : (t : List ℕ) → Lacks 58 t → IsNoArgument t InvalidFormat
+no_colon t lacks = inl (λ a before same. no_cut 58 a (codes ")") (subst (Lacks 58) same lacks), refl)
+
+pub other_end : (t front back : List ℕ) → IsCut 58 t front back → back ≢ codes ")" → IsNoArgument t InvalidFormat
+other_end t front back cut other = inl (λ a before same. other (one_cut 58 front back a (codes ")") cut.0 before (sym cut.1 ∙ same)).1, refl)

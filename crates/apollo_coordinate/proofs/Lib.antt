@@ -1,0 +1,4 @@
+pub mod GrammarLemmas
+pub mod MarkLemmas
+pub mod PassedErrors
+pub mod TextLemmas

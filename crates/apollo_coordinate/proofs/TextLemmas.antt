@@ -1,0 +1,133 @@
+-- The text of a coordinate of valid names: it is in the grammar, and of no other coordinate.
+use Rattle.std.proofs.Common.{◌≡◌, ◌++◌, ℕ, List, None, Result, Ok, Err, IfOk, IfErr, MatchResult, codes, refl, sym, subst, ◌∙◌, inl, inr, append_assoc}
+use Rattle.std.specs.List.{AllByRecursion}
+use Rattle.graphql_nodes.specs.Comparing.{bare_name}
+use Rattle.graphql_nodes.specs.NameSyntax.{IsName}
+use Rattle.graphql_nodes.specs.NameView.{NameView}
+use Rattle.graphql_nodes.proofs.Comparisons.{tail_same}
+use Rattle.apollo_coordinate.specs.CoordinateText.{IsAttributeText, IsFieldArgumentText, IsDirectiveText, IsDirectiveArgumentText, IsCoordinateText, HasNames, Says, text, parts, bare}
+use Rattle.apollo_coordinate.specs.Refusals.{WhenRefused, Lacks, IsNoCoordinate}
+use Rattle.apollo_coordinate.specs.declared.coordinates.FieldArgumentCoordinate.{FieldArgumentCoordinate}
+use Rattle.apollo_coordinate.specs.declared.coordinates.SchemaCoordinate.{SchemaCoordinate}
+use Rattle.apollo_coordinate.specs.declared.coordinates.SchemaCoordinate.TheVariants.{Ty, TypeAttribute, FieldArgument, Directive, DirectiveArgument}
+use Rattle.apollo_coordinate.specs.declared.parse_error.SchemaCoordinateParseError.{SchemaCoordinateParseError}
+use Rattle.apollo_coordinate.specs.declared.parse_error.SchemaCoordinateParseError.TheVariants.{InvalidFormat, InvalidName, Memory}
+use Rattle.apollo_coordinate.proofs.MarkLemmas.{one_cut}
+use Rattle.apollo_coordinate.proofs.GrammarLemmas.{BeginsAt, point, bracket, colon, name_lacks, type_begins, attribute_begins, field_argument_begins, attribute_lacks, directive_lacks, attribute_cut, argument_cut}
+
+field_argument_form : (c : FieldArgumentCoordinate) → IsName c.ty.text → IsName c.field.text → IsName c.argument.text → IsFieldArgumentText (text (FieldArgument c))
+field_argument_form c ty field argument =
+    let head : IsAttributeText (c.ty.text ++ (codes "." ++ c.field.text)) = (c.ty.text, c.field.text, refl, ty, field) in
+    (c.ty.text ++ (codes "." ++ c.field.text), c.argument.text, sym (append_assoc c.ty.text (codes "." ++ c.field.text) (codes "(" ++ (c.argument.text ++ codes ":)"))), head, argument)
+
+-- the text in the grammar
+pub in_grammar : (c : SchemaCoordinate) → HasNames c → IsCoordinateText (text c)
+in_grammar (Ty c) names = inl names.0
+in_grammar (TypeAttribute c) names = inr (inl (c.ty.text, c.attribute.text, refl, names.0, names.1.0))
+in_grammar (FieldArgument c) names = inr (inr (inl (field_argument_form c names.0 names.1.0 names.1.1.0)))
+in_grammar (Directive c) names = inr (inr (inr (inl (c.directive.text, refl, names.0))))
+in_grammar (DirectiveArgument c) names = inr (inr (inr (inr (codes "@" ++ c.directive.text, c.argument.text, refl, (c.directive.text, refl, names.0), names.1.0))))
+
+-- the marks of the text
+abbrev HasMarks : SchemaCoordinate → List ℕ → Type 0
+HasMarks (Ty c) t = (BeginsAt t → ⊥) × Lacks 40 t × Lacks 46 t
+HasMarks (TypeAttribute c) t = (BeginsAt t → ⊥) × Lacks 40 t × (Lacks 46 t → ⊥)
+HasMarks (FieldArgument c) t = (BeginsAt t → ⊥) × (Lacks 40 t → ⊥) × Unit {0}
+HasMarks (Directive c) t = BeginsAt t × Lacks 40 t × Unit {0}
+HasMarks (DirectiveArgument c) t = BeginsAt t × (Lacks 40 t → ⊥) × Unit {0}
+
+pub marks : (c : SchemaCoordinate) → HasNames c → HasMarks c (text c)
+marks (Ty c) names = (type_begins c.ty.text names.0, name_lacks 40 bracket c.ty.text names.0, name_lacks 46 point c.ty.text names.0)
+marks (TypeAttribute c) names =
+    let form : IsAttributeText (text (TypeAttribute c)) = (c.ty.text, c.attribute.text, refl, names.0, names.1.0) in
+    (attribute_begins _ form, attribute_lacks _ form, attribute_cut _ form)
+marks (FieldArgument c) names =
+    let form = field_argument_form c names.0 names.1.0 names.1.1.0 in
+    (field_argument_begins _ form, argument_cut IsAttributeText _ form, tt)
+marks (Directive c) names =
+    let form : IsDirectiveText (text (Directive c)) = (c.directive.text, refl, names.0) in
+    ((c.directive.text, refl), directive_lacks _ form, tt)
+marks (DirectiveArgument c) names =
+    let head : IsDirectiveText (codes "@" ++ c.directive.text) = (c.directive.text, refl, names.0) in
+    let form : IsDirectiveArgumentText (text (DirectiveArgument c)) = (codes "@" ++ c.directive.text, c.argument.text, refl, head, names.1.0) in
+    ((c.directive.text ++ (codes "(" ++ (c.argument.text ++ codes ":)")), refl), argument_cut IsDirectiveText _ form, tt)
+
+bare_same : (n m : NameView) → n.text ≡ m.text → bare_name n ≡ bare_name m
+bare_same n m h = λ i. record { text = h i; location = None }
+
+argument_same : (a b : NameView) → IsName a.text → IsName b.text → a.text ++ codes ":)" ≡ b.text ++ codes ":)" → bare_name a ≡ bare_name b
+argument_same a b m n h = bare_same a b (one_cut 58 a.text (codes ")") b.text (codes ")") (name_lacks 58 colon a.text m) (name_lacks 58 colon b.text n) h).0
+
+-- a text, with the marks that two coordinates have in it
+same_form : (c d : SchemaCoordinate) → HasNames c → HasNames d → text c ≡ text d → HasMarks c (text c) → HasMarks d (text c) → bare c ≡ bare d
+same_form (Ty c) (Ty d) m n h u v = let n = bare_same c.ty d.ty h in λ i. Ty (record { ty = n i })
+same_form (Ty c) (TypeAttribute d) m n h u v = absurd (v.2 u.2)
+same_form (Ty c) (FieldArgument d) m n h u v = absurd (v.1 u.1)
+same_form (Ty c) (Directive d) m n h u v = absurd (u.0 v.0)
+same_form (Ty c) (DirectiveArgument d) m n h u v = absurd (u.0 v.0)
+same_form (TypeAttribute c) (Ty d) m n h u v = absurd (u.2 v.2)
+same_form (TypeAttribute c) (TypeAttribute d) m n h u v =
+    let cut = one_cut 46 c.ty.text c.attribute.text d.ty.text d.attribute.text (name_lacks 46 point c.ty.text m.0) (name_lacks 46 point d.ty.text n.0) h in
+    let first = bare_same c.ty d.ty cut.0 in
+    let second = bare_same c.attribute d.attribute cut.1 in
+    λ i. TypeAttribute (record { ty = first i; attribute = second i })
+same_form (TypeAttribute c) (FieldArgument d) m n h u v = absurd (v.1 u.1)
+same_form (TypeAttribute c) (Directive d) m n h u v = absurd (u.0 v.0)
+same_form (TypeAttribute c) (DirectiveArgument d) m n h u v = absurd (u.0 v.0)
+same_form (FieldArgument c) (Ty d) m n h u v = absurd (u.1 v.1)
+same_form (FieldArgument c) (TypeAttribute d) m n h u v = absurd (u.1 v.1)
+same_form (FieldArgument c) (FieldArgument d) m n h u v =
+    let cut = one_cut 46 c.ty.text (c.field.text ++ (codes "(" ++ (c.argument.text ++ codes ":)"))) d.ty.text (d.field.text ++ (codes "(" ++ (d.argument.text ++ codes ":)"))) (name_lacks 46 point c.ty.text m.0) (name_lacks 46 point d.ty.text n.0) h in
+    let next = one_cut 40 c.field.text (c.argument.text ++ codes ":)") d.field.text (d.argument.text ++ codes ":)") (name_lacks 40 bracket c.field.text m.1.0) (name_lacks 40 bracket d.field.text n.1.0) cut.1 in
+    let first = bare_same c.ty d.ty cut.0 in
+    let second = bare_same c.field d.field next.0 in
+    let third = argument_same c.argument d.argument m.1.1.0 n.1.1.0 next.1 in
+    λ i. FieldArgument (record { ty = first i; field = second i; argument = third i })
+same_form (FieldArgument c) (Directive d) m n h u v = absurd (u.0 v.0)
+same_form (FieldArgument c) (DirectiveArgument d) m n h u v = absurd (u.0 v.0)
+same_form (Directive c) (Ty d) m n h u v = absurd (v.0 u.0)
+same_form (Directive c) (TypeAttribute d) m n h u v = absurd (v.0 u.0)
+same_form (Directive c) (FieldArgument d) m n h u v = absurd (v.0 u.0)
+same_form (Directive c) (Directive d) m n h u v = let n = bare_same c.directive d.directive (tail_same h) in λ i. Directive (record { directive = n i })
+same_form (Directive c) (DirectiveArgument d) m n h u v = absurd (v.1 u.1)
+same_form (DirectiveArgument c) (Ty d) m n h u v = absurd (v.0 u.0)
+same_form (DirectiveArgument c) (TypeAttribute d) m n h u v = absurd (v.0 u.0)
+same_form (DirectiveArgument c) (FieldArgument d) m n h u v = absurd (v.0 u.0)
+same_form (DirectiveArgument c) (Directive d) m n h u v = absurd (u.1 v.1)
+same_form (DirectiveArgument c) (DirectiveArgument d) m n h u v =
+    let cut = one_cut 40 c.directive.text (c.argument.text ++ codes ":)") d.directive.text (d.argument.text ++ codes ":)") (name_lacks 40 bracket c.directive.text m.0) (name_lacks 40 bracket d.directive.text n.0) (tail_same h) in
+    let first = bare_same c.directive d.directive cut.0 in
+    let second = argument_same c.argument d.argument m.1.0 n.1.0 cut.1 in
+    λ i. DirectiveArgument (record { directive = first i; argument = second i })
+
+pub apart : (c d : SchemaCoordinate) → HasNames c → HasNames d → text c ≡ text d → bare c ≡ bare d
+apart c d m n h = same_form c d m n h (marks c m) (subst (HasMarks d) (sym h) (marks d n))
+
+abbrev Stands : NameView → Type 0
+Stands n = IsName n.text × (n.location ≡ None)
+
+bare_stands : (n : NameView) → Stands n → bare_name n ≡ n
+bare_stands n s = let e = s.1 in λ i. record { text = n.text; location = sym e i }
+
+-- a coordinate that a text says has valid names, at no place
+said_names : (d : SchemaCoordinate) → AllByRecursion Stands (parts d) → HasNames d
+said_names (Ty d) s = (s.0.0, tt)
+said_names (TypeAttribute d) s = (s.0.0, (s.1.0.0, tt))
+said_names (FieldArgument d) s = (s.0.0, (s.1.0.0, (s.1.1.0.0, tt)))
+said_names (Directive d) s = (s.0.0, tt)
+said_names (DirectiveArgument d) s = (s.0.0, (s.1.0.0, tt))
+
+said_bare : (d : SchemaCoordinate) → AllByRecursion Stands (parts d) → bare d ≡ d
+said_bare (Ty d) s = let a = bare_stands d.ty s.0 in λ i. Ty (record { ty = a i })
+said_bare (TypeAttribute d) s = let a = bare_stands d.ty s.0 in let b = bare_stands d.attribute s.1.0 in λ i. TypeAttribute (record { ty = a i; attribute = b i })
+said_bare (FieldArgument d) s = let a = bare_stands d.ty s.0 in let b = bare_stands d.field s.1.0 in let c = bare_stands d.argument s.1.1.0 in λ i. FieldArgument (record { ty = a i; field = b i; argument = c i })
+said_bare (Directive d) s = let a = bare_stands d.directive s.0 in λ i. Directive (record { directive = a i })
+said_bare (DirectiveArgument d) s = let a = bare_stands d.directive s.0 in let b = bare_stands d.argument s.1.0 in λ i. DirectiveArgument (record { directive = a i; argument = b i })
+
+-- whatever reads the text of a coordinate of valid names answers it, or want of memory
+pub reads : (c : SchemaCoordinate) (result : Result SchemaCoordinate SchemaCoordinateParseError) → HasNames c
+    → IfOk result (Says (text c)) → IfErr result (WhenRefused (IsNoCoordinate (text c))) → MatchResult result (λ d. d ≡ bare c) (λ e. e ≡ Memory)
+reads c (Ok d) names says refused = sym (said_bare d says.1) ∙ apart d c (said_names d says.1) names says.0
+reads c (Err Memory) names says refused = refl
+reads c (Err InvalidFormat) names says refused = absurd (refused.0 (in_grammar c names))
+reads c (Err (InvalidName e)) names says refused = absurd (refused.0 (in_grammar c names))

@@ -1,0 +1,3 @@
+pub mod CoordinateLookups
+pub mod CoordinateText
+pub mod Refusals

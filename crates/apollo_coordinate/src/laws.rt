@@ -1,0 +1,49 @@
+//! Laws of coordinates and their texts, for those who build on them; and what `==` answers at coordinates.
+ghost use Rattle.std.specs.Prelude.{◌≡◌, ℕ, List, Result, IfOk, IfErr, MatchResult};
+ghost use Rattle.apollo_coordinate.specs.CoordinateText.{IsTypeText, IsAttributeText, IsFieldArgumentText, IsDirectiveText, IsDirectiveArgumentText, HasNames, Says, text, bare, bare_type, bare_attribute, bare_field_argument, bare_directive, bare_directive_argument};
+ghost use Rattle.apollo_coordinate.specs.Refusals.{WhenRefused, IsNoName, IsNoAttribute, IsNoFieldArgument, IsNoDirective, IsNoDirectiveArgument, IsNoCoordinate};
+ghost use Rattle.apollo_coordinate.specs.declared.parse_error.SchemaCoordinateParseError.TheVariants.{Memory};
+ghost use Rattle.graphql_nodes.specs.Clones.{IsExact};
+ghost use Rattle.graphql_nodes.specs.Comparing.{ComparesBy};
+
+use crate::coordinates::{
+    DirectiveArgumentCoordinate, DirectiveCoordinate, FieldArgumentCoordinate, SchemaCoordinate,
+    TypeAttributeCoordinate, TypeCoordinate,
+};
+use crate::parse_error::SchemaCoordinateParseError;
+
+/// Whatever reads the text of a coordinate of valid names, as [`SchemaCoordinate::from_str`] does, answers that
+/// coordinate, without the places of its names, or want of memory; and no text belongs to two such coordinates.
+pub fn coordinates()
+    ensures read { (c : SchemaCoordinate) (result : Result SchemaCoordinate SchemaCoordinateParseError) → HasNames c → IfOk result (Says (text c)) → IfErr result (WhenRefused (IsNoCoordinate (text c))) → MatchResult result (λ d. d ≡ bare c) (λ e. e ≡ Memory) }
+    ensures apart { (c d : SchemaCoordinate) → HasNames c → HasNames d → text c ≡ text d → bare c ≡ bare d }
+{}
+
+/// What one form refuses, other than for want of memory, is no text of that form.
+pub fn refused_texts()
+    ensures ty { (t : List ℕ) (e : SchemaCoordinateParseError) → IsNoName t e → ¬ IsTypeText t }
+    ensures attribute { (t : List ℕ) (e : SchemaCoordinateParseError) → IsNoAttribute t e → ¬ IsAttributeText t }
+    ensures field_argument { (t : List ℕ) (e : SchemaCoordinateParseError) → IsNoFieldArgument t e → ¬ IsFieldArgumentText t }
+    ensures directive { (t : List ℕ) (e : SchemaCoordinateParseError) → IsNoDirective t e → ¬ IsDirectiveText t }
+    ensures directive_argument { (t : List ℕ) (e : SchemaCoordinateParseError) → IsNoDirectiveArgument t e → ¬ IsDirectiveArgumentText t }
+{}
+
+/// Coordinates are equal exactly where they are one without the places of their names.
+pub fn equality_of_coordinates()
+    ensures ty { ComparesBy ⟦<TypeCoordinate as PartialEq>⟧.eq bare_type }
+    ensures attribute { ComparesBy ⟦<TypeAttributeCoordinate as PartialEq>⟧.eq bare_attribute }
+    ensures field_argument { ComparesBy ⟦<FieldArgumentCoordinate as PartialEq>⟧.eq bare_field_argument }
+    ensures directive { ComparesBy ⟦<DirectiveCoordinate as PartialEq>⟧.eq bare_directive }
+    ensures directive_argument { ComparesBy ⟦<DirectiveArgumentCoordinate as PartialEq>⟧.eq bare_directive_argument }
+    ensures coordinate { ComparesBy ⟦<SchemaCoordinate as PartialEq>⟧.eq bare }
+{}
+
+/// Each clone of a coordinate is the original, with the places of its names.
+pub fn clones_of_coordinates_are_exact()
+    ensures ty { IsExact ⟦<TypeCoordinate as Clone>⟧.is_clone }
+    ensures attribute { IsExact ⟦<TypeAttributeCoordinate as Clone>⟧.is_clone }
+    ensures field_argument { IsExact ⟦<FieldArgumentCoordinate as Clone>⟧.is_clone }
+    ensures directive { IsExact ⟦<DirectiveCoordinate as Clone>⟧.is_clone }
+    ensures directive_argument { IsExact ⟦<DirectiveArgumentCoordinate as Clone>⟧.is_clone }
+    ensures coordinate { IsExact ⟦<SchemaCoordinate as Clone>⟧.is_clone }
+{}

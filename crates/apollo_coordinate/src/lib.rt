@@ -1,0 +1,17 @@
+//! Schema coordinates, read, printed and looked up in schemas: the Schema Coordinates RFC of GraphQL.
+#![tactic(auto)]
+
+pub mod coordinates;
+pub mod laws;
+pub mod lookup_answers;
+mod lookups;
+pub mod parse_error;
+mod printing;
+mod reading;
+
+pub use crate::coordinates::{
+    DirectiveArgumentCoordinate, DirectiveCoordinate, FieldArgumentCoordinate, SchemaCoordinate,
+    TypeAttributeCoordinate, TypeCoordinate,
+};
+pub use crate::lookup_answers::{SchemaCoordinateLookup, SchemaLookupError, TypeAttributeLookup};
+pub use crate::parse_error::SchemaCoordinateParseError;

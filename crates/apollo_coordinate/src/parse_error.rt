@@ -1,0 +1,48 @@
+//! Why a text is not read as a coordinate.
+ghost use Rattle.std.specs.Prelude.{◌≡◌};
+ghost use Rattle.apollo_coordinate.specs.declared.parse_error.SchemaCoordinateParseError.TheVariants.{InvalidName, Memory};
+ghost use Rattle.apollo_coordinate.specs.Refusals.{error_of_name};
+
+use graphql_nodes::name::{InvalidNameError, NameError};
+use std::alloc::AllocError;
+use thiserror::Error;
+
+/// Why a text is not read as a coordinate.
+#[derive(Debug, Drop, Error)]
+pub enum SchemaCoordinateParseError {
+    /// A mark of the coordinate's form is missing, or stands elsewhere.
+    #[error("invalid schema coordinate")]
+    InvalidFormat,
+    /// A part is no name. The error has the part, and no location.
+    #[error(transparent)]
+    InvalidName(InvalidNameError),
+    #[error("out of memory")]
+    Memory,
+}
+
+impl From<InvalidNameError> for SchemaCoordinateParseError {
+    ghost from_gives = { λ refused error. error ≡ InvalidName refused };
+
+    fn from(error: InvalidNameError) -> SchemaCoordinateParseError {
+        SchemaCoordinateParseError::InvalidName(error)
+    }
+}
+
+impl From<NameError> for SchemaCoordinateParseError {
+    ghost from_gives = { λ refused error. error ≡ error_of_name refused };
+
+    fn from(error: NameError) -> SchemaCoordinateParseError {
+        match error {
+            NameError::Invalid(error) => SchemaCoordinateParseError::InvalidName(error),
+            NameError::Memory => SchemaCoordinateParseError::Memory,
+        }
+    }
+}
+
+impl From<AllocError> for SchemaCoordinateParseError {
+    ghost from_gives = { λ _ error. error ≡ Memory };
+
+    fn from(_error: AllocError) -> SchemaCoordinateParseError {
+        SchemaCoordinateParseError::Memory
+    }
+}

@@ -1,0 +1,142 @@
+//! Coordinates made of one another, copied and compared.
+
+use apollo_coordinate::coordinates::{
+    DirectiveArgumentCoordinate, DirectiveCoordinate, FieldArgumentCoordinate, SchemaCoordinate,
+    TypeAttributeCoordinate, TypeCoordinate,
+};
+use graphql_nodes::name::Name;
+use likeness::{are_alike, is_copied, is_printed};
+use std::alloc::{AllocError, Global};
+use std::fmt::Display;
+use std::hash::Hash;
+
+fn name(alloc: Global, text: &str) -> Result<Name, AllocError> {
+    Name::new_unchecked(alloc, text)
+}
+
+fn type_coordinate(alloc: Global) -> Result<TypeCoordinate, AllocError> {
+    Ok(TypeCoordinate {
+        ty: name(alloc, "T")?,
+    })
+}
+
+fn attribute(alloc: Global) -> Result<TypeAttributeCoordinate, AllocError> {
+    let ty = type_coordinate(alloc)?;
+    Ok(ty.with_attribute(name(alloc, "f")?))
+}
+
+fn field_argument(alloc: Global) -> Result<FieldArgumentCoordinate, AllocError> {
+    let attribute = attribute(alloc)?;
+    Ok(attribute.with_argument(name(alloc, "a")?))
+}
+
+fn directive(alloc: Global) -> Result<DirectiveCoordinate, AllocError> {
+    Ok(name(alloc, "d")?.into())
+}
+
+fn directive_argument(alloc: Global) -> Result<DirectiveArgumentCoordinate, AllocError> {
+    let directive = directive(alloc)?;
+    Ok(directive.with_argument(name(alloc, "a")?))
+}
+
+/// Whether a coordinate is made that prints so, is copied, and is equal to another that is made so.
+fn is_right<T: Display + Clone + PartialEq + Hash + Drop>(
+    alloc: Global,
+    made: Result<T, AllocError>,
+    again: Result<T, AllocError>,
+    text: &str,
+) -> bool {
+    match (made, again) {
+        (Ok(made), Ok(again)) => {
+            is_printed(alloc, &made, text) && is_copied(&made) && are_alike(&made, &again)
+        }
+        _ => false,
+    }
+}
+
+#[test]
+fn coordinates_are_made_of_one_another(rt: HostRuntime) {
+    let alloc = rt.alloc();
+    assert!(rt; is_right(alloc, type_coordinate(alloc), type_coordinate(alloc), "T"));
+    assert!(rt; is_right(alloc, attribute(alloc), attribute(alloc), "T.f"));
+    assert!(rt;
+        is_right(
+            alloc,
+            field_argument(alloc),
+            field_argument(alloc),
+            "T.f(a:)"
+        )
+    );
+    assert!(rt; is_right(alloc, directive(alloc), directive(alloc), "@d"));
+    assert!(rt;
+        is_right(
+            alloc,
+            directive_argument(alloc),
+            directive_argument(alloc),
+            "@d(a:)"
+        )
+    );
+}
+
+/// The coordinates that a field's argument and a directive's argument stand in.
+fn parents(
+    alloc: Global,
+) -> Result<
+    (
+        TypeCoordinate,
+        TypeCoordinate,
+        TypeAttributeCoordinate,
+        DirectiveCoordinate,
+    ),
+    AllocError,
+> {
+    let of_attribute = attribute(alloc)?.type_coordinate()?;
+    let argument = field_argument(alloc)?;
+    let of_directive = directive_argument(alloc)?.directive_coordinate()?;
+    Ok((
+        of_attribute,
+        argument.type_coordinate()?,
+        argument.field_coordinate()?,
+        of_directive,
+    ))
+}
+
+/// Whether they are printed so.
+fn are_parents_right(alloc: Global) -> bool {
+    match parents(alloc) {
+        Ok((of_attribute, of_argument, field, directive)) => {
+            is_printed(alloc, &of_attribute, "T")
+                && is_printed(alloc, &of_argument, "T")
+                && is_printed(alloc, &field, "T.f")
+                && is_printed(alloc, &directive, "@d")
+        }
+        Err(_) => false,
+    }
+}
+
+#[test]
+fn coordinates_have_those_that_they_stand_in(rt: HostRuntime) {
+    assert!(rt; are_parents_right(rt.alloc()));
+}
+
+/// A coordinate of each form.
+fn of_each_form(alloc: Global, form: u8) -> Result<SchemaCoordinate, AllocError> {
+    Ok(match form {
+        0 => type_coordinate(alloc)?.into(),
+        1 => attribute(alloc)?.into(),
+        2 => field_argument(alloc)?.into(),
+        3 => directive(alloc)?.into(),
+        _ => directive_argument(alloc)?.into(),
+    })
+}
+
+#[test]
+fn coordinates_of_each_form_are_any(rt: HostRuntime) {
+    let alloc = rt.alloc();
+    let mut form = 0;
+    for text in ["T", "T.f", "T.f(a:)", "@d", "@d(a:)"].iter() {
+        let made = of_each_form(alloc, form);
+        assert!(rt; is_right(alloc, made, of_each_form(alloc, form), *text));
+        form = if form < 4 { form + 1 } else { 4 };
+    }
+}

@@ -1,0 +1,9 @@
+//! Tests of `apollo_coordinate`, of what no clause says: that calls succeed with memory, and the printed texts.
+#![tactic(auto)]
+
+#[cfg(test)]
+mod conversions;
+#[cfg(test)]
+mod lookups;
+#[cfg(test)]
+mod reading;

@@ -1,0 +1,211 @@
+//! Coordinates looked up in a schema that is built of a text.
+
+use apollo_coordinate::coordinates::{SchemaCoordinate, TypeAttributeCoordinate};
+use apollo_coordinate::lookup_answers::{SchemaCoordinateLookup, SchemaLookupError};
+use apollo_schema::schema::Schema;
+use apollo_schema::schema_builder::SchemaBuilder;
+use bench_notation::reading::read;
+use graphql_ast::document::Document;
+use std::alloc::{AllocError, Global};
+use std::process::Abort;
+use std::test::Fail;
+
+/// A type of each kind, and an enum with a value that has the name of a meta-field.
+const INPUT: &str =
+    "def object Query\nfield f Int\narg a Int\ndef enum E\nvalue A\ndef union U\ndef input I\nfield g Int\ndef interface N\nfield n Int\ndef enum M\nvalue __typename\n";
+
+/// Which call looks a coordinate up.
+#[derive(Clone, Copy)]
+enum Lookup {
+    Any,
+    Attribute,
+    Field,
+    InputField,
+    EnumValue,
+}
+
+/// What an attribute is looked up as.
+fn look_up_attribute<'coord, 'schema>(
+    lookup: Lookup,
+    coordinate: &'coord TypeAttributeCoordinate,
+    schema: &'schema Schema,
+) -> Result<SchemaCoordinateLookup<'schema>, SchemaLookupError<'coord, 'schema>> {
+    match lookup {
+        Lookup::Field => Ok(coordinate.lookup_field(schema)?.into()),
+        Lookup::InputField => Ok(coordinate.lookup_input_field(schema)?.into()),
+        Lookup::EnumValue => Ok(coordinate.lookup_enum_value(schema)?.into()),
+        Lookup::Any | Lookup::Attribute => Ok(coordinate.lookup(schema)?.into()),
+    }
+}
+
+fn look_up<'coord, 'schema>(
+    lookup: Lookup,
+    coordinate: &'coord SchemaCoordinate,
+    schema: &'schema Schema,
+) -> Result<SchemaCoordinateLookup<'schema>, SchemaLookupError<'coord, 'schema>> {
+    match (lookup, coordinate) {
+        (Lookup::Any, _) => coordinate.lookup(schema),
+        (_, SchemaCoordinate::TypeAttribute(attribute)) => {
+            look_up_attribute(lookup, attribute, schema)
+        }
+        (_, _) => coordinate.lookup(schema),
+    }
+}
+
+/// What was found.
+fn found(answer: SchemaCoordinateLookup<'_>) -> &'static str {
+    match answer {
+        SchemaCoordinateLookup::Ty(_) => "type\n",
+        SchemaCoordinateLookup::Directive(_) => "directive\n",
+        SchemaCoordinateLookup::Field(_) => "field\n",
+        SchemaCoordinateLookup::InputField(_) => "input field\n",
+        SchemaCoordinateLookup::EnumValue(_) => "enum value\n",
+        SchemaCoordinateLookup::Argument(_) => "argument\n",
+    }
+}
+
+/// Adds what a lookup answers, or the text of its error.
+fn push_answer(
+    text: &mut String,
+    schema: &Schema,
+    lookup: Lookup,
+    coordinate: &SchemaCoordinate,
+) -> Result<(), AllocError> {
+    match look_up(lookup, coordinate, schema) {
+        Ok(answer) => text.push_str(found(answer)),
+        Err(error) => write!(text, "{error}\n"),
+    }
+}
+
+fn push_lookup(
+    alloc: Global,
+    text: &mut String,
+    schema: &Schema,
+    lookup: Lookup,
+    input: &str,
+) -> Result<(), AllocError> {
+    match SchemaCoordinate::from_str(alloc, input) {
+        Ok(coordinate) => push_answer(text, schema, lookup, &coordinate),
+        Err(_) => text.push_str("not read\n"),
+    }
+}
+
+/// Adds what lookups answer in the schema that is built.
+fn push_lookups(
+    alloc: Global,
+    text: &mut String,
+    builder: SchemaBuilder,
+    inputs: &[(Lookup, &str)],
+) -> Result<(), AllocError> {
+    let Ok(schema) = builder.build() else {
+        return text.push_str("not built\n");
+    };
+    for (lookup, input) in inputs {
+        push_lookup(alloc, text, &schema, *lookup, *input)?;
+    }
+    Ok(())
+}
+
+/// What lookups answer in the schema of these documents.
+fn answers(
+    alloc: Global,
+    documents: &[Document],
+    inputs: &[(Lookup, &str)],
+) -> Result<String, AllocError> {
+    let mut text = String::new(alloc);
+    let mut builder = Schema::builder(alloc)?;
+    for document in documents {
+        // After a refusal no schema is built.
+        let _ = builder.add_ast(document);
+    }
+    push_lookups(alloc, &mut text, builder, inputs)?;
+    Ok(text)
+}
+
+/// Expects these answers.
+fn expect(
+    rt: &(impl Abort + AllocGlobal),
+    inputs: &[(Lookup, &str)],
+    expected: &str,
+) -> Result<(), Fail> {
+    let documents = read(rt.alloc(), INPUT)?;
+    let text = answers(rt.alloc(), documents.as_slice(), inputs)?;
+    assert_eq!(rt; text.as_str(), expected);
+    Ok(())
+}
+
+const FOUND: [(Lookup, &str); 13] = [
+    (Lookup::Any, "Query"),
+    (Lookup::Any, "Query.f"),
+    (Lookup::Any, "Query.f(a:)"),
+    (Lookup::Any, "E.A"),
+    (Lookup::Any, "I.g"),
+    (Lookup::Any, "N.n"),
+    (Lookup::Any, "@skip"),
+    (Lookup::Any, "@skip(if:)"),
+    (Lookup::Any, "Query.__typename"),
+    (Lookup::Any, "U.__typename"),
+    (Lookup::Any, "Query.__schema"),
+    (Lookup::Any, "Query.__type(name:)"),
+    (Lookup::Any, "M.__typename"),
+];
+
+#[test]
+fn coordinates_of_each_form_are_found(rt: HostRuntime) -> Result<(), Fail> {
+    expect(
+        &rt,
+        &FOUND,
+        "type\nfield\nargument\nenum value\ninput field\nfield\ndirective\nargument\nfield\nfield\nfield\nargument\nenum value\n",
+    )
+}
+
+const MISSING: [(Lookup, &str); 13] = [
+    (Lookup::Any, "Type.field(argument:)"),
+    (Lookup::Any, "@directive"),
+    (Lookup::Any, "@directive(a:)"),
+    (Lookup::Any, "@skip(x:)"),
+    (Lookup::Any, "E.A(b:)"),
+    (Lookup::Any, "I.g(b:)"),
+    (Lookup::Any, "U.x"),
+    (Lookup::Any, "U.x(a:)"),
+    (Lookup::Any, "Query.f(z:)"),
+    (Lookup::Any, "Query.__type(x:)"),
+    (Lookup::Any, "E.__typename"),
+    (Lookup::Any, "Int.__typename"),
+    (Lookup::Any, "Query.z"),
+];
+
+#[test]
+fn what_is_missing_is_named(rt: HostRuntime) -> Result<(), Fail> {
+    expect(
+        &rt,
+        &MISSING,
+        "type `Type` does not exist\ntype `directive` does not exist\ntype `directive` does not exist\nfield or directive does not have argument `x`\ntype attribute `A` is not a field and can not have arguments\ntype attribute `g` is not a field and can not have arguments\ntype does not have attributes\ntype does not have attributes\nfield or directive does not have argument `z`\nfield or directive does not have argument `x`\ntype does not have attribute `__typename`\ntype does not have attributes\ntype does not have attribute `z`\n",
+    )
+}
+
+const OF_ONE_SORT: [(Lookup, &str); 14] = [
+    (Lookup::Attribute, "E.A"),
+    (Lookup::Field, "Query.f"),
+    (Lookup::Field, "U.__typename"),
+    (Lookup::Field, "Query.z"),
+    (Lookup::Field, "E.A"),
+    (Lookup::Field, "Gone.f"),
+    (Lookup::InputField, "I.g"),
+    (Lookup::InputField, "I.z"),
+    (Lookup::InputField, "Query.f"),
+    (Lookup::InputField, "Query.__typename"),
+    (Lookup::EnumValue, "E.A"),
+    (Lookup::EnumValue, "E.B"),
+    (Lookup::EnumValue, "U.__typename"),
+    (Lookup::EnumValue, "Gone.A"),
+];
+
+#[test]
+fn attributes_of_one_sort_are_found(rt: HostRuntime) -> Result<(), Fail> {
+    expect(
+        &rt,
+        &OF_ONE_SORT,
+        "enum value\nfield\nfield\ntype does not have attribute `z`\ntype does not have attributes\ntype `Gone` does not exist\ninput field\ntype does not have attribute `z`\ntype does not have attributes\ntype does not have attributes\nenum value\ntype does not have attribute `B`\ntype does not have attributes\ntype `Gone` does not exist\n",
+    )
+}
