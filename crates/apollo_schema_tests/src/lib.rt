@@ -21,6 +21,8 @@ mod lookups;
 #[cfg(test)]
 mod no_documents;
 #[cfg(test)]
+mod parts;
+#[cfg(test)]
 mod reading;
 #[cfg(test)]
 mod roots;
