@@ -79,7 +79,8 @@ fn push_map(text: &mut String, map: &Table<Name, Implementers>) -> Result<(), Al
     for (name, implementers) in map.iter() {
         push_implementers(text, name, implementers)?;
     }
-    Ok(())
+    let is_copied = map.clone()? == *map;
+    write!(text, "copied equal: {is_copied}\n")
 }
 
 impl Question for Implementing {
@@ -95,7 +96,7 @@ fn implementers_declare_the_interface_themselves(rt: HostRuntime) -> Result<(), 
         &rt,
         &Implementing,
         CHAIN,
-        "Foo has 0 objects: Bar\nBar has 1 objects: Obj\n",
+        "Foo has 0 objects: Bar\nBar has 1 objects: Obj\ncopied equal: true\n",
     )?;
     let input =
         "def interface Wide\nimplements I\nfield a Int\ndef object B\nimplements J\nimplements I\nfield a Int\ndef object A\nimplements I\nfield a Int\n";
@@ -103,7 +104,7 @@ fn implementers_declare_the_interface_themselves(rt: HostRuntime) -> Result<(), 
         &rt,
         &Implementing,
         input,
-        "I has 2 objects: B A Wide\nJ has 1 objects: B\n",
+        "I has 2 objects: B A Wide\nJ has 1 objects: B\ncopied equal: true\n",
     )
 }
 
