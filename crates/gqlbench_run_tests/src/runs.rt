@@ -1,0 +1,184 @@
+//! Runs over clocks whose readings are known.
+
+use crate::clocks::{SteadyClock, StoppedClock};
+use gqlbench_run::running::run;
+use gqltool_run::status::Status;
+use std::io::{self, Error, ErrorKind, Write};
+use std::process::Abort;
+use std::time::Clock;
+
+/// An interface, an object type that has it, and an extension of no union. The built-in types have 35 fields.
+const INPUT: &str = "def interface I
+field a Int
+def object Query
+implements I
+field a Int
+field b I
+ext union U
+member Query
+";
+
+/// How a run is to end, and what it is to write and to say.
+#[derive(Clone, Copy)]
+struct Outcome<'a> {
+    status: Status,
+    output: &'a str,
+    errors: &'a str,
+}
+
+/// Expects a run on these words and this input to come to this.
+fn expect<C: Clock>(
+    rt: &(impl Abort + AllocGlobal),
+    clock: &C,
+    words: &[&str],
+    input: &str,
+    outcome: Outcome<'_>,
+) {
+    let mut reader = input.as_bytes();
+    let mut output = Vec::new(rt.alloc());
+    let mut errors = Vec::new(rt.alloc());
+    let status = run(
+        rt.alloc(),
+        clock,
+        words,
+        &mut reader,
+        &mut output,
+        &mut errors,
+    );
+    assert_eq!(rt; errors.as_slice(), outcome.errors.as_bytes());
+    assert_eq!(rt; output.as_slice(), outcome.output.as_bytes());
+    assert_eq!(rt; status, outcome.status);
+}
+
+fn refused(errors: &str) -> Outcome<'_> {
+    Outcome {
+        status: Status::Refused,
+        output: "",
+        errors,
+    }
+}
+
+#[test]
+fn reports(rt: HostRuntime) {
+    let rows: [(&[&str], &str); 3] = [
+        (
+            &["schema", "3"],
+            "\
+15 types, 2 definitions out, 1 faults, equal when rebuilt
+schema-build   min            7 median            7 mean            7 ns
+to_ast         min            7 median            7 mean            7 ns
+rebuild+eq     min            7 median            7 mean            7 ns
+drop           min            7 median            7 mean            7 ns
+",
+        ),
+        (
+            &["schema", "--adopt", "+1"],
+            "\
+16 types, 4 definitions out, 0 faults, equal when rebuilt
+schema-build   min            7 median            7 mean            7 ns
+to_ast         min            7 median            7 mean            7 ns
+rebuild+eq     min            7 median            7 mean            7 ns
+drop           min            7 median            7 mean            7 ns
+",
+        ),
+        (
+            &["lookups", "--ignore-builtin", "2"],
+            "\
+38 calls of type_field, 38 found, 39 calls of is_subtype, 2 true
+type_field     min            7 median            7 mean            7 ns
+is_subtype     min            7 median            7 mean            7 ns
+",
+        ),
+    ];
+    for (words, output) in rows {
+        let outcome = Outcome {
+            status: Status::Done,
+            output,
+            errors: "",
+        };
+        expect(&rt, &SteadyClock::new(7), words, INPUT, outcome);
+    }
+}
+
+#[test]
+fn words_that_are_no_command(rt: HostRuntime) {
+    let rows: [&[&str]; 9] = [
+        &[],
+        &["schema"],
+        &["schema", "0"],
+        &["schema", "-1"],
+        &["schema", "x"],
+        &["schema", "18446744073709551616"],
+        &["schema", "3", "--adopt"],
+        &["lookups", "--adopt", "--adopt", "3"],
+        &["doc", "3"],
+    ];
+    let usage = "usage: gqlbench schema|lookups [--adopt] [--ignore-builtin] REPEAT\n";
+    for words in rows {
+        expect(&rt, &StoppedClock, words, "foo", refused(usage));
+    }
+}
+
+#[test]
+fn inputs_and_clocks_that_cannot_be_read(rt: HostRuntime) {
+    let words = &["schema", "1"];
+    expect(
+        &rt,
+        &StoppedClock,
+        words,
+        "foo",
+        refused("line 1: unknown line\n"),
+    );
+    let stopped = Outcome {
+        status: Status::Exhausted,
+        output: "",
+        errors: "cannot read the clock\n",
+    };
+    expect(&rt, &StoppedClock, words, INPUT, stopped);
+    expect(&rt, &StoppedClock, &["lookups", "1"], INPUT, stopped);
+}
+
+#[test]
+fn long_runs_say_how_far_they_are(rt: HostRuntime) {
+    let lookups = Outcome {
+        status: Status::Done,
+        output: "\
+35 calls of type_field, 35 found, 35 calls of is_subtype, 0 true
+type_field     min   3000000000 median   3000000000 mean   3000000000 ns
+is_subtype     min   3000000000 median   3000000000 mean   3000000000 ns
+",
+        errors: "1 of 2 repetitions\n2 of 2 repetitions\n",
+    };
+    let clock = SteadyClock::new(3_000_000_000);
+    expect(&rt, &clock, &["lookups", "2"], "", lookups);
+}
+
+/// A writer that takes nothing.
+#[derive(Drop)]
+struct FullWriter;
+
+impl Write for FullWriter {
+    fn write(&mut self, _buf: &[u8]) -> io::Result<usize> {
+        Err(Error::from(ErrorKind::BrokenPipe))
+    }
+
+    fn flush(&mut self) -> io::Result<()> {
+        Ok(())
+    }
+}
+
+#[test]
+fn writers_that_take_nothing(rt: HostRuntime) {
+    let mut reader = INPUT.as_bytes();
+    let mut errors = Vec::new(rt.alloc());
+    let status = run(
+        rt.alloc(),
+        &SteadyClock::new(7),
+        &["schema", "1"],
+        &mut reader,
+        &mut FullWriter,
+        &mut errors,
+    );
+    assert_eq!(rt; status, Status::NotWritten);
+    assert_eq!(rt; errors.as_slice(), "cannot write output\n".as_bytes());
+}
