@@ -1,12 +1,13 @@
 -- The text of a coordinate of valid names: it is in the grammar, and of no other coordinate.
-use Rattle.std.proofs.Common.{◌≡◌, ◌++◌, ℕ, List, None, Result, Ok, Err, IfOk, IfErr, MatchResult, codes, refl, sym, subst, ◌∙◌, inl, inr, append_assoc}
+use Rattle.std.proofs.Common.{◌≡◌, ◌++◌, ℕ, List, None, Result, Ok, Err, codes, refl, sym, subst, ◌∙◌, inl, inr, append_assoc}
 use Rattle.std.specs.List.{AllByRecursion}
 use Rattle.graphql_nodes.specs.Comparing.{bare_name}
 use Rattle.graphql_nodes.specs.NameSyntax.{IsName}
 use Rattle.graphql_nodes.specs.NameView.{NameView}
 use Rattle.graphql_nodes.proofs.Comparisons.{tail_same}
-use Rattle.apollo_coordinate.specs.CoordinateText.{IsAttributeText, IsFieldArgumentText, IsDirectiveText, IsDirectiveArgumentText, IsCoordinateText, HasNames, Says, text, parts, bare}
-use Rattle.apollo_coordinate.specs.Refusals.{WhenRefused, Lacks, IsNoCoordinate}
+use Rattle.apollo_coordinate.specs.CoordinateText.{IsAttributeText, IsFieldArgumentText, IsDirectiveText, IsDirectiveArgumentText, IsCoordinateText, HasNames, text, parts, bare}
+use Rattle.apollo_coordinate.specs.Refusals.{Lacks}
+use Rattle.apollo_coordinate.specs.Readings.{IsReadingOf, IsReadBack}
 use Rattle.apollo_coordinate.specs.declared.coordinates.FieldArgumentCoordinate.{FieldArgumentCoordinate}
 use Rattle.apollo_coordinate.specs.declared.coordinates.SchemaCoordinate.{SchemaCoordinate}
 use Rattle.apollo_coordinate.specs.declared.coordinates.SchemaCoordinate.TheVariants.{Ty, TypeAttribute, FieldArgument, Directive, DirectiveArgument}
@@ -125,9 +126,8 @@ said_bare (Directive d) s = let a = bare_stands d.directive s.0 in λ i. Directi
 said_bare (DirectiveArgument d) s = let a = bare_stands d.directive s.0 in let b = bare_stands d.argument s.1.0 in λ i. DirectiveArgument (record { directive = a i; argument = b i })
 
 -- whatever reads the text of a coordinate of valid names answers it, or want of memory
-pub reads : (c : SchemaCoordinate) (result : Result SchemaCoordinate SchemaCoordinateParseError) → HasNames c
-    → IfOk result (Says (text c)) → IfErr result (WhenRefused (IsNoCoordinate (text c))) → MatchResult result (λ d. d ≡ bare c) (λ e. e ≡ Memory)
-reads c (Ok d) names says refused = sym (said_bare d says.1) ∙ apart d c (said_names d says.1) names says.0
-reads c (Err Memory) names says refused = refl
-reads c (Err InvalidFormat) names says refused = absurd (refused.0 (in_grammar c names))
-reads c (Err (InvalidName e)) names says refused = absurd (refused.0 (in_grammar c names))
+pub reads : (c : SchemaCoordinate) (result : Result SchemaCoordinate SchemaCoordinateParseError) → HasNames c → IsReadingOf (text c) result → IsReadBack c result
+reads c (Ok d) names reading = sym (said_bare d reading.0.1) ∙ apart d c (said_names d reading.0.1) names reading.0.0
+reads c (Err Memory) names reading = refl
+reads c (Err InvalidFormat) names reading = absurd (reading.1.0 (in_grammar c names))
+reads c (Err (InvalidName e)) names reading = absurd (reading.1.0 (in_grammar c names))

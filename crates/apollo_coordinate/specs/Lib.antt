@@ -1,3 +1,4 @@
 pub mod CoordinateLookups
 pub mod CoordinateText
+pub mod Readings
 pub mod Refusals

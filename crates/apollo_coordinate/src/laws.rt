@@ -1,8 +1,8 @@
 //! Laws of coordinates and their texts, for those who build on them; and what `==` answers at coordinates.
-ghost use Rattle.std.specs.Prelude.{◌≡◌, ℕ, List, Result, IfOk, IfErr, MatchResult};
-ghost use Rattle.apollo_coordinate.specs.CoordinateText.{IsTypeText, IsAttributeText, IsFieldArgumentText, IsDirectiveText, IsDirectiveArgumentText, HasNames, Says, text, bare, bare_type, bare_attribute, bare_field_argument, bare_directive, bare_directive_argument};
-ghost use Rattle.apollo_coordinate.specs.Refusals.{WhenRefused, IsNoName, IsNoAttribute, IsNoFieldArgument, IsNoDirective, IsNoDirectiveArgument, IsNoCoordinate};
-ghost use Rattle.apollo_coordinate.specs.declared.parse_error.SchemaCoordinateParseError.TheVariants.{Memory};
+ghost use Rattle.std.specs.Prelude.{◌≡◌, ℕ, List, Result};
+ghost use Rattle.apollo_coordinate.specs.CoordinateText.{IsTypeText, IsAttributeText, IsFieldArgumentText, IsDirectiveText, IsDirectiveArgumentText, HasNames, text, bare, bare_type, bare_attribute, bare_field_argument, bare_directive, bare_directive_argument};
+ghost use Rattle.apollo_coordinate.specs.Refusals.{IsNoName, IsNoAttribute, IsNoFieldArgument, IsNoDirective, IsNoDirectiveArgument};
+ghost use Rattle.apollo_coordinate.specs.Readings.{IsReadingOf, IsReadBack};
 ghost use Rattle.graphql_nodes.specs.Clones.{IsExact};
 ghost use Rattle.graphql_nodes.specs.Comparing.{ComparesBy};
 
@@ -15,7 +15,7 @@ use crate::parse_error::SchemaCoordinateParseError;
 /// Whatever reads the text of a coordinate of valid names, as [`SchemaCoordinate::from_str`] does, answers that
 /// coordinate, without the places of its names, or want of memory; and no text belongs to two such coordinates.
 pub fn coordinates()
-    ensures read { (c : SchemaCoordinate) (result : Result SchemaCoordinate SchemaCoordinateParseError) → HasNames c → IfOk result (Says (text c)) → IfErr result (WhenRefused (IsNoCoordinate (text c))) → MatchResult result (λ d. d ≡ bare c) (λ e. e ≡ Memory) }
+    ensures read { (c : SchemaCoordinate) (result : Result SchemaCoordinate SchemaCoordinateParseError) → HasNames c → IsReadingOf (text c) result → IsReadBack c result }
     ensures apart { (c d : SchemaCoordinate) → HasNames c → HasNames d → text c ≡ text d → bare c ≡ bare d }
 {}
 
