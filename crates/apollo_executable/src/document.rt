@@ -1,5 +1,5 @@
 //! Executable documents: GraphQL specification of October 2021, section 2.2.
-ghost use Rattle.std.specs.Prelude.{◌≡◌, [], None};
+ghost use Rattle.std.specs.Prelude.{◌≡◌, []};
 
 use crate::operation::Fragment;
 use crate::operation_map::OperationMap;
@@ -25,9 +25,11 @@ pub struct ExecutableDocument {
 }
 
 impl ExecutableDocument {
+    ghost use Rattle.apollo_executable.specs.Operations.{no_operations};
+
     /// A document without operations, fragments and sources.
     pub fn new(alloc: Global) -> ExecutableDocument
-        ensures { result ≡ record { sources = []; operations = record { anonymous = None; named = [] }; fragments = [] } }
+        ensures { result ≡ record { sources = []; operations = no_operations; fragments = [] } }
     {
         ExecutableDocument {
             sources: Table::new(alloc),
