@@ -10,9 +10,12 @@ use std::alloc::{AllocError, Global};
 use std::process::Abort;
 use std::test::Fail;
 
-/// A type of each kind, and an enum with a value that has the name of a meta-field.
+/// A type of each kind that has attributes or could have meta-fields.
 const INPUT: &str =
-    "def object Query\nfield f Int\narg a Int\ndef enum E\nvalue A\ndef union U\ndef input I\nfield g Int\ndef interface N\nfield n Int\ndef enum M\nvalue __typename\n";
+    "def object Query\nfield f Int\narg a Int\ndef enum E\nvalue A\ndef union U\ndef input I\nfield g Int\ndef interface N\nfield n Int\n";
+
+/// An enum as the root of queries, with a value that has the name of a meta-field.
+const ENUM_ROOT: &str = "schema\nroot query E\ndef enum E\nvalue __schema\n";
 
 /// Which call looks a coordinate up.
 #[derive(Clone, Copy)]
@@ -122,19 +125,20 @@ fn answers(
     Ok(text)
 }
 
-/// Expects these answers.
+/// Expects these answers in the schema that the text builds.
 fn expect(
     rt: &(impl Abort + AllocGlobal),
+    text: &str,
     inputs: &[(Lookup, &str)],
     expected: &str,
 ) -> Result<(), Fail> {
-    let documents = read(rt.alloc(), INPUT)?;
-    let text = answers(rt.alloc(), documents.as_slice(), inputs)?;
-    assert_eq!(rt; text.as_str(), expected);
+    let documents = read(rt.alloc(), text)?;
+    let told = answers(rt.alloc(), documents.as_slice(), inputs)?;
+    assert_eq!(rt; told.as_str(), expected);
     Ok(())
 }
 
-const FOUND: [(Lookup, &str); 13] = [
+const FOUND: [(Lookup, &str); 12] = [
     (Lookup::Any, "Query"),
     (Lookup::Any, "Query.f"),
     (Lookup::Any, "Query.f(a:)"),
@@ -147,15 +151,15 @@ const FOUND: [(Lookup, &str); 13] = [
     (Lookup::Any, "U.__typename"),
     (Lookup::Any, "Query.__schema"),
     (Lookup::Any, "Query.__type(name:)"),
-    (Lookup::Any, "M.__typename"),
 ];
 
 #[test]
 fn coordinates_of_each_form_are_found(rt: HostRuntime) -> Result<(), Fail> {
     expect(
         &rt,
+        INPUT,
         &FOUND,
-        "type\nfield\nargument\nenum value\ninput field\nfield\ndirective\nargument\nfield\nfield\nfield\nargument\nenum value\n",
+        "type\nfield\nargument\nenum value\ninput field\nfield\ndirective\nargument\nfield\nfield\nfield\nargument\n",
     )
 }
 
@@ -179,6 +183,7 @@ const MISSING: [(Lookup, &str); 13] = [
 fn what_is_missing_is_named(rt: HostRuntime) -> Result<(), Fail> {
     expect(
         &rt,
+        INPUT,
         &MISSING,
         "type `Type` does not exist\ntype `directive` does not exist\ntype `directive` does not exist\nfield or directive does not have argument `x`\ntype attribute `A` is not a field and can not have arguments\ntype attribute `g` is not a field and can not have arguments\ntype does not have attributes\ntype does not have attributes\nfield or directive does not have argument `z`\nfield or directive does not have argument `x`\ntype does not have attribute `__typename`\ntype does not have attributes\ntype does not have attribute `z`\n",
     )
@@ -205,7 +210,27 @@ const OF_ONE_SORT: [(Lookup, &str); 14] = [
 fn attributes_of_one_sort_are_found(rt: HostRuntime) -> Result<(), Fail> {
     expect(
         &rt,
+        INPUT,
         &OF_ONE_SORT,
         "enum value\nfield\nfield\ntype does not have attribute `z`\ntype does not have attributes\ntype `Gone` does not exist\ninput field\ntype does not have attribute `z`\ntype does not have attributes\ntype does not have attributes\nenum value\ntype does not have attribute `B`\ntype does not have attributes\ntype `Gone` does not exist\n",
+    )
+}
+
+const OF_THE_ENUM_ROOT: [(Lookup, &str); 6] = [
+    (Lookup::Any, "E.__schema"),
+    (Lookup::Any, "E.__schema(a:)"),
+    (Lookup::Field, "E.__schema"),
+    (Lookup::Any, "E.__type"),
+    (Lookup::Any, "E.__type(name:)"),
+    (Lookup::Field, "E.__typename"),
+];
+
+#[test]
+fn a_value_is_found_before_a_meta_field(rt: HostRuntime) -> Result<(), Fail> {
+    expect(
+        &rt,
+        ENUM_ROOT,
+        &OF_THE_ENUM_ROOT,
+        "enum value\ntype attribute `__schema` is not a field and can not have arguments\nfield\nfield\nargument\ntype does not have attributes\n",
     )
 }

@@ -1,0 +1,4 @@
+pub mod DocumentEquality
+pub mod Erasing
+mod RequestLemmas
+pub mod SelectionEquality

@@ -1,0 +1,57 @@
+-- Typed selections without their locations. Those that differ in locations alone have one bare tree. GraphQL specification of
+-- October 2021, sections 2.4 to 2.8.
+use Rattle.std.specs.Prelude.{map, option_map}
+use Rattle.graphql_nodes.specs.Comparing.{bare_name, bare_node}
+use Rattle.graphql_ast.specs.Bare.{bare_argument, bare_directive_list}
+use Rattle.graphql_ast.specs.BareTypeSystem.{bare_field_definition}
+use Rattle.apollo_executable.specs.declared.selection.Selection.{Selection, fold-Selection, roll-Selection}
+use Rattle.apollo_executable.specs.declared.selection.Selection.TheFolds.{fold-Field, fold-InlineFragment, fold-SelectionSet}
+use Rattle.apollo_executable.specs.declared.selection.Selection.TheOpen.{Selection-F, Field-F, InlineFragment-F, SelectionSet-F}
+use Rattle.apollo_executable.specs.declared.selection.Field.{Field, roll-Field}
+use Rattle.apollo_executable.specs.declared.selection.InlineFragment.{InlineFragment, roll-InlineFragment}
+use Rattle.apollo_executable.specs.declared.selection.SelectionSet.{SelectionSet, roll-SelectionSet}
+use Rattle.apollo_executable.specs.declared.selection.FragmentSpread.{FragmentSpread}
+
+abbrev pub bare_fragment_spread : FragmentSpread → FragmentSpread
+bare_fragment_spread s = record { fragment_name = bare_name s.fragment_name; directives = bare_directive_list s.directives }
+
+-- one level of a selection, where what is inside its node is bare
+abbrev pub selection_step : Selection-F Selection Field InlineFragment SelectionSet → Selection
+selection_step (Selection-F.Field n) = roll-Selection (Selection-F.Field (bare_node (λ f. f) n))
+selection_step (Selection-F.FragmentSpread n) = roll-Selection (Selection-F.FragmentSpread (bare_node bare_fragment_spread n))
+selection_step (Selection-F.InlineFragment n) = roll-Selection (Selection-F.InlineFragment (bare_node (λ f. f) n))
+
+-- one level of a field, where its set is bare
+abbrev pub field_step : Field-F Selection Field InlineFragment SelectionSet → Field
+field_step f = roll-Field (record {
+  definition = bare_node bare_field_definition f.definition;
+  alias = option_map bare_name f.alias;
+  name = bare_name f.name;
+  arguments = map (bare_node bare_argument) f.arguments;
+  directives = bare_directive_list f.directives;
+  selection_set = f.selection_set;
+})
+
+-- one level of an inline fragment, where its set is bare
+abbrev pub inline_step : InlineFragment-F Selection Field InlineFragment SelectionSet → InlineFragment
+inline_step f = roll-InlineFragment (record {
+  type_condition = option_map bare_name f.type_condition;
+  directives = bare_directive_list f.directives;
+  selection_set = f.selection_set;
+})
+
+-- one level of a set, where its selections are bare
+abbrev pub set_step : SelectionSet-F Selection Field InlineFragment SelectionSet → SelectionSet
+set_step s = roll-SelectionSet (record { ty = bare_name s.ty; selections = s.selections })
+
+abbrev pub bare_selection : Selection → Selection
+bare_selection = fold-Selection Selection Field InlineFragment SelectionSet selection_step field_step inline_step set_step
+
+abbrev pub bare_field : Field → Field
+bare_field = fold-Field Selection Field InlineFragment SelectionSet selection_step field_step inline_step set_step
+
+abbrev pub bare_inline_fragment : InlineFragment → InlineFragment
+bare_inline_fragment = fold-InlineFragment Selection Field InlineFragment SelectionSet selection_step field_step inline_step set_step
+
+abbrev pub bare_selection_set : SelectionSet → SelectionSet
+bare_selection_set = fold-SelectionSet Selection Field InlineFragment SelectionSet selection_step field_step inline_step set_step

@@ -1,0 +1,9 @@
+pub mod BareDocuments
+pub mod BareSelections
+pub mod Erasure
+pub mod Listed
+pub mod NewSelections
+pub mod OperationLending
+pub mod Operations
+pub mod Requests
+pub mod SelectionParts

@@ -1,0 +1,40 @@
+//! Executable documents: GraphQL specification of October 2021, section 2.2.
+ghost use Rattle.std.specs.Prelude.{◌≡◌, []};
+
+use crate::operation::Fragment;
+use crate::operation_map::OperationMap;
+use graphql_nodes::collections::table::Table;
+use graphql_nodes::name::Name;
+use graphql_nodes::node::Node;
+use graphql_nodes::source::SourceMap;
+use std::alloc::Global;
+
+/// Fragments under their names, in order.
+pub type FragmentMap = Table<Name, Node<Fragment>>;
+
+/// The operations and fragments of a document, and the files that they come from.
+///
+/// Documents are equal where their operations and fragments are: the sources are left out.
+#[derive(Debug, Drop, Clone)]
+#[derive_where(PartialEq, Eq)]
+pub struct ExecutableDocument {
+    #[derive_where(skip(EqHashOrd))]
+    pub sources: SourceMap,
+    pub operations: OperationMap,
+    pub fragments: FragmentMap,
+}
+
+impl ExecutableDocument {
+    ghost use Rattle.apollo_executable.specs.Operations.{no_operations};
+
+    /// A document without operations, fragments and sources.
+    pub fn new(alloc: Global) -> ExecutableDocument
+        ensures { result ≡ record { sources = []; operations = no_operations; fragments = [] } }
+    {
+        ExecutableDocument {
+            sources: Table::new(alloc),
+            operations: OperationMap::new(alloc),
+            fragments: Table::new(alloc),
+        }
+    }
+}

@@ -1,0 +1,133 @@
+//! Inline fragments and spreads: GraphQL specification of October 2021, section 2.8.
+ghost use Rattle.std.specs.Prelude.{◌≡◌, [], ◌∷◌, ◌++◌, IfOk};
+ghost use Rattle.std.specs.Option.{option_copied};
+ghost use Rattle.graphql_nodes.specs.SameText.{same_text};
+ghost use Rattle.graphql_nodes.specs.Tables.{lookup};
+ghost use Rattle.apollo_executable.specs.NewSelections.{inline_fragment_on, inline_fragment_in};
+
+use crate::appending::append_directives;
+use crate::document::ExecutableDocument;
+use crate::operation::Fragment;
+use crate::selection::{FragmentSpread, InlineFragment, Selection, SelectionSet};
+use graphql_ast::directive::{Directive, DirectiveList};
+use graphql_nodes::name::{Name, NamedType};
+use graphql_nodes::node::Node;
+use std::alloc::{AllocError, Global};
+
+impl InlineFragment {
+    /// An inline fragment on this type, without directives and selections. Its set selects from the same type. The error is
+    /// want of memory.
+    pub fn with_type_condition(
+        alloc: Global,
+        type_condition: NamedType,
+    ) -> Result<InlineFragment, AllocError>
+        ensures { IfOk result (λ inline. inline ≡ inline_fragment_on type_condition) }
+    {
+        let ty = type_condition.clone()?;
+        Ok(InlineFragment {
+            type_condition: Some(type_condition),
+            directives: DirectiveList::new(alloc),
+            selection_set: SelectionSet::new(alloc, ty),
+        })
+    }
+
+    /// An inline fragment without condition in a set that selects from this type, as its own set does, without directives and
+    /// selections.
+    pub fn without_type_condition(
+        alloc: Global,
+        parent_selection_set_type: NamedType,
+    ) -> InlineFragment
+        ensures { result ≡ inline_fragment_in parent_selection_set_type }
+    {
+        InlineFragment {
+            type_condition: None,
+            directives: DirectiveList::new(alloc),
+            selection_set: SelectionSet::new(alloc, parent_selection_set_type),
+        }
+    }
+
+    /// The same inline fragment with one more directive at the end. The error is want of memory.
+    pub fn with_directive(
+        mut self,
+        directive: Node<Directive>,
+    ) -> Result<InlineFragment, AllocError>
+        ensures { IfOk result (λ inline. inline ≡ record self { directives = record { 0 = self.directives.0 ++ directive ∷ [] } }) }
+    {
+        self.directives.push(directive)?;
+        Ok(self)
+    }
+
+    /// The same inline fragment with these directives at the end. The error is want of memory.
+    pub fn with_directives(
+        mut self,
+        directives: Vec<Node<Directive>>,
+    ) -> Result<InlineFragment, AllocError>
+        ensures { IfOk result (λ inline. inline ≡ record self { directives = record { 0 = self.directives.0 ++ directives.items } }) }
+    {
+        append_directives(&mut self.directives, directives)?;
+        Ok(self)
+    }
+
+    /// The same inline fragment with one more selection at the end of its set. The error is want of memory.
+    pub fn with_selection(mut self, selection: Selection) -> Result<InlineFragment, AllocError>
+        ensures { IfOk result (λ inline. inline ≡ record self { selection_set = record self.selection_set { selections = self.selection_set.selections ++ selection ∷ [] } }) }
+    {
+        self.selection_set.push(selection)?;
+        Ok(self)
+    }
+
+    /// The same inline fragment with these selections at the end of its set. The error is want of memory.
+    pub fn with_selections(
+        mut self,
+        selections: Vec<Selection>,
+    ) -> Result<InlineFragment, AllocError>
+        ensures { IfOk result (λ inline. inline ≡ record self { selection_set = record self.selection_set { selections = self.selection_set.selections ++ selections.items } }) }
+    {
+        self.selection_set.extend(selections)?;
+        Ok(self)
+    }
+}
+
+impl FragmentSpread {
+    /// The selections of the fragment of this name, without directives.
+    pub fn new(alloc: Global, fragment_name: Name) -> FragmentSpread
+        ensures { result ≡ record { fragment_name = fragment_name; directives = record { 0 = [] } } }
+    {
+        FragmentSpread {
+            fragment_name,
+            directives: DirectiveList::new(alloc),
+        }
+    }
+
+    /// The same spread with one more directive at the end. The error is want of memory.
+    pub fn with_directive(
+        mut self,
+        directive: Node<Directive>,
+    ) -> Result<FragmentSpread, AllocError>
+        ensures { IfOk result (λ spread. spread ≡ record self { directives = record { 0 = self.directives.0 ++ directive ∷ [] } }) }
+    {
+        self.directives.push(directive)?;
+        Ok(self)
+    }
+
+    /// The same spread with these directives at the end. The error is want of memory.
+    pub fn with_directives(
+        mut self,
+        directives: Vec<Node<Directive>>,
+    ) -> Result<FragmentSpread, AllocError>
+        ensures { IfOk result (λ spread. spread ≡ record self { directives = record { 0 = self.directives.0 ++ directives.items } }) }
+    {
+        append_directives(&mut self.directives, directives)?;
+        Ok(self)
+    }
+
+    /// The fragment that is spread, if the document has one of the name.
+    pub fn fragment_def<'doc>(
+        &self,
+        document: &'doc ExecutableDocument,
+    ) -> Option<&'doc Node<Fragment>>
+        ensures { option_copied result ≡ lookup (same_text self.now.fragment_name) document.now.fragments }
+    {
+        document.fragments.get(&self.fragment_name)
+    }
+}

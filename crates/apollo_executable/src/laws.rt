@@ -1,0 +1,43 @@
+//! What `==` answers at each type of this crate: whether the two are one with places and sources left out, and operations
+//! and fragments in any order; and that clones are the originals.
+//!
+//! Each law is a function that does nothing. A proof cites it by a call, and finds a clause for each type there.
+//! That equal values have equal hashes is part of each type's `Hash`.
+ghost use Rattle.graphql_nodes.specs.Clones.{IsExact};
+ghost use Rattle.graphql_nodes.specs.Comparing.{ComparesBy};
+ghost use Rattle.apollo_executable.specs.BareSelections.{bare_selection, bare_field, bare_fragment_spread, bare_inline_fragment, bare_selection_set};
+ghost use Rattle.apollo_executable.specs.BareDocuments.{bare_operation, bare_fragment, bare_operation_map, bare_document};
+
+use crate::document::ExecutableDocument;
+use crate::operation::{Fragment, Operation};
+use crate::operation_map::OperationMap;
+use crate::selection::{Field, FragmentSpread, InlineFragment, Selection, SelectionSet};
+
+/// Typed selections are equal exactly where they are one without their locations: definitions of fields and types of sets
+/// count. GraphQL specification of October 2021, sections 2.4 to 2.8.
+pub fn equality_of_selections()
+    ensures selection { ComparesBy ⟦<Selection as PartialEq>⟧.eq bare_selection }
+    ensures field { ComparesBy ⟦<Field as PartialEq>⟧.eq bare_field }
+    ensures fragment_spread { ComparesBy ⟦<FragmentSpread as PartialEq>⟧.eq bare_fragment_spread }
+    ensures inline_fragment { ComparesBy ⟦<InlineFragment as PartialEq>⟧.eq bare_inline_fragment }
+    ensures selection_set { ComparesBy ⟦<SelectionSet as PartialEq>⟧.eq bare_selection_set }
+{}
+
+/// Operations and fragments are equal exactly where they are one without their locations, and documents where they have
+/// equal operations and equal fragments under each name, in any order: the sources are left out. GraphQL specification of
+/// October 2021, sections 2.2, 2.3 and 2.8.
+pub fn equality_of_documents()
+    ensures operation { ComparesBy ⟦<Operation as PartialEq>⟧.eq bare_operation }
+    ensures fragment { ComparesBy ⟦<Fragment as PartialEq>⟧.eq bare_fragment }
+    ensures operation_map { ComparesBy ⟦<OperationMap as PartialEq>⟧.eq bare_operation_map }
+    ensures document { ComparesBy ⟦<ExecutableDocument as PartialEq>⟧.eq bare_document }
+{}
+
+/// Each clone is the original, with its locations and the sources of a document.
+///
+/// The `Clone` of the other types says so itself.
+pub fn clones_are_exact()
+    ensures fragment_spread { IsExact ⟦<FragmentSpread as Clone>⟧.is_clone }
+    ensures operation_map { IsExact ⟦<OperationMap as Clone>⟧.is_clone }
+    ensures document { IsExact ⟦<ExecutableDocument as Clone>⟧.is_clone }
+{}

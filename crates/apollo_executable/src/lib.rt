@@ -1,0 +1,30 @@
+//! Executable documents as typed trees: GraphQL specification of October 2021, section 2.
+//!
+//! A typed document is plain data, like the syntax tree: its fields are public, cloning it shares its nodes, and comparing
+//! it leaves locations out. Each selection set knows the type that it selects from, each field its definition.
+#![tactic(auto)]
+
+mod appending;
+pub mod document;
+mod field;
+pub mod fields;
+mod inline_fragment;
+pub mod laws;
+pub mod new_field_error;
+pub mod operation;
+pub mod operation_map;
+pub mod operations;
+pub mod request_error;
+pub mod selection;
+mod selection_kinds;
+mod selection_set;
+mod to_ast;
+
+pub use crate::document::{ExecutableDocument, FragmentMap};
+pub use crate::fields::Fields;
+pub use crate::new_field_error::NewFieldError;
+pub use crate::operation::{Fragment, Operation};
+pub use crate::operation_map::OperationMap;
+pub use crate::operations::Operations;
+pub use crate::request_error::RequestError;
+pub use crate::selection::{Field, FragmentSpread, InlineFragment, Selection, SelectionSet};

@@ -1,0 +1,35 @@
+//! Why a field isn't made.
+
+use apollo_schema::field_lookup_error::FieldLookupError;
+use std::alloc::AllocError;
+
+/// Why [`SelectionSet::new_field`](crate::selection::SelectionSet::new_field) answers no field.
+#[derive(Drop, PartialEq, Eq)]
+pub enum NewFieldError<'schema> {
+    /// The schema has no such type, or the type no such field.
+    Lookup(FieldLookupError<'schema>),
+    /// Want of memory.
+    Memory,
+}
+
+impl<'schema> From<FieldLookupError<'schema>> for NewFieldError<'schema> {
+    ghost use Rattle.std.specs.Prelude.{◌≡◌};
+    ghost use Rattle.apollo_executable.specs.declared.new_field_error.NewFieldError.TheVariants.{Lookup};
+
+    ghost from_gives = { λ reason error. error ≡ Lookup reason };
+
+    fn from(reason: FieldLookupError<'schema>) -> NewFieldError<'schema> {
+        NewFieldError::Lookup(reason)
+    }
+}
+
+impl<'schema> From<AllocError> for NewFieldError<'schema> {
+    ghost use Rattle.std.specs.Prelude.{◌≡◌};
+    ghost use Rattle.apollo_executable.specs.declared.new_field_error.NewFieldError.TheVariants.{Memory};
+
+    ghost from_gives = { λ _ error. error ≡ Memory };
+
+    fn from(_: AllocError) -> NewFieldError<'schema> {
+        NewFieldError::Memory
+    }
+}

@@ -1,0 +1,117 @@
+//! Operations and named fragments: GraphQL specification of October 2021, sections 2.3 and 2.8.
+ghost use Rattle.std.specs.Prelude.{◌≡◌, ◌↔◌, IsTrue};
+ghost use Rattle.graphql_nodes.specs.declared.operation_type.OperationType.TheVariants.{Query, Mutation, Subscription};
+
+use crate::selection::SelectionSet;
+use graphql_ast::directive::DirectiveList;
+use graphql_ast::operation::VariableDefinition;
+use graphql_nodes::collections::items::Items;
+use graphql_nodes::name::{Name, NamedType};
+use graphql_nodes::node::Node;
+use graphql_nodes::operation_type::OperationType;
+use std::alloc::AllocError;
+
+/// A query, mutation or subscription, anonymous where it has no name.
+#[derive(Debug, PartialEq, Eq)]
+pub struct Operation {
+    pub operation_type: OperationType,
+    pub name: Option<Name>,
+    pub variables: Items<Node<VariableDefinition>>,
+    pub directives: DirectiveList,
+    pub selection_set: SelectionSet,
+}
+
+impl Drop for Operation {
+    fn drop(self) {
+        let Self {
+            operation_type: _,
+            name: _,
+            variables: _,
+            directives: _,
+            selection_set: _,
+        } = self;
+    }
+}
+
+/// A named fragment. Its type condition is the type of its selection set.
+#[derive(Debug, PartialEq, Eq)]
+pub struct Fragment {
+    pub name: Name,
+    pub directives: DirectiveList,
+    pub selection_set: SelectionSet,
+}
+
+impl Drop for Fragment {
+    fn drop(self) {
+        let Self {
+            name: _,
+            directives: _,
+            selection_set: _,
+        } = self;
+    }
+}
+
+impl Clone for Operation {
+    ghost is_clone = { λ a b. b ≡ a };
+
+    fn clone(&self) -> Result<Operation, AllocError> {
+        Ok(Operation {
+            operation_type: self.operation_type,
+            name: self.name.clone()?,
+            variables: self.variables.clone()?,
+            directives: self.directives.clone()?,
+            selection_set: self.selection_set.clone()?,
+        })
+    }
+}
+
+impl Operation {
+    /// The name of the type that the operation selects from.
+    pub fn object_type(&self) -> &NamedType
+        ensures { result.now ≡ self.now.selection_set.ty }
+    {
+        &self.selection_set.ty
+    }
+
+    /// Whether it is a query.
+    pub fn is_query(&self) -> bool
+        ensures { IsTrue result ↔ (self.now.operation_type ≡ Query) }
+    {
+        self.operation_type == OperationType::Query
+    }
+
+    /// Whether it is a mutation.
+    pub fn is_mutation(&self) -> bool
+        ensures { IsTrue result ↔ (self.now.operation_type ≡ Mutation) }
+    {
+        self.operation_type == OperationType::Mutation
+    }
+
+    /// Whether it is a subscription.
+    pub fn is_subscription(&self) -> bool
+        ensures { IsTrue result ↔ (self.now.operation_type ≡ Subscription) }
+    {
+        self.operation_type == OperationType::Subscription
+    }
+}
+
+impl Clone for Fragment {
+    ghost is_clone = { λ a b. b ≡ a };
+
+    fn clone(&self) -> Result<Fragment, AllocError> {
+        Ok(Fragment {
+            name: self.name.clone()?,
+            directives: self.directives.clone()?,
+            selection_set: self.selection_set.clone()?,
+        })
+    }
+}
+
+impl Fragment {
+    /// The name of the type that the fragment is on.
+    pub fn type_condition(&self) -> &NamedType
+        ensures { result.now ≡ self.now.selection_set.ty }
+    {
+        &self.selection_set.ty
+    }
+}

@@ -1,0 +1,153 @@
+//! Typed selections: GraphQL specification of October 2021, sections 2.4 to 2.8.
+//!
+//! They are those of the syntax tree, but that a set knows the name of the type that it selects from, and a field its
+//! definition in the schema.
+ghost use Rattle.std.specs.Prelude.{◌≡◌};
+
+use graphql_ast::directive::{Argument, DirectiveList};
+use graphql_ast::type_system::FieldDefinition;
+use graphql_nodes::collections::items::Items;
+use graphql_nodes::name::{Name, NamedType};
+use graphql_nodes::node::Node;
+use std::alloc::AllocError;
+
+/// Selections from a type, in order.
+#[cycle(selection)]
+#[derive(Debug, PartialEq, Eq, Hash)]
+pub struct SelectionSet {
+    /// The name of the type that the set selects from.
+    pub ty: NamedType,
+    pub selections: Items<Selection>,
+}
+
+impl Drop for SelectionSet {
+    #[cycle(drop_selection)]
+    fn drop(self) {
+        let Self {
+            ty: _,
+            selections: _,
+        } = self;
+    }
+}
+
+/// One entry of a selection set.
+#[cycle(selection)]
+#[derive(Debug, Drop, PartialEq, Eq, Hash)]
+pub enum Selection {
+    Field(Node<Field>),
+    FragmentSpread(Node<FragmentSpread>),
+    InlineFragment(Node<InlineFragment>),
+}
+
+/// A selected field.
+#[cycle(selection)]
+#[derive(Debug, PartialEq, Eq, Hash)]
+pub struct Field {
+    /// The definition of the field in the type that it is selected from.
+    pub definition: Node<FieldDefinition>,
+    pub alias: Option<Name>,
+    pub name: Name,
+    pub arguments: Items<Node<Argument>>,
+    pub directives: DirectiveList,
+    pub selection_set: SelectionSet,
+}
+
+impl Drop for Field {
+    #[cycle(drop_selection)]
+    fn drop(self) {
+        let Self {
+            definition: _,
+            alias: _,
+            name: _,
+            arguments: _,
+            directives: _,
+            selection_set: _,
+        } = self;
+    }
+}
+
+/// The selections of a named fragment.
+#[derive(Debug, PartialEq, Eq, Hash, Clone)]
+pub struct FragmentSpread {
+    pub fragment_name: Name,
+    pub directives: DirectiveList,
+}
+
+impl Drop for FragmentSpread {
+    fn drop(self) {
+        let Self {
+            fragment_name: _,
+            directives: _,
+        } = self;
+    }
+}
+
+/// Selections under a type condition, if there is one, and directives of their own.
+#[cycle(selection)]
+#[derive(Debug, PartialEq, Eq, Hash)]
+pub struct InlineFragment {
+    pub type_condition: Option<NamedType>,
+    pub directives: DirectiveList,
+    pub selection_set: SelectionSet,
+}
+
+impl Drop for InlineFragment {
+    #[cycle(drop_selection)]
+    fn drop(self) {
+        let Self {
+            type_condition: _,
+            directives: _,
+            selection_set: _,
+        } = self;
+    }
+}
+
+impl Clone for SelectionSet {
+    ghost is_clone = { λ a b. b ≡ a };
+
+    fn clone(&self) -> Result<SelectionSet, AllocError> {
+        Ok(SelectionSet {
+            ty: self.ty.clone()?,
+            selections: self.selections.clone()?,
+        })
+    }
+}
+
+impl Clone for Selection {
+    ghost is_clone = { λ a b. b ≡ a };
+
+    fn clone(&self) -> Result<Selection, AllocError> {
+        match self {
+            Selection::Field(node) => Ok(Selection::Field(node.clone()?)),
+            Selection::FragmentSpread(node) => Ok(Selection::FragmentSpread(node.clone()?)),
+            Selection::InlineFragment(node) => Ok(Selection::InlineFragment(node.clone()?)),
+        }
+    }
+}
+
+impl Clone for Field {
+    ghost is_clone = { λ a b. b ≡ a };
+
+    fn clone(&self) -> Result<Field, AllocError> {
+        Ok(Field {
+            definition: self.definition.clone()?,
+            alias: self.alias.clone()?,
+            name: self.name.clone()?,
+            arguments: self.arguments.clone()?,
+            directives: self.directives.clone()?,
+            selection_set: self.selection_set.clone()?,
+        })
+    }
+}
+
+impl Clone for InlineFragment {
+    ghost is_clone = { λ a b. b ≡ a };
+
+    fn clone(&self) -> Result<InlineFragment, AllocError> {
+        Ok(InlineFragment {
+            type_condition: self.type_condition.clone()?,
+            directives: self.directives.clone()?,
+            selection_set: self.selection_set.clone()?,
+        })
+    }
+}

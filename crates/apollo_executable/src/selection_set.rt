@@ -1,0 +1,96 @@
+//! Selection sets: GraphQL specification of October 2021, section 2.4.
+ghost use Rattle.std.specs.Prelude.{◌≡◌, ◌==◌, [], ◌∷◌, ◌++◌, length, Some, IfOk, IfErr, OnOk, OnErr, filter_map};
+ghost use Rattle.apollo_executable.specs.NewSelections.{empty_set, new_field, new_inline_fragment, IsNewField, IsNewFieldRefusal};
+ghost use Rattle.apollo_executable.specs.SelectionParts.{as_field, FieldsInOrder};
+
+use crate::fields::Fields;
+use crate::new_field_error::NewFieldError;
+use crate::selection::{Field, FragmentSpread, InlineFragment, Selection, SelectionSet};
+use apollo_schema::schema::Schema;
+use graphql_nodes::collections::items::Items;
+use graphql_nodes::name::{Name, NamedType};
+use std::alloc::{AllocError, Global};
+
+impl SelectionSet {
+    /// No selection, from this type.
+    pub fn new(alloc: Global, ty: NamedType) -> SelectionSet
+        ensures { result ≡ empty_set ty }
+    {
+        SelectionSet {
+            ty,
+            selections: Items::new(alloc),
+        }
+    }
+
+    /// Whether there is no selection.
+    pub fn is_empty(&self) -> bool
+        ensures { result ≡ (length self.now.selections == 0) }
+    {
+        self.selections.is_empty()
+    }
+
+    /// Adds a selection at the end. After want of memory the set is as it was.
+    pub fn push(&mut self, selection: Selection) -> Result<(), AllocError>
+        ensures ok { OnOk result (self.new ≡ record self.old { selections = self.old.selections ++ selection ∷ [] }) }
+        ensures err { OnErr result (self.new ≡ self.old) }
+    {
+        self.selections.push(selection)
+    }
+
+    /// Adds the selections at the end, in order. After want of memory the set is as it was.
+    pub fn extend(&mut self, selections: Vec<Selection>) -> Result<(), AllocError>
+        ensures ok { OnOk result (self.new ≡ record self.old { selections = self.old.selections ++ selections.items }) }
+        ensures err { OnErr result (self.new ≡ self.old) }
+    {
+        self.selections.append(&mut Items::from_vec(selections))
+    }
+
+    /// A field of this name, to be added with [`push`](SelectionSet::push). It carries the definition that the schema's
+    /// [`type_field`](Schema::type_field) gives in the type of this set, and its own set selects from the type which that names.
+    ///
+    /// [`NewFieldError::Lookup`] says that the schema has no such type, or the type no such field; [`NewFieldError::Memory`] is
+    /// want of memory.
+    pub fn new_field<'schema>(
+        &self,
+        alloc: Global,
+        schema: &'schema Schema,
+        name: Name,
+    ) -> Result<Field, NewFieldError<'schema>>
+        ensures ok { IfOk result (IsNewField schema.now self.now.ty name) }
+        ensures refused { IfErr result (IsNewFieldRefusal schema.now self.now.ty name) }
+    {
+        let definition = schema.type_field(&self.ty, &name)?.node.clone()?;
+        let field = Field::new(alloc, name, definition)?;
+        Ok(field)
+    }
+
+    /// An inline fragment, to be added with [`push`](SelectionSet::push). Its set selects from the type of its condition, or
+    /// without one from that of this set. The error is want of memory.
+    pub fn new_inline_fragment(
+        &self,
+        alloc: Global,
+        opt_type_condition: Option<NamedType>,
+    ) -> Result<InlineFragment, AllocError>
+        ensures { IfOk result (λ inline. inline ≡ new_inline_fragment self.now.ty opt_type_condition) }
+    {
+        match opt_type_condition {
+            Some(type_condition) => InlineFragment::with_type_condition(alloc, type_condition),
+            None => Ok(InlineFragment::without_type_condition(alloc, self.ty.clone()?)),
+        }
+    }
+
+    /// A spread of the fragment of this name, to be added with [`push`](SelectionSet::push).
+    pub fn new_fragment_spread(&self, alloc: Global, fragment_name: Name) -> FragmentSpread
+        ensures { result ≡ record { fragment_name = fragment_name; directives = record { 0 = [] } } }
+    {
+        FragmentSpread::new(alloc, fragment_name)
+    }
+
+    /// The fields of the set itself, in order: those of fragments, inline or spread, are not among them.
+    pub fn fields(&self) -> Fields<'_>
+        ensures rest { result ≡ filter_map as_field self.now.selections }
+        ensures runs { FieldsInOrder }
+    {
+        Fields::new(self.selections.as_slice())
+    }
+}

@@ -1,0 +1,185 @@
+//! Maps of operations in all their cases, with the texts of errors.
+
+use crate::making::{name, operation};
+use apollo_executable::{OperationMap, RequestError, SelectionSet};
+use graphql_nodes::name::Name;
+use graphql_nodes::operation_type::OperationType;
+use std::alloc::{AllocError, Global};
+use std::test::Fail;
+
+const KINDS: [OperationType; 3] = [
+    OperationType::Query,
+    OperationType::Mutation,
+    OperationType::Subscription,
+];
+
+/// The name of this text, or none for `-`.
+fn name_or_none(alloc: Global, text: &str) -> Result<Option<Name>, AllocError> {
+    if text == "-" {
+        return Ok(None);
+    }
+    Ok(Some(name(alloc, text)?))
+}
+
+/// Inserts an empty operation of this kind and name. Says which one it took the place of.
+fn insert(
+    alloc: Global,
+    map: &mut OperationMap,
+    kind: OperationType,
+    text: &str,
+    log: &mut String,
+) -> Result<(), AllocError> {
+    let set = SelectionSet::new(alloc, name(alloc, "Query")?);
+    let operation = operation(alloc, kind, name_or_none(alloc, text)?, set)?;
+    match map.insert(operation) {
+        Ok(Some(old)) => {
+            log.push_str(" for ")?;
+            log.push_str(old.operation_type.name())
+        }
+        Ok(None) => log.push_str(" new"),
+        Err(_) => log.push_str(" refused"),
+    }
+}
+
+fn push_error(log: &mut String, error: &RequestError<'_>) -> Result<(), AllocError> {
+    write!(log, "{error}")
+}
+
+/// Says which operation a request of this name asks for.
+fn push_requested(
+    log: &mut String,
+    map: &OperationMap,
+    name: Option<&Name>,
+) -> Result<(), AllocError> {
+    match map.get(name) {
+        Ok(operation) => log.push_str(operation.operation_type.name()),
+        Err(error) => push_error(log, &error),
+    }
+}
+
+/// Makes the operation that a request asks for a subscription, if there is one.
+fn subscribe(map: &mut OperationMap, name: Option<&Name>) -> bool {
+    match map.get_mut(name) {
+        Ok(operation) => {
+            operation.operation_type = OperationType::Subscription;
+            true
+        }
+        Err(_) => false,
+    }
+}
+
+/// Says what operations there are.
+fn push_map(log: &mut String, map: &OperationMap) -> Result<(), AllocError> {
+    let (len, is_empty) = (map.len(), map.is_empty());
+    write!(log, "{len} {is_empty}:")?;
+    for operation in map.iter() {
+        log.push_str(" ")?;
+        log.push_str(operation.operation_type.name())?;
+    }
+    log.push_str("\n")
+}
+
+/// Says what requests of some names ask for.
+fn push_requests(alloc: Global, log: &mut String, map: &OperationMap) -> Result<(), AllocError> {
+    for text in ["-", "A", "X"].iter() {
+        let name = name_or_none(alloc, *text)?;
+        write!(log, "  {text} is ")?;
+        push_requested(log, map, name.as_ref())?;
+        log.push_str("\n")?;
+    }
+    Ok(())
+}
+
+/// Inserts an operation of each of these names, the kinds in turn, and says after each what there is.
+fn told(alloc: Global, texts: &[&'static str]) -> Result<String, AllocError> {
+    let mut log = String::new(alloc);
+    let mut map = OperationMap::new(alloc);
+    push_requests(alloc, &mut log, &map)?;
+    for (text, kind) in texts.iter().zip(KINDS.iter()) {
+        log.push_str(*text)?;
+        insert(alloc, &mut map, *kind, *text, &mut log)?;
+        log.push_str("\n ")?;
+        push_map(&mut log, &map)?;
+        push_requests(alloc, &mut log, &map)?;
+    }
+    Ok(log)
+}
+
+#[test]
+fn a_second_anonymous_operation_takes_the_place_of_the_first(rt: HostRuntime) -> Result<(), Fail> {
+    let log = told(rt.alloc(), &["-", "-", "A"])?;
+    let expected =
+        "  - is Ambiguous request: multiple operations but no specified `operationName`\n  A is No operation named 'A'\n  X is No operation named 'X'\n- new\n 1 false: query\n  - is query\n  A is No operation named 'A'\n  X is No operation named 'X'\n- for query\n 1 false: mutation\n  - is mutation\n  A is No operation named 'A'\n  X is No operation named 'X'\nA new\n 2 false: mutation subscription\n  - is Ambiguous request: multiple operations but no specified `operationName`\n  A is subscription\n  X is No operation named 'X'\n";
+    assert_eq!(rt; log.as_str(), expected);
+    Ok(())
+}
+
+#[test]
+fn a_second_operation_of_a_name_takes_the_place_of_the_first(rt: HostRuntime) -> Result<(), Fail> {
+    let log = told(rt.alloc(), &["A", "B", "A"])?;
+    let expected =
+        "  - is Ambiguous request: multiple operations but no specified `operationName`\n  A is No operation named 'A'\n  X is No operation named 'X'\nA new\n 1 false: query\n  - is query\n  A is query\n  X is No operation named 'X'\nB new\n 2 false: query mutation\n  - is Ambiguous request: multiple operations but no specified `operationName`\n  A is query\n  X is No operation named 'X'\nA for query\n 2 false: subscription mutation\n  - is Ambiguous request: multiple operations but no specified `operationName`\n  A is subscription\n  X is No operation named 'X'\n";
+    assert_eq!(rt; log.as_str(), expected);
+    Ok(())
+}
+
+/// A query of each of these names.
+fn queries(alloc: Global, texts: &[&'static str]) -> Result<OperationMap, AllocError> {
+    let mut log = String::new(alloc);
+    let mut map = OperationMap::new(alloc);
+    for text in texts.iter() {
+        insert(alloc, &mut map, OperationType::Query, *text, &mut log)?;
+    }
+    Ok(map)
+}
+
+/// Writes to the operation that a request asks for, in a copy of a map that shares it, and says what both maps are then.
+fn written(
+    alloc: Global,
+    texts: &[&'static str],
+    request: &str,
+    log: &mut String,
+) -> Result<(), AllocError> {
+    let map = queries(alloc, texts)?;
+    let mut copy = map.clone()?;
+    let name = name_or_none(alloc, request)?;
+    let is_found = subscribe(&mut copy, name.as_ref());
+    write!(log, "{is_found} ")?;
+    push_map(log, &map)?;
+    push_map(log, &copy)
+}
+
+#[test]
+fn a_write_reaches_the_operation_that_is_asked_for_alone(rt: HostRuntime) -> Result<(), Fail> {
+    let alloc = rt.alloc();
+    let mut log = String::new(alloc);
+    written(alloc, &["-"], "-", &mut log)?;
+    written(alloc, &["A"], "-", &mut log)?;
+    written(alloc, &["-", "A", "B"], "B", &mut log)?;
+    written(alloc, &["-", "A"], "-", &mut log)?;
+    written(alloc, &["A"], "B", &mut log)?;
+    let expected =
+        "true 1 false: query\n1 false: subscription\ntrue 1 false: query\n1 false: subscription\ntrue 3 false: query query query\n3 false: query query subscription\nfalse 2 false: query query\n2 false: query query\nfalse 1 false: query\n1 false: query\n";
+    assert_eq!(rt; log.as_str(), expected);
+    Ok(())
+}
+
+/// Whether a map of this one operation is made.
+fn is_made_of_one(alloc: Global, text: &str) -> Result<bool, AllocError> {
+    let set = SelectionSet::new(alloc, name(alloc, "Query")?);
+    let name = name_or_none(alloc, text)?;
+    let operation = operation(alloc, OperationType::Query, name, set)?;
+    match OperationMap::from_one(alloc, operation) {
+        Ok(map) => Ok(map.len() == 1),
+        Err(_) => Ok(false),
+    }
+}
+
+#[test]
+fn a_map_is_made_of_one_operation(rt: HostRuntime) -> Result<(), Fail> {
+    let alloc = rt.alloc();
+    assert!(rt; is_made_of_one(alloc, "-")?);
+    assert!(rt; is_made_of_one(alloc, "A")?);
+    assert!(rt; OperationMap::new(alloc).is_empty());
+    Ok(())
+}
