@@ -1,9 +1,8 @@
 -- The untyped trees of typed ones: the definitions of fields and the types of sets are left away, and the condition of a
 -- fragment is the type of its set. All else stays, locations too. GraphQL specification of October 2021, sections 2.2 to 2.8.
-use Rattle.std.specs.Prelude.{List, [], ◌++◌, map, Option}
+use Rattle.std.specs.Prelude.{List, [], ◌++◌, map}
 use Rattle.graphql_nodes.specs.NodeView.{NodeView}
 use Rattle.graphql_nodes.specs.Tables.{values_of}
-use Rattle.graphql_nodes.specs.declared.source.SourceSpan.{SourceSpan}
 use Rattle.graphql_ast.specs.declared.selection.Selection as ast
 use Rattle.graphql_ast.specs.declared.selection.Selection.TheOpen as layer
 use Rattle.graphql_ast.specs.declared.selection.Field as ast_field
