@@ -3,8 +3,12 @@
 use crate::making::users_document;
 use crate::schemas::{Account, expect};
 use crate::written::push_document;
-use apollo_executable::{ExecutableDocument, NewFieldError};
+use apollo_executable::{
+    ExecutableDocument, Field, Fragment, FragmentSpread, InlineFragment, NewFieldError, Operation,
+    Selection, SelectionSet,
+};
 use apollo_schema::schema::Schema;
+use likeness::is_copied;
 use std::alloc::{AllocError, Global};
 use std::test::Fail;
 
@@ -21,13 +25,48 @@ fn push_written(
     push_document(text, &written)
 }
 
-/// Adds whether a copy of the document is equal to it.
-fn push_copied(text: &mut String, document: &ExecutableDocument) -> Result<(), AllocError> {
-    let copy = document.clone()?;
-    if copy == *document {
-        text.push_str("copied\n")?;
+/// Whether a selection has an equal copy, and what its node holds.
+fn is_selection_copied(selection: &Selection) -> bool {
+    let is_part_copied = match selection {
+        Selection::Field(field) => is_copied::<Field>(field),
+        Selection::FragmentSpread(spread) => is_copied::<FragmentSpread>(spread),
+        Selection::InlineFragment(fragment) => is_copied::<InlineFragment>(fragment),
+    };
+    is_part_copied && is_copied(selection)
+}
+
+/// Whether a set and each of its selections have equal copies.
+fn is_set_copied(set: &SelectionSet) -> bool {
+    for selection in set.selections.as_slice() {
+        if !is_selection_copied(selection) {
+            return false;
+        }
     }
-    Ok(())
+    is_copied(set)
+}
+
+/// Whether an operation, its set and the sets of its fields have equal copies.
+fn is_operation_copied(operation: &Operation) -> bool {
+    for field in operation.selection_set.fields() {
+        if !is_set_copied(&field.selection_set) {
+            return false;
+        }
+    }
+    is_set_copied(&operation.selection_set) && is_copied(operation)
+}
+
+/// Adds whether the document, its operations and its fragments have equal copies.
+fn push_copied(text: &mut String, document: &ExecutableDocument) -> Result<(), AllocError> {
+    for operation in document.operations.iter() {
+        let is_copied = is_operation_copied(operation);
+        write!(text, "operation copied: {is_copied}\n")?;
+    }
+    for fragment in document.fragments.values() {
+        let is_copied = is_copied::<Fragment>(fragment);
+        write!(text, "fragment copied: {is_copied}\n")?;
+    }
+    let is_copied = is_copied(document);
+    write!(text, "copied: {is_copied}\n")
 }
 
 impl Account for Document {
@@ -48,6 +87,6 @@ fn the_users_document_is_made_and_written(rt: HostRuntime) -> Result<(), Fail> {
     expect(
         &rt,
         &Document,
-        "query GetUser { id user(id: $me) @first @second { short: name @on ...Picture @on @first @second ... on User @on { id } ... @first @second { id name } } }\nfragment Picture on User { profilePic(size: 50) }\ncopied\n",
+        "query GetUser { id user(id: $me) @first @second { short: name @on ...Picture @on @first @second ... on User @on { id } ... @first @second { id name } } }\nfragment Picture on User { profilePic(size: 50) }\noperation copied: true\nfragment copied: true\ncopied: true\n",
     )
 }

@@ -183,3 +183,11 @@ fn a_map_is_made_of_one_operation(rt: HostRuntime) -> Result<(), Fail> {
     assert!(rt; OperationMap::new(alloc).is_empty());
     Ok(())
 }
+
+#[test]
+fn want_of_memory_has_its_text(rt: HostRuntime) -> Result<(), Fail> {
+    let error = RequestError::Memory;
+    let text = format!(in rt.alloc(); "{error}")?;
+    assert_eq!(rt; text.as_str(), "out of memory");
+    Ok(())
+}
