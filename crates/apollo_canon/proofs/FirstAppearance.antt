@@ -1,0 +1,165 @@
+-- The first of each among joined lists, and lists in the order in which tests take their elements.
+use Rattle.std.proofs.Common.{◌≡◌, Bool, true, false, cond, not, ◌||◌, ◌&&◌, List, [], ◌∷◌, ◌++◌, map, filter, refl, sym, ap, ◌∙◌, true≢false, arith}
+use Rattle.std.proofs.lemmas.List.Elements.{filter-append}
+use Rattle.std.proofs.lemmas.Simd.{map-map}
+use Rattle.std.specs.Cmp.{IsEquivalence}
+use Rattle.std.specs.List.{AllByRecursion, flat_map, list_any}
+use Rattle.apollo_component.specs.FirstOfEach.{first_of_each}
+use Rattle.apollo_component.proofs.Lists.Each.{each-filter, each-weaken, filter-fails}
+use Rattle.apollo_canon.proofs.Kept.{filter-map, filter-filter, filter-all, each-of, passes}
+
+-- whether no element that fails comes before one that passes
+abbrev pub leads : List Bool → Bool
+leads [] = true
+leads (true ∷ bs) = leads bs
+leads (false ∷ bs) = not (list_any (λ b. b) bs)
+
+abbrev pub is_nothing : {X : Type 0} → List X → Bool
+is_nothing [] = true
+is_nothing (x ∷ xs) = false
+
+-- first those that the first test takes, then those that the second takes of the rest, and so on, until nothing is left
+abbrev pub in_order : {X : Type 0} → List (X → Bool) → List X → Bool
+in_order [] xs = is_nothing xs
+in_order (t ∷ ts) xs = leads (map t xs) && in_order ts (filter (λ x. not (t x)) xs)
+
+none-pass : {X : Type 0} (t : X → Bool) (xs : List X) → AllByRecursion (λ x. t x ≡ false) xs → list_any (λ b. b) (map t xs) ≡ false
+none-pass t [] a = refl
+none-pass t (x ∷ xs) a = rw (a.0) (none-pass t xs a.1)
+
+leads-none : {X : Type 0} (t : X → Bool) (xs : List X) → AllByRecursion (λ x. t x ≡ false) xs → leads (map t xs) ≡ true
+leads-none t [] a = refl
+leads-none t (x ∷ xs) a = rw (a.0) (ap not (none-pass t xs a.1))
+
+leads-append : {X : Type 0} (t : X → Bool) (xs ys : List X) → AllByRecursion (λ x. t x ≡ true) xs → AllByRecursion (λ x. t x ≡ false) ys → leads (map t (xs ++ ys)) ≡ true
+leads-append t [] ys a b = leads-none t ys b
+leads-append t (x ∷ xs) ys a b = rw (a.0) (leads-append t xs ys a.1 b)
+
+-- the order is one of what the tests see
+pub in_order-map : {X Y : Type 0} (f : X → Y) (ts : List (Y → Bool)) (xs : List X) → in_order ts (map f xs) ≡ in_order (map (λ t x. t (f x)) ts) xs
+in_order-map f [] [] = refl
+in_order-map f [] (x ∷ xs) = refl
+in_order-map f (t ∷ ts) xs =
+    (λ i. leads (map-map t f xs i) && in_order ts (filter-map (λ y. not (t y)) f xs i))
+    ∙ ap (λ b. leads (map (λ x. t (f x)) xs) && b) (in_order-map f ts (filter (λ x. not (t (f x))) xs))
+
+-- those that pass, then the others, are all in order
+pub leads-filter : {X : Type 0} (t : X → Bool) (xs : List X) → leads (map t xs) ≡ true → filter t xs ++ filter (λ x. not (t x)) xs ≡ xs
+leads-filter t [] h = refl
+leads-filter t (x ∷ xs) h = by (t x) h (leads-filter t xs)
+  where
+    none : (ys : List _) → not (list_any (λ b. b) (map t ys)) ≡ true → (filter t ys ≡ []) × (filter (λ y. not (t y)) ys ≡ ys)
+    none [] h = (refl, refl)
+    none (y ∷ ys) h = at (t y) h (none ys)
+      where
+        at : (b : Bool) → not (b || list_any (λ b. b) (map t ys)) ≡ true → (not (list_any (λ b. b) (map t ys)) ≡ true → (filter t ys ≡ []) × (filter (λ y. not (t y)) ys ≡ ys))
+            → (cond b (y ∷ filter t ys) (filter t ys) ≡ []) × (cond (not b) (y ∷ filter (λ y. not (t y)) ys) (filter (λ y. not (t y)) ys) ≡ y ∷ ys)
+        at true h rest = absurd (true≢false (sym h))
+        at false h rest = ((rest h).0, ap (λ l. y ∷ l) (rest h).1)
+
+    by : (b : Bool) → leads (b ∷ map t xs) ≡ true → (leads (map t xs) ≡ true → filter t xs ++ filter (λ y. not (t y)) xs ≡ xs)
+        → cond b (x ∷ filter t xs) (filter t xs) ++ cond (not b) (x ∷ filter (λ y. not (t y)) xs) (filter (λ y. not (t y)) xs) ≡ x ∷ xs
+    by true h rest = ap (λ l. x ∷ l) (rest h)
+    by false h rest = (λ i. (none xs h).0 i ++ x ∷ (none xs h).1 i)
+
+-- whether it is the same as none of these
+abbrev pub new_to_these : {X : Type 0} → (X → X → Bool) → List X → X → Bool
+new_to_these same xs y = not (list_any (same y) xs)
+
+module _ {X : Type 0} (same : X → X → Bool) (laws : IsEquivalence same) where
+  abbrev new_to : List X → X → Bool
+  new_to = new_to_these same
+
+  new_to-more : (x : X) (xs ys : List X) → filter (λ y. not (same x y)) (filter (new_to xs) ys) ≡ filter (new_to (x ∷ xs)) ys
+  new_to-more x xs [] = refl
+  new_to-more x xs (y ∷ ys) = grind (arith, laws.symm x y, new_to-more x xs ys)
+
+  pub first_of_each-append : (xs ys : List X) → first_of_each same (xs ++ ys) ≡ first_of_each same xs ++ filter (new_to xs) (first_of_each same ys)
+  first_of_each-append [] ys = sym (filter-all (new_to []) (first_of_each same ys) (each-of (λ y. true ≡ true) (λ y. refl) (first_of_each same ys)))
+  first_of_each-append (x ∷ xs) ys =
+      ap (λ l. x ∷ filter (λ y. not (same x y)) l) (first_of_each-append xs ys)
+      ∙ ap (λ l. x ∷ l) (filter-append (λ y. not (same x y)) (first_of_each same xs) (filter (new_to xs) (first_of_each same ys))
+      ∙ ap (λ l. filter (λ y. not (same x y)) (first_of_each same xs) ++ l) (new_to-more x xs (first_of_each same ys)))
+
+  pub new_to-same : (zs : List X) (a b : X) → same a b ≡ true → new_to zs a ≡ new_to zs b
+  new_to-same zs a b e = (λ i. not (list_any (λ c. laws.congr a b c e i) zs))
+
+  module _ (p : X → Bool) (respects : (a b : X) → same a b ≡ true → p a ≡ p b) where
+    others : (x : X) → p x ≡ false → (ys : List X) → filter p (filter (λ y. not (same x y)) ys) ≡ filter p ys
+    others x fails [] = refl
+    others x fails (y ∷ ys) = by (same x y) refl (others x fails ys)
+      where
+        by : (b : Bool) → same x y ≡ b → filter p (filter (λ y. not (same x y)) ys) ≡ filter p ys
+            → filter p (cond (not b) (y ∷ filter (λ y. not (same x y)) ys) (filter (λ y. not (same x y)) ys)) ≡ filter p (y ∷ ys)
+        by true e rest = rest ∙ sym (ap (λ c. cond c (y ∷ filter p ys) (filter p ys)) (sym (respects x y e) ∙ fails))
+        by false e rest = ap (λ l. cond (p y) (y ∷ l) l) rest
+
+    swapped : (q : X → Bool) (ys : List X) → filter p (filter q ys) ≡ filter q (filter p ys)
+    swapped q [] = refl
+    swapped q (y ∷ ys) = grind (arith, swapped q ys)
+
+    -- a test that doesn't tell apart what is the same
+    pub first_of_each-filter : (xs : List X) → filter p (first_of_each same xs) ≡ first_of_each same (filter p xs)
+    first_of_each-filter [] = refl
+    first_of_each-filter (x ∷ xs) = by (p x) refl (first_of_each-filter xs)
+      where
+        by : (b : Bool) → p x ≡ b → filter p (first_of_each same xs) ≡ first_of_each same (filter p xs)
+            → cond b (x ∷ filter p (filter (λ y. not (same x y)) (first_of_each same xs))) (filter p (filter (λ y. not (same x y)) (first_of_each same xs)))
+            ≡ first_of_each same (cond b (x ∷ filter p xs) (filter p xs))
+        by true e rest = ap (λ l. x ∷ l) (swapped (λ y. not (same x y)) (first_of_each same xs) ∙ ap (filter (λ y. not (same x y))) rest)
+        by false e rest = others x e (first_of_each same xs) ∙ rest
+
+  -- each of the first is there
+  first-there : (xs : List X) → AllByRecursion (λ x. list_any (same x) xs ≡ true) (first_of_each same xs)
+  first-there [] = tt
+  first-there (x ∷ xs) = (
+    ap (λ b. b || list_any (same x) xs) (laws.refl x),
+    each-weaken (λ y. (list_any (same y) xs ≡ true) × (not (same x y) ≡ true)) (λ y. list_any (same y) (x ∷ xs) ≡ true) (λ y h. ap (λ b. same y x || b) h.0 ∙ or-true (same y x)) (filter (λ y. not (same x y)) (first_of_each same xs))
+        (each-filter (λ y. list_any (same y) xs ≡ true) (λ y. not (same x y)) (first_of_each same xs) (first-there xs)),
+  )
+    where
+      or-true : (b : Bool) → (b || true) ≡ true
+      or-true true = refl
+      or-true false = refl
+
+  module _ (p : X → Bool) (xs : List X) (later : List X) where
+    abbrev there : X → Bool
+    there x = list_any (same x) xs
+
+    abbrev front : List X
+    front = filter p (first_of_each same xs)
+
+    abbrev back : List X
+    back = filter p (filter (new_to xs) later)
+
+    abbrev kept : X → Bool
+    kept x = (new_to xs x && p x) && new_to xs x
+
+    front-there : AllByRecursion (λ x. there x ≡ true) front
+    front-there = each-weaken (λ x. (there x ≡ true) × (p x ≡ true)) (λ x. there x ≡ true) (λ x h. h.0) front (each-filter (λ x. there x ≡ true) p (first_of_each same xs) (first-there xs))
+
+    back-absent : AllByRecursion (λ x. there x ≡ false) back
+    back-absent = each-weaken (λ x. (new_to xs x ≡ true) × (p x ≡ true)) (λ x. there x ≡ false) (λ x h. not-true (there x) h.0) back (each-filter (λ x. new_to xs x ≡ true) p (filter (new_to xs) later) (passes (new_to xs) later))
+      where
+        not-true : (b : Bool) → not b ≡ true → b ≡ false
+        not-true false e = refl
+        not-true true e = sym e
+
+    front-first : leads (map there (front ++ back)) ≡ true
+    front-first = leads-append there front back front-there back-absent
+
+    left : filter (new_to xs) (front ++ back) ≡ filter kept later
+    left =
+        filter-append (new_to xs) front back
+        ∙ ap (λ l. l ++ filter (new_to xs) back) (filter-fails (λ x. there x ≡ true) (new_to xs) (λ x e. ap not e) front front-there)
+        ∙ ap (filter (new_to xs)) (filter-filter p (new_to xs) later)
+        ∙ filter-filter (new_to xs) (λ x. new_to xs x && p x) later
+
+  -- the first of each of joined lists come in the order of the lists
+  pub first-in_order : (p : X → Bool) (xss : List (List X)) → in_order (map (λ xs x. list_any (same x) xs) xss) (filter p (first_of_each same (flat_map (λ xs. xs) xss))) ≡ true
+  first-in_order p [] = refl
+  first-in_order p (xs ∷ xss) =
+      let rest : List X = flat_map (λ xs. xs) xss in
+      ap (in_order (map (λ xs x. list_any (same x) xs) (xs ∷ xss))) (ap (filter p) (first_of_each-append xs rest) ∙ filter-append p (first_of_each same xs) (filter (new_to xs) (first_of_each same rest)))
+      ∙ (λ i. front-first p xs (first_of_each same rest) i && in_order (map (λ xs x. list_any (same x) xs) xss) (left p xs (first_of_each same rest) i))
+      ∙ first-in_order (kept p xs (first_of_each same rest)) xss

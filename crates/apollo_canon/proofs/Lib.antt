@@ -1,0 +1,4 @@
+pub mod FirstAppearance
+pub mod Kept
+pub mod Regrouped
+pub mod SectionLemmas

@@ -1,0 +1,57 @@
+-- The components of a type or of the schema's definition, sort by sort, and those that parts under their origins make:
+-- GraphQL specification of October 2021, sections 3.3, 3.4.3 and 3.5 to 3.10.
+use Rattle.std.specs.Prelude.{List, [], ◌∷◌, map}
+use Rattle.std.specs.List.{flat_map}
+use Rattle.graphql_nodes.specs.NameView.{NameView}
+use Rattle.graphql_nodes.specs.NodeView.{NodeView}
+use Rattle.graphql_nodes.specs.declared.operation_type.OperationType.{OperationType}
+use Rattle.graphql_ast.specs.declared.definition_parts.DefinitionPart.{DefinitionPart}
+use Rattle.graphql_ast.specs.declared.definition_parts.DefinitionPart.TheVariants as parts
+use Rattle.graphql_ast.specs.declared.definition_parts.DefinitionParts.{DefinitionParts}
+use Rattle.graphql_ast.specs.declared.directive.Directive.{Directive}
+use Rattle.graphql_ast.specs.declared.type_system.EnumValueDefinition.{EnumValueDefinition}
+use Rattle.graphql_ast.specs.declared.type_system.FieldDefinition.{FieldDefinition}
+use Rattle.graphql_ast.specs.declared.type_system.InputValueDefinition.{InputValueDefinition}
+use Rattle.apollo_component.specs.WriteOut.{SourcedPart}
+use Rattle.apollo_component.specs.declared.extension.ComponentOrigin.{ComponentOrigin}
+use Rattle.apollo_component.specs.declared.extension.ComponentOrigin.TheVariants.{Definition, Extension}
+use Rattle.apollo_component.specs.declared.parts_by_origin.PartsByOrigin.{PartsByOrigin}
+
+-- components of each sort, in order
+pub record Sections : Type 0 where
+  pub directives : List (ComponentOrigin × NodeView Directive)
+  pub names : List (ComponentOrigin × NameView)
+  pub fields : List (ComponentOrigin × NodeView FieldDefinition)
+  pub values : List (ComponentOrigin × NodeView EnumValueDefinition)
+  pub input_fields : List (ComponentOrigin × NodeView InputValueDefinition)
+  pub roots : List (ComponentOrigin × NodeView (OperationType × NameView))
+
+-- components of one sort
+abbrev pub as_parts : {X : Type 0} → (X → DefinitionPart) → List (ComponentOrigin × X) → List SourcedPart
+as_parts part = map (λ x. (x.0, part x.1))
+
+-- all components, sort by sort
+abbrev pub in_sections : Sections → List SourcedPart
+in_sections s = flat_map (λ cs. cs) (
+    as_parts parts.Directive s.directives ∷ as_parts parts.Name s.names ∷ as_parts parts.Field s.fields
+    ∷ as_parts parts.EnumValue s.values ∷ as_parts parts.InputField s.input_fields ∷ as_parts parts.Root s.roots ∷ []
+    )
+
+-- the definition's parts and those of each extension, with their origins
+abbrev pub with_origins : PartsByOrigin → List (ComponentOrigin × DefinitionParts)
+with_origins p = (Definition, p.definition) ∷ map (λ e. (Extension e.0, e.1)) p.extensions
+
+-- what these have of one sort, joined
+abbrev pub joined : {X : Type 0} → (DefinitionParts → List X) → List (ComponentOrigin × DefinitionParts) → List (ComponentOrigin × X)
+joined sort = flat_map (λ g. map (λ x. (g.0, x)) (sort g.1))
+
+-- the components that parts under their origins make
+abbrev pub sections_of : PartsByOrigin → Sections
+sections_of p = record {
+  directives = joined (λ d. d.directives.0) (with_origins p);
+  names = joined (λ d. d.names) (with_origins p);
+  fields = joined (λ d. d.fields) (with_origins p);
+  values = joined (λ d. d.values) (with_origins p);
+  input_fields = joined (λ d. d.input_fields) (with_origins p);
+  roots = joined (λ d. d.roots) (with_origins p);
+}

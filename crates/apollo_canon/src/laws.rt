@@ -1,0 +1,16 @@
+//! Laws of the write-out, for those who build on what it says.
+ghost use Rattle.std.specs.Prelude.{◌≡◌, map};
+ghost use Rattle.std.specs.List.{IsDistinct};
+ghost use Rattle.apollo_component.specs.Extensions.{same_id};
+ghost use Rattle.apollo_component.specs.WriteOut.{by_origin};
+ghost use Rattle.apollo_component.specs.declared.parts_by_origin.PartsByOrigin.{PartsByOrigin};
+ghost use Rattle.apollo_canon.specs.Sections.{Sections, in_sections, sections_of};
+
+/// What is written out stays as it is when it is read and written out again: the components of any sections, put under
+/// their origins, make the parts of a definition and of its extensions. Whatever distinct identities these extensions
+/// get, the components that the parts make are put under those identities as the same parts, in the same order. GraphQL
+/// specification of October 2021, sections 3.3 and 3.4.3.
+pub fn written_parts_are_written_again()
+    ensures { (s : Sections) (p : PartsByOrigin) → map (λ e. e.1) p.extensions ≡ map (λ e. e.1) (by_origin (in_sections s)).extensions
+        → IsDistinct same_id (map (λ e. e.0) p.extensions) → by_origin (in_sections (sections_of p)) ≡ p }
+{}
