@@ -1,4 +1,6 @@
+pub mod ComponentsKept
 pub mod FirstAppearance
 pub mod Kept
+pub mod Partition
 pub mod Regrouped
 pub mod SectionLemmas

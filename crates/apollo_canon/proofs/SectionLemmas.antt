@@ -22,11 +22,11 @@ use Rattle.apollo_canon.proofs.FirstAppearance.{in_order, is_nothing, in_order-m
 use Rattle.apollo_canon.proofs.Kept.{filter-map, filter-all, each-of, map-each, map-same}
 use Rattle.apollo_canon.proofs.Regrouped.{own-group, shown, first-shown_again}
 
-same_id-equiv : IsEquivalence same_id
+pub same_id-equiv : IsEquivalence same_id
 same_id-equiv = on_equiv number_of nat_eq_equiv
 
 -- the identities of extensions that these come from
-abbrev ids_in : {A : Type 0} → List (ComponentOrigin × A) → List ExtensionId
+abbrev pub ids_in : {A : Type 0} → List (ComponentOrigin × A) → List ExtensionId
 ids_in xs = filter_map id_of (map (λ x. x.0) xs)
 
 ids_in-append : {A : Type 0} (xs ys : List (ComponentOrigin × A)) → ids_in (xs ++ ys) ≡ ids_in xs ++ ids_in ys
@@ -56,7 +56,7 @@ ids_in-sections s =
 
 module _ (origin : ComponentOrigin) where
   -- what is of the origin
-  abbrev picked : {A : Type 0} → List (ComponentOrigin × A) → List A
+  abbrev pub picked : {A : Type 0} → List (ComponentOrigin × A) → List A
   picked xs = map (λ x. x.1) (filter (λ x. same_origin origin x.0) xs)
 
   picked-append : {A : Type 0} (xs ys : List (ComponentOrigin × A)) → picked (xs ++ ys) ≡ picked xs ++ picked ys
@@ -137,7 +137,7 @@ module _ (origin : ComponentOrigin) where
         ∙ append-nil (picked s.roots)
 
     -- what is of one origin, sort by sort
-    of_origin-sections : of_origin origin (in_sections s) ≡ record {
+    pub of_origin-sections : of_origin origin (in_sections s) ≡ record {
       directives = record { 0 = picked s.directives };
       names = picked s.names;
       fields = picked s.fields;

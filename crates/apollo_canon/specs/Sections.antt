@@ -2,6 +2,7 @@
 -- GraphQL specification of October 2021, sections 3.3, 3.4.3 and 3.5 to 3.10.
 use Rattle.std.specs.Prelude.{List, [], ◌∷◌, map}
 use Rattle.std.specs.List.{flat_map}
+use Rattle.std.specs.List.Sorted.{IsPermutation}
 use Rattle.graphql_nodes.specs.NameView.{NameView}
 use Rattle.graphql_nodes.specs.NodeView.{NodeView}
 use Rattle.graphql_nodes.specs.declared.operation_type.OperationType.{OperationType}
@@ -55,3 +56,12 @@ sections_of p = record {
   input_fields = joined (λ d. d.input_fields) (with_origins p);
   roots = joined (λ d. d.roots) (with_origins p);
 }
+
+-- the same components but for their origins, those of each sort in any order
+pub record HasSameComponents (s t : Sections) : Type 0 where
+  pub directives : IsPermutation (map (λ x. x.1) s.directives) (map (λ x. x.1) t.directives)
+  pub names : IsPermutation (map (λ x. x.1) s.names) (map (λ x. x.1) t.names)
+  pub fields : IsPermutation (map (λ x. x.1) s.fields) (map (λ x. x.1) t.fields)
+  pub values : IsPermutation (map (λ x. x.1) s.values) (map (λ x. x.1) t.values)
+  pub input_fields : IsPermutation (map (λ x. x.1) s.input_fields) (map (λ x. x.1) t.input_fields)
+  pub roots : IsPermutation (map (λ x. x.1) s.roots) (map (λ x. x.1) t.roots)

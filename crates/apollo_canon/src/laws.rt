@@ -4,7 +4,7 @@ ghost use Rattle.std.specs.List.{IsDistinct};
 ghost use Rattle.apollo_component.specs.Extensions.{same_id};
 ghost use Rattle.apollo_component.specs.WriteOut.{by_origin};
 ghost use Rattle.apollo_component.specs.declared.parts_by_origin.PartsByOrigin.{PartsByOrigin};
-ghost use Rattle.apollo_canon.specs.Sections.{Sections, in_sections, sections_of};
+ghost use Rattle.apollo_canon.specs.Sections.{Sections, HasSameComponents, in_sections, sections_of};
 
 /// What is written out stays as it is when it is read and written out again: the components of any sections, put under
 /// their origins, make the parts of a definition and of its extensions. Whatever distinct identities these extensions
@@ -13,4 +13,11 @@ ghost use Rattle.apollo_canon.specs.Sections.{Sections, in_sections, sections_of
 pub fn written_parts_are_written_again()
     ensures { (s : Sections) (p : PartsByOrigin) → map (λ e. e.1) p.extensions ≡ map (λ e. e.1) (by_origin (in_sections s)).extensions
         → IsDistinct same_id (map (λ e. e.0) p.extensions) → by_origin (in_sections (sections_of p)) ≡ p }
+{}
+
+/// No component is lost in what is written out, and none is added: the parts of the definition and of the extensions that
+/// the components of any sections make have, of each sort, the components of that section. GraphQL specification of October 2021, sections 3.3 and 3.5 to 3.10.
+pub fn written_parts_have_all_components()
+    ensures { (s : Sections) (p : PartsByOrigin) → p.definition ≡ (by_origin (in_sections s)).definition → map (λ e. e.1) p.extensions ≡ map (λ e. e.1) (by_origin (in_sections s)).extensions
+        → HasSameComponents s (sections_of p) }
 {}

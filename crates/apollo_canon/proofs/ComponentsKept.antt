@@ -1,0 +1,151 @@
+-- The parts that are written out have all components of the sections.
+use Rattle.std.proofs.Common.{◌≡◌, Bool, true, false, ◌||◌, List, [], ◌∷◌, ◌++◌, map, filter, refl, sym, ap, subst, ◌∙◌, true≢false}
+use Rattle.std.proofs.lemmas.List.Folds.{flat_map-map}
+use Rattle.std.proofs.lemmas.List.Sorted.{IsPermutation-map}
+use Rattle.std.proofs.lemmas.Simd.{map-map}
+use Rattle.std.specs.Cmp.{IsEquivalence}
+use Rattle.std.specs.List.{AllByRecursion, IsDistinct, cons_option, flat_map, list_any}
+use Rattle.std.specs.List.Sorted.{IsPermutation}
+use Rattle.graphql_ast.specs.declared.definition_parts.DefinitionPart.{DefinitionPart}
+use Rattle.graphql_ast.specs.declared.definition_parts.DefinitionPart.TheVariants as parts
+use Rattle.graphql_ast.specs.declared.definition_parts.DefinitionParts.{DefinitionParts}
+use Rattle.apollo_component.specs.Extensions.{id_of, same_id, same_origin}
+use Rattle.apollo_component.specs.WriteOut.{SourcedPart, origins_in, identities, of_origin, of_extensions}
+use Rattle.apollo_component.specs.declared.extension.ComponentOrigin.{ComponentOrigin}
+use Rattle.apollo_component.specs.declared.extension.ComponentOrigin.TheVariants.{Definition, Extension}
+use Rattle.apollo_component.specs.declared.extension.ExtensionId.{ExtensionId}
+use Rattle.apollo_component.specs.declared.parts_by_origin.PartsByOrigin.{PartsByOrigin}
+use Rattle.apollo_component.proofs.FirstOfEachLemmas.{list_any-first_of_each}
+use Rattle.apollo_component.proofs.Lists.Each.{each-weaken}
+use Rattle.apollo_component.proofs.Tabled.{first_of_each-distinct}
+use Rattle.apollo_canon.specs.Sections.{Sections, HasSameComponents, as_parts, in_sections, with_origins, joined, sections_of}
+use Rattle.apollo_canon.proofs.Kept.{each-from_map, map-same}
+use Rattle.apollo_canon.proofs.Partition.{groups, map-flat_map}
+use Rattle.apollo_canon.proofs.SectionLemmas.{same_id-equiv, ids_in, picked, of_origin-sections}
+
+same_origin-equiv : IsEquivalence same_origin
+same_origin-equiv = record { refl = itself; symm = both-ways; congr = alike }
+  where
+    itself : (a : ComponentOrigin) → same_origin a a ≡ true
+    itself Definition = refl
+    itself (Extension a) = same_id-equiv.refl a
+
+    both-ways : (a b : ComponentOrigin) → same_origin a b ≡ same_origin b a
+    both-ways Definition Definition = refl
+    both-ways Definition (Extension b) = refl
+    both-ways (Extension a) Definition = refl
+    both-ways (Extension a) (Extension b) = same_id-equiv.symm a b
+
+    alike : (a b c : ComponentOrigin) → same_origin a b ≡ true → same_origin a c ≡ same_origin b c
+    alike Definition Definition c e = refl
+    alike Definition (Extension b) c e = absurd (true≢false (sym e))
+    alike (Extension a) Definition c e = absurd (true≢false (sym e))
+    alike (Extension a) (Extension b) Definition e = refl
+    alike (Extension a) (Extension b) (Extension c) e = same_id-equiv.congr a b c e
+
+-- whether an origin is the definition or among these identities
+abbrev is_among : List ExtensionId → ComponentOrigin → Bool
+is_among ids Definition = true
+is_among ids (Extension e) = list_any (same_id e) ids
+
+is_among-more : (ids : List ExtensionId) (a b : ComponentOrigin) → is_among ids b ≡ true → is_among (cons_option (id_of a) ids) b ≡ true
+is_among-more ids a Definition h = refl
+is_among-more ids Definition (Extension e) h = h
+is_among-more ids (Extension d) (Extension e) h = ap (λ c. same_id e d || c) h ∙ or-true (same_id e d)
+  where
+    or-true : (b : Bool) → (b || true) ≡ true
+    or-true true = refl
+    or-true false = refl
+
+each-among : (cs : List SourcedPart) → AllByRecursion (λ c. is_among (ids_in cs) c.0 ≡ true) cs
+each-among [] = tt
+each-among (c ∷ cs) = (here c.0, each-weaken (λ d. is_among (ids_in cs) d.0 ≡ true) (λ d. is_among (ids_in (c ∷ cs)) d.0 ≡ true) (λ d h. is_among-more (ids_in cs) c.0 d.0 h) cs (each-among cs))
+  where
+    here : (o : ComponentOrigin) → is_among (cons_option (id_of o) (ids_in cs)) o ≡ true
+    here Definition = refl
+    here (Extension e) = ap (λ b. b || list_any (same_id e) (ids_in cs)) (same_id-equiv.refl e)
+
+distinct-origins : (ids : List ExtensionId) → IsDistinct same_id ids → IsDistinct same_origin (map (λ e. Extension e) ids)
+unfolding IsDistinct
+distinct-origins [] d = tt
+distinct-origins (e ∷ ids) d = (apart ids d.0, distinct-origins ids d.1)
+  where
+    apart : (ks : List ExtensionId) → AllByRecursion (λ k. same_id e k ≡ false) ks → AllByRecursion (λ o. same_origin (Extension e) o ≡ false) (map (λ k. Extension k) ks)
+    apart [] a = tt
+    apart (k ∷ ks) a = (a.0, apart ks a.1)
+
+distinct-with_definition : (ids : List ExtensionId) → IsDistinct same_id ids → IsDistinct same_origin (Definition ∷ map (λ e. Extension e) ids)
+unfolding IsDistinct
+distinct-with_definition ids d = (apart ids, distinct-origins ids d)
+  where
+    apart : (ks : List ExtensionId) → AllByRecursion (λ o. same_origin Definition o ≡ false) (map (λ k. Extension k) ks)
+    apart [] = tt
+    apart (k ∷ ks) = (refl, apart ks)
+
+each-split : {X : Type 0} (P : X → Type 0) (xs ys : List X) → AllByRecursion P (xs ++ ys) → AllByRecursion P xs × AllByRecursion P ys
+each-split P [] ys a = (tt, a)
+each-split P (x ∷ xs) ys a = let rest : AllByRecursion P xs × AllByRecursion P ys = each-split P xs ys a.1 in ((a.0, rest.0), rest.1)
+
+module _ (s : Sections) (p : PartsByOrigin) (same_definition : p.definition ≡ of_origin Definition (in_sections s)) (same_parts : map (λ e. e.1) p.extensions ≡ map (λ e. e.1) (of_extensions (in_sections s))) where
+  abbrev ids : List ExtensionId
+  ids = identities (origins_in (in_sections s))
+
+  abbrev origins : List ComponentOrigin
+  origins = Definition ∷ map (λ e. Extension e) ids
+
+  -- each component comes from one of the origins
+  has_origin : (o : ComponentOrigin) → is_among (ids_in (in_sections s)) o ≡ true → list_any (λ a. same_origin a o) origins ≡ true
+  has_origin Definition h = refl
+  has_origin (Extension e) h = any-extension ids ∙ list_any-first_of_each same_id same_id-equiv e (ids_in (in_sections s)) ∙ h
+    where
+      any-extension : (ks : List ExtensionId) → list_any (λ a. same_origin a (Extension e)) (map (λ k. Extension k) ks) ≡ list_any (same_id e) ks
+      any-extension [] = refl
+      any-extension (k ∷ ks) = (λ i. same_id-equiv.symm k e i || any-extension ks i)
+
+  abbrev HasOrigins : {A : Type 0} → List (ComponentOrigin × A) → Type 0
+  HasOrigins xs = AllByRecursion (λ x. list_any (λ a. same_origin a x.0) origins ≡ true) xs
+
+  -- the components of one sort are those of the written parts
+  kept : {A : Type 0} (sort : DefinitionParts → List A) (xs : List (ComponentOrigin × A)) → ((o : ComponentOrigin) → sort (of_origin o (in_sections s)) ≡ picked o xs) → HasOrigins xs
+      → IsPermutation (map (λ x. x.1) xs) (map (λ x. x.1) (joined sort (with_origins p)))
+  kept {A} sort xs is there =
+      subst (λ l. IsPermutation (map (λ x. x.1) xs) l) (map-flat_map (λ x. x.1) (λ o. filter (λ x. same_origin o x.0) xs) origins ∙ ap (λ l. picked Definition xs ++ l) (flat_map-map (λ o. picked o xs) (λ e. Extension e) ids) ∙ sym written)
+      (IsPermutation-map (λ x. x.1) xs (flat_map (λ o. filter (λ x. same_origin o x.0) xs) origins) (groups same_origin same_origin-equiv origins xs (distinct-with_definition ids (first_of_each-distinct same_id (ids_in (in_sections s)))) there))
+    where
+      without : (gs : List (ComponentOrigin × DefinitionParts)) → map (λ x. x.1) (joined sort gs) ≡ flat_map (λ g. sort g.1) gs
+      without gs = map-flat_map (λ x. x.1) (λ g. map (λ x. (g.0, x)) (sort g.1)) gs ∙ (λ i. flat_map (λ g. (map-map (λ (x : ComponentOrigin × A). x.1) (λ x. (g.0, x)) (sort g.1) ∙ map-same (sort g.1)) i) gs)
+
+      written : map (λ x. x.1) (joined sort (with_origins p)) ≡ picked Definition xs ++ flat_map (λ e. picked (Extension e) xs) ids
+      written =
+          without (with_origins p)
+          ∙ (λ i. (ap sort same_definition ∙ is Definition) i ++ (flat_map-map (λ (g : ComponentOrigin × DefinitionParts). sort g.1) (λ e. (Extension e.0, e.1)) p.extensions
+          ∙ sym (flat_map-map sort (λ (e : ExtensionId × DefinitionParts). e.1) p.extensions) ∙ ap (flat_map sort) same_parts
+          ∙ ap (flat_map sort) (map-map (λ (e : ExtensionId × DefinitionParts). e.1) (λ e. (e, of_origin (Extension e) (in_sections s))) ids)
+          ∙ flat_map-map sort (λ e. of_origin (Extension e) (in_sections s)) ids) i)
+          ∙ (λ i. picked Definition xs ++ flat_map (λ e. is (Extension e) i) ids)
+
+  abbrev Among : SourcedPart → Type 0
+  Among c = list_any (λ a. same_origin a c.0) origins ≡ true
+
+  section : {A : Type 0} (part : A → DefinitionPart) (xs : List (ComponentOrigin × A)) → AllByRecursion Among (as_parts part xs) → HasOrigins xs
+  section part xs there = each-from_map (λ c. list_any (λ a. same_origin a c.0) origins ≡ true) (λ x. (x.0, part x.1)) xs there
+
+  all_there : AllByRecursion Among (in_sections s)
+  all_there = each-weaken (λ c. is_among (ids_in (in_sections s)) c.0 ≡ true) (λ c. list_any (λ a. same_origin a c.0) origins ≡ true) (λ c h. has_origin c.0 h) (in_sections s) (each-among (in_sections s))
+
+  pub written-keeps : HasSameComponents s (sections_of p)
+  written-keeps =
+      let a1 = each-split Among (as_parts parts.Directive s.directives) _ all_there in
+      let a2 = each-split Among (as_parts parts.Name s.names) _ a1.1 in
+      let a3 = each-split Among (as_parts parts.Field s.fields) _ a2.1 in
+      let a4 = each-split Among (as_parts parts.EnumValue s.values) _ a3.1 in
+      let a5 = each-split Among (as_parts parts.InputField s.input_fields) _ a4.1 in
+      let a6 = each-split Among (as_parts parts.Root s.roots) _ a5.1 in
+      record {
+        directives = kept (λ d. d.directives.0) s.directives (λ o. ap (λ d. d.directives.0) (of_origin-sections o s)) (section parts.Directive s.directives a1.0);
+        names = kept (λ d. d.names) s.names (λ o. ap (λ d. d.names) (of_origin-sections o s)) (section parts.Name s.names a2.0);
+        fields = kept (λ d. d.fields) s.fields (λ o. ap (λ d. d.fields) (of_origin-sections o s)) (section parts.Field s.fields a3.0);
+        values = kept (λ d. d.values) s.values (λ o. ap (λ d. d.values) (of_origin-sections o s)) (section parts.EnumValue s.values a4.0);
+        input_fields = kept (λ d. d.input_fields) s.input_fields (λ o. ap (λ d. d.input_fields) (of_origin-sections o s)) (section parts.InputField s.input_fields a5.0);
+        roots = kept (λ d. d.roots) s.roots (λ o. ap (λ d. d.roots) (of_origin-sections o s)) (section parts.Root s.roots a6.0);
+      }
