@@ -86,6 +86,10 @@ each-split : {X : Type 0} (P : X → Type 0) (xs ys : List X) → AllByRecursion
 each-split P [] ys a = (tt, a)
 each-split P (x ∷ xs) ys a = let rest : AllByRecursion P xs × AllByRecursion P ys = each-split P xs ys a.1 in ((a.0, rest.0), rest.1)
 
+-- what parts have of one sort, without origins
+pub joined-values : {A : Type 0} (sort : DefinitionParts → List A) (gs : List (ComponentOrigin × DefinitionParts)) → map (λ x. x.1) (joined sort gs) ≡ flat_map (λ g. sort g.1) gs
+joined-values {A} sort gs = map-flat_map (λ x. x.1) (λ g. map (λ x. (g.0, x)) (sort g.1)) gs ∙ (λ i. flat_map (λ g. (map-map (λ (x : ComponentOrigin × A). x.1) (λ x. (g.0, x)) (sort g.1) ∙ map-same (sort g.1)) i) gs)
+
 module _ (s : Sections) (p : PartsByOrigin) (same_definition : p.definition ≡ of_origin Definition (in_sections s)) (same_parts : map (λ e. e.1) p.extensions ≡ map (λ e. e.1) (of_extensions (in_sections s))) where
   abbrev ids : List ExtensionId
   ids = identities (origins_in (in_sections s))
@@ -105,24 +109,23 @@ module _ (s : Sections) (p : PartsByOrigin) (same_definition : p.definition ≡ 
   abbrev HasOrigins : {A : Type 0} → List (ComponentOrigin × A) → Type 0
   HasOrigins xs = AllByRecursion (λ x. list_any (λ a. same_origin a x.0) origins ≡ true) xs
 
+  -- the written parts have of one sort what is picked of each origin
+  pub written-values : {A : Type 0} (sort : DefinitionParts → List A) (xs : List (ComponentOrigin × A)) → ((o : ComponentOrigin) → sort (of_origin o (in_sections s)) ≡ picked o xs)
+      → map (λ x. x.1) (joined sort (with_origins p)) ≡ picked Definition xs ++ flat_map (λ e. picked (Extension e) xs) ids
+  written-values sort xs is =
+      joined-values sort (with_origins p)
+      ∙ (λ i. (ap sort same_definition ∙ is Definition) i ++ (flat_map-map (λ (g : ComponentOrigin × DefinitionParts). sort g.1) (λ e. (Extension e.0, e.1)) p.extensions
+      ∙ sym (flat_map-map sort (λ (e : ExtensionId × DefinitionParts). e.1) p.extensions) ∙ ap (flat_map sort) same_parts
+      ∙ ap (flat_map sort) (map-map (λ (e : ExtensionId × DefinitionParts). e.1) (λ e. (e, of_origin (Extension e) (in_sections s))) ids)
+      ∙ flat_map-map sort (λ e. of_origin (Extension e) (in_sections s)) ids) i)
+      ∙ (λ i. picked Definition xs ++ flat_map (λ e. is (Extension e) i) ids)
+
   -- the components of one sort are those of the written parts
   kept : {A : Type 0} (sort : DefinitionParts → List A) (xs : List (ComponentOrigin × A)) → ((o : ComponentOrigin) → sort (of_origin o (in_sections s)) ≡ picked o xs) → HasOrigins xs
       → IsPermutation (map (λ x. x.1) xs) (map (λ x. x.1) (joined sort (with_origins p)))
-  kept {A} sort xs is there =
-      subst (λ l. IsPermutation (map (λ x. x.1) xs) l) (map-flat_map (λ x. x.1) (λ o. filter (λ x. same_origin o x.0) xs) origins ∙ ap (λ l. picked Definition xs ++ l) (flat_map-map (λ o. picked o xs) (λ e. Extension e) ids) ∙ sym written)
+  kept sort xs is there =
+      subst (λ l. IsPermutation (map (λ x. x.1) xs) l) (map-flat_map (λ x. x.1) (λ o. filter (λ x. same_origin o x.0) xs) origins ∙ ap (λ l. picked Definition xs ++ l) (flat_map-map (λ o. picked o xs) (λ e. Extension e) ids) ∙ sym (written-values sort xs is))
       (IsPermutation-map (λ x. x.1) xs (flat_map (λ o. filter (λ x. same_origin o x.0) xs) origins) (groups same_origin same_origin-equiv origins xs (distinct-with_definition ids (first_of_each-distinct same_id (ids_in (in_sections s)))) there))
-    where
-      without : (gs : List (ComponentOrigin × DefinitionParts)) → map (λ x. x.1) (joined sort gs) ≡ flat_map (λ g. sort g.1) gs
-      without gs = map-flat_map (λ x. x.1) (λ g. map (λ x. (g.0, x)) (sort g.1)) gs ∙ (λ i. flat_map (λ g. (map-map (λ (x : ComponentOrigin × A). x.1) (λ x. (g.0, x)) (sort g.1) ∙ map-same (sort g.1)) i) gs)
-
-      written : map (λ x. x.1) (joined sort (with_origins p)) ≡ picked Definition xs ++ flat_map (λ e. picked (Extension e) xs) ids
-      written =
-          without (with_origins p)
-          ∙ (λ i. (ap sort same_definition ∙ is Definition) i ++ (flat_map-map (λ (g : ComponentOrigin × DefinitionParts). sort g.1) (λ e. (Extension e.0, e.1)) p.extensions
-          ∙ sym (flat_map-map sort (λ (e : ExtensionId × DefinitionParts). e.1) p.extensions) ∙ ap (flat_map sort) same_parts
-          ∙ ap (flat_map sort) (map-map (λ (e : ExtensionId × DefinitionParts). e.1) (λ e. (e, of_origin (Extension e) (in_sections s))) ids)
-          ∙ flat_map-map sort (λ e. of_origin (Extension e) (in_sections s)) ids) i)
-          ∙ (λ i. picked Definition xs ++ flat_map (λ e. is (Extension e) i) ids)
 
   abbrev Among : SourcedPart → Type 0
   Among c = list_any (λ a. same_origin a c.0) origins ≡ true

@@ -1,4 +1,5 @@
 pub mod ComponentsKept
+pub mod DirectivesInOrder
 pub mod FirstAppearance
 pub mod Kept
 pub mod Partition

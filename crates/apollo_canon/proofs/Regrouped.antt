@@ -59,7 +59,7 @@ module _ {X : Type 0} (same : X → X → Bool) (laws : IsEquivalence same) wher
         by true rest = (apart-filter (key g) t gs d.0, rest)
         by false rest = rest
 
-    first-shown : (marks : G → List (Unit {0})) (gs : List G) → IsDistinct same (map key gs) → first_of_each same (shown key marks gs) ≡ map key (filter (marked marks) gs)
+    pub first-shown : (marks : G → List (Unit {0})) (gs : List G) → IsDistinct same (map key gs) → first_of_each same (shown key marks gs) ≡ map key (filter (marked marks) gs)
     unfolding IsDistinct
     first-shown marks [] d = refl
     first-shown marks (g ∷ gs) d = by (marks g) (first-shown marks gs d.1)

@@ -43,7 +43,7 @@ ids_in-parts part xs = ap (filter_map id_of) (map-map (λ x. x.0) (λ x. (x.0, p
 abbrev section_ids : Sections → List (List ExtensionId)
 section_ids s = ids_in s.directives ∷ ids_in s.names ∷ ids_in s.fields ∷ ids_in s.values ∷ ids_in s.input_fields ∷ ids_in s.roots ∷ []
 
-ids_in-sections : (s : Sections) → ids_in (in_sections s) ≡ flat_map (λ ids. ids) (section_ids s)
+pub ids_in-sections : (s : Sections) → ids_in (in_sections s) ≡ flat_map (λ ids. ids) (section_ids s)
 ids_in-sections s =
     ids_in-joined (
     as_parts parts.Directive s.directives ∷ as_parts parts.Name s.names ∷ as_parts parts.Field s.fields
@@ -164,7 +164,7 @@ module _ (origin : ComponentOrigin) where
       by true e (x ∷ xs) = rw e (ap (λ l. x ∷ l) (by true e xs))
       by false e (x ∷ xs) = rw e (by false e xs)
 
-  picked-joined : {A : Type 0} (sort : DefinitionParts → List A) (gs : List (ComponentOrigin × DefinitionParts)) → picked (joined sort gs) ≡ flat_map (λ g. sort g.1) (filter (λ g. same_origin origin g.0) gs)
+  pub picked-joined : {A : Type 0} (sort : DefinitionParts → List A) (gs : List (ComponentOrigin × DefinitionParts)) → picked (joined sort gs) ≡ flat_map (λ g. sort g.1) (filter (λ g. same_origin origin g.0) gs)
   picked-joined sort [] = refl
   picked-joined sort (g ∷ gs) = picked-append (map (λ x. (g.0, x)) (sort g.1)) (joined sort gs) ∙ (λ i. picked-of g.0 (sort g.1) i ++ picked-joined sort gs i) ∙ by (same_origin origin g.0)
     where
@@ -187,14 +187,14 @@ module _ (origin : ComponentOrigin) where
       row sort = picked-joined sort (with_origins p) ∙ ap (flat_map (λ g. sort g.1)) alone ∙ append-nil (sort g.1)
 
 -- a mark for each of these
-abbrev marks : {A : Type 0} → List A → List (Unit {0})
+abbrev pub marks : {A : Type 0} → List A → List (Unit {0})
 marks = map (λ _. tt)
 
-abbrev has_some : {A : Type 0} → List A → Bool
+abbrev pub has_some : {A : Type 0} → List A → Bool
 has_some xs = not (is_nothing (marks xs))
 
 -- an identity has something in a section where it is one of the section's
-has_some-picked : {A : Type 0} (id : ExtensionId) (xs : List (ComponentOrigin × A)) → has_some (picked (Extension id) xs) ≡ list_any (same_id id) (ids_in xs)
+pub has_some-picked : {A : Type 0} (id : ExtensionId) (xs : List (ComponentOrigin × A)) → has_some (picked (Extension id) xs) ≡ list_any (same_id id) (ids_in xs)
 has_some-picked id [] = refl
 has_some-picked {A} id (x ∷ xs) = by x.0 (has_some-picked id xs)
   where
@@ -240,35 +240,42 @@ module _ (s : Sections) where
       ∙ ap (in_order tests) (ap (first_of_each same_id) (ids_in-sections s) ∙ sym (filter-all (λ _. true) firsts (each-of (λ _. true ≡ true) (λ _. refl) firsts)))
       ∙ first-in_order same_id same_id-equiv (λ _. true) (section_ids s)
 
+-- the definition's parts alone are of the definition, and those of an extension of its identity
+pub definition-alone : (p : PartsByOrigin) → filter (λ g. same_origin Definition g.0) (with_origins p) ≡ (Definition, p.definition) ∷ []
+definition-alone p = ap (λ l. (Definition, p.definition) ∷ l) (nothing p.extensions)
+  where
+    nothing : (es : List (ExtensionId × DefinitionParts)) → filter (λ (g : ComponentOrigin × DefinitionParts). same_origin Definition g.0) (map (λ e. (Extension e.0, e.1)) es) ≡ []
+    nothing [] = refl
+    nothing (e ∷ es) = nothing es
+
+pub extension-alone : (p : PartsByOrigin) (e : ExtensionId × DefinitionParts) → filter (λ h. same_id e.0 h.0) p.extensions ≡ e ∷ [] → filter (λ g. same_origin (Extension e.0) g.0) (with_origins p) ≡ (Extension e.0, e.1) ∷ []
+extension-alone p e alone = filter-map (λ g. same_origin (Extension e.0) g.0) (λ h. (Extension h.0, h.1)) p.extensions ∙ ap (map (λ h. (Extension h.0, h.1))) alone
+
+-- the identities of what parts have of one sort
+pub shown-joined : (p : PartsByOrigin) {A : Type 0} (sort : DefinitionParts → List A) → ids_in (joined sort (with_origins p)) ≡ shown (λ e. e.0) (λ e. marks (sort e.1)) p.extensions
+shown-joined p {A} sort = ids_in-append (map (λ x. (Definition, x)) (sort p.definition)) (joined sort (map (λ e. (Extension e.0, e.1)) p.extensions)) ∙ (λ i. of_definition (sort p.definition) i ++ of_each p.extensions i)
+  where
+    of_definition : (xs : List A) → ids_in (map (λ x. (Definition, x)) xs) ≡ []
+    of_definition [] = refl
+    of_definition (x ∷ xs) = of_definition xs
+
+    of_one : (id : ExtensionId) (xs : List A) → ids_in (map (λ x. (Extension id, x)) xs) ≡ map (λ _. id) (marks xs)
+    of_one id [] = refl
+    of_one id (x ∷ xs) = ap (λ l. id ∷ l) (of_one id xs)
+
+    of_each : (es : List (ExtensionId × DefinitionParts)) → ids_in (joined sort (map (λ e. (Extension e.0, e.1)) es)) ≡ shown (λ e. e.0) (λ e. marks (sort e.1)) es
+    of_each [] = refl
+    of_each (e ∷ es) = ids_in-append (map (λ x. (Extension e.0, x)) (sort e.1)) (joined sort (map (λ e. (Extension e.0, e.1)) es)) ∙ (λ i. of_one e.0 (sort e.1) i ++ of_each es i)
+
 module _ (p : PartsByOrigin) (distinct : IsDistinct same_id (map (λ e. e.0) p.extensions)) where
   abbrev again : List SourcedPart
   again = in_sections (sections_of p)
 
   definition-again : of_origin Definition again ≡ p.definition
-  definition-again = of_origin-again Definition p (Definition, p.definition) (ap (λ l. (Definition, p.definition) ∷ l) (nothing p.extensions))
-    where
-      nothing : (es : List (ExtensionId × DefinitionParts)) → filter (λ (g : ComponentOrigin × DefinitionParts). same_origin Definition g.0) (map (λ e. (Extension e.0, e.1)) es) ≡ []
-      nothing [] = refl
-      nothing (e ∷ es) = nothing es
+  definition-again = of_origin-again Definition p (Definition, p.definition) (definition-alone p)
 
   extension-again : (e : ExtensionId × DefinitionParts) → filter (λ h. same_id e.0 h.0) p.extensions ≡ e ∷ [] → of_origin (Extension e.0) again ≡ e.1
-  extension-again e alone = of_origin-again (Extension e.0) p (Extension e.0, e.1)
-      (filter-map (λ g. same_origin (Extension e.0) g.0) (λ h. (Extension h.0, h.1)) p.extensions ∙ ap (map (λ h. (Extension h.0, h.1))) alone)
-
-  shown-joined : {A : Type 0} (sort : DefinitionParts → List A) → ids_in (joined sort (with_origins p)) ≡ shown (λ e. e.0) (λ e. marks (sort e.1)) p.extensions
-  shown-joined {A} sort = ids_in-append (map (λ x. (Definition, x)) (sort p.definition)) (joined sort (map (λ e. (Extension e.0, e.1)) p.extensions)) ∙ (λ i. of_definition (sort p.definition) i ++ of_each p.extensions i)
-    where
-      of_definition : (xs : List A) → ids_in (map (λ x. (Definition, x)) xs) ≡ []
-      of_definition [] = refl
-      of_definition (x ∷ xs) = of_definition xs
-
-      of_one : (id : ExtensionId) (xs : List A) → ids_in (map (λ x. (Extension id, x)) xs) ≡ map (λ _. id) (marks xs)
-      of_one id [] = refl
-      of_one id (x ∷ xs) = ap (λ l. id ∷ l) (of_one id xs)
-
-      of_each : (es : List (ExtensionId × DefinitionParts)) → ids_in (joined sort (map (λ e. (Extension e.0, e.1)) es)) ≡ shown (λ e. e.0) (λ e. marks (sort e.1)) es
-      of_each [] = refl
-      of_each (e ∷ es) = ids_in-append (map (λ x. (Extension e.0, x)) (sort e.1)) (joined sort (map (λ e. (Extension e.0, e.1)) es)) ∙ (λ i. of_one e.0 (sort e.1) i ++ of_each es i)
+  extension-again e alone = of_origin-again (Extension e.0) p (Extension e.0, e.1) (extension-alone p e alone)
 
   abbrev all_marks : List (ExtensionId × DefinitionParts → List (Unit {0}))
   all_marks = (λ e. marks e.1.directives.0) ∷ (λ e. marks e.1.names) ∷ (λ e. marks e.1.fields) ∷ (λ e. marks e.1.values) ∷ (λ e. marks e.1.input_fields) ∷ (λ e. marks e.1.roots) ∷ []
@@ -281,8 +288,8 @@ module _ (p : PartsByOrigin) (distinct : IsDistinct same_id (map (λ e. e.0) p.e
       ids-again =
           ap (first_of_each same_id) (ids_in-sections (sections_of p)
           ∙ (λ i. flat_map (λ ids. ids) (
-          shown-joined (λ d. d.directives.0) i ∷ shown-joined (λ d. d.names) i ∷ shown-joined (λ d. d.fields) i
-          ∷ shown-joined (λ d. d.values) i ∷ shown-joined (λ d. d.input_fields) i ∷ shown-joined (λ d. d.roots) i ∷ []
+          shown-joined p (λ d. d.directives.0) i ∷ shown-joined p (λ d. d.names) i ∷ shown-joined p (λ d. d.fields) i
+          ∷ shown-joined p (λ d. d.values) i ∷ shown-joined p (λ d. d.input_fields) i ∷ shown-joined p (λ d. d.roots) i ∷ []
           )))
           ∙ first-shown_again same_id same_id-equiv (λ e. e.0) all_marks p.extensions distinct (sym (in_order-map (λ e. e.1) sorts p.extensions) ∙ ordered)
 

@@ -21,3 +21,12 @@ pub fn written_parts_have_all_components()
     ensures { (s : Sections) (p : PartsByOrigin) → p.definition ≡ (by_origin (in_sections s)).definition → map (λ e. e.1) p.extensions ≡ map (λ e. e.1) (by_origin (in_sections s)).extensions
         → HasSameComponents s (sections_of p) }
 {}
+
+/// Directives keep their order, where they stand in that of the definition and its extensions, as those of each type of a
+/// list do: so written parts have them, the definition's first and then those of each extension. GraphQL specification of
+/// October 2021, sections 2.12, 3.3.2 and 3.4.3.
+pub fn written_parts_keep_directives_in_order()
+    ensures { (s : Sections) (q p : PartsByOrigin) → IsDistinct same_id (map (λ e. e.0) q.extensions) → s.directives ≡ (sections_of q).directives
+        → p.definition ≡ (by_origin (in_sections s)).definition → map (λ e. e.1) p.extensions ≡ map (λ e. e.1) (by_origin (in_sections s)).extensions
+        → map (λ d. d.1) (sections_of p).directives ≡ map (λ d. d.1) s.directives }
+{}
