@@ -5,3 +5,4 @@ pub mod Kept
 pub mod Partition
 pub mod Regrouped
 pub mod SectionLemmas
+pub mod TypeLemmas

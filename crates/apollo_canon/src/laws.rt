@@ -4,7 +4,10 @@ ghost use Rattle.std.specs.List.{IsDistinct};
 ghost use Rattle.apollo_component.specs.Extensions.{same_id};
 ghost use Rattle.apollo_component.specs.WriteOut.{by_origin};
 ghost use Rattle.apollo_component.specs.declared.parts_by_origin.PartsByOrigin.{PartsByOrigin};
+ghost use Rattle.apollo_types.specs.TypeWriteOut.{write_type};
+ghost use Rattle.apollo_types.specs.declared.extended_type.ExtendedType.{ExtendedType};
 ghost use Rattle.apollo_canon.specs.Sections.{Sections, HasSameComponents, in_sections, sections_of};
+ghost use Rattle.apollo_canon.specs.TypeSections.{HasWhatIsWritten, type_sections};
 
 /// What is written out stays as it is when it is read and written out again: the components of any sections, put under
 /// their origins, make the parts of a definition and of its extensions. Whatever distinct identities these extensions
@@ -29,4 +32,12 @@ pub fn written_parts_keep_directives_in_order()
     ensures { (s : Sections) (q p : PartsByOrigin) → IsDistinct same_id (map (λ e. e.0) q.extensions) → s.directives ≡ (sections_of q).directives
         → p.definition ≡ (by_origin (in_sections s)).definition → map (λ e. e.1) p.extensions ≡ map (λ e. e.1) (by_origin (in_sections s)).extensions
         → map (λ d. d.1) (sections_of p).directives ≡ map (λ d. d.1) s.directives }
+{}
+
+/// A type of any kind that has, sort by sort, what another one is written out as, is written out as that one is, whatever
+/// the numbers of its extensions; and it has all components of that one, and no others. GraphQL specification of October
+/// 2021, sections 3.4.3 and 3.5 to 3.10.
+pub fn written_types_are_written_again()
+    ensures same { (t u : ExtendedType) → HasWhatIsWritten t u → write_type u ≡ write_type t }
+    ensures components { (t u : ExtendedType) → HasWhatIsWritten t u → HasSameComponents (type_sections t) (type_sections u) }
 {}
