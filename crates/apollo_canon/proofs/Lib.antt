@@ -2,6 +2,7 @@ pub mod ComponentsKept
 pub mod DirectivesInOrder
 pub mod FirstAppearance
 pub mod Kept
+pub mod NamesOnce
 pub mod Partition
 pub mod Regrouped
 pub mod SectionLemmas

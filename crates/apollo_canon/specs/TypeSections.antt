@@ -4,6 +4,7 @@ use Rattle.std.specs.Prelude.{◌≡◌, List, [], map, Option}
 use Rattle.std.specs.List.{IsDistinct}
 use Rattle.graphql_nodes.specs.NameView.{NameView}
 use Rattle.graphql_nodes.specs.NodeView.{NodeView}
+use Rattle.graphql_nodes.specs.SameText.{same_text}
 use Rattle.graphql_nodes.specs.Tables.{values_of}
 use Rattle.graphql_nodes.specs.declared.source.SourceSpan.{SourceSpan}
 use Rattle.graphql_ast.specs.declared.definition_parts.DefinitionParts.{DefinitionParts}
@@ -62,3 +63,10 @@ pub record HasWhatIsWritten (t u : ExtendedType) : Type 0 where
   pub extensions : placed parts.extensions ≡ placed (by_origin (type_components t)).extensions
   pub distinct : IsDistinct same_id (map (λ e. e.0) parts.extensions)
   pub sections : type_sections u ≡ sections_of parts
+
+-- no two names, fields, enum values or input fields have one name
+pub record HasEachNameOnce (s : Sections) : Type 0 where
+  pub names : IsDistinct same_text (map (λ n. n.1) s.names)
+  pub fields : IsDistinct same_text (map (λ f. f.1.value.name) s.fields)
+  pub values : IsDistinct same_text (map (λ v. v.1.value.value) s.values)
+  pub input_fields : IsDistinct same_text (map (λ f. f.1.value.name) s.input_fields)

@@ -1,13 +1,16 @@
 //! Laws of the write-out, for those who build on what it says.
-ghost use Rattle.std.specs.Prelude.{◌≡◌, map};
+ghost use Rattle.std.specs.Prelude.{◌≡◌, ℕ, List, Some, map};
 ghost use Rattle.std.specs.List.{IsDistinct};
 ghost use Rattle.apollo_component.specs.Extensions.{same_id};
 ghost use Rattle.apollo_component.specs.WriteOut.{by_origin};
 ghost use Rattle.apollo_component.specs.declared.parts_by_origin.PartsByOrigin.{PartsByOrigin};
 ghost use Rattle.apollo_types.specs.TypeWriteOut.{write_type};
 ghost use Rattle.apollo_types.specs.declared.extended_type.ExtendedType.{ExtendedType};
+ghost use Rattle.apollo_meaning.specs.Items.ListItems.{ListItem};
+ghost use Rattle.apollo_meaning.specs.Order.Places.{folding_order};
+ghost use Rattle.apollo_meaning.specs.Types.Meaning.{type_of};
 ghost use Rattle.apollo_canon.specs.Sections.{Sections, HasSameComponents, in_sections, sections_of};
-ghost use Rattle.apollo_canon.specs.TypeSections.{HasWhatIsWritten, type_sections};
+ghost use Rattle.apollo_canon.specs.TypeSections.{HasWhatIsWritten, HasEachNameOnce, type_sections};
 
 /// What is written out stays as it is when it is read and written out again: the components of any sections, put under
 /// their origins, make the parts of a definition and of its extensions. Whatever distinct identities these extensions
@@ -40,4 +43,11 @@ pub fn written_parts_keep_directives_in_order()
 pub fn written_types_are_written_again()
     ensures same { (t u : ExtendedType) → HasWhatIsWritten t u → write_type u ≡ write_type t }
     ensures components { (t u : ExtendedType) → HasWhatIsWritten t u → HasSameComponents (type_sections t) (type_sections u) }
+{}
+
+/// Each type that a list means has each name once; and a type that has what such a type is written out as has each name
+/// once too, so nothing of it repeats. GraphQL specification of October 2021, sections 3.6 to 3.10.
+pub fn written_types_have_each_name_once()
+    ensures meant { (start : ℕ) (xs : List ListItem) (n : List ℕ) (t : ExtendedType) → type_of start (folding_order xs) xs n ≡ Some t → HasEachNameOnce (type_sections t) }
+    ensures again { (t u : ExtendedType) → HasWhatIsWritten t u → HasEachNameOnce (type_sections t) → HasEachNameOnce (type_sections u) }
 {}
