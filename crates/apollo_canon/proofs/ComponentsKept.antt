@@ -1,5 +1,5 @@
 -- The parts that are written out have all components of the sections.
-use Rattle.std.proofs.Common.{◌≡◌, Bool, true, false, ◌||◌, List, [], ◌∷◌, ◌++◌, map, filter, refl, sym, ap, subst, ◌∙◌, true≢false}
+use Rattle.std.proofs.Common.{map-id, ◌≡◌, Bool, true, false, ◌||◌, List, [], ◌∷◌, ◌++◌, map, filter, refl, sym, ap, subst, ◌∙◌, true≢false}
 use Rattle.std.proofs.lemmas.List.Folds.{flat_map-map}
 use Rattle.std.proofs.lemmas.List.Sorted.{IsPermutation-map}
 use Rattle.std.proofs.lemmas.Simd.{map-map}
@@ -19,7 +19,7 @@ use Rattle.apollo_component.proofs.FirstOfEachLemmas.{list_any-first_of_each}
 use Rattle.apollo_component.proofs.Lists.Each.{each-weaken}
 use Rattle.apollo_component.proofs.Tabled.{first_of_each-distinct}
 use Rattle.apollo_canon.specs.Sections.{Sections, HasSameComponents, as_parts, in_sections, with_origins, joined, sections_of}
-use Rattle.apollo_canon.proofs.Kept.{each-from_map, map-same}
+use Rattle.apollo_canon.proofs.Kept.{each-from_map}
 use Rattle.apollo_canon.proofs.Partition.{groups, map-flat_map}
 use Rattle.apollo_canon.proofs.SectionLemmas.{same_id-equiv, ids_in, picked, of_origin-sections}
 
@@ -88,7 +88,7 @@ each-split P (x ∷ xs) ys a = let rest : AllByRecursion P xs × AllByRecursion 
 
 -- what parts have of one sort, without origins
 pub joined-values : {A : Type 0} (sort : DefinitionParts → List A) (gs : List (ComponentOrigin × DefinitionParts)) → map (λ x. x.1) (joined sort gs) ≡ flat_map (λ g. sort g.1) gs
-joined-values {A} sort gs = map-flat_map (λ x. x.1) (λ g. map (λ x. (g.0, x)) (sort g.1)) gs ∙ (λ i. flat_map (λ g. (map-map (λ (x : ComponentOrigin × A). x.1) (λ x. (g.0, x)) (sort g.1) ∙ map-same (sort g.1)) i) gs)
+joined-values {A} sort gs = map-flat_map (λ x. x.1) (λ g. map (λ x. (g.0, x)) (sort g.1)) gs ∙ (λ i. flat_map (λ g. (map-map (λ (x : ComponentOrigin × A). x.1) (λ x. (g.0, x)) (sort g.1) ∙ map-id (sort g.1)) i) gs)
 
 module _ (s : Sections) (p : PartsByOrigin) (same_definition : p.definition ≡ of_origin Definition (in_sections s)) (same_parts : map (λ e. e.1) p.extensions ≡ map (λ e. e.1) (of_extensions (in_sections s))) where
   abbrev ids : List ExtensionId

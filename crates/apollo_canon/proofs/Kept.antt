@@ -33,10 +33,6 @@ pub map-each : {X Y : Type 0} (f g : X → Y) (xs : List X) → AllByRecursion (
 map-each f g [] a = refl
 map-each f g (x ∷ xs) a = (λ i. a.0 i ∷ map-each f g xs a.1 i)
 
-pub map-same : {X : Type 0} (xs : List X) → map (λ x. x) xs ≡ xs
-map-same [] = refl
-map-same (x ∷ xs) = ap (λ l. x ∷ l) (map-same xs)
-
 pub filter-flat_map : {X Y : Type 0} (p : Y → Bool) (f : X → List Y) (xs : List X) → filter p (flat_map f xs) ≡ flat_map (λ x. filter p (f x)) xs
 filter-flat_map p f [] = refl
 filter-flat_map p f (x ∷ xs) = filter-append p (f x) (flat_map f xs) ∙ ap (λ l. filter p (f x) ++ l) (filter-flat_map p f xs)

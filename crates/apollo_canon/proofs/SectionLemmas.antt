@@ -1,6 +1,6 @@
 -- Components in sections: their identities, what is of one origin, and what parts make again.
 use Rattle.std.proofs.Common.{◌≡◌, Bool, true, false, cond, not, ◌||◌, List, [], ◌∷◌, ◌++◌, Option, None, Some, map, filter, refl, sym, ap, ◌∙◌}
-use Rattle.std.proofs.lemmas.List.{map-append, append-nil}
+use Rattle.std.proofs.lemmas.List.{map-append, append-nil, map-id}
 use Rattle.std.proofs.lemmas.List.Elements.{filter-append, filter_map-append}
 use Rattle.std.proofs.lemmas.Simd.{map-map}
 use Rattle.std.specs.Cmp.{IsEquivalence, on_equiv, nat_eq_equiv}
@@ -19,7 +19,7 @@ use Rattle.apollo_component.specs.declared.parts_by_origin.PartsByOrigin.{PartsB
 use Rattle.apollo_component.proofs.Lists.Each.{each-weaken}
 use Rattle.apollo_canon.specs.Sections.{Sections, as_parts, in_sections, with_origins, joined, sections_of}
 use Rattle.apollo_canon.proofs.FirstAppearance.{in_order, is_nothing, in_order-map, first-in_order}
-use Rattle.apollo_canon.proofs.Kept.{filter-map, filter-all, each-of, map-each, map-same}
+use Rattle.apollo_canon.proofs.Kept.{filter-map, filter-all, each-of, map-each}
 use Rattle.apollo_canon.proofs.Regrouped.{own-group, shown, first-shown_again}
 
 pub same_id-equiv : IsEquivalence same_id
@@ -300,7 +300,7 @@ module _ (p : PartsByOrigin) (distinct : IsDistinct same_id (map (λ e. e.0) p.e
           ∙ map-each (λ e. (e.0, of_origin (Extension e.0) again)) (λ e. e) p.extensions
           (each-weaken (λ e. filter (λ h. same_id e.0 h.0) p.extensions ≡ e ∷ []) (λ e. (e.0, of_origin (Extension e.0) again) ≡ e) (λ e alone. ap (λ d. (e.0, d)) (extension-again e alone)) p.extensions
           (own-group same_id same_id-equiv (λ e. e.0) p.extensions distinct))
-          ∙ map-same p.extensions
+          ∙ map-id p.extensions
 
 pub written-parts-again : (s : Sections) (p : PartsByOrigin) → map (λ e. e.1) p.extensions ≡ map (λ e. e.1) (of_extensions (in_sections s)) → IsDistinct same_id (map (λ e. e.0) p.extensions) → by_origin (in_sections (sections_of p)) ≡ p
 written-parts-again s p same_parts distinct = written-again p distinct (ap (in_order sorts) same_parts ∙ written-in_order s)

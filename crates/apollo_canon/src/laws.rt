@@ -22,7 +22,8 @@ pub fn written_parts_are_written_again()
 {}
 
 /// No component is lost in what is written out, and none is added: the parts of the definition and of the extensions that
-/// the components of any sections make have, of each sort, the components of that section. GraphQL specification of October 2021, sections 3.3 and 3.5 to 3.10.
+/// the components of any sections make have, of each sort, the components of that section. GraphQL specification of
+/// October 2021, sections 3.3 and 3.5 to 3.10.
 pub fn written_parts_have_all_components()
     ensures { (s : Sections) (p : PartsByOrigin) → p.definition ≡ (by_origin (in_sections s)).definition → map (λ e. e.1) p.extensions ≡ map (λ e. e.1) (by_origin (in_sections s)).extensions
         → HasSameComponents s (sections_of p) }

@@ -1,5 +1,5 @@
-//! The write-out is canonical: laws of what is written out and means a schema again. GraphQL specification of October 2021,
-//! section 3.
+//! What is written out means itself again: laws over lists alone of the write-out of types, on the way to a canonical
+//! write-out of schemas. GraphQL specification of October 2021, section 3.
 #![tactic(auto)]
 
 pub mod laws;
