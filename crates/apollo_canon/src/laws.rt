@@ -1,13 +1,16 @@
 //! Laws of the write-out, for those who build on what it says.
-ghost use Rattle.std.specs.Prelude.{◌≡◌, ℕ, List, Some, map};
+ghost use Rattle.std.specs.Prelude.{◌≡◌, ℕ, List, [], Some, false, codes, map, option_map};
 ghost use Rattle.std.specs.List.{IsDistinct};
 ghost use Rattle.apollo_component.specs.Extensions.{same_id};
 ghost use Rattle.apollo_component.specs.WriteOut.{by_origin};
 ghost use Rattle.apollo_component.specs.declared.parts_by_origin.PartsByOrigin.{PartsByOrigin};
 ghost use Rattle.apollo_types.specs.TypeWriteOut.{write_type};
 ghost use Rattle.apollo_types.specs.declared.extended_type.ExtendedType.{ExtendedType};
-ghost use Rattle.apollo_meaning.specs.Items.ListItems.{ListItem};
+ghost use Rattle.apollo_meaning.specs.Faults.ListFaults.{faults_of};
+ghost use Rattle.apollo_meaning.specs.Items.ListItems.{ListItem, added};
 ghost use Rattle.apollo_meaning.specs.Order.Places.{folding_order};
+ghost use Rattle.apollo_meaning.specs.Rows.TypeRows.{written_around};
+ghost use Rattle.apollo_meaning.specs.Schema.Whole.{whole};
 ghost use Rattle.apollo_meaning.specs.Types.Meaning.{type_of};
 ghost use Rattle.apollo_canon.specs.Sections.{Sections, HasSameComponents, in_sections, sections_of};
 ghost use Rattle.apollo_canon.specs.TypeSections.{HasWhatIsWritten, HasEachNameOnce, type_sections};
@@ -51,4 +54,12 @@ pub fn written_types_are_written_again()
 pub fn written_types_have_each_name_once()
     ensures meant { (start : ℕ) (xs : List ListItem) (n : List ℕ) (t : ExtendedType) → type_of start (folding_order xs) xs n ≡ Some t → HasEachNameOnce (type_sections t) }
     ensures again { (t u : ExtendedType) → HasWhatIsWritten t u → HasEachNameOnce (type_sections t) → HasEachNameOnce (type_sections u) }
+{}
+
+/// What the worked list with extensions on either side of a definition is written out as, read as a list and computed: the
+/// type that it means is written out as the same definitions, whose extensions stand in another order than they stood in
+/// the worked list, and nothing is at fault. GraphQL specification of October 2021, section 3.4.3.
+pub fn worked_write_out_is_written_again()
+    ensures writes { option_map write_type (type_of 7 (folding_order (whole false (added false written_around))) (whole false (added false written_around)) (codes "Q")) ≡ Some written_around }
+    ensures faults { faults_of false (added false written_around) ≡ [] }
 {}
