@@ -19,10 +19,10 @@ use Rattle.apollo_types.specs.Components.{of_name}
 use Rattle.apollo_types.specs.TypeWriteOut.{type_kind, type_name, type_location, type_description, type_components, write_type}
 use Rattle.apollo_types.specs.declared.extended_type.ExtendedType.{ExtendedType}
 use Rattle.apollo_types.specs.declared.extended_type.ExtendedType.TheVariants.{Scalar, Object, Interface, Union, Enum, InputObject}
-use Rattle.apollo_canon.specs.Sections.{HasSameComponents, as_parts, in_sections}
-use Rattle.apollo_canon.specs.TypeSections.{node_of, name_of, type_sections, placed, HasWhatIsWritten}
-use Rattle.apollo_canon.proofs.ComponentsKept.{written-keeps}
-use Rattle.apollo_canon.proofs.SectionLemmas.{written-parts-again}
+use Rattle.apollo_canonical.specs.Sections.{HasSameComponents, as_parts, in_sections}
+use Rattle.apollo_canonical.specs.TypeSections.{node_of, name_of, type_sections, placed, HasWhatIsWritten}
+use Rattle.apollo_canonical.proofs.ComponentsKept.{written-keeps}
+use Rattle.apollo_canonical.proofs.SectionLemmas.{written-parts-again}
 
 nodes : {T : Type 0} (part : _ → DefinitionPart) (cs : List (Component T)) → map (λ c. (c.origin, part c.node)) cs ≡ as_parts part (map node_of cs)
 nodes part cs = sym (map-map (λ x. (x.0, part x.1)) node_of cs)

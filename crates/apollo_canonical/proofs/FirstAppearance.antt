@@ -6,7 +6,7 @@ use Rattle.std.specs.Cmp.{IsEquivalence}
 use Rattle.std.specs.List.{AllByRecursion, flat_map, list_any}
 use Rattle.apollo_component.specs.FirstOfEach.{first_of_each}
 use Rattle.apollo_component.proofs.Lists.Each.{each-filter, each-weaken, filter-fails}
-use Rattle.apollo_canon.proofs.Kept.{filter-map, filter-filter, filter-all, each-of, passes}
+use Rattle.apollo_canonical.proofs.Kept.{filter-map, filter-filter, filter-all, each-of, passes}
 
 -- whether no element that fails comes before one that passes
 abbrev pub leads : List Bool → Bool

@@ -7,7 +7,7 @@ use Rattle.std.specs.Cmp.{IsEquivalence}
 use Rattle.std.specs.List.{AllByRecursion, IsDistinct, flat_map, list_any}
 use Rattle.std.specs.List.Sorted.{IsPermutation}
 use Rattle.apollo_component.proofs.Lists.Each.{each-filter, each-weaken, flat_map-each}
-use Rattle.apollo_canon.proofs.Kept.{filter-filter}
+use Rattle.apollo_canonical.proofs.Kept.{filter-filter}
 
 pub map-flat_map : {X Y Z : Type 0} (f : Y → Z) (g : X → List Y) (xs : List X) → map f (flat_map g xs) ≡ flat_map (λ x. map f (g x)) xs
 map-flat_map f g [] = refl

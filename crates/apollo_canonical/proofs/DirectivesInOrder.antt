@@ -15,12 +15,12 @@ use Rattle.apollo_component.specs.declared.extension.ComponentOrigin.TheVariants
 use Rattle.apollo_component.specs.declared.extension.ExtensionId.{ExtensionId}
 use Rattle.apollo_component.specs.declared.parts_by_origin.PartsByOrigin.{PartsByOrigin}
 use Rattle.apollo_component.proofs.Lists.Each.{each-filter, each-weaken, flat_map-each}
-use Rattle.apollo_canon.specs.Sections.{Sections, in_sections, with_origins, joined, sections_of}
-use Rattle.apollo_canon.proofs.ComponentsKept.{joined-values, written-values}
-use Rattle.apollo_canon.proofs.FirstAppearance.{new_to_these, first_of_each-append}
-use Rattle.apollo_canon.proofs.Kept.{passes}
-use Rattle.apollo_canon.proofs.Regrouped.{own-group, marked, first-shown}
-use Rattle.apollo_canon.proofs.SectionLemmas.{same_id-equiv, ids_in, ids_in-sections, picked, picked-joined, of_origin-sections, definition-alone, extension-alone, shown-joined, marks, has_some, has_some-picked}
+use Rattle.apollo_canonical.specs.Sections.{Sections, in_sections, with_origins, joined, sections_of}
+use Rattle.apollo_canonical.proofs.ComponentsKept.{joined-values, written-values}
+use Rattle.apollo_canonical.proofs.FirstAppearance.{new_to_these, first_of_each-append}
+use Rattle.apollo_canonical.proofs.Kept.{passes}
+use Rattle.apollo_canonical.proofs.Regrouped.{own-group, marked, first-shown}
+use Rattle.apollo_canonical.proofs.SectionLemmas.{same_id-equiv, ids_in, ids_in-sections, picked, picked-joined, of_origin-sections, definition-alone, extension-alone, shown-joined, marks, has_some, has_some-picked}
 
 flat_map-nothing : {X Y : Type 0} (f : X → List Y) (xs : List X) → AllByRecursion (λ x. f x ≡ []) xs → flat_map f xs ≡ []
 flat_map-nothing f [] a = refl

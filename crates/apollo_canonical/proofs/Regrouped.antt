@@ -7,8 +7,8 @@ use Rattle.std.specs.Cmp.{IsEquivalence}
 use Rattle.std.specs.List.{AllByRecursion, IsDistinct, flat_map, list_any}
 use Rattle.apollo_component.specs.FirstOfEach.{first_of_each}
 use Rattle.apollo_component.proofs.Lists.Each.{each-weaken, filter-each, filter-fails}
-use Rattle.apollo_canon.proofs.FirstAppearance.{in_order, is_nothing, leads, leads-filter, new_to_these, new_to-same, first_of_each-append, first_of_each-filter}
-use Rattle.apollo_canon.proofs.Kept.{filter-all, filter-flat_map, each-both, each-from_map, passes}
+use Rattle.apollo_canonical.proofs.FirstAppearance.{in_order, is_nothing, leads, leads-filter, new_to_these, new_to-same, first_of_each-append, first_of_each-filter}
+use Rattle.apollo_canonical.proofs.Kept.{filter-all, filter-flat_map, each-both, each-from_map, passes}
 
 -- each group's key, as often as the group has marks
 abbrev pub shown : {X G : Type 0} → (G → X) → (G → List (Unit {0})) → List G → List X

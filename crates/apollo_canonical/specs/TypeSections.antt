@@ -18,7 +18,7 @@ use Rattle.apollo_component.specs.declared.parts_by_origin.PartsByOrigin.{PartsB
 use Rattle.apollo_types.specs.TypeWriteOut.{type_kind, type_name, type_location, type_description, type_components}
 use Rattle.apollo_types.specs.declared.extended_type.ExtendedType.{ExtendedType}
 use Rattle.apollo_types.specs.declared.extended_type.ExtendedType.TheVariants.{Scalar, Object, Interface, Union, Enum, InputObject}
-use Rattle.apollo_canon.specs.Sections.{Sections, sections_of}
+use Rattle.apollo_canonical.specs.Sections.{Sections, sections_of}
 
 -- a component's node, and a name, with its origin
 abbrev pub node_of : {T : Type 0} → Component T → ComponentOrigin × NodeView T

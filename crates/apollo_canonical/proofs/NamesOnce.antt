@@ -25,10 +25,10 @@ use Rattle.apollo_meaning.specs.Types.Components.{Sourced, body_fields, body_val
 use Rattle.apollo_meaning.specs.Types.Components as components
 use Rattle.apollo_meaning.specs.Types.Meaning.{parts, type_at, type_from, type_of}
 use Rattle.apollo_meaning.proofs.Faults.KeptLemmas.{name_laws}
-use Rattle.apollo_canon.specs.Sections.{Sections}
-use Rattle.apollo_canon.specs.TypeSections.{node_of, name_of, type_sections, HasWhatIsWritten, HasEachNameOnce}
-use Rattle.apollo_canon.proofs.Kept.{filter-map, map-each}
-use Rattle.apollo_canon.proofs.TypeLemmas.{components-again}
+use Rattle.apollo_canonical.specs.Sections.{Sections}
+use Rattle.apollo_canonical.specs.TypeSections.{node_of, name_of, type_sections, HasWhatIsWritten, HasEachNameOnce}
+use Rattle.apollo_canonical.proofs.Kept.{filter-map, map-each}
+use Rattle.apollo_canonical.proofs.TypeLemmas.{components-again}
 
 -- names of the same components stand once in both
 still-once : {A : Type 0} (name : A → NameView) (xs ys : List (ComponentOrigin × A)) → IsPermutation (map (λ x. x.1) xs) (map (λ x. x.1) ys)

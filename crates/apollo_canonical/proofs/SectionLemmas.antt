@@ -17,10 +17,10 @@ use Rattle.apollo_component.specs.declared.extension.ComponentOrigin.TheVariants
 use Rattle.apollo_component.specs.declared.extension.ExtensionId.{ExtensionId}
 use Rattle.apollo_component.specs.declared.parts_by_origin.PartsByOrigin.{PartsByOrigin}
 use Rattle.apollo_component.proofs.Lists.Each.{each-weaken}
-use Rattle.apollo_canon.specs.Sections.{Sections, as_parts, in_sections, with_origins, joined, sections_of}
-use Rattle.apollo_canon.proofs.FirstAppearance.{in_order, is_nothing, in_order-map, first-in_order}
-use Rattle.apollo_canon.proofs.Kept.{filter-map, filter-all, each-of, map-each}
-use Rattle.apollo_canon.proofs.Regrouped.{own-group, shown, first-shown_again}
+use Rattle.apollo_canonical.specs.Sections.{Sections, as_parts, in_sections, with_origins, joined, sections_of}
+use Rattle.apollo_canonical.proofs.FirstAppearance.{in_order, is_nothing, in_order-map, first-in_order}
+use Rattle.apollo_canonical.proofs.Kept.{filter-map, filter-all, each-of, map-each}
+use Rattle.apollo_canonical.proofs.Regrouped.{own-group, shown, first-shown_again}
 
 pub same_id-equiv : IsEquivalence same_id
 same_id-equiv = on_equiv number_of nat_eq_equiv

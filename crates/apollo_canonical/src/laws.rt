@@ -12,8 +12,8 @@ ghost use Rattle.apollo_meaning.specs.Order.Places.{folding_order};
 ghost use Rattle.apollo_meaning.specs.Rows.TypeRows.{written_around};
 ghost use Rattle.apollo_meaning.specs.Schema.Whole.{whole};
 ghost use Rattle.apollo_meaning.specs.Types.Meaning.{type_of};
-ghost use Rattle.apollo_canon.specs.Sections.{Sections, HasSameComponents, in_sections, sections_of};
-ghost use Rattle.apollo_canon.specs.TypeSections.{HasWhatIsWritten, HasEachNameOnce, type_sections};
+ghost use Rattle.apollo_canonical.specs.Sections.{Sections, HasSameComponents, in_sections, sections_of};
+ghost use Rattle.apollo_canonical.specs.TypeSections.{HasWhatIsWritten, HasEachNameOnce, type_sections};
 
 /// What is written out stays as it is when it is read and written out again: the components of any sections, put under
 /// their origins, make the parts of a definition and of its extensions. Whatever distinct identities these extensions

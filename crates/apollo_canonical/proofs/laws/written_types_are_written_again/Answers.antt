@@ -1,5 +1,5 @@
-use Rattle.apollo_canon.proofs.TypeLemmas.{type-again, components-again}
-use Rattle.apollo_canon.proofs.laws.written_types_are_written_again.Goals as goal
+use Rattle.apollo_canonical.proofs.TypeLemmas.{type-again, components-again}
+use Rattle.apollo_canonical.proofs.laws.written_types_are_written_again.Goals as goal
 
 pub returns-clause-same : goal.returns-clause-same
 returns-clause-same c = type-again

@@ -18,10 +18,10 @@ use Rattle.apollo_component.specs.declared.parts_by_origin.PartsByOrigin.{PartsB
 use Rattle.apollo_component.proofs.FirstOfEachLemmas.{list_any-first_of_each}
 use Rattle.apollo_component.proofs.Lists.Each.{each-weaken}
 use Rattle.apollo_component.proofs.Tabled.{first_of_each-distinct}
-use Rattle.apollo_canon.specs.Sections.{Sections, HasSameComponents, as_parts, in_sections, with_origins, joined, sections_of}
-use Rattle.apollo_canon.proofs.Kept.{each-from_map}
-use Rattle.apollo_canon.proofs.Partition.{groups, map-flat_map}
-use Rattle.apollo_canon.proofs.SectionLemmas.{same_id-equiv, ids_in, picked, of_origin-sections}
+use Rattle.apollo_canonical.specs.Sections.{Sections, HasSameComponents, as_parts, in_sections, with_origins, joined, sections_of}
+use Rattle.apollo_canonical.proofs.Kept.{each-from_map}
+use Rattle.apollo_canonical.proofs.Partition.{groups, map-flat_map}
+use Rattle.apollo_canonical.proofs.SectionLemmas.{same_id-equiv, ids_in, picked, of_origin-sections}
 
 same_origin-equiv : IsEquivalence same_origin
 same_origin-equiv = record { refl = itself; symm = both-ways; congr = alike }

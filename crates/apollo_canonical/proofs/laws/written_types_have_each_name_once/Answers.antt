@@ -1,6 +1,6 @@
 use Rattle.apollo_meaning.specs.Order.Places.{folding_order}
-use Rattle.apollo_canon.proofs.NamesOnce.{meant-once, once-again}
-use Rattle.apollo_canon.proofs.laws.written_types_have_each_name_once.Goals as goal
+use Rattle.apollo_canonical.proofs.NamesOnce.{meant-once, once-again}
+use Rattle.apollo_canonical.proofs.laws.written_types_have_each_name_once.Goals as goal
 
 pub returns-clause-meant : goal.returns-clause-meant
 returns-clause-meant c = λ start xs n t. meant-once start (folding_order xs) xs n t

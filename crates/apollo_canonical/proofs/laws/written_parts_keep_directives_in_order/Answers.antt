@@ -1,0 +1,5 @@
+use Rattle.apollo_canonical.proofs.DirectivesInOrder.{directives-in_order}
+use Rattle.apollo_canonical.proofs.laws.written_parts_keep_directives_in_order.Goals as goal
+
+pub returns : goal.returns
+returns c = directives-in_order
