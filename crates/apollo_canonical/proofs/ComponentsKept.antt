@@ -106,8 +106,11 @@ module _ (s : Sections) (p : PartsByOrigin) (same_definition : p.definition ≡ 
       any-extension [] = refl
       any-extension (k ∷ ks) = (λ i. same_id-equiv.symm k e i || any-extension ks i)
 
-  abbrev HasOrigins : {A : Type 0} → List (ComponentOrigin × A) → Type 0
+  abbrev pub HasOrigins : {A : Type 0} → List (ComponentOrigin × A) → Type 0
   HasOrigins xs = AllByRecursion (λ x. list_any (λ a. same_origin a x.0) origins ≡ true) xs
+
+  pub origins-split : {A : Type 0} (xs ys : List (ComponentOrigin × A)) → HasOrigins (xs ++ ys) → HasOrigins xs × HasOrigins ys
+  origins-split xs ys a = each-split (λ x. list_any (λ a. same_origin a x.0) origins ≡ true) xs ys a
 
   -- the written parts have of one sort what is picked of each origin
   pub written-values : {A : Type 0} (sort : DefinitionParts → List A) (xs : List (ComponentOrigin × A)) → ((o : ComponentOrigin) → sort (of_origin o (in_sections s)) ≡ picked o xs)
@@ -121,7 +124,7 @@ module _ (s : Sections) (p : PartsByOrigin) (same_definition : p.definition ≡ 
       ∙ (λ i. picked Definition xs ++ flat_map (λ e. is (Extension e) i) ids)
 
   -- the components of one sort are those of the written parts
-  kept : {A : Type 0} (sort : DefinitionParts → List A) (xs : List (ComponentOrigin × A)) → ((o : ComponentOrigin) → sort (of_origin o (in_sections s)) ≡ picked o xs) → HasOrigins xs
+  pub kept : {A : Type 0} (sort : DefinitionParts → List A) (xs : List (ComponentOrigin × A)) → ((o : ComponentOrigin) → sort (of_origin o (in_sections s)) ≡ picked o xs) → HasOrigins xs
       → IsPermutation (map (λ x. x.1) xs) (map (λ x. x.1) (joined sort (with_origins p)))
   kept sort xs is there =
       subst (λ l. IsPermutation (map (λ x. x.1) xs) l) (map-flat_map (λ x. x.1) (λ o. filter (λ x. same_origin o x.0) xs) origins ∙ ap (λ l. picked Definition xs ++ l) (flat_map-map (λ o. picked o xs) (λ e. Extension e) ids) ∙ sym (written-values sort xs is))
@@ -135,6 +138,16 @@ module _ (s : Sections) (p : PartsByOrigin) (same_definition : p.definition ≡ 
 
   all_there : AllByRecursion Among (in_sections s)
   all_there = each-weaken (λ c. is_among (ids_in (in_sections s)) c.0 ≡ true) (λ c. list_any (λ a. same_origin a c.0) origins ≡ true) (λ c h. has_origin c.0 h) (in_sections s) (each-among (in_sections s))
+
+  pub roots-there : HasOrigins s.roots
+  roots-there =
+      let a1 = each-split Among (as_parts parts.Directive s.directives) _ all_there in
+      let a2 = each-split Among (as_parts parts.Name s.names) _ a1.1 in
+      let a3 = each-split Among (as_parts parts.Field s.fields) _ a2.1 in
+      let a4 = each-split Among (as_parts parts.EnumValue s.values) _ a3.1 in
+      let a5 = each-split Among (as_parts parts.InputField s.input_fields) _ a4.1 in
+      let a6 = each-split Among (as_parts parts.Root s.roots) _ a5.1 in
+      section parts.Root s.roots a6.0
 
   pub written-keeps : HasSameComponents s (sections_of p)
   written-keeps =

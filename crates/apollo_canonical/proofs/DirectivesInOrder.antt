@@ -35,7 +35,7 @@ flat_map-filter f p out (x ∷ xs) = by (p x) refl (flat_map-filter f p out xs)
     by true e rest = ap (λ l. f x ++ l) rest
     by false e rest = rest ∙ sym (ap (λ l. l ++ flat_map f xs) (out x e))
 
-has_none : {A : Type 0} (xs : List A) → has_some xs ≡ false → xs ≡ []
+pub has_none : {A : Type 0} (xs : List A) → has_some xs ≡ false → xs ≡ []
 has_none [] h = refl
 has_none (x ∷ xs) h = absurd (true≢false h)
 

@@ -110,7 +110,7 @@ module _ {X : Type 0} (same : X → X → Bool) (laws : IsEquivalence same) wher
         by false e rest = others x e (first_of_each same xs) ∙ rest
 
   -- each of the first is there
-  first-there : (xs : List X) → AllByRecursion (λ x. list_any (same x) xs ≡ true) (first_of_each same xs)
+  pub first-there : (xs : List X) → AllByRecursion (λ x. list_any (same x) xs ≡ true) (first_of_each same xs)
   first-there [] = tt
   first-there (x ∷ xs) = (
     ap (λ b. b || list_any (same x) xs) (laws.refl x),

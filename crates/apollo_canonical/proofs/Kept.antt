@@ -1,7 +1,7 @@
 -- Filters, maps and joined lists.
-use Rattle.std.proofs.Common.{◌≡◌, Bool, true, false, cond, ◌&&◌, List, [], ◌∷◌, ◌++◌, map, filter, refl, ap, ◌∙◌, arith}
+use Rattle.std.proofs.Common.{◌≡◌, Bool, true, false, cond, ◌&&◌, ◌||◌, List, [], ◌∷◌, ◌++◌, None, Some, map, filter, find, refl, ap, ◌∙◌, arith, true≢false}
 use Rattle.std.proofs.lemmas.List.Elements.{filter-append}
-use Rattle.std.specs.List.{AllByRecursion, flat_map}
+use Rattle.std.specs.List.{AllByRecursion, flat_map, list_any}
 
 pub filter-map : {X Y : Type 0} (p : Y → Bool) (f : X → Y) (xs : List X) → filter p (map f xs) ≡ map f (filter (λ x. p (f x)) xs)
 filter-map p f [] = refl
@@ -45,3 +45,17 @@ passes p (x ∷ xs) = by (p x) refl (passes p xs)
     by : (b : Bool) → p x ≡ b → AllByRecursion (λ x. p x ≡ true) (filter p xs) → AllByRecursion (λ x. p x ≡ true) (cond b (x ∷ filter p xs) (filter p xs))
     by true e rest = (e, rest)
     by false e rest = rest
+
+-- where nothing passes nothing is found
+pub find-none : {X : Type 0} (p : X → Bool) (xs : List X) → list_any p xs ≡ false → find p xs ≡ None
+find-none p [] h = refl
+find-none p (x ∷ xs) h = by (p x) h (find-none p xs)
+  where
+    by : (b : Bool) → (b || list_any p xs) ≡ false → (list_any p xs ≡ false → find p xs ≡ None) → cond b (Some x) (find p xs) ≡ None
+    by true h rest = absurd (true≢false h)
+    by false h rest = rest h
+
+-- lists that are empty when joined
+pub both-empty : {X : Type 0} (xs ys : List X) → xs ++ ys ≡ [] → (xs ≡ []) × (ys ≡ [])
+both-empty [] ys h = (refl, h)
+both-empty (x ∷ xs) ys h = absurd (let g : x ∷ (xs ++ ys) ≡ [] = h in cc)

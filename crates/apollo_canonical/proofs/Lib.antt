@@ -7,3 +7,5 @@ pub mod Partition
 pub mod Regrouped
 pub mod SectionLemmas
 pub mod TypeLemmas
+pub mod Once
+pub mod Rebuild

@@ -25,7 +25,7 @@ use Rattle.apollo_meaning.specs.Types.Components.{Sourced, body_fields, body_val
 use Rattle.apollo_meaning.specs.Types.Components as components
 use Rattle.apollo_meaning.specs.Types.Meaning.{parts, type_at, type_from, type_of}
 use Rattle.apollo_meaning.proofs.Faults.KeptLemmas.{name_laws}
-use Rattle.apollo_canonical.specs.Sections.{Sections}
+use Rattle.apollo_canonical.specs.Sections.{Sections, HasSameComponents}
 use Rattle.apollo_canonical.specs.TypeSections.{node_of, name_of, type_sections, HasWhatIsWritten, HasEachNameOnce}
 use Rattle.apollo_canonical.proofs.Kept.{filter-map, map-each}
 use Rattle.apollo_canonical.proofs.TypeLemmas.{components-again}
@@ -38,25 +38,24 @@ still-once {A} name xs ys p d =
     subst (IsDistinct same_text) (by ys)
     (IsDistinct-IsPermutation same_text name_laws.symm (map name (map (λ x. x.1) xs)) (map name (map (λ x. x.1) ys)) (IsPermutation-map name (map (λ x. x.1) xs) (map (λ x. x.1) ys) p) (subst (IsDistinct same_text) (sym (by xs)) d))
 
+pub once-kept : (a b : Sections) → HasSameComponents a b → HasEachNameOnce a → HasEachNameOnce b
+once-kept a b all once = record {
+  names = still-once (λ n. n) a.names b.names all.names once.names;
+  fields = still-once (λ f. f.value.name) a.fields b.fields all.fields once.fields;
+  values = still-once (λ v. v.value.value) a.values b.values all.values once.values;
+  input_fields = still-once (λ f. f.value.name) a.input_fields b.input_fields all.input_fields once.input_fields;
+}
+
 pub once-again : (t u : ExtendedType) → HasWhatIsWritten t u → HasEachNameOnce (type_sections t) → HasEachNameOnce (type_sections u)
-once-again t u h once =
-    let a : Sections = type_sections t in
-    let b : Sections = type_sections u in
-    let all = components-again t u h in
-    record {
-      names = still-once (λ n. n) a.names b.names all.names once.names;
-      fields = still-once (λ f. f.value.name) a.fields b.fields all.fields once.fields;
-      values = still-once (λ v. v.value.value) a.values b.values all.values once.values;
-      input_fields = still-once (λ f. f.value.name) a.input_fields b.input_fields all.input_fields once.input_fields;
-    }
+once-again t u h once = once-kept (type_sections t) (type_sections u) (components-again t u h) once
 
 -- the first of each key have the first of those keys
-first_of_each-map : {X Y : Type 0} (same : Y → Y → Bool) (f : X → Y) (xs : List X) → map f (first_of_each (λ x y. same (f x) (f y)) xs) ≡ first_of_each same (map f xs)
+pub first_of_each-map : {X Y : Type 0} (same : Y → Y → Bool) (f : X → Y) (xs : List X) → map f (first_of_each (λ x y. same (f x) (f y)) xs) ≡ first_of_each same (map f xs)
 first_of_each-map same f [] = refl
 first_of_each-map same f (x ∷ xs) =
     ap (λ l. f x ∷ l) (sym (filter-map (λ y. not (same (f x) y)) f (first_of_each (λ x y. same (f x) (f y)) xs)) ∙ ap (filter (λ y. not (same (f x) y))) (first_of_each-map same f xs))
 
-each-first : {X : Type 0} (P : X → Type 0) (same : X → X → Bool) (xs : List X) → AllByRecursion P xs → AllByRecursion P (first_of_each same xs)
+pub each-first : {X : Type 0} (P : X → Type 0) (same : X → X → Bool) (xs : List X) → AllByRecursion P xs → AllByRecursion P (first_of_each same xs)
 each-first P same [] a = tt
 each-first P same (x ∷ xs) a =
     (a.0, each-weaken (λ y. P y × (not (same x y) ≡ true)) P (λ y h. h.0) (filter (λ y. not (same x y)) (first_of_each same xs)) (each-filter P (λ y. not (same x y)) (first_of_each same xs) (each-first P same xs a.1)))
@@ -67,7 +66,7 @@ names-once cs =
 
 module _ {T : Type 0} (name : NodeView T → NameView) where
   -- an entry stands under its own name
-  abbrev IsNamed : NameView × Component T → Type 0
+  abbrev pub IsNamed : NameView × Component T → Type 0
   IsNamed e = e.0 ≡ name e.1.node
 
   entries-once : (es : List (NameView × Component T)) → AllByRecursion IsNamed es → IsDistinct same_text (map (λ x. name x.1) (map node_of (values_of (distinct_entries es))))
@@ -81,7 +80,7 @@ module _ {T : Type 0} (name : NodeView T → NameView) where
       subst (IsDistinct same_text) (sym keys) (first_of_each-distinct same_text (map (λ e. e.0) es))
 
   -- so do those that parts have
-  all-named : (nodes : Sourced → List (NodeView T)) (entry : ComponentOrigin → NodeView T → NameView × Component T) → ((o : ComponentOrigin) (n : NodeView T) → IsNamed (entry o n)) → (ps : List Sourced)
+  pub all-named : (nodes : Sourced → List (NodeView T)) (entry : ComponentOrigin → NodeView T → NameView × Component T) → ((o : ComponentOrigin) (n : NodeView T) → IsNamed (entry o n)) → (ps : List Sourced)
       → AllByRecursion IsNamed (flat_map (λ s. map (entry s.0) (nodes s)) ps)
   all-named nodes entry is [] = tt
   all-named nodes entry is (s ∷ ps) = each-append IsNamed (map (entry s.0) (nodes s)) (flat_map (λ s. map (entry s.0) (nodes s)) ps) (of (nodes s)) (all-named nodes entry is ps)
@@ -90,7 +89,7 @@ module _ {T : Type 0} (name : NodeView T → NameView) where
       of [] = tt
       of (n ∷ ns) = (is s.0 n, of ns)
 
-made-once : (body : TypeBody) (head : TypePart) (ps : List Sourced) → HasEachNameOnce (type_sections (type_at body head ps))
+pub made-once : (body : TypeBody) (head : TypePart) (ps : List Sourced) → HasEachNameOnce (type_sections (type_at body head ps))
 unfolding IsDistinct
 made-once ScalarBody head ps = record { names = tt; fields = tt; values = tt; input_fields = tt }
 made-once (ObjectBody interfaces fields) head ps = record {

@@ -29,7 +29,7 @@ same_id-equiv = on_equiv number_of nat_eq_equiv
 abbrev pub ids_in : {A : Type 0} → List (ComponentOrigin × A) → List ExtensionId
 ids_in xs = filter_map id_of (map (λ x. x.0) xs)
 
-ids_in-append : {A : Type 0} (xs ys : List (ComponentOrigin × A)) → ids_in (xs ++ ys) ≡ ids_in xs ++ ids_in ys
+pub ids_in-append : {A : Type 0} (xs ys : List (ComponentOrigin × A)) → ids_in (xs ++ ys) ≡ ids_in xs ++ ids_in ys
 ids_in-append xs ys = ap (filter_map id_of) (map-append (λ x. x.0) xs ys) ∙ filter_map-append id_of (map (λ x. x.0) xs) (map (λ x. x.0) ys)
 
 ids_in-joined : (css : List (List SourcedPart)) → ids_in (flat_map (λ cs. cs) css) ≡ flat_map (λ ids. ids) (map ids_in css)
@@ -59,7 +59,7 @@ module _ (origin : ComponentOrigin) where
   abbrev pub picked : {A : Type 0} → List (ComponentOrigin × A) → List A
   picked xs = map (λ x. x.1) (filter (λ x. same_origin origin x.0) xs)
 
-  picked-append : {A : Type 0} (xs ys : List (ComponentOrigin × A)) → picked (xs ++ ys) ≡ picked xs ++ picked ys
+  pub picked-append : {A : Type 0} (xs ys : List (ComponentOrigin × A)) → picked (xs ++ ys) ≡ picked xs ++ picked ys
   picked-append xs ys = ap (map (λ x. x.1)) (filter-append (λ x. same_origin origin x.0) xs ys) ∙ map-append (λ x. x.1) (filter (λ x. same_origin origin x.0) xs) (filter (λ x. same_origin origin x.0) ys)
 
   found-joined : {A : Type 0} (which : DefinitionPart → Option A) (css : List (List SourcedPart)) → filter_map which (picked (flat_map (λ cs. cs) css)) ≡ flat_map (λ cs. filter_map which (picked cs)) css
@@ -137,7 +137,8 @@ module _ (origin : ComponentOrigin) where
         ∙ append-nil (picked s.roots)
 
     -- what is of one origin, sort by sort
-    pub of_origin-sections : of_origin origin (in_sections s) ≡ record {
+    abbrev pub parts_in : DefinitionParts
+    parts_in = record {
       directives = record { 0 = picked s.directives };
       names = picked s.names;
       fields = picked s.fields;
@@ -145,6 +146,8 @@ module _ (origin : ComponentOrigin) where
       input_fields = picked s.input_fields;
       roots = picked s.roots;
     }
+
+    pub of_origin-sections : of_origin origin (in_sections s) ≡ parts_in
     of_origin-sections = (λ i. record {
       directives = record { 0 = directives-found i };
       names = names-found i;
@@ -155,7 +158,7 @@ module _ (origin : ComponentOrigin) where
     })
 
   -- of joined parts
-  picked-of : {A : Type 0} (o : ComponentOrigin) (xs : List A) → picked (map (λ x. (o, x)) xs) ≡ cond (same_origin origin o) xs []
+  pub picked-of : {A : Type 0} (o : ComponentOrigin) (xs : List A) → picked (map (λ x. (o, x)) xs) ≡ cond (same_origin origin o) xs []
   picked-of {A} o xs = by (same_origin origin o) refl xs
     where
       by : (b : Bool) → same_origin origin o ≡ b → (xs : List A) → picked (map (λ x. (o, x)) xs) ≡ cond b xs []

@@ -37,7 +37,7 @@ three : {X : Type 0} {xs ys zs us vs ws : List X} → xs ≡ us → ys ≡ vs �
 three {X} {xs} {ys} {zs} {us} {vs} {ws} e f g = (λ i. (e i ++ f i) ++ g i) ∙ append_assoc us vs ws ∙ ap (λ l. us ++ (vs ++ l)) (sym (append-nil ws))
 
 -- the components of a type are those of its sections
-components-sections : (t : ExtendedType) → type_components t ≡ in_sections (type_sections t)
+pub components-sections : (t : ExtendedType) → type_components t ≡ in_sections (type_sections t)
 components-sections (Scalar n) = nodes parts.Directive n.value.directives.0 ∙ sym (append-nil (as_parts parts.Directive (map node_of n.value.directives.0)))
 components-sections (Object n) = three (nodes parts.Directive n.value.directives.0) (names n.value.implements_interfaces) (nodes parts.Field (values_of n.value.fields))
 components-sections (Interface n) = three (nodes parts.Directive n.value.directives.0) (names n.value.implements_interfaces) (nodes parts.Field (values_of n.value.fields))
@@ -52,12 +52,16 @@ written-placed kind name es fs e = sym (by es) ∙ ap (map (λ w. type_extension
     by : (gs : List (ExtensionId × DefinitionParts)) → map (λ w. type_extension kind name w.1 w.0) (placed gs) ≡ map (λ e. type_extension kind name e.1 (place_of e.0)) gs
     by gs = map-map (λ (w : Option SourceSpan × DefinitionParts). type_extension kind name w.1 w.0) (λ e. (place_of e.0, e.1)) gs
 
+-- extensions at the same places with the same parts have the same parts
+pub same-placed : (es fs : List (ExtensionId × DefinitionParts)) → placed es ≡ placed fs → map (λ e. e.1) es ≡ map (λ e. e.1) fs
+same-placed es fs e = sym (by es) ∙ ap (map (λ w. w.1)) e ∙ by fs
+  where
+    by : (gs : List (ExtensionId × DefinitionParts)) → map (λ w. w.1) (placed gs) ≡ map (λ e. e.1) gs
+    by gs = map-map (λ (w : Option SourceSpan × DefinitionParts). w.1) (λ e. (place_of e.0, e.1)) gs
+
 module _ (t u : ExtendedType) (h : HasWhatIsWritten t u) where
-  same_parts : map (λ e. e.1) h.parts.extensions ≡ map (λ e. e.1) (by_origin (in_sections (type_sections t))).extensions
-  same_parts = sym (by h.parts.extensions) ∙ ap (map (λ w. w.1)) h.extensions ∙ by (by_origin (type_components t)).extensions ∙ ap (λ cs. map (λ e. e.1) (by_origin cs).extensions) (components-sections t)
-    where
-      by : (gs : List (ExtensionId × DefinitionParts)) → map (λ w. w.1) (placed gs) ≡ map (λ e. e.1) gs
-      by gs = map-map (λ (w : Option SourceSpan × DefinitionParts). w.1) (λ e. (place_of e.0, e.1)) gs
+  pub same_parts : map (λ e. e.1) h.parts.extensions ≡ map (λ e. e.1) (by_origin (in_sections (type_sections t))).extensions
+  same_parts = same-placed h.parts.extensions (by_origin (type_components t)).extensions h.extensions ∙ ap (λ cs. map (λ e. e.1) (by_origin cs).extensions) (components-sections t)
 
   parts-again : by_origin (type_components u) ≡ h.parts
   parts-again = ap by_origin (components-sections u ∙ ap in_sections h.sections) ∙ written-parts-again (type_sections t) h.parts same_parts h.distinct

@@ -1,5 +1,5 @@
 //! Laws of the write-out, for those who build on what it says.
-ghost use Rattle.std.specs.Prelude.{◌≡◌, ℕ, List, [], Some, false, codes, map, option_map};
+ghost use Rattle.std.specs.Prelude.{◌≡◌, ℕ, Bool, List, [], Some, false, true, codes, map, option_map};
 ghost use Rattle.std.specs.List.{IsDistinct};
 ghost use Rattle.apollo_component.specs.Extensions.{same_id};
 ghost use Rattle.apollo_component.specs.WriteOut.{by_origin};
@@ -12,8 +12,14 @@ ghost use Rattle.apollo_meaning.specs.Order.Places.{folding_order};
 ghost use Rattle.apollo_meaning.specs.Rows.TypeRows.{written_around};
 ghost use Rattle.apollo_meaning.specs.Schema.Whole.{whole};
 ghost use Rattle.apollo_meaning.specs.Types.Meaning.{type_of};
+ghost use Rattle.apollo_schema.specs.EqualSchemas.{AreEqualSchemas};
+ghost use Rattle.apollo_schema.specs.MeantSchema.{MeansSchema};
+ghost use Rattle.apollo_schema.specs.SchemaWriteOut.{write_schema};
+ghost use Rattle.apollo_schema.specs.declared.schema.Schema.{Schema};
+ghost use Rattle.graphql_ast.specs.declared.definition.Definition.{Definition};
 ghost use Rattle.apollo_canonical.specs.Sections.{Sections, HasSameComponents, in_sections, sections_of};
 ghost use Rattle.apollo_canonical.specs.TypeSections.{HasWhatIsWritten, HasEachNameOnce, type_sections};
+ghost use Rattle.apollo_canonical.specs.WrittenAgain.{IsMeantByList, IsWriteOutOf, written_again};
 
 /// What is written out stays as it is when it is read and written out again: the components of any sections, put under
 /// their origins, make the parts of a definition and of its extensions. Whatever distinct identities these extensions
@@ -62,4 +68,32 @@ pub fn written_types_have_each_name_once()
 pub fn worked_write_out_is_written_again()
     ensures writes { option_map write_type (type_of 7 (folding_order (whole false (added false written_around))) (whole false (added false written_around)) (codes "Q")) ≡ Some written_around }
     ensures faults { faults_of false (added false written_around) ≡ [] }
+{}
+
+/// Every schema's write-out rebuilds. For every list of added definitions, with any setting of adoption and of ignored
+/// redefinitions, and the schema that it means, whole or what could be built of a list with faults: the write-out, added as
+/// one document after the built-in definitions, with adoption, has no faults; each schema that it means, with extensions
+/// numbered from anywhere, is equal to the first, and is written out as the first is; and there is such a schema. It holds
+/// where the list begins with the built-in definitions, nothing after them is marked built-in, and each schema definition
+/// names a root. GraphQL specification of October 2021, sections 3 and 3.3.
+pub fn canonical()
+    ensures faults { (schema : Schema) → IsMeantByList schema → (ignores : Bool) → faults_of true (written_again ignores schema) ≡ [] }
+    ensures equal { (schema rebuilt : Schema) → IsMeantByList schema → (ignores : Bool) (again : ℕ) → MeansSchema again true (written_again ignores schema) rebuilt
+        → AreEqualSchemas rebuilt schema }
+    ensures written { (schema rebuilt : Schema) → IsMeantByList schema → (ignores : Bool) (again : ℕ) → MeansSchema again true (written_again ignores schema) rebuilt
+        → write_schema rebuilt ≡ write_schema schema }
+    ensures means { (schema : Schema) → IsMeantByList schema → (ignores : Bool) (again : ℕ) → ∥ ((rebuilt : Schema) × MeansSchema again true (written_again ignores schema) rebuilt) ∥₁ }
+{}
+
+/// To write out twice is to write out once: what a schema's write-out is written out as, read with adoption after the
+/// built-in definitions, is that write-out. GraphQL specification of October 2021, sections 3 and 3.3.
+pub fn written_twice_is_written_once()
+    ensures { (schema : Schema) → IsMeantByList schema → (ignores : Bool) (again : ℕ) (twice : List Definition) → IsWriteOutOf again true (written_again ignores schema) twice
+        → twice ≡ write_schema schema }
+{}
+
+/// Schemas of lists that have equal write-outs are equal, whatever the lists are and the settings of both options. GraphQL
+/// specification of October 2021, sections 3 and 3.3.
+pub fn equal_write_outs_have_equal_schemas()
+    ensures { (schema other : Schema) → IsMeantByList schema → IsMeantByList other → write_schema schema ≡ write_schema other → AreEqualSchemas schema other }
 {}

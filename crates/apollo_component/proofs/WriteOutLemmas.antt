@@ -1,5 +1,5 @@
 -- What one more component adds to the parts of each origin.
-use Rattle.std.proofs.Common.{◌≡◌, ℕ, Bool, true, false, cond, ◌||◌, ◌==◌, List, [], ◌∷◌, ◌++◌, Option, None, Some, is_some, map, filter, refl, sym, ap, ◌∙◌, true≢false}
+use Rattle.std.proofs.Common.{◌≡◌, Bool, true, false, cond, ◌||◌, List, [], ◌∷◌, ◌++◌, Option, None, Some, is_some, map, filter, refl, sym, ap, ◌∙◌, true≢false}
 use Rattle.std.specs.List.{filter_map, cons_option, list_any}
 use Rattle.std.specs.Map.{lookup}
 use Rattle.std.specs.Prelude.{unwrap_or}
@@ -11,14 +11,14 @@ use Rattle.graphql_ast.specs.DefinitionParts.{directive_in, name_in, field_in, v
 use Rattle.graphql_ast.specs.declared.definition_parts.DefinitionPart.{DefinitionPart}
 use Rattle.graphql_ast.specs.declared.definition_parts.DefinitionParts.{DefinitionParts}
 use Rattle.apollo_component.specs.Extensions.{id_of, number_of, same_id, same_origin}
+use Rattle.apollo_component.specs.ExtensionTables.{with_extension_part}
 use Rattle.apollo_component.specs.FirstOfEach.{first_of_each}
-use Rattle.apollo_component.specs.WriteOut.{SourcedPart, origins_in, identities, of_origin, of_extensions, by_origin}
+use Rattle.apollo_component.specs.WriteOut.{SourcedPart, origins_in, of_origin, of_extensions, by_origin}
 use Rattle.apollo_component.specs.declared.extension.ComponentOrigin.{ComponentOrigin}
 use Rattle.apollo_component.specs.declared.extension.ComponentOrigin.TheVariants.{Definition, Extension}
 use Rattle.apollo_component.specs.declared.extension.ExtensionId.{ExtensionId}
-use Rattle.apollo_component.specs.declared.parts_by_origin.PartsByOrigin.{PartsByOrigin}
 use Rattle.apollo_component.proofs.FirstOfEachLemmas.{list_any-first_of_each}
-use Rattle.apollo_component.proofs.Tabled.{tabled, first_of_each-distinct, first_of_each-insert, tabled-insert, lookup-tabled, insert_entry-found}
+use Rattle.apollo_component.proofs.Tabled.{tabled, first_of_each-distinct, first_of_each-insert, tabled-insert, lookup-tabled}
 
 same_id-equiv : IsEquivalence same_id
 same_id-equiv = on_equiv number_of nat_eq_equiv
@@ -103,7 +103,7 @@ module _ (cs : List SourcedPart) (id : ExtensionId) (p : DefinitionPart) where
   definition-kept = sym (of_origin-other Definition cs (Extension id, p) refl)
 
   -- it is put at its identity
-  pub of_extensions-insert : insert_entry same_id (of_extensions cs) id (with_part p (of_origin (Extension id) cs)) ≡ of_extensions (cs ++ (Extension id, p) ∷ [])
+  of_extensions-insert : insert_entry same_id (of_extensions cs) id (with_part p (of_origin (Extension id) cs)) ≡ of_extensions (cs ++ (Extension id, p) ∷ [])
   of_extensions-insert =
       ap (insert_entry same_id (of_extensions cs) id) (sym (of_origin-own (Extension id) cs (Extension id, p) (same_id-equiv.refl id)))
       ∙ tabled-insert same_id same_id-equiv before after id others (of_origin-number (cs ++ (Extension id, p) ∷ []) id) (first_of_each same_id ids) (first_of_each-distinct same_id ids)
@@ -119,16 +119,24 @@ module _ (cs : List SourcedPart) (id : ExtensionId) (p : DefinitionPart) where
   held = lookup-tabled same_id same_id-equiv before id (of_origin-number cs id) (first_of_each same_id ids)
 
   -- what stands at an identity are its parts
-  pub held-found : (parts : DefinitionParts) → lookup (same_id id) (of_extensions cs) ≡ Some parts → parts ≡ of_origin (Extension id) cs
+  held-found : (parts : DefinitionParts) → lookup (same_id id) (of_extensions cs) ≡ Some parts → parts ≡ of_origin (Extension id) cs
   held-found parts h = by (list_any (same_id id) (first_of_each same_id ids)) (sym held ∙ h)
     where
       by : (b : Bool) → cond b (Some (before id)) None ≡ Some parts → parts ≡ before id
       by true h = sym (ap (λ o. unwrap_or o parts) h)
       by false h = absurd (true≢false (sym (ap is_some h)))
 
-  pub held-none : lookup (same_id id) (of_extensions cs) ≡ None → no_parts ≡ of_origin (Extension id) cs
+  held-none : lookup (same_id id) (of_extensions cs) ≡ None → no_parts ≡ of_origin (Extension id) cs
   held-none h = by (list_any (same_id id) ids) refl
     where
       by : (b : Bool) → list_any (same_id id) ids ≡ b → no_parts ≡ before id
       by false e = sym (of_origin-none cs id e)
       by true e = absurd (true≢false (ap is_some (sym (held ∙ ap (λ b. cond b (Some (before id)) None) (list_any-first_of_each same_id same_id-equiv id ids ∙ e)) ∙ h)))
+
+  -- so a part more of an extension is one component more
+  pub of_extensions-push : with_extension_part id p (of_extensions cs) ≡ of_extensions (cs ++ (Extension id, p) ∷ [])
+  of_extensions-push = ap (λ parts. insert_entry same_id (of_extensions cs) id (with_part p parts)) (by (lookup (same_id id) (of_extensions cs)) refl) ∙ of_extensions-insert
+    where
+      by : (o : Option DefinitionParts) → lookup (same_id id) (of_extensions cs) ≡ o → unwrap_or o no_parts ≡ before id
+      by None h = held-none h
+      by (Some parts) h = held-found parts h

@@ -3,6 +3,7 @@ pub mod BareComponents
 pub mod ComponentLending
 pub mod DirectivesLending
 pub mod EachAfter
+pub mod ExtensionTables
 pub mod Extensions
 pub mod FirstOfEach
 pub mod WriteOut

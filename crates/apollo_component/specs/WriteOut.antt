@@ -3,6 +3,7 @@
 use Rattle.std.specs.Prelude.{List, [], ◌∷◌, ◌++◌, map, filter, Bool, Option, if◌then◌else◌}
 use Rattle.std.specs.List.{filter_map}
 use Rattle.graphql_nodes.specs.NameView.{NameView}
+use Rattle.graphql_nodes.specs.NodeView.{NodeView}
 use Rattle.graphql_nodes.specs.declared.source.SourceSpan.{SourceSpan}
 use Rattle.graphql_nodes.specs.declared.type_kind.TypeKind.{TypeKind}
 use Rattle.graphql_ast.specs.DefinitionParts.{parts_of, type_definition, type_extension, schema_definition, schema_extension}
@@ -11,6 +12,9 @@ use Rattle.graphql_ast.specs.declared.definition_parts.DefinitionPart.{Definitio
 use Rattle.graphql_ast.specs.declared.definition_parts.DefinitionParts.{DefinitionParts}
 use Rattle.apollo_component.specs.Extensions.{id_of, place_of, same_id, same_origin}
 use Rattle.apollo_component.specs.FirstOfEach.{first_of_each}
+use Rattle.graphql_ast.specs.declared.definition_parts.DefinitionPart.TheVariants as p
+use Rattle.apollo_component.specs.declared.component.Component.{Component}
+use Rattle.apollo_component.specs.declared.component.ComponentName.{ComponentName}
 use Rattle.apollo_component.specs.declared.extension.ComponentOrigin.{ComponentOrigin}
 use Rattle.apollo_component.specs.declared.extension.ComponentOrigin.TheVariants as origins
 use Rattle.apollo_component.specs.declared.extension.ExtensionId.{ExtensionId}
@@ -19,6 +23,13 @@ use Rattle.apollo_component.specs.declared.parts_by_origin.PartsByOrigin.{PartsB
 -- a component: the definition or extension that it comes from, and what it is there
 abbrev pub SourcedPart : Type 0
 SourcedPart = ComponentOrigin × DefinitionPart
+
+-- a component, and a name that a type lists, where nodes of this sort are that part
+abbrev pub sourced : {A : Type 0} → (NodeView A → DefinitionPart) → Component A → SourcedPart
+sourced part c = (c.origin, part c.node)
+
+abbrev pub sourced_name : ComponentName → SourcedPart
+sourced_name c = (c.origin, p.Name c.name)
 
 abbrev pub origins_in : List SourcedPart → List ComponentOrigin
 origins_in = map (λ c. c.0)

@@ -2,8 +2,10 @@
 #![tactic(auto)]
 
 pub mod component;
+pub mod definition_item;
 pub mod directive_list;
 pub mod extension;
+pub mod extension_parts;
 pub mod get_all;
 pub mod laws;
 pub mod named;

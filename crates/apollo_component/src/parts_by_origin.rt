@@ -1,23 +1,24 @@
 //! The components of a type or of a schema's definition, put under their origins and written out.
-ghost use Rattle.std.specs.Prelude.{◌≡◌, List, [], ◌∷◌, ◌++◌, map, IfOk, OnOk, if◌then◌else◌};
-ghost use Rattle.graphql_ast.specs.DefinitionParts.{schema_definition};
-ghost use Rattle.apollo_component.specs.WriteOut.{SourcedPart, by_origin, of_extensions, written_type, written_schema};
-ghost use Rattle.apollo_component.specs.declared.extension.ComponentOrigin.TheVariants.{Extension};
+ghost use Rattle.std.specs.Prelude.{◌≡◌, List, [], ◌∷◌, ◌++◌, map, IfOk, OnOk};
+ghost use Rattle.apollo_component.specs.WriteOut.{SourcedPart, sourced, sourced_name, by_origin, written_type, written_schema};
 
-use crate::extension::{ComponentOrigin, ExtensionId};
+use crate::component::{Component, ComponentName};
+use crate::definition_item::{DefinitionItem, NodePart};
+use crate::extension::ComponentOrigin;
+use crate::extension_parts::ExtensionParts;
 use graphql_ast::definition::Definition;
-use graphql_ast::definition_parts::{DefinitionPart, DefinitionParts};
-use graphql_nodes::collections::table::Table;
+use graphql_ast::definition_parts::DefinitionParts;
 use graphql_nodes::name::Name;
 use graphql_nodes::node_str::NodeStr;
 use graphql_nodes::source::SourceSpan;
 use graphql_nodes::type_kind::TypeKind;
+use indexmap::map::Values;
 use std::alloc::{AllocError, Global};
 
 /// The parts of a definition, and those of each of its extensions, by first appearance.
 pub struct PartsByOrigin {
     definition: DefinitionParts,
-    extensions: Table<ExtensionId, DefinitionParts>,
+    extensions: ExtensionParts,
 }
 
 impl Drop for PartsByOrigin {
@@ -36,22 +37,61 @@ impl PartsByOrigin {
     {
         PartsByOrigin {
             definition: DefinitionParts::new(alloc),
-            extensions: Table::new(alloc),
+            extensions: ExtensionParts::new(),
         }
     }
 
     /// Adds a part of this origin, the last of its sort there. The error is want of memory.
-    pub fn add(
+    pub fn add<P: DefinitionItem>(
         &mut self,
         alloc: Global,
         origin: ComponentOrigin,
-        part: DefinitionPart,
+        part: P,
     ) -> Result<(), AllocError>
-        ensures { OnOk result ((cs : List SourcedPart) → self.old ≡ by_origin cs → self.new ≡ by_origin (cs ++ (origin, part) ∷ [])) }
+        ensures { OnOk result ((cs : List SourcedPart) → self.old ≡ by_origin cs → self.new ≡ by_origin (cs ++ (origin, P.part part) ∷ [])) }
     {
         match origin {
-            ComponentOrigin::Definition => self.definition.push(part)?,
-            ComponentOrigin::Extension(id) => add_to(alloc, &mut self.extensions, id, part)?,
+            ComponentOrigin::Definition => part.push_to(&mut self.definition)?,
+            ComponentOrigin::Extension(id) => self.extensions.add(alloc, id, part)?,
+        }
+        Ok(())
+    }
+
+    /// Adds each of these components, in order, as [`add`](PartsByOrigin::add) does. The error is want of memory.
+    pub fn add_components<T: NodePart>(
+        &mut self,
+        alloc: Global,
+        components: &[Component<T>],
+    ) -> Result<(), AllocError>
+        ensures { OnOk result ((cs : List SourcedPart) → self.old ≡ by_origin cs → self.new ≡ by_origin (cs ++ map (sourced T.node_part) components.now)) }
+    {
+        for component in components {
+            self.add(alloc, component.origin, component.node.clone()?)?;
+        }
+        Ok(())
+    }
+
+    /// Adds each of the components that stand under names, in order, as [`add`](PartsByOrigin::add) does. The error is
+    /// want of memory.
+    pub fn add_named_components<T: NodePart>(
+        &mut self,
+        alloc: Global,
+        components: Values<'_, Name, Component<T>>,
+    ) -> Result<(), AllocError>
+        ensures { OnOk result ((cs : List SourcedPart) → self.old ≡ by_origin cs → self.new ≡ by_origin (cs ++ map (sourced T.node_part) components.entry)) }
+    {
+        for component in components {
+            self.add(alloc, component.origin, component.node.clone()?)?;
+        }
+        Ok(())
+    }
+
+    /// Adds each of these names, in order, as [`add`](PartsByOrigin::add) does. The error is want of memory.
+    pub fn add_names(&mut self, alloc: Global, names: &[ComponentName]) -> Result<(), AllocError>
+        ensures { OnOk result ((cs : List SourcedPart) → self.old ≡ by_origin cs → self.new ≡ by_origin (cs ++ map sourced_name names.now)) }
+    {
+        for name in names {
+            self.add(alloc, name.origin, name.name.clone()?)?;
         }
         Ok(())
     }
@@ -80,9 +120,7 @@ impl PartsByOrigin {
             name.clone()?,
             location,
         )?)?;
-        for (id, parts) in extensions.into_index_map() {
-            written.push(parts.into_extension(alloc, kind, name.clone()?, id.location())?)?;
-        }
+        extensions.write_types(alloc, kind, name, &mut written)?;
         Ok(written)
     }
 
@@ -101,46 +139,11 @@ impl PartsByOrigin {
             definition,
             extensions,
         } = self;
-        let mut written = schema_definitions(alloc, is_written, definition, description, location)?;
-        for (id, parts) in extensions.into_index_map() {
-            written.push(parts.into_schema_extension(alloc, id.location())?)?;
+        let mut written = Vec::new(alloc);
+        if is_written {
+            written.push(definition.into_schema_definition(alloc, description, location)?)?;
         }
+        extensions.write_schemas(alloc, &mut written)?;
         Ok(written)
     }
-}
-
-/// The definition of the schema, if it is written.
-fn schema_definitions(
-    alloc: Global,
-    is_written: bool,
-    parts: DefinitionParts,
-    description: Option<NodeStr>,
-    location: Option<SourceSpan>,
-) -> Result<Vec<Definition>, AllocError>
-    ensures { IfOk result (λ written. written.items ≡ (if is_written then schema_definition description parts location ∷ [] else [])) }
-{
-    let mut written = Vec::new(alloc);
-    if is_written {
-        written.push(parts.into_schema_definition(alloc, description, location)?)?;
-    }
-    Ok(written)
-}
-
-/// Adds a part of the extension of this identity.
-fn add_to(
-    alloc: Global,
-    extensions: &mut Table<ExtensionId, DefinitionParts>,
-    id: ExtensionId,
-    part: DefinitionPart,
-) -> Result<(), AllocError>
-    ensures { OnOk result ((cs : List SourcedPart) → extensions.old ≡ of_extensions cs → extensions.new ≡ of_extensions (cs ++ (Extension id, part) ∷ [])) }
-{
-    if let Some(parts) = extensions.get_mut(&id) {
-        parts.push(part)?;
-        return Ok(());
-    }
-    let mut parts = DefinitionParts::new(alloc);
-    parts.push(part)?;
-    extensions.insert(id, parts)?;
-    Ok(())
 }

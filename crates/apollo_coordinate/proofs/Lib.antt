@@ -1,4 +1,5 @@
 pub mod GrammarLemmas
+pub mod LookupEquality
 pub mod MarkLemmas
 pub mod PassedErrors
 pub mod TextLemmas

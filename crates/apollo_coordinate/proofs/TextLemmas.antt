@@ -5,7 +5,7 @@ use Rattle.graphql_nodes.specs.Comparing.{bare_name}
 use Rattle.graphql_nodes.specs.NameSyntax.{IsName}
 use Rattle.graphql_nodes.specs.NameView.{NameView}
 use Rattle.graphql_nodes.proofs.Comparisons.{tail_same}
-use Rattle.apollo_coordinate.specs.CoordinateText.{IsAttributeText, IsFieldArgumentText, IsDirectiveText, IsDirectiveArgumentText, IsCoordinateText, HasNames, text, parts, bare}
+use Rattle.apollo_coordinate.specs.CoordinateText.{IsAttributeText, IsFieldArgumentText, IsDirectiveText, IsDirectiveArgumentText, IsCoordinateText, HasNames, Says, text, parts, bare}
 use Rattle.apollo_coordinate.specs.Refusals.{Lacks}
 use Rattle.apollo_coordinate.specs.Readings.{IsReadingOf, IsReadBack}
 use Rattle.apollo_coordinate.specs.declared.coordinates.FieldArgumentCoordinate.{FieldArgumentCoordinate}
@@ -124,6 +124,10 @@ said_bare (TypeAttribute d) s = let a = bare_stands d.ty s.0 in let b = bare_sta
 said_bare (FieldArgument d) s = let a = bare_stands d.ty s.0 in let b = bare_stands d.field s.1.0 in let c = bare_stands d.argument s.1.1.0 in λ i. FieldArgument (record { ty = a i; field = b i; argument = c i })
 said_bare (Directive d) s = let a = bare_stands d.directive s.0 in λ i. Directive (record { directive = a i })
 said_bare (DirectiveArgument d) s = let a = bare_stands d.directive s.0 in let b = bare_stands d.argument s.1.0 in λ i. DirectiveArgument (record { directive = a i; argument = b i })
+
+-- what says a coordinate is in the grammar
+pub said_in_grammar : (t : List ℕ) (c : SchemaCoordinate) → Says t c → IsCoordinateText t
+said_in_grammar t c said = subst IsCoordinateText said.0 (in_grammar c (said_names c said.1))
 
 -- whatever reads the text of a coordinate of valid names answers it, or want of memory
 pub reads : (c : SchemaCoordinate) (result : Result SchemaCoordinate SchemaCoordinateParseError) → HasNames c → IsReadingOf (text c) result → IsReadBack c result

@@ -1,3 +1,4 @@
+pub mod BareLookups
 pub mod CoordinateLookups
 pub mod CoordinateText
 pub mod Readings

@@ -1,5 +1,7 @@
-//! Laws of coordinates and their texts, for those who build on them; and what `==` answers at coordinates.
+//! Laws of coordinates and their texts, for those who build on them; and what `==` answers at coordinates and at what their
+//! lookups answer.
 ghost use Rattle.std.specs.Prelude.{◌≡◌, ℕ, List, Result};
+ghost use Rattle.apollo_coordinate.specs.BareLookups.{bare_attribute_lookup, bare_lookup};
 ghost use Rattle.apollo_coordinate.specs.CoordinateText.{IsTypeText, IsAttributeText, IsFieldArgumentText, IsDirectiveText, IsDirectiveArgumentText, HasNames, text, bare, bare_type, bare_attribute, bare_field_argument, bare_directive, bare_directive_argument};
 ghost use Rattle.apollo_coordinate.specs.Refusals.{IsNoName, IsNoAttribute, IsNoFieldArgument, IsNoDirective, IsNoDirectiveArgument};
 ghost use Rattle.apollo_coordinate.specs.Readings.{IsReadingOf, IsReadBack};
@@ -10,6 +12,7 @@ use crate::coordinates::{
     DirectiveArgumentCoordinate, DirectiveCoordinate, FieldArgumentCoordinate, SchemaCoordinate,
     TypeAttributeCoordinate, TypeCoordinate,
 };
+use crate::lookup_answers::{SchemaCoordinateLookup, TypeAttributeLookup};
 use crate::parse_error::SchemaCoordinateParseError;
 
 /// Whatever reads the text of a coordinate of valid names, as [`SchemaCoordinate::from_str`] does, answers that
@@ -36,6 +39,13 @@ pub fn equality_of_coordinates()
     ensures directive { ComparesBy ⟦<DirectiveCoordinate as PartialEq>⟧.eq bare_directive }
     ensures directive_argument { ComparesBy ⟦<DirectiveArgumentCoordinate as PartialEq>⟧.eq bare_directive_argument }
     ensures coordinate { ComparesBy ⟦<SchemaCoordinate as PartialEq>⟧.eq bare }
+{}
+
+/// What lookups answer is equal exactly where both answers are of one sort, and what is found is one without places, origins
+/// and sources. GraphQL specification of October 2021, sections 3.4 to 3.10 and 3.13.
+pub fn equality_of_lookups<'schema>()
+    ensures attribute { ComparesBy ⟦<TypeAttributeLookup<'schema> as PartialEq>⟧.eq bare_attribute_lookup }
+    ensures coordinate { ComparesBy ⟦<SchemaCoordinateLookup<'schema> as PartialEq>⟧.eq bare_lookup }
 {}
 
 /// Each clone of a coordinate is the original, with the places of its names.

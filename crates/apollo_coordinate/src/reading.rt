@@ -1,7 +1,7 @@
 //! Coordinates from texts: the Schema Coordinates RFC of GraphQL.
 //!
 //! A text is cut at its marks in place, and only then are its parts made names: that is all the memory that reading takes.
-ghost use Rattle.std.specs.Prelude.{◌≡◌, ◌≢◌, ◌++◌, ◌<◌, ℕ, List, IfOk, IfErr, MatchOption, codes};
+ghost use Rattle.std.specs.Prelude.{◌≡◌, ◌≢◌, ◌++◌, ◌<◌, ℕ, List, IfOk, IfErr, MatchOption, OnOk, codes};
 ghost use Rattle.apollo_coordinate.specs.CoordinateText.{IsCoordinateText, IsAttributeText, IsDirectiveText, Says};
 ghost use Rattle.apollo_coordinate.specs.Refusals.{WhenRefused, Lacks, IsCut, IsPart, IsNoName, IsNoNames, IsNoAttribute, IsNoDirective, IsNoArgument, IsNoPair, IsNoFieldArgument, IsNoDirectiveArgument, IsNoCoordinate, IsLastRefusal, without_at};
 ghost use Rattle.apollo_coordinate.specs.declared.coordinates.SchemaCoordinate.TheVariants as any;
@@ -249,6 +249,7 @@ impl SchemaCoordinate {
         text: &str,
     ) -> Result<SchemaCoordinate, SchemaCoordinateParseError>
         ensures says { IfOk result (Says text.now) }
+        ensures grammar { OnOk result (IsCoordinateText text.now) }
         ensures refused { IfErr result (WhenRefused (IsNoCoordinate text.now)) }
     {
         match read_by_marks(alloc, text) {

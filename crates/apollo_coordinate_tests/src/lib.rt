@@ -4,6 +4,8 @@
 #[cfg(test)]
 mod conversions;
 #[cfg(test)]
+mod equality;
+#[cfg(test)]
 mod lookups;
 #[cfg(test)]
 mod reading;

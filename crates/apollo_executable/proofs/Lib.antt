@@ -2,3 +2,4 @@ pub mod DocumentEquality
 pub mod Erasing
 mod RequestLemmas
 pub mod SelectionEquality
+pub mod Walking

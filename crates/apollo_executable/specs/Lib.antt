@@ -7,3 +7,4 @@ pub mod OperationLending
 pub mod Operations
 pub mod Requests
 pub mod SelectionParts
+pub mod Walks

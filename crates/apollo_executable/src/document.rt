@@ -3,6 +3,7 @@ ghost use Rattle.std.specs.Prelude.{◌≡◌, []};
 
 use crate::operation::Fragment;
 use crate::operation_map::OperationMap;
+use graphql_nodes::collections::hash_keys::HashKeys;
 use graphql_nodes::collections::table::Table;
 use graphql_nodes::name::Name;
 use graphql_nodes::node::Node;
@@ -31,10 +32,17 @@ impl ExecutableDocument {
     pub fn new(alloc: Global) -> ExecutableDocument
         ensures { result ≡ record { sources = []; operations = no_operations; fragments = [] } }
     {
+        ExecutableDocument::with_keys(alloc, HashKeys::FIXED)
+    }
+
+    /// The same, whose tables hash by these keys: those of a schema, for a document from strangers.
+    pub fn with_keys(alloc: Global, keys: HashKeys) -> ExecutableDocument
+        ensures { result ≡ record { sources = []; operations = no_operations; fragments = [] } }
+    {
         ExecutableDocument {
-            sources: Table::new(alloc),
-            operations: OperationMap::new(alloc),
-            fragments: Table::new(alloc),
+            sources: Table::with_keys(alloc, keys),
+            operations: OperationMap::with_keys(alloc, keys),
+            fragments: Table::with_keys(alloc, keys),
         }
     }
 }

@@ -19,6 +19,7 @@ pub mod selection;
 mod selection_kinds;
 mod selection_set;
 mod to_ast;
+pub mod walks;
 
 pub use crate::document::{ExecutableDocument, FragmentMap};
 pub use crate::fields::Fields;
@@ -28,3 +29,5 @@ pub use crate::operation_map::OperationMap;
 pub use crate::operations::Operations;
 pub use crate::request_error::RequestError;
 pub use crate::selection::{Field, FragmentSpread, InlineFragment, Selection, SelectionSet};
+pub use crate::walks::all_fields::AllFields;
+pub use crate::walks::root_fields::RootFields;

@@ -7,6 +7,7 @@ ghost use Rattle.apollo_executable.specs.Requests.{request_error};
 use crate::operation::Operation;
 use crate::operations::Operations;
 use crate::request_error::RequestError;
+use graphql_nodes::collections::hash_keys::HashKeys;
 use graphql_nodes::collections::table::Table;
 use graphql_nodes::name::Name;
 use graphql_nodes::node::Node;
@@ -49,9 +50,16 @@ impl OperationMap {
     pub fn new(alloc: Global) -> OperationMap
         ensures { result ≡ no_operations }
     {
+        OperationMap::with_keys(alloc, HashKeys::FIXED)
+    }
+
+    /// No operation, in a map that hashes by these keys: those of a schema, for a document from strangers.
+    pub fn with_keys(alloc: Global, keys: HashKeys) -> OperationMap
+        ensures { result ≡ no_operations }
+    {
         OperationMap {
             anonymous: None,
-            named: Table::new(alloc),
+            named: Table::with_keys(alloc, keys),
         }
     }
 

@@ -1,7 +1,8 @@
 //! Maps of operations in all their cases, with the texts of errors.
 
 use crate::making::{name, operation};
-use apollo_executable::{OperationMap, RequestError, SelectionSet};
+use apollo_executable::{ExecutableDocument, OperationMap, RequestError, SelectionSet};
+use graphql_nodes::collections::hash_keys::HashKeys;
 use graphql_nodes::name::Name;
 use graphql_nodes::operation_type::OperationType;
 use std::alloc::{AllocError, Global};
@@ -181,6 +182,19 @@ fn a_map_is_made_of_one_operation(rt: HostRuntime) -> Result<(), Fail> {
     assert!(rt; is_made_of_one(alloc, "-")?);
     assert!(rt; is_made_of_one(alloc, "A")?);
     assert!(rt; OperationMap::new(alloc).is_empty());
+    Ok(())
+}
+
+#[test]
+fn maps_and_documents_keep_their_keys(rt: HostRuntime) -> Result<(), Fail> {
+    let alloc = rt.alloc();
+    let keys = HashKeys::from_bytes([3; 16]);
+    let map = OperationMap::with_keys(alloc, keys).clone()?;
+    assert!(rt; map.is_empty() && map.named.hash_keys() == keys);
+    let document = ExecutableDocument::with_keys(alloc, keys).clone()?;
+    assert!(rt; document.operations.named.hash_keys() == keys);
+    assert!(rt; document.sources.hash_keys() == keys && document.fragments.hash_keys() == keys);
+    assert!(rt; document == ExecutableDocument::new(alloc));
     Ok(())
 }
 

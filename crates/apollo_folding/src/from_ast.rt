@@ -30,6 +30,7 @@ use apollo_component::extension::{ComponentOrigin, ExtensionSource};
 use apollo_meaning::build_error::{BuildError, Fault};
 use apollo_types::extended_type::ExtendedType;
 use graphql_ast::definition::Definition;
+use graphql_nodes::collections::hash_keys::HashKeys;
 use graphql_nodes::collections::items::Items;
 use graphql_nodes::collections::static_text::StaticText;
 use std::alloc::{AllocError, Global};
@@ -37,6 +38,7 @@ use std::alloc::{AllocError, Global};
 /// The type of a definition alone. Components that are there already are noted.
 fn type_from_ast(
     alloc: Global,
+    keys: HashKeys,
     head: &PartView<'_>,
     errors: &mut Items<Fault>,
 ) -> Result<ExtendedType, AllocError>
@@ -44,17 +46,21 @@ fn type_from_ast(
     ensures faults { OnOk result (errors.new ≡ errors.old ++ part_faults [] (part_seen head.now)) }
 {
     match head.body {
-        BodyView::Scalar => Ok(ExtendedType::Scalar(type_of_definition(alloc, head, errors)?)),
+        BodyView::Scalar => Ok(ExtendedType::Scalar(type_of_definition(
+            alloc, keys, head, errors,
+        )?)),
         BodyView::Object(_, _) => {
-            Ok(ExtendedType::Object(type_of_definition(alloc, head, errors)?))
+            Ok(ExtendedType::Object(type_of_definition(alloc, keys, head, errors)?))
         }
         BodyView::Interface(_, _) => {
-            Ok(ExtendedType::Interface(type_of_definition(alloc, head, errors)?))
+            Ok(ExtendedType::Interface(type_of_definition(alloc, keys, head, errors)?))
         }
-        BodyView::Union(_) => Ok(ExtendedType::Union(type_of_definition(alloc, head, errors)?)),
-        BodyView::Enum(_) => Ok(ExtendedType::Enum(type_of_definition(alloc, head, errors)?)),
+        BodyView::Union(_) => Ok(ExtendedType::Union(type_of_definition(
+            alloc, keys, head, errors,
+        )?)),
+        BodyView::Enum(_) => Ok(ExtendedType::Enum(type_of_definition(alloc, keys, head, errors)?)),
         BodyView::InputObject(_) => {
-            Ok(ExtendedType::InputObject(type_of_definition(alloc, head, errors)?))
+            Ok(ExtendedType::InputObject(type_of_definition(alloc, keys, head, errors)?))
         }
     }
 }
@@ -154,9 +160,10 @@ fn extend_by_all(
     Ok(())
 }
 
-/// The type of a definition with these extensions folded in.
+/// The type of a definition with these extensions folded in. Its tables hash by these keys.
 pub fn begin_type(
     alloc: Global,
+    keys: HashKeys,
     head: &PartView<'_>,
     extensions: &[Definition],
     ids: &mut ExtensionSource,
@@ -167,7 +174,7 @@ pub fn begin_type(
     ensures next { OnOk result (ids.new ≡ after ids.old (how_many (kind_of (part_seen head.now)) (extended_parts extensions.now))) }
     ensures refused { IfErr result (λ error. RefusedAs error (SpentWith ids.old (how_many (kind_of (part_seen head.now)) (extended_parts extensions.now)))) }
 {
-    let mut ty = type_from_ast(alloc, head, errors)?;
+    let mut ty = type_from_ast(alloc, keys, head, errors)?;
     extend_by_all(&mut ty, extensions, ids, errors)?;
     Ok(ty)
 }

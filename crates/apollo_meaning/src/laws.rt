@@ -6,7 +6,7 @@ ghost use Rattle.std.specs.Cmp.{IsEquivalence};
 ghost use Rattle.apollo_meaning.specs.Items.Parts.{TypePart, SchemaPart, kind_of, key_of, Root, roots_in};
 ghost use Rattle.apollo_meaning.specs.Items.ListItems.{ListItem, Added, added, added_items};
 ghost use Rattle.apollo_meaning.specs.Items.Named.{first, extensions_of, of_kind, schema_extensions};
-ghost use Rattle.apollo_meaning.specs.Order.Places.{Placed, types, schemas, extension_places, first_place, is_met, folding_order};
+ghost use Rattle.apollo_meaning.specs.Order.Places.{Placed, types, schemas, extension_places, first_place, times_met, once_if_defined, folding_order};
 ghost use Rattle.apollo_meaning.specs.Types.Meaning.{sourced, type_of};
 ghost use Rattle.apollo_meaning.specs.Schema.Whole.{whole, folds};
 ghost use Rattle.apollo_meaning.specs.Rows.TypeRows.{line, folding_place, extensions_around, written_around, extensions_that_wait, extension_of_another_kind};
@@ -42,8 +42,8 @@ pub fn folded_extensions()
 /// Each extension of a type whose name is defined is met at one moment of the list, and each other one at none; and so are
 /// those of the schema.
 pub fn each_extension_is_met_once()
-    ensures types { (xs : List ListItem) → All (λ e. length (filter (λ i. is_met types xs i e) (range_with_len 0 (length xs))) ≡ option_map_or (λ _. 1) (first_place types xs (key_of e.1)) 0) (extension_places types xs) }
-    ensures schemas { (xs : List ListItem) → All (λ e. length (filter (λ i. is_met schemas xs i e) (range_with_len 0 (length xs))) ≡ option_map_or (λ _. 1) (first_place schemas xs []) 0) (extension_places schemas xs) }
+    ensures types { (xs : List ListItem) → All (λ e. times_met types xs e ≡ once_if_defined types xs e) (extension_places types xs) }
+    ensures schemas { (xs : List ListItem) → All (λ e. times_met schemas xs e ≡ once_if_defined schemas xs e) (extension_places schemas xs) }
 {}
 
 /// A list folds no more extensions than a list that begins with it folds once that is completed. So where the numbers

@@ -5,6 +5,7 @@ ghost use Rattle.std.specs.Iterator.SizeHint.{IsWithinCount, IsExactHint};
 ghost use Rattle.apollo_schema.specs.ImplementerNames.{names_left};
 ghost use Rattle.apollo_schema.specs.Noted.{no_implementers, with_name};
 
+use graphql_nodes::collections::hash_keys::HashKeys;
 use graphql_nodes::collections::key_set::KeySet;
 use graphql_nodes::name::Name;
 use indexmap::set::Iter;
@@ -43,9 +44,16 @@ impl Implementers {
     pub fn new(alloc: Global) -> Implementers
         ensures { result ≡ no_implementers }
     {
+        Implementers::with_keys(alloc, HashKeys::FIXED)
+    }
+
+    /// No name, in sets that hash by these keys.
+    pub fn with_keys(alloc: Global, keys: HashKeys) -> Implementers
+        ensures { result ≡ no_implementers }
+    {
         Implementers {
-            objects: KeySet::new(alloc),
-            interfaces: KeySet::new(alloc),
+            objects: KeySet::with_keys(alloc, keys),
+            interfaces: KeySet::with_keys(alloc, keys),
         }
     }
 

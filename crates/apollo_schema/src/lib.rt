@@ -42,6 +42,7 @@ pub use graphql_ast::type_system::{
     DirectiveDefinition, EnumValueDefinition, FieldDefinition, InputValueDefinition,
 };
 pub use graphql_ast::value::Value;
+pub use graphql_nodes::collections::hash_keys::HashKeys;
 pub use graphql_nodes::collections::items::Items;
 pub use graphql_nodes::collections::key_set::KeySet;
 pub use graphql_nodes::collections::table::Table;

@@ -17,6 +17,7 @@ use crate::tables::Tables;
 use apollo_component::extension::ExtensionSource;
 use apollo_folding::builder_error::BuilderError;
 use graphql_ast::document::Document;
+use graphql_nodes::collections::hash_keys::HashKeys;
 use std::alloc::{AllocError, Global};
 
 /// A builder of a schema: GraphQL specification of October 2021, section 3. Documents go in, in any number, and their
@@ -75,8 +76,23 @@ impl SchemaBuilder {
         ensures settings { IfOk result (λ builder. (adopts builder ≡ false) × (ignores builder ≡ false)) }
         ensures sources { IfOk result (λ builder. sources_of builder ≡ []) }
     {
+        SchemaBuilder::with_keys(alloc, source, HashKeys::FIXED)
+    }
+
+    /// The same, for documents from strangers: each table of names that the builder makes hashes by these keys, and so do
+    /// those of the schema, and of what is made of it. What is built, and in what order, is the same under any keys. The
+    /// error is want of memory, and drops the source.
+    pub fn with_keys(
+        alloc: Global,
+        source: ExtensionSource,
+        keys: HashKeys,
+    ) -> Result<SchemaBuilder, AllocError>
+        ensures stands { IfOk result (StandsFor (next_number source) (added false built_in_definitions)) }
+        ensures settings { IfOk result (λ builder. (adopts builder ≡ false) × (ignores builder ≡ false)) }
+        ensures sources { IfOk result (λ builder. sources_of builder ≡ []) }
+    {
         let first_number = source.next_number();
-        let tables = Tables::with_built_ins(alloc, source)?;
+        let tables = Tables::with_built_ins(alloc, keys, source)?;
         Ok(SchemaBuilder {
             first_number,
             state: State::Open(tables),

@@ -36,6 +36,7 @@ use graphql_ast::definition::Definition;
 use graphql_ast::document::Document;
 use graphql_ast::type_system as ast;
 use graphql_ast::type_system::{DirectiveDefinition, SchemaExtension};
+use graphql_nodes::collections::hash_keys::HashKeys;
 use graphql_nodes::collections::items::Items;
 use graphql_nodes::collections::static_text::StaticText;
 use graphql_nodes::collections::table::Table;
@@ -90,31 +91,35 @@ fn put(
 }
 
 impl Tables {
-    /// Tables of no definition, which draw from this source.
-    fn new(alloc: Global, ids: ExtensionSource) -> Tables
+    /// Tables of no definition, which hash by these keys and draw from this source.
+    fn new(alloc: Global, keys: HashKeys, ids: ExtensionSource) -> Tables
         ensures stands { Stands (next_number ids) [] result }
         ensures sources { result.sources ≡ [] }
         ensures given { (result.alloc ≡ alloc) × (result.ids ≡ ids) }
     {
         Tables {
             alloc,
-            sources: Table::new(alloc),
+            sources: Table::with_keys(alloc, keys),
             schema_definition: None,
             schema_extensions: Items::new(alloc),
-            types: Table::new(alloc),
-            directive_definitions: Table::new(alloc),
-            waiting: Table::new(alloc),
+            types: Table::with_keys(alloc, keys),
+            directive_definitions: Table::with_keys(alloc, keys),
+            waiting: Table::with_keys(alloc, keys),
             ids,
             errors: Items::new(alloc),
         }
     }
 
-    /// Tables of the built-in definitions.
-    pub fn with_built_ins(alloc: Global, ids: ExtensionSource) -> Result<Tables, AllocError>
+    /// Tables of the built-in definitions, which hash by these keys, as do those of their types.
+    pub fn with_built_ins(
+        alloc: Global,
+        keys: HashKeys,
+        ids: ExtensionSource,
+    ) -> Result<Tables, AllocError>
         ensures stands { IfOk result (Stands (next_number ids) (added_items (added false built_in_definitions))) }
         ensures sources { IfOk result (λ tables. tables.sources ≡ []) }
     {
-        let mut tables = Tables::new(alloc, ids);
+        let mut tables = Tables::new(alloc, keys, ids);
         let definitions = built_in_definitions(alloc)?;
         match tables.take(definitions.as_slice(), false) {
             Ok(()) => Ok(tables),
@@ -142,6 +147,7 @@ impl Tables {
         let extensions = take_waiting(self.alloc, &mut self.waiting, definition.name);
         let ty = begin_type(
             self.alloc,
+            self.types.hash_keys(),
             definition,
             extensions.as_slice(),
             &mut self.ids,

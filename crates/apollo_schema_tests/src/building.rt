@@ -36,18 +36,20 @@ pub const ADOPTING: Settings = Settings {
 };
 
 /// What looks at what a build answers, and at the number that its source gives next.
-trait View {
+pub trait View {
     fn view(&mut self, built: &Result<Schema, BuildFailure>, next: u64) -> Result<(), AllocError>;
 }
 
 /// Shows a view what a builder builds.
-fn show<V: View>(view: &mut V, builder: SchemaBuilder) -> Result<(), AllocError> {
+/// No clause: it serves tests.
+pub fn show<V: View>(view: &mut V, builder: SchemaBuilder) -> Result<(), AllocError> {
     let (built, source) = builder.build_with_source();
     view.view(&built, source.next_number())
 }
 
 /// The schema that was built, whatever is at fault.
-fn schema_in(built: &Result<Schema, BuildFailure>) -> Option<&Schema> {
+/// No clause: it serves tests.
+pub fn schema_in(built: &Result<Schema, BuildFailure>) -> Option<&Schema> {
     match built {
         Ok(schema) => Some(schema),
         Err(BuildFailure::Faults(found)) => Some(&found.partial),
@@ -79,14 +81,15 @@ fn add_all(builder: &mut SchemaBuilder, documents: &[Document]) {
     }
 }
 
-/// Whether documents build this schema, where extensions are adopted.
+/// Whether documents build this schema with these settings.
 /// No clause: it serves tests.
 pub fn is_built_of(
     alloc: Global,
+    settings: Settings,
     schema: &Schema,
     documents: &[Document],
 ) -> Result<bool, AllocError> {
-    let mut builder = Schema::builder(alloc)?.adopt_orphan_extensions();
+    let mut builder = begun(alloc, settings)?;
     add_all(&mut builder, documents);
     let mut comparison = Comparison {
         schema,
@@ -105,7 +108,7 @@ fn push_written(
 ) -> Result<(), AllocError> {
     let printed = print(alloc, written.definitions.as_slice())?;
     text.push_str(printed.as_str())?;
-    let is_rebuilt = is_built_of(alloc, schema, slice::from_ref(written))?;
+    let is_rebuilt = is_built_of(alloc, ADOPTING, schema, slice::from_ref(written))?;
     write!(text, "rebuilt equal: {is_rebuilt}\n")
 }
 
@@ -207,7 +210,8 @@ impl<'a> View for Account<'a> {
 }
 
 /// A builder with these settings.
-fn begun(alloc: Global, settings: Settings) -> Result<SchemaBuilder, AllocError> {
+/// No clause: it serves tests.
+pub fn begun(alloc: Global, settings: Settings) -> Result<SchemaBuilder, AllocError> {
     let source = ExtensionSource::starting_at(settings.first_number);
     if settings.adopts {
         return Ok(SchemaBuilder::with_source(alloc, source)?.adopt_orphan_extensions());

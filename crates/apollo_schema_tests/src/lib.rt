@@ -17,6 +17,8 @@ mod extensions;
 #[cfg(test)]
 mod faults;
 #[cfg(test)]
+mod hash_keys;
+#[cfg(test)]
 mod lookups;
 #[cfg(test)]
 mod no_documents;
@@ -24,6 +26,8 @@ mod no_documents;
 mod parts;
 #[cfg(test)]
 mod reading;
+#[cfg(test)]
+mod rearranging;
 #[cfg(test)]
 mod roots;
 #[cfg(test)]

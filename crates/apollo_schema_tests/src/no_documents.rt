@@ -1,6 +1,6 @@
 //! The built-in definitions, and what is built of no documents.
 
-use crate::building::{is_built_of, push_whole};
+use crate::building::{ADOPTING, is_built_of, push_whole};
 use apollo_built_in::definitions::built_in_definitions;
 use apollo_schema::schema::Schema;
 use graphql_ast::definition::Definition;
@@ -40,7 +40,7 @@ fn told(alloc: Global, schema: &Schema) -> Result<String, AllocError> {
         write!(&mut text, "{name} ")?;
     }
     push_whole(alloc, &mut text, schema)?;
-    let is_built = is_built_of(alloc, schema, &[])?;
+    let is_built = is_built_of(alloc, ADOPTING, schema, &[])?;
     write!(&mut text, "built of no documents: {is_built}\n")?;
     Ok(text)
 }

@@ -2,7 +2,8 @@
 
 use crate::accounts::push_place;
 use bench_notation::printing::print;
-use bench_notation::reading::read;
+use bench_notation::reading::{read, read_divided};
+use bench_notation::refusal::{ReadError, Reason, RefusedLine};
 use graphql_ast::definition::Definition;
 use graphql_ast::document::Document;
 use graphql_ast::type_system::{InputObjectTypeDefinition, SchemaDefinition};
@@ -33,6 +34,63 @@ fn definitions_are_printed_as_they_are_read(rt: HostRuntime) -> Result<(), Fail>
     let documents = read(alloc, SAME)?;
     let text = printed(alloc, documents.as_slice())?;
     assert_eq!(rt; text.as_str(), SAME);
+    Ok(())
+}
+
+/// Executable documents that are printed as they are read.
+const EXECUTABLE: &str =
+    "operation query -\n@ d\nsel 0 field a\nsel 0 field a b\nsel 1 field c\nsel 2 spread F\nsel 2 inline T\nsel 3 field d\nsel 1 inline\nsel 2 spread G\nsel 0 spread F\n---\nfragment F T\n@ d\n@ d\nsel 0 field a\noperation subscription S\n---\nfragment G T\n";
+
+#[test]
+fn operations_and_fragments_are_printed_as_they_are_read(rt: HostRuntime) -> Result<(), Fail> {
+    let alloc = rt.alloc();
+    let documents = read(alloc, EXECUTABLE)?;
+    let text = printed(alloc, documents.as_slice())?;
+    assert_eq!(rt; text.as_str(), EXECUTABLE);
+    Ok(())
+}
+
+#[test]
+fn a_line_divides_schema_documents_from_executable_ones(rt: HostRuntime) -> Result<(), Fail> {
+    let alloc = rt.alloc();
+    let documents = read_divided(
+        alloc,
+        "def object A\n---\n\n===\noperation query Q\nsel 0 field a\n---\n",
+    )?;
+    let schema = printed(alloc, documents.schema.as_slice())?;
+    assert_eq!(rt; schema.as_str(), "def object A\n---\n");
+    let executable = printed(alloc, documents.executable.as_slice())?;
+    assert_eq!(rt; executable.as_str(), "operation query Q\nsel 0 field a\n---\n");
+    Ok(())
+}
+
+/// Why a text that is to be divided is not read.
+fn refusal_of(alloc: Global, text: &str) -> Option<ReadError> {
+    match read_divided(alloc, text) {
+        Ok(_) => None,
+        Err(error) => Some(error),
+    }
+}
+
+#[test]
+fn a_text_is_divided_once(rt: HostRuntime) -> Result<(), Fail> {
+    let alloc = rt.alloc();
+    assert_eq!(rt; refusal_of(alloc, "def object T\n---\n"), Some(ReadError::NoDivision));
+    let second = RefusedLine {
+        number: 3,
+        reason: Reason::MisplacedLine,
+    };
+    assert_eq!(rt; refusal_of(alloc, "===\n---\n=== x\n"), Some(ReadError::Refused(second)));
+    let long = RefusedLine {
+        number: 1,
+        reason: Reason::WrongNumberOfWords,
+    };
+    assert_eq!(rt; refusal_of(alloc, "=== x\n"), Some(ReadError::Refused(long)));
+    let unknown = RefusedLine {
+        number: 2,
+        reason: Reason::UnknownLine,
+    };
+    assert_eq!(rt; refusal_of(alloc, "def object T\nfoo\n"), Some(ReadError::Refused(unknown)));
     Ok(())
 }
 

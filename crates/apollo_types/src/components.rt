@@ -1,15 +1,16 @@
 //! The components of a type or of a schema's definition, one by one.
-ghost use Rattle.std.specs.Prelude.{◌≡◌, ◌++◌, length, map, IfOk, IfSome};
+ghost use Rattle.std.specs.Prelude.{◌≡◌, List, ◌++◌, length, map, IfOk, OnOk, IfSome};
 ghost use Rattle.std.specs.Iterator.{UpTo, at_most};
 ghost use Rattle.std.specs.Iterator.SizeHint.{IsWithinCount, IsExactHint};
 ghost use Rattle.std.specs.Map.Iter.{TakesFirst};
-ghost use Rattle.apollo_types.specs.Components.{of_directive, of_field, of_value, of_input_field, component_seen, part_components, ComponentsInOrder};
+ghost use Rattle.apollo_component.specs.WriteOut.{SourcedPart, by_origin};
+ghost use Rattle.apollo_types.specs.Components.{of_directive, of_field, of_value, of_input_field, of_root, component_seen, part_components, ComponentsInOrder};
 
 use crate::root_operations::RootOperations;
 use apollo_component::component::{Component, ComponentName};
 use apollo_component::directive_list::DirectiveList;
 use apollo_component::extension::ComponentOrigin;
-use graphql_ast::definition_parts::DefinitionPart;
+use apollo_component::parts_by_origin::PartsByOrigin;
 use graphql_ast::directive::Directive;
 use graphql_ast::type_system::{EnumValueDefinition, FieldDefinition, InputValueDefinition};
 use graphql_nodes::name::Name;
@@ -45,26 +46,6 @@ impl<'a> ComponentRef<'a> {
             ComponentRef::EnumValue(value) => &value.origin,
             ComponentRef::InputField(field) => &field.origin,
             ComponentRef::Root(_, name) => &name.origin,
-        }
-    }
-
-    /// What it is there. A root stands where its name does. The error is want of memory.
-    pub(crate) fn to_part(self, alloc: Global) -> Result<DefinitionPart, AllocError>
-        ensures { IfOk result (λ part. part ≡ (component_seen self.entry).1) }
-    {
-        match self {
-            ComponentRef::Directive(directive) => {
-                Ok(DefinitionPart::Directive(directive.node.clone()?))
-            }
-            ComponentRef::Name(name) => Ok(DefinitionPart::Name(name.name.clone()?)),
-            ComponentRef::Field(field) => Ok(DefinitionPart::Field(field.node.clone()?)),
-            ComponentRef::EnumValue(value) => Ok(DefinitionPart::EnumValue(value.node.clone()?)),
-            ComponentRef::InputField(field) => Ok(DefinitionPart::InputField(field.node.clone()?)),
-            ComponentRef::Root(operation_type, name) => {
-                let root = (operation_type, name.name.clone()?);
-                let node = Node::new_opt_location(alloc, root, name.name.location())?;
-                Ok(DefinitionPart::Root(node))
-            }
         }
     }
 }
@@ -111,6 +92,37 @@ impl<'a> Part<'a> {
             Part::Roots(roots) => roots.len(),
         }
     }
+
+    /// Adds each component that is left, in order. The error is want of memory.
+    fn add_to(self, alloc: Global, parts: &mut PartsByOrigin) -> Result<(), AllocError>
+        ensures { OnOk result ((cs : List SourcedPart) → parts.old ≡ by_origin cs → parts.new ≡ by_origin (cs ++ part_components self.entry)) }
+    {
+        match self {
+            Part::Nothing => {}
+            Part::Names(names) => parts.add_names(alloc, names.as_slice())?,
+            Part::Fields(fields) => parts.add_named_components(alloc, fields)?,
+            Part::EnumValues(values) => parts.add_named_components(alloc, values)?,
+            Part::InputFields(fields) => parts.add_named_components(alloc, fields)?,
+            Part::Roots(roots) => add_roots(alloc, roots, parts)?,
+        }
+        Ok(())
+    }
+}
+
+/// Adds each root that is left, in order. A root stands where its name does.
+fn add_roots(
+    alloc: Global,
+    roots: RootOperations<'_>,
+    parts: &mut PartsByOrigin,
+) -> Result<(), AllocError>
+    ensures { OnOk result ((cs : List SourcedPart) → parts.old ≡ by_origin cs → parts.new ≡ by_origin (cs ++ map of_root roots.entry)) }
+{
+    for (operation_type, root) in roots {
+        let name = root.name.clone()?;
+        let node = Node::new_opt_location(alloc, (operation_type, name), root.name.location())?;
+        parts.add(alloc, root.origin, node)?;
+    }
+    Ok(())
 }
 
 /// The components of a type or of a schema's definition, in order: directives, then names that it lists, then what stands
@@ -153,6 +165,17 @@ impl<'a> Components<'a> {
             names,
             values,
         }
+    }
+
+    /// The components under their origins, by one pass through them. The error is want of memory.
+    pub(crate) fn by_origin(self, alloc: Global) -> Result<PartsByOrigin, AllocError>
+        ensures { IfOk result (λ parts. parts ≡ by_origin self.entry) }
+    {
+        let mut parts = PartsByOrigin::new(alloc);
+        parts.add_components(alloc, self.directives.as_slice())?;
+        self.names.add_to(alloc, &mut parts)?;
+        self.values.add_to(alloc, &mut parts)?;
+        Ok(parts)
     }
 }
 

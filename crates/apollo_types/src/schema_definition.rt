@@ -13,7 +13,7 @@ use crate::components::{Components, Part};
 use crate::extended_type::ExtendedType;
 use crate::origins::Origins;
 use crate::root_operations::RootOperations;
-use crate::write_out::{by_origin, identities_of};
+use crate::write_out::identities_of;
 use apollo_component::component::ComponentName;
 use apollo_component::directive_list::DirectiveList;
 use apollo_component::extension::{ComponentOrigin, ExtensionId};
@@ -148,7 +148,7 @@ impl SchemaDefinition {
         ensures { IfOk result (λ written. written.items ≡ write_schema_definition self.now location types.now) }
     {
         let is_written = self.is_written(alloc, types)?;
-        let parts = by_origin(alloc, self.components())?;
+        let parts = self.components().by_origin(alloc)?;
         let written = parts.into_schema(alloc, is_written, self.description.clone()?, location)?;
         Ok(written)
     }

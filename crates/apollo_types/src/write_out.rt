@@ -7,7 +7,6 @@ use crate::components::Components;
 use crate::origins::Origins;
 use apollo_component::extension::{ComponentOrigin, ExtensionId};
 use apollo_component::named::add_key;
-use apollo_component::parts_by_origin::PartsByOrigin;
 use graphql_ast::definition::Definition;
 use graphql_nodes::collections::key_set::KeySet;
 use graphql_nodes::name::Name;
@@ -40,20 +39,6 @@ pub(crate) fn identities_of(
     Ok(ids)
 }
 
-/// The components under their origins, by one pass through them.
-pub(crate) fn by_origin(
-    alloc: Global,
-    components: Components<'_>,
-) -> Result<PartsByOrigin, AllocError>
-    ensures { IfOk result (λ parts. parts ≡ by_origin components.entry) }
-{
-    let mut parts = PartsByOrigin::new(alloc);
-    for component in components {
-        parts.add(alloc, *component.origin(), component.to_part(alloc)?)?;
-    }
-    Ok(parts)
-}
-
 /// The type that these components make, as syntax: its definition, at this place, then its extensions.
 pub(crate) fn write_type(
     alloc: Global,
@@ -65,7 +50,7 @@ pub(crate) fn write_type(
 ) -> Result<Vec<Definition>, AllocError>
     ensures { IfOk result (λ written. written.items ≡ written_type kind description.now name.now (by_origin components.entry) location) }
 {
-    let parts = by_origin(alloc, components)?;
+    let parts = components.by_origin(alloc)?;
     let written = parts.into_type(alloc, kind, description.clone()?, name, location)?;
     Ok(written)
 }

@@ -1,2 +1,3 @@
+pub mod DepthWords
 pub mod LineWords
 pub mod TypeWords

@@ -1,5 +1,5 @@
 -- What components add to the item that is being read.
-use Rattle.std.specs.Prelude.{[], ◌∷◌, ◌++◌, Bool, true, false, Option, None, Some, option_map}
+use Rattle.std.specs.Prelude.{ℕ, ◌-◌, List, [], ◌∷◌, ◌++◌, length, slice_get, Bool, true, false, Option, None, Some, option_map}
 use Rattle.graphql_ast.specs.DefinitionParts.{no_parts, with_part, type_definition, type_extension, schema_definition, schema_extension}
 use Rattle.graphql_ast.specs.declared.definition_parts.DefinitionPart.{DefinitionPart}
 use Rattle.graphql_ast.specs.declared.definition_parts.DefinitionPart.TheVariants as p
@@ -17,6 +17,11 @@ use Rattle.graphql_ast.specs.declared.type_system.FieldDefinition.{FieldDefiniti
 use Rattle.graphql_ast.specs.declared.type_system.InputValueDefinition.{InputValueDefinition}
 use Rattle.graphql_ast.specs.declared.definition.Definition.{Definition}
 use Rattle.graphql_ast.specs.declared.definition.Definition.TheVariants as d
+use Rattle.graphql_ast.specs.declared.selection.Selection.{Selection}
+use Rattle.bench_selections.specs.Nesting.{levels_below, selections_at}
+use Rattle.bench_selections.specs.declared.selection_line.SelectionLine.{SelectionLine}
+use Rattle.bench_notation.specs.declared.executable_header.ExecutableHeader.{ExecutableHeader}
+use Rattle.bench_notation.specs.declared.executable_header.ExecutableHeader.TheVariants as x
 use Rattle.bench_notation.specs.declared.above.Above.{Above}
 use Rattle.bench_notation.specs.declared.above.Above.TheVariants as a
 use Rattle.bench_notation.specs.declared.kind_words.Role.TheVariants as r
@@ -24,8 +29,8 @@ use Rattle.bench_notation.specs.declared.line.Header.{Header}
 use Rattle.bench_notation.specs.declared.line.Header.TheVariants as h
 use Rattle.bench_notation.specs.declared.line.Component.{Component}
 use Rattle.bench_notation.specs.declared.line.Component.TheVariants as c
-use Rattle.bench_notation.specs.declared.item.DirectiveParts.{DirectiveParts}
-use Rattle.bench_notation.specs.declared.item.OpenField.{OpenField}
+use Rattle.bench_notation.specs.declared.directive_parts.DirectiveParts.{DirectiveParts}
+use Rattle.bench_notation.specs.declared.open_field.OpenField.{OpenField}
 use Rattle.bench_notation.specs.declared.item.OpenItem.{OpenItem}
 
 -- a node that stands at this place
@@ -78,14 +83,24 @@ no_directive_parts = record { arguments = []; is_repeatable = false; locations =
 
 -- a header alone
 abbrev pub header_alone : Header → SourceSpan → OpenItem
-header_alone header place = record { place = place; header = header; parts = no_parts; directive = no_directive_parts; last_field = None }
+header_alone header place = record { place = place; header = header; parts = no_parts; directive = no_directive_parts; last_field = None; selections = [] }
 
--- what stands above the next line, below this header and this field, if there is one
-abbrev pub above_below : Header → Option OpenField → Above
-above_below (h.Type role kind name) None = a.Type kind
-above_below (h.Type role kind name) (Some field) = a.Field kind
-above_below (h.Directive name) field = a.Directive
-above_below (h.Schema role) field = a.Schema
+-- at how many depths a selection may stand below this one, and at one where there is none
+abbrev pub levels_behind : Option SelectionLine → ℕ
+levels_behind None = 1
+levels_behind (Some line) = levels_below line
+
+-- at how many depths the selection behind these may stand
+abbrev pub levels_after : List SelectionLine → ℕ
+levels_after lines = levels_behind (slice_get lines (length lines - 1))
+
+-- what stands above the next line, below this header, this field, if there is one, and these selections
+abbrev pub above_below : Header → Option OpenField → List SelectionLine → Above
+above_below (h.Type role kind name) None selections = a.Type kind
+above_below (h.Type role kind name) (Some field) selections = a.Field kind
+above_below (h.Directive name) field selections = a.Directive
+above_below (h.Schema role) field selections = a.Schema
+above_below (h.Executable header) field selections = a.Selections (levels_after selections)
 
 abbrev pub is_input_object : Header → Bool
 is_input_object (h.Type role k.InputObject name) = true
@@ -137,19 +152,26 @@ with_component (c.Value name) place item = with_own_part (p.EnumValue (enum_valu
 with_component (c.On location) place item = record item { directive = record item.directive { locations = item.directive.locations ++ location ∷ [] } }
 with_component c.Repeatable place item = record item { directive = record item.directive { is_repeatable = true } }
 with_component (c.Root operation name) place item = with_own_part (p.Root (root_operation operation name place)) item
+with_component (c.Selection depth selected) place item = record item { selections = item.selections ++ record { depth = depth; place = place; selected = selected } ∷ [] }
 
 -- the definition of a directive
 abbrev pub directive_definition : NameView → DirectiveParts → SourceSpan → Definition
 directive_definition name parts place = d.DirectiveDefinition (node_at place record { description = None; name = name; arguments = parts.arguments; repeatable = parts.is_repeatable; locations = parts.locations })
 
+-- an operation or fragment with these directives and selections
+abbrev pub executable_definition : ExecutableHeader → DirectiveList → List Selection → SourceSpan → Definition
+executable_definition (x.Operation operation name) directives selections place = d.OperationDefinition (node_at place record { operation_type = operation; name = name; variables = []; directives = directives; selection_set = selections })
+executable_definition (x.Fragment name condition) directives selections place = d.FragmentDefinition (node_at place record { name = name; type_condition = condition; directives = directives; selection_set = selections })
+
 -- the definition or extension of a header with these components
-abbrev pub definition_with : Header → DefinitionParts → DirectiveParts → SourceSpan → Definition
-definition_with (h.Type r.Definition kind name) parts directive place = type_definition kind None name parts (Some place)
-definition_with (h.Type r.Extension kind name) parts directive place = type_extension kind name parts (Some place)
-definition_with (h.Directive name) parts directive place = directive_definition name directive place
-definition_with (h.Schema r.Definition) parts directive place = schema_definition None parts (Some place)
-definition_with (h.Schema r.Extension) parts directive place = schema_extension parts (Some place)
+abbrev pub definition_with : Header → DefinitionParts → DirectiveParts → List SelectionLine → SourceSpan → Definition
+definition_with (h.Type r.Definition kind name) parts directive lines place = type_definition kind None name parts (Some place)
+definition_with (h.Type r.Extension kind name) parts directive lines place = type_extension kind name parts (Some place)
+definition_with (h.Directive name) parts directive lines place = directive_definition name directive place
+definition_with (h.Schema r.Definition) parts directive lines place = schema_definition None parts (Some place)
+definition_with (h.Schema r.Extension) parts directive lines place = schema_extension parts (Some place)
+definition_with (h.Executable header) parts directive lines place = executable_definition header parts.directives (selections_at 0 lines) place
 
 -- the definition or extension that an item says
 abbrev pub whole_item : OpenItem → Definition
-whole_item item = definition_with item.header (field_closed item).parts item.directive item.place
+whole_item item = definition_with item.header (field_closed item).parts item.directive item.selections item.place

@@ -1,9 +1,12 @@
 -- What documents the lines of a text say.
-use Rattle.std.specs.Prelude.{ℕ, List, [], ◌∷◌, ◌≡◌, ◌++◌, ◌+◌, ◌<◌, All, get_or, length, take, Option, None, Some, option_map}
+use Rattle.std.specs.Prelude.{ℕ, List, [], ◌∷◌, ◌≡◌, ◌++◌, ◌+◌, ◌<◌, All, Bool, true, false, get_or, length, take, Option, None, Some, option_map}
 use Rattle.graphql_nodes.specs.declared.source.SourceSpan.{SourceSpan}
 use Rattle.graphql_ast.specs.declared.definition.Definition.{Definition}
 use Rattle.graphql_ast.specs.declared.document.Document.{Document}
 use Rattle.bench_notation.specs.declared.above.Above.{Above}
+use Rattle.bench_notation.specs.declared.above.Position.{Position}
+use Rattle.bench_notation.specs.declared.reading.Division.{Division}
+use Rattle.bench_notation.specs.declared.reading.Division.TheVariants as v
 use Rattle.bench_notation.specs.declared.above.Above.TheVariants as a
 use Rattle.bench_notation.specs.declared.line.Line.{Line}
 use Rattle.bench_notation.specs.declared.line.Line.TheVariants as l
@@ -25,9 +28,9 @@ with_item definitions (Some item) = definitions ++ whole_item item ∷ []
 abbrev pub no_definitions : Document
 no_definitions = record { sources = []; definitions = [] }
 
--- before the first line
-abbrev pub nothing_read : DocumentReader
-nothing_read = record { documents = []; document = no_definitions; item = None }
+-- before the first line of a text that is divided there
+abbrev pub nothing_read : Division → DocumentReader
+nothing_read division = record { division = division; documents = []; document = no_definitions; item = None }
 
 -- after the end of an item
 abbrev pub item_ended : DocumentReader → DocumentReader
@@ -35,23 +38,37 @@ item_ended reader = record reader { document = record reader.document { definiti
 
 -- after the end of a document
 abbrev pub document_ended : DocumentReader → DocumentReader
-document_ended reader = record { documents = reader.documents ++ (item_ended reader).document ∷ []; document = no_definitions; item = None }
+document_ended reader = record { division = reader.division; documents = reader.documents ++ (item_ended reader).document ∷ []; document = no_definitions; item = None }
+
+-- after the end of the documents before a division
+abbrev pub divided : DocumentReader → DocumentReader
+divided reader = nothing_read (v.After (document_ended reader).documents)
 
 -- after one line more
 abbrev pub line_added : Line → SourceSpan → DocumentReader → DocumentReader
 line_added l.Empty place reader = reader
 line_added l.Break place reader = document_ended reader
+line_added l.Division place reader = divided reader
 line_added (l.Header header) place reader = record (item_ended reader) { item = Some (header_alone header place) }
 line_added (l.Component component) place reader = record reader { item = option_map (with_component component place) reader.item }
 
 -- what stands above the next line, where this item is being read, or none
 abbrev pub above_next : Option OpenItem → Above
 above_next None = a.Nothing
-above_next (Some item) = above_below item.header item.last_field
+above_next (Some item) = above_below item.header item.last_field item.selections
+
+-- a division may come where one is to come
+abbrev pub may_divide : Division → Bool
+may_divide v.ToCome = true
+may_divide _ = false
+
+-- where the next line comes
+abbrev pub position_next : DocumentReader → Position
+position_next reader = record { above = above_next reader.item; may_divide = may_divide reader.division }
 
 -- a line may stand where it comes next
 abbrev pub MayStand : Line → DocumentReader → Type 0
-MayStand line reader = StandsBelow (above_next reader.item) line
+MayStand line reader = StandsBelow (position_next reader) line
 
 -- one line leads from a state of the reading to another
 pub record Takes (text : List ℕ) (place : SourceSpan) (old new : DocumentReader) : Type 0 where
@@ -60,19 +77,23 @@ pub record Takes (text : List ℕ) (place : SourceSpan) (old new : DocumentReade
   pub stands : MayStand line old
   pub added : new ≡ line_added line place old
 
--- these lines, of which the first has this number, lead from a state of the reading to these documents
-abbrev pub ReadTo : ℕ → List (List ℕ) → DocumentReader → List Document → Type 0
-ReadTo number [] reader documents = documents ≡ (document_ended reader).documents
-ReadTo number (text ∷ texts) reader documents = (next : DocumentReader) × (Takes text (line_place number) reader next × ReadTo (number + 1) texts next documents)
-
--- the documents that a text says: its lines lead to them, counted from 1
-abbrev pub AreDocumentsOf : List ℕ → List Document → Type 0
-AreDocumentsOf text documents = ReadTo 1 (lines_of text) nothing_read documents
-
 -- these lines, of which the first has this number, lead from a state of the reading to another
 abbrev pub LeadTo : ℕ → List (List ℕ) → DocumentReader → DocumentReader → Type 0
 LeadTo number [] old new = old ≡ new
 LeadTo number (text ∷ texts) old new = (next : DocumentReader) × (Takes text (line_place number) old next × LeadTo (number + 1) texts next new)
+
+-- the documents that a text says: its lines lead to them, counted from 1, and none divides them
+pub record AreDocumentsOf (text : List ℕ) (documents : List Document) : Type 0 where
+  pub end : DocumentReader
+  pub leads : LeadTo 1 (lines_of text) (nothing_read v.Never) end
+  pub are : documents ≡ (document_ended end).documents
+
+-- the documents that a text says before the line that divides it, and behind it
+pub record AreDividedDocumentsOf (text : List ℕ) (schema executable : List Document) : Type 0 where
+  pub end : DocumentReader
+  pub leads : LeadTo 1 (lines_of text) (nothing_read v.ToCome) end
+  pub before : end.division ≡ v.After schema
+  pub behind : executable ≡ (document_ended end).documents
 
 -- read from a state of the reading, the refused line is one of these lines; those before it say something, and where
 -- they lead, it says nothing that may stand there
@@ -83,17 +104,30 @@ pub record IsFirstRefusedFrom (start : DocumentReader) (lines : List (List ℕ))
   pub read : All IsLine (take before lines)
   pub reader : DocumentReader
   pub leads : LeadTo 1 (take before lines) start reader
-  pub nothing : SaysNothing (above_next reader.item) (line_place refused.number) (get_or lines before [])
+  pub nothing : SaysNothing (position_next reader) (line_place refused.number) (get_or lines before [])
 
--- read from the first on
+-- an error of taking these lines in a state of the reading; want of memory says nothing
+abbrev pub IsLinesError : DocumentReader → List (List ℕ) → ReadError → Type 0
+IsLinesError start lines (e.Refused refused) = IsFirstRefusedFrom start lines refused
+IsLinesError start lines e.NoDivision = ⊥
+IsLinesError start lines e.Memory = Unit {0}
+
+-- read from the first on, where no line may divide them
 abbrev pub IsFirstRefused : List (List ℕ) → RefusedLine → Type 0
-IsFirstRefused = IsFirstRefusedFrom nothing_read
+IsFirstRefused = IsFirstRefusedFrom (nothing_read v.Never)
 
--- an error of reading these lines from a state of the reading; want of memory says nothing
-abbrev pub IsReadErrorFrom : DocumentReader → List (List ℕ) → ReadError → Type 0
-IsReadErrorFrom start lines (e.Refused refused) = IsFirstRefusedFrom start lines refused
-IsReadErrorFrom start lines e.Memory = Unit {0}
-
--- an error of reading these lines from the first on
+-- an error of reading these lines, where none may divide them
 abbrev pub IsReadError : List (List ℕ) → ReadError → Type 0
-IsReadError = IsReadErrorFrom nothing_read
+IsReadError = IsLinesError (nothing_read v.Never)
+
+-- all of these lines say something, and none divides them
+pub record AreUndivided (lines : List (List ℕ)) : Type 0 where
+  pub end : DocumentReader
+  pub leads : LeadTo 1 lines (nothing_read v.ToCome) end
+  pub whole : (before : List Document) → ¬ (end.division ≡ v.After before)
+
+-- an error of reading these lines, where one is to divide them
+abbrev pub IsDividedReadError : List (List ℕ) → ReadError → Type 0
+IsDividedReadError lines (e.Refused refused) = IsFirstRefusedFrom (nothing_read v.ToCome) lines refused
+IsDividedReadError lines e.NoDivision = AreUndivided lines
+IsDividedReadError lines e.Memory = Unit {0}

@@ -1,5 +1,6 @@
 -- The words with which headers begin: docs/NOTATION.md.
-use Rattle.std.specs.Prelude.{ℕ, List, codes}
+use Rattle.std.specs.Prelude.{ℕ, List, Option, None, Some, codes}
+use Rattle.graphql_nodes.specs.NameView.{NameView}
 use Rattle.graphql_nodes.specs.declared.type_kind.TypeKind.{TypeKind}
 use Rattle.graphql_nodes.specs.declared.type_kind.TypeKind.TheVariants as k
 use Rattle.bench_notation.specs.declared.kind_words.Role.{Role}
@@ -21,3 +22,8 @@ kind_word k.Interface = codes "interface"
 kind_word k.Union = codes "union"
 kind_word k.Enum = codes "enum"
 kind_word k.InputObject = codes "input"
+
+-- the name of an operation, or the word of one that has none
+abbrev pub name_word : Option NameView → List ℕ
+name_word None = codes "-"
+name_word (Some name) = name.text

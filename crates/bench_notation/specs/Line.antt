@@ -1,5 +1,5 @@
 -- What the lines of the notation say.
-use Rattle.std.specs.Prelude.{ℕ, List, [], ◌∷◌, ◌≡◌, ◌==◌, ◌≤◌, Some, codes, map}
+use Rattle.std.specs.Prelude.{ℕ, List, [], ◌∷◌, ◌≡◌, ◌==◌, ◌≤◌, Option, None, Some, IfSome, codes, decimal, map}
 use Rattle.std.specs.Borrow.{Bor}
 use Rattle.std.specs.List.{slice_split}
 use Rattle.graphql_nodes.specs.NameView.{NameView}
@@ -10,13 +10,17 @@ use Rattle.graphql_ast.specs.TypeReferences.{inner_name}
 use Rattle.graphql_nodes.specs.declared.operation_type.OperationType.{OperationType}
 use Rattle.graphql_nodes.specs.declared.source.SourceSpan.{SourceSpan}
 use Rattle.graphql_ast.specs.declared.type_reference.Type.{«Type» as TypeReference}
+use Rattle.bench_selections.specs.declared.selection_line.Selected.{Selected}
+use Rattle.bench_selections.specs.declared.selection_line.Selected.TheVariants as w
+use Rattle.bench_notation.specs.declared.executable_header.ExecutableHeader.{ExecutableHeader}
+use Rattle.bench_notation.specs.declared.executable_header.ExecutableHeader.TheVariants as x
 use Rattle.bench_notation.specs.declared.line.Line.{Line}
 use Rattle.bench_notation.specs.declared.line.Line.TheVariants as l
 use Rattle.bench_notation.specs.declared.line.Header.{Header}
 use Rattle.bench_notation.specs.declared.line.Header.TheVariants as h
 use Rattle.bench_notation.specs.declared.line.Component.{Component}
 use Rattle.bench_notation.specs.declared.line.Component.TheVariants as c
-use Rattle.bench_notation.specs.HeaderWords.{role_word, schema_word, kind_word}
+use Rattle.bench_notation.specs.HeaderWords.{role_word, schema_word, kind_word, name_word}
 use Rattle.bench_notation.specs.Text.{type_text, opened_brackets}
 
 -- the texts of words or lines
@@ -55,6 +59,55 @@ AreNameAndType place words name ty = (words ≡ name.text ∷ type_text ty ∷ [
 abbrev pub AreRoot : SourceSpan → List (List ℕ) → OperationType → NameView → Type 0
 AreRoot place words operation name = (words ≡ operation_text operation ∷ name.text ∷ []) × IsNameAt place name
 
+-- the name that there is, if there is one, stands at this place
+abbrev pub IsOptionalNameAt : SourceSpan → Option NameView → Type 0
+IsOptionalNameAt place name = IfSome name (IsNameAt place)
+
+-- the word of a name, or no word
+abbrev pub optional_word : Option NameView → List (List ℕ)
+optional_word None = []
+optional_word (Some name) = name.text ∷ []
+
+-- these words are a name that stands at this place, or there is no word
+abbrev pub AreOptionalName : SourceSpan → List (List ℕ) → Option NameView → Type 0
+AreOptionalName place words name = (words ≡ optional_word name) × IsOptionalNameAt place name
+
+-- these words are a name, and an alias behind it or none, that stand at this place
+abbrev pub AreNameAndAlias : SourceSpan → List (List ℕ) → NameView → Option NameView → Type 0
+AreNameAndAlias place words name alias = (words ≡ name.text ∷ optional_word alias) × (IsNameAt place name × IsOptionalNameAt place alias)
+
+-- these words are a kind of operation, and a name that stands at this place or the word for none
+abbrev pub AreOperation : SourceSpan → List (List ℕ) → OperationType → Option NameView → Type 0
+AreOperation place words operation name = (words ≡ operation_text operation ∷ name_word name ∷ []) × IsOptionalNameAt place name
+
+-- these words are a fragment's name and that of its type, which stand at this place
+abbrev pub AreFragment : SourceSpan → List (List ℕ) → NameView → NameView → Type 0
+AreFragment place words name condition = (words ≡ name.text ∷ condition.text ∷ []) × (IsNameAt place name × IsNameAt place condition)
+
+-- the words of what is selected
+abbrev pub selected_words : Selected → List (List ℕ)
+selected_words (w.Field name alias) = codes "field" ∷ name.text ∷ optional_word alias
+selected_words (w.Spread name) = codes "spread" ∷ name.text ∷ []
+selected_words (w.Inline condition) = codes "inline" ∷ optional_word condition
+
+-- the names of what is selected stand at this place
+abbrev pub IsSelectedAt : SourceSpan → Selected → Type 0
+IsSelectedAt place (w.Field name alias) = IsNameAt place name × IsOptionalNameAt place alias
+IsSelectedAt place (w.Spread name) = IsNameAt place name
+IsSelectedAt place (w.Inline condition) = IsOptionalNameAt place condition
+
+-- these words are what is selected, whose names stand at this place
+abbrev pub AreSelected : SourceSpan → List (List ℕ) → Selected → Type 0
+AreSelected place words selected = (words ≡ selected_words selected) × IsSelectedAt place selected
+
+-- a selection stands at most 200 deep
+abbrev pub IsDepth : ℕ → Type 0
+IsDepth depth = depth ≤ 200
+
+-- these words are a depth and what is selected, whose names stand at this place
+abbrev pub AreSelection : SourceSpan → List (List ℕ) → ℕ → Selected → Type 0
+AreSelection place words depth selected = (words ≡ decimal depth ∷ selected_words selected) × (IsDepth depth × IsSelectedAt place selected)
+
 -- a word, then a name that stands at this place
 abbrev pub SaysName : SourceSpan → List (List ℕ) → List ℕ → NameView → Type 0
 SaysName place words word name = (words ≡ word ∷ name.text ∷ []) × IsNameAt place name
@@ -67,11 +120,17 @@ SaysNameAndType place words word name ty = (words ≡ word ∷ name.text ∷ typ
 abbrev pub SaysRoot : SourceSpan → List (List ℕ) → List ℕ → OperationType → NameView → Type 0
 SaysRoot place words word operation name = (words ≡ word ∷ operation_text operation ∷ name.text ∷ []) × IsNameAt place name
 
+-- what the header line of an operation or fragment says
+abbrev pub SaysExecutable : SourceSpan → List (List ℕ) → ExecutableHeader → Type 0
+SaysExecutable place words (x.Operation operation name) = (words ≡ codes "operation" ∷ operation_text operation ∷ name_word name ∷ []) × IsOptionalNameAt place name
+SaysExecutable place words (x.Fragment name condition) = (words ≡ codes "fragment" ∷ name.text ∷ condition.text ∷ []) × (IsNameAt place name × IsNameAt place condition)
+
 -- what a header line says
 abbrev pub SaysHeader : SourceSpan → List (List ℕ) → Header → Type 0
 SaysHeader place words (h.Type role kind name) = (words ≡ role_word role ∷ kind_word kind ∷ name.text ∷ []) × IsNameAt place name
 SaysHeader place words (h.Directive name) = SaysName place words (codes "directive") name
 SaysHeader place words (h.Schema role) = words ≡ schema_word role ∷ []
+SaysHeader place words (h.Executable header) = SaysExecutable place words header
 
 -- what a line below a header says
 abbrev pub SaysComponent : SourceSpan → List (List ℕ) → Component → Type 0
@@ -85,11 +144,13 @@ SaysComponent place words (c.Value name) = SaysName place words (codes "value") 
 SaysComponent place words (c.On location) = words ≡ codes "on" ∷ location_text location ∷ []
 SaysComponent place words c.Repeatable = words ≡ codes "repeatable" ∷ []
 SaysComponent place words (c.Root operation name) = SaysRoot place words (codes "root") operation name
+SaysComponent place words (c.Selection depth selected) = (words ≡ codes "sel" ∷ decimal depth ∷ selected_words selected) × (IsDepth depth × IsSelectedAt place selected)
 
 -- what a line of these words says that is not empty
 abbrev pub SayLine : SourceSpan → List (List ℕ) → Line → Type 0
 SayLine place words l.Empty = ⊥
 SayLine place words l.Break = words ≡ codes "---" ∷ []
+SayLine place words l.Division = words ≡ codes "===" ∷ []
 SayLine place words (l.Header header) = SaysHeader place words header
 SayLine place words (l.Component component) = SaysComponent place words component
 

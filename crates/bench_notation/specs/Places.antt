@@ -1,9 +1,10 @@
 -- Where the component lines of the notation may stand: docs/NOTATION.md.
-use Rattle.std.specs.Prelude.{◌≡◌, Bool, true, false, Option, None, Some}
+use Rattle.std.specs.Prelude.{◌≡◌, ℕ, nat_lt, Bool, true, false, Option, None, Some}
 use Rattle.graphql_nodes.specs.declared.type_kind.TypeKind.{TypeKind}
 use Rattle.graphql_nodes.specs.declared.type_kind.TypeKind.TheVariants as k
 use Rattle.bench_notation.specs.declared.above.Above.{Above}
 use Rattle.bench_notation.specs.declared.above.Above.TheVariants as a
+use Rattle.bench_notation.specs.declared.above.Position.{Position}
 use Rattle.bench_notation.specs.declared.line.Line.{Line}
 use Rattle.bench_notation.specs.declared.line.Line.TheVariants as l
 use Rattle.bench_notation.specs.declared.line.Component.{Component}
@@ -16,6 +17,7 @@ kind_above (a.Type kind) = Some kind
 kind_above (a.Field kind) = Some kind
 kind_above a.Directive = None
 kind_above a.Schema = None
+kind_above (a.Selections levels) = None
 
 abbrev pub is_object_or_interface : Option TypeKind → Bool
 is_object_or_interface (Some k.Object) = true
@@ -54,19 +56,26 @@ takes_arguments (a.Type kind) = false
 takes_arguments (a.Field kind) = is_object_or_interface (Some kind)
 takes_arguments a.Directive = true
 takes_arguments a.Schema = false
+takes_arguments (a.Selections levels) = false
 
 -- below the header of the schema
 abbrev pub is_schema : Above → Bool
 is_schema a.Schema = true
 is_schema _ = false
 
--- below the header of a type or of the schema
+-- below every header but that of a directive
 abbrev pub takes_directives : Above → Bool
 takes_directives a.Nothing = false
 takes_directives (a.Type kind) = true
 takes_directives (a.Field kind) = true
 takes_directives a.Directive = false
 takes_directives a.Schema = true
+takes_directives (a.Selections levels) = true
+
+-- at how many depths a selection may stand: at none but below an operation or fragment
+abbrev pub levels_above : Above → ℕ
+levels_above (a.Selections levels) = levels
+levels_above _ = 0
 
 -- whether a component may stand where this is above it
 abbrev pub stands : Above → Component → Bool
@@ -80,10 +89,12 @@ stands above (c.Value name) = is_enum (kind_above above)
 stands above (c.On location) = is_directive above
 stands above c.Repeatable = is_directive above
 stands above (c.Root operation name) = is_schema above
+stands above (c.Selection depth selected) = nat_lt depth (levels_above above)
 
--- what may stand below this: a component where it has its place, any other line anywhere
-abbrev pub StandsBelow : Above → Line → Type 0
-StandsBelow above l.Empty = Unit {0}
-StandsBelow above l.Break = Unit {0}
-StandsBelow above (l.Header header) = Unit {0}
-StandsBelow above (l.Component component) = stands above component ≡ true
+-- what may stand here: a component where it has its place, a division where there may be one, any other line anywhere
+abbrev pub StandsBelow : Position → Line → Type 0
+StandsBelow position l.Empty = Unit {0}
+StandsBelow position l.Break = Unit {0}
+StandsBelow position l.Division = position.may_divide ≡ true
+StandsBelow position (l.Header header) = Unit {0}
+StandsBelow position (l.Component component) = stands position.above component ≡ true

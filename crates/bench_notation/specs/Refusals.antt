@@ -5,6 +5,7 @@ use Rattle.graphql_ast.specs.TypeReferences.{inner_name}
 use Rattle.graphql_nodes.specs.declared.source.SourceSpan.{SourceSpan}
 use Rattle.graphql_ast.specs.declared.type_reference.Type.{«Type» as TypeReference}
 use Rattle.bench_notation.specs.declared.above.Above.{Above}
+use Rattle.bench_notation.specs.declared.above.Position.{Position}
 use Rattle.bench_notation.specs.declared.line.Component.{Component}
 use Rattle.bench_notation.specs.declared.line.Line.{Line}
 use Rattle.bench_notation.specs.declared.refusal.LineError.{LineError}
@@ -31,10 +32,10 @@ IsBody word body false = (word ≡ body) × ((front : List ℕ) → ¬ (word ≡
 abbrev pub SayNoComponent : Above → SourceSpan → List (List ℕ) → Type 0
 SayNoComponent above place words = (component : Component) → SaysComponent place words component → ¬ (stands above component ≡ true)
 
--- no line that may stand below this and is not empty is said by these words
-abbrev pub SayNoLine : Above → SourceSpan → List (List ℕ) → Type 0
-SayNoLine above place words = (line : Line) → SayLine place words line → ¬ StandsBelow above line
+-- no line that may stand here and is not empty is said by these words
+abbrev pub SayNoLine : Position → SourceSpan → List (List ℕ) → Type 0
+SayNoLine position place words = (line : Line) → SayLine place words line → ¬ StandsBelow position line
 
--- a line says nothing that may stand below this
-abbrev pub SaysNothing : Above → SourceSpan → List ℕ → Type 0
-SaysNothing above place text = (line : Line) → Says place text line → ¬ StandsBelow above line
+-- a line says nothing that may stand here
+abbrev pub SaysNothing : Position → SourceSpan → List ℕ → Type 0
+SaysNothing position place text = (line : Line) → Says place text line → ¬ StandsBelow position line

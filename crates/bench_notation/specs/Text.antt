@@ -16,11 +16,14 @@ use Rattle.graphql_ast.specs.declared.type_system.DirectiveDefinition.{Directive
 use Rattle.graphql_ast.specs.declared.type_system.EnumValueDefinition.{EnumValueDefinition}
 use Rattle.graphql_ast.specs.declared.type_system.FieldDefinition.{FieldDefinition}
 use Rattle.graphql_ast.specs.declared.type_system.InputValueDefinition.{InputValueDefinition}
+use Rattle.graphql_ast.specs.declared.operation.OperationDefinition.{OperationDefinition}
+use Rattle.graphql_ast.specs.declared.operation.FragmentDefinition.{FragmentDefinition}
 use Rattle.graphql_ast.specs.declared.definition.Definition.{Definition}
 use Rattle.graphql_ast.specs.declared.definition.Definition.TheVariants as d
+use Rattle.bench_selections.specs.Text.{selections_text}
 use Rattle.bench_notation.specs.declared.kind_words.Role.{Role}
 use Rattle.bench_notation.specs.declared.kind_words.Role.TheVariants as r
-use Rattle.bench_notation.specs.HeaderWords.{role_word, schema_word, kind_word}
+use Rattle.bench_notation.specs.HeaderWords.{role_word, schema_word, kind_word, name_word}
 
 -- the text at one level, where what is inside a list has given its own
 abbrev pub type_step : Type-F (List ℕ) → List ℕ
@@ -116,14 +119,22 @@ roots_text roots = flat_map root_text roots
 abbrev pub schema_head_text : Role → List (NodeView Directive) → List ℕ
 schema_head_text role directives = schema_word role ++ codes "\n" ++ directives_text (codes "@ ") directives
 
+-- the header of an operation, then its directives
+abbrev pub operation_head_text : OperationDefinition → List ℕ
+operation_head_text item = codes "operation " ++ operation_text item.operation_type ++ codes " " ++ name_word item.name ++ codes "\n" ++ directives_text (codes "@ ") item.directives.0
+
+-- the header of a fragment, then its directives
+abbrev pub fragment_head_text : FragmentDefinition → List ℕ
+fragment_head_text item = codes "fragment " ++ item.name.text ++ named_line (codes " ") item.type_condition ++ directives_text (codes "@ ") item.directives.0
+
 -- what a directive's definition has: its arguments, then where it may be applied
 abbrev pub directive_body_text : DirectiveDefinition → List ℕ
 directive_body_text item = arguments_text item.arguments ++ repeatable_text item.repeatable ++ locations_text item.locations
 
--- the header of a definition or extension, then its directives; nothing for those that the notation does not have
+-- the header of a definition or extension, then its directives
 abbrev pub header_text : Definition → List ℕ
-header_text (d.OperationDefinition n) = []
-header_text (d.FragmentDefinition n) = []
+header_text (d.OperationDefinition n) = operation_head_text n.value
+header_text (d.FragmentDefinition n) = fragment_head_text n.value
 header_text (d.DirectiveDefinition n) = named_line (codes "directive ") n.value.name
 header_text (d.SchemaDefinition n) = schema_head_text r.Definition n.value.directives.0
 header_text (d.ScalarTypeDefinition n) = head_text r.Definition k.Scalar n.value.name n.value.directives.0
@@ -142,8 +153,8 @@ header_text (d.InputObjectTypeExtension n) = head_text r.Extension k.InputObject
 
 -- the lines below that
 abbrev pub body_text : Definition → List ℕ
-body_text (d.OperationDefinition n) = []
-body_text (d.FragmentDefinition n) = []
+body_text (d.OperationDefinition n) = selections_text 0 n.value.selection_set
+body_text (d.FragmentDefinition n) = selections_text 0 n.value.selection_set
 body_text (d.DirectiveDefinition n) = directive_body_text n.value
 body_text (d.SchemaDefinition n) = roots_text n.value.root_operations
 body_text (d.ScalarTypeDefinition n) = []

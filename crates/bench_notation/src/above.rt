@@ -1,6 +1,6 @@
 //! What stands above a line, by which it may stand there or not.
 ghost use Rattle.std.specs.Prelude.{◌≡◌};
-ghost use Rattle.bench_notation.specs.Places.{kind_above, takes_directives, is_object_or_interface, has_fields, is_field, takes_arguments, is_union, is_enum, is_directive, is_schema};
+ghost use Rattle.bench_notation.specs.Places.{kind_above, takes_directives, is_object_or_interface, has_fields, is_field, takes_arguments, is_union, is_enum, is_directive, is_schema, levels_above};
 
 use graphql_nodes::type_kind::TypeKind;
 
@@ -17,6 +17,15 @@ pub enum Above {
     Directive,
     /// The header of the schema.
     Schema,
+    /// The header of an operation or fragment, or a selection of it, where the next one may stand at so many depths.
+    Selections(u16),
+}
+
+/// What stands above a line in its document, and whether a line that divides the documents may stand there.
+#[derive(Debug, Clone, Copy, PartialEq, Eq)]
+pub struct Position {
+    pub above: Above,
+    pub may_divide: bool,
 }
 
 impl Above {
@@ -26,16 +35,16 @@ impl Above {
     {
         match self {
             Above::Type(kind) | Above::Field(kind) => Some(kind),
-            Above::Nothing | Above::Directive | Above::Schema => None,
+            Above::Nothing | Above::Directive | Above::Schema | Above::Selections(_) => None,
         }
     }
 
-    /// Whether the last header is that of a type or of the schema.
+    /// Whether there is a header, and it is not that of a directive.
     pub fn takes_directives(self) -> bool
         ensures { result ≡ takes_directives self }
     {
         match self {
-            Above::Type(_) | Above::Field(_) | Above::Schema => true,
+            Above::Type(_) | Above::Field(_) | Above::Schema | Above::Selections(_) => true,
             Above::Nothing | Above::Directive => false,
         }
     }
@@ -68,7 +77,7 @@ impl Above {
         match self {
             Above::Directive => true,
             Above::Field(_) => self.is_object_or_interface(),
-            Above::Nothing | Above::Type(_) | Above::Schema => false,
+            Above::Nothing | Above::Type(_) | Above::Schema | Above::Selections(_) => false,
         }
     }
 
@@ -98,5 +107,16 @@ impl Above {
         ensures { result ≡ is_schema self }
     {
         matches!(self, Above::Schema)
+    }
+
+    /// At how many depths a selection may stand here: at none but below an operation or fragment.
+    pub fn levels(self) -> u16
+        ensures { result ≡ levels_above self }
+    {
+        match self {
+            Above::Selections(levels) => levels,
+            Above::Nothing | Above::Type(_) | Above::Field(_) | Above::Directive | Above::Schema =>
+                0,
+        }
     }
 }

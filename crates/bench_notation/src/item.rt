@@ -1,166 +1,25 @@
 //! What has been read of the definition or extension that is being read.
 ghost use Rattle.std.specs.Prelude.{◌≡◌, IfOk, OnOk, Some};
-ghost use Rattle.bench_notation.specs.Components.{applied_directive, enum_value, input_value, is_input_object, root_operation};
+ghost use Rattle.bench_notation.specs.Components.{is_input_object};
 
 use crate::above::Above;
+use crate::directive_parts::DirectiveParts;
 use crate::kind_words::Role;
 use crate::line::{Component, Header};
+use crate::nodes::{applied_directive, enum_value, input_value, root_operation};
+use crate::open_field::OpenField;
+use bench_selections::nesting::nested;
+use bench_selections::selection_line::SelectionLine;
 use graphql_ast::definition::Definition;
 use graphql_ast::definition_parts::{DefinitionPart, DefinitionParts};
 use graphql_ast::directive::{Directive, DirectiveList};
-use graphql_ast::type_reference::Type;
-use graphql_ast::type_system::{
-    DirectiveDefinition, EnumValueDefinition, FieldDefinition, InputValueDefinition,
-};
+use graphql_ast::type_system::InputValueDefinition;
 use graphql_nodes::collections::items::Items;
-use graphql_nodes::directive_location::DirectiveLocation;
-use graphql_nodes::name::{Name, NamedType};
 use graphql_nodes::node::Node;
-use graphql_nodes::operation_type::OperationType;
 use graphql_nodes::source::SourceSpan;
 use graphql_nodes::type_kind::TypeKind;
 use std::alloc::{AllocError, Global};
 use std::mem;
-
-/// A field whose directives and arguments may still come.
-struct OpenField {
-    place: SourceSpan,
-    name: Name,
-    ty: Type,
-    arguments: Items<Node<InputValueDefinition>>,
-    directives: DirectiveList,
-}
-
-impl Drop for OpenField {
-    fn drop(self) {
-        let Self {
-            place: _,
-            name: _,
-            ty: _,
-            arguments: _,
-            directives: _,
-        } = self;
-    }
-}
-
-impl OpenField {
-    ghost use Rattle.bench_notation.specs.Components.{field_alone, field_node, input_field_node, field_part};
-
-    fn new(alloc: Global, name: Name, ty: Type, place: SourceSpan) -> OpenField
-        ensures { result ≡ field_alone name ty place }
-    {
-        OpenField {
-            place,
-            name,
-            ty,
-            arguments: Items::new(alloc),
-            directives: DirectiveList::new(alloc),
-        }
-    }
-
-    /// The field as one of an object or interface type.
-    fn close(self, alloc: Global) -> Result<Node<FieldDefinition>, AllocError>
-        ensures { IfOk result (λ node. node ≡ field_node self) }
-    {
-        let OpenField {
-            place,
-            name,
-            ty,
-            arguments,
-            directives,
-        } = self;
-        let definition = FieldDefinition {
-            description: None,
-            name,
-            arguments,
-            ty,
-            directives,
-        };
-        Node::new_opt_location(alloc, definition, Some(place))
-    }
-
-    /// The field as one of an input object type, where it has no arguments.
-    fn close_as_input(self, alloc: Global) -> Result<Node<InputValueDefinition>, AllocError>
-        ensures { IfOk result (λ node. node ≡ input_field_node self) }
-    {
-        let OpenField {
-            place,
-            name,
-            ty,
-            arguments: _,
-            directives,
-        } = self;
-        input_value(alloc, name, ty, directives, place)
-    }
-
-    /// The field as a part of an input object type, or of another.
-    fn close_as_part(self, alloc: Global, is_input: bool) -> Result<DefinitionPart, AllocError>
-        ensures { IfOk result (λ part. part ≡ field_part is_input self) }
-    {
-        Ok(if is_input {
-            DefinitionPart::InputField(self.close_as_input(alloc)?)
-        } else {
-            DefinitionPart::Field(self.close(alloc)?)
-        })
-    }
-}
-
-/// What the definition of a directive has, and no other.
-struct DirectiveParts {
-    arguments: Items<Node<InputValueDefinition>>,
-    /// Whether the directive may be applied again at the same place.
-    is_repeatable: bool,
-    /// The places where the directive may be applied.
-    locations: Items<DirectiveLocation>,
-}
-
-impl Drop for DirectiveParts {
-    fn drop(self) {
-        let Self {
-            arguments: _,
-            is_repeatable: _,
-            locations: _,
-        } = self;
-    }
-}
-
-impl DirectiveParts {
-    ghost use Rattle.bench_notation.specs.Components.{no_directive_parts, directive_definition};
-
-    fn new(alloc: Global) -> DirectiveParts
-        ensures { result ≡ no_directive_parts }
-    {
-        DirectiveParts {
-            arguments: Items::new(alloc),
-            is_repeatable: false,
-            locations: Items::new(alloc),
-        }
-    }
-
-    fn into_definition(
-        self,
-        alloc: Global,
-        name: Name,
-        place: SourceSpan,
-    ) -> Result<Definition, AllocError>
-        ensures { IfOk result (λ definition. definition ≡ directive_definition name self place) }
-    {
-        let DirectiveParts {
-            arguments,
-            is_repeatable,
-            locations,
-        } = self;
-        let definition = DirectiveDefinition {
-            description: None,
-            name,
-            arguments,
-            repeatable: is_repeatable,
-            locations,
-        };
-        let definition = Node::new_opt_location(alloc, definition, Some(place))?;
-        Ok(Definition::DirectiveDefinition(definition))
-    }
-}
 
 /// A definition or extension whose components may still come.
 pub struct OpenItem {
@@ -170,6 +29,8 @@ pub struct OpenItem {
     parts: DefinitionParts,
     directive: DirectiveParts,
     last_field: Option<OpenField>,
+    /// The lines of selections, which an operation or fragment alone has.
+    selections: Items<SelectionLine>,
 }
 
 impl Drop for OpenItem {
@@ -180,12 +41,13 @@ impl Drop for OpenItem {
             parts: _,
             directive: _,
             last_field: _,
+            selections: _,
         } = self;
     }
 }
 
 impl OpenItem {
-    ghost use Rattle.bench_notation.specs.Components.{header_alone, above_below, with_component, with_field_directive, with_argument, field_closed, whole_item};
+    ghost use Rattle.bench_notation.specs.Components.{header_alone, above_below, levels_after, with_component, with_field_directive, with_argument, field_closed, whole_item};
 
     /// The item of a header, without components.
     pub fn new(alloc: Global, header: Header, place: SourceSpan) -> OpenItem
@@ -197,18 +59,30 @@ impl OpenItem {
             parts: DefinitionParts::new(alloc),
             directive: DirectiveParts::new(alloc),
             last_field: None,
+            selections: Items::new(alloc),
         }
     }
 
     /// What stands above a line that comes next.
     pub fn above(&self) -> Above
-        ensures { result ≡ above_below self.now.header self.now.last_field }
+        ensures { result ≡ above_below self.now.header self.now.last_field self.now.selections }
     {
         match (&self.header, &self.last_field) {
             (Header::Type(_, kind, _), None) => Above::Type(*kind),
             (Header::Type(_, kind, _), Some(_)) => Above::Field(*kind),
             (Header::Directive(_), _) => Above::Directive,
             (Header::Schema(_), _) => Above::Schema,
+            (Header::Executable(_), _) => Above::Selections(self.levels()),
+        }
+    }
+
+    /// At how many depths the next selection may stand: the first at one.
+    fn levels(&self) -> u16
+        ensures { result ≡ levels_after self.now.selections }
+    {
+        match self.selections.as_slice().last() {
+            Some(line) => line.levels_below(),
+            None => 1,
         }
     }
 
@@ -253,6 +127,11 @@ impl OpenItem {
                 let root = root_operation(alloc, operation, name, place)?;
                 self.parts.push(DefinitionPart::Root(root))
             }
+            Component::Selection(depth, selected) => self.selections.push(SelectionLine {
+                depth,
+                place,
+                selected,
+            }),
         }
     }
 
@@ -297,6 +176,7 @@ impl OpenItem {
             mut parts,
             directive,
             last_field,
+            selections,
         } = self;
         if let Some(field) = last_field {
             parts.push(field.close_as_part(alloc, is_input_object(&header))?)?;
@@ -313,6 +193,10 @@ impl OpenItem {
                 parts.into_schema_definition(alloc, None, Some(place))
             }
             Header::Schema(Role::Extension) => parts.into_schema_extension(alloc, Some(place)),
+            Header::Executable(header) => {
+                let directives = mem::replace(&mut parts.directives, DirectiveList::new(alloc));
+                header.into_definition(alloc, directives, nested(alloc, selections)?, place)
+            }
         }
     }
 }
@@ -321,64 +205,4 @@ fn is_input_object(header: &Header) -> bool
     ensures { result ≡ is_input_object header.now }
 {
     matches!(header, Header::Type(_, TypeKind::InputObject, _))
-}
-
-fn applied_directive(
-    alloc: Global,
-    name: Name,
-    place: SourceSpan,
-) -> Result<Node<Directive>, AllocError>
-    ensures { IfOk result (λ node. node ≡ applied_directive name place) }
-{
-    let directive = Directive {
-        name,
-        arguments: Items::new(alloc),
-    };
-    Node::new_opt_location(alloc, directive, Some(place))
-}
-
-/// An argument, or a field of an input object type.
-fn input_value(
-    alloc: Global,
-    name: Name,
-    ty: Type,
-    directives: DirectiveList,
-    place: SourceSpan,
-) -> Result<Node<InputValueDefinition>, AllocError>
-    ensures { IfOk result (λ node. node ≡ input_value name ty directives place) }
-{
-    let value = InputValueDefinition {
-        description: None,
-        name,
-        ty: Node::new_opt_location(alloc, ty, Some(place))?,
-        default_value: None,
-        directives,
-    };
-    Node::new_opt_location(alloc, value, Some(place))
-}
-
-fn enum_value(
-    alloc: Global,
-    value: Name,
-    place: SourceSpan,
-) -> Result<Node<EnumValueDefinition>, AllocError>
-    ensures { IfOk result (λ node. node ≡ enum_value value place) }
-{
-    let value = EnumValueDefinition {
-        description: None,
-        value,
-        directives: DirectiveList::new(alloc),
-    };
-    Node::new_opt_location(alloc, value, Some(place))
-}
-
-fn root_operation(
-    alloc: Global,
-    operation: OperationType,
-    name: NamedType,
-    place: SourceSpan,
-) -> Result<Node<(OperationType, NamedType)>, AllocError>
-    ensures { IfOk result (λ node. node ≡ root_operation operation name place) }
-{
-    Node::new_opt_location(alloc, (operation, name), Some(place))
 }

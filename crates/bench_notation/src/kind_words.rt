@@ -1,7 +1,9 @@
-//! The words with which headers begin.
+//! The words with which headers begin, and the words of kinds.
 ghost use Rattle.std.specs.Prelude.{◌≡◌, ◌≢◌, MatchOption};
+ghost use Rattle.graphql_nodes.specs.OperationTexts.{operation_text};
 ghost use Rattle.bench_notation.specs.HeaderWords.{role_word, schema_word, kind_word};
 
+use graphql_nodes::operation_type::OperationType;
 use graphql_nodes::type_kind::TypeKind;
 
 /// Whether a header begins a definition or an extension.
@@ -67,4 +69,16 @@ pub fn kind_of_word(word: &str) -> Option<TypeKind>
         }
     }
     None
+}
+
+/// The kind of operation of this word, and none for any other word.
+pub fn operation_of_word(word: &str) -> Option<OperationType>
+    ensures { MatchOption result ((operation : OperationType) → operation_text operation ≢ word.now) (λ operation. operation_text operation ≡ word.now) }
+{
+    match word {
+        "query" => Some(OperationType::Query),
+        "mutation" => Some(OperationType::Mutation),
+        "subscription" => Some(OperationType::Subscription),
+        _ => None,
+    }
 }

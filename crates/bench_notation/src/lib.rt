@@ -4,10 +4,16 @@
 #![tactic(auto)]
 
 pub mod above;
+mod directive_parts;
+pub mod executable_header;
+mod executable_line;
 mod item;
 pub mod kind_words;
 pub mod line;
+mod name_words;
 pub mod names;
+mod nodes;
+mod open_field;
 pub mod printing;
 pub mod reading;
 pub mod refusal;

@@ -1,5 +1,5 @@
 //! One line of the notation.
-ghost use Rattle.std.specs.Prelude.{◌≡◌, ◌≢◌, [], ◌∷◌, codes, true, false, IfErr, IfOk, MatchOption};
+ghost use Rattle.std.specs.Prelude.{◌≡◌, [], ◌∷◌, codes, true, false, IfErr, IfOk};
 ghost use Rattle.graphql_nodes.specs.NameView.{NameView};
 ghost use Rattle.graphql_ast.specs.declared.type_reference.Type.{«Type» as TypeReference};
 ghost use Rattle.graphql_nodes.specs.LocationTexts.{location_text};
@@ -9,12 +9,16 @@ ghost use Rattle.bench_notation.specs.Line.{SayLine, Says, SaysHeader, SaysCompo
 ghost use Rattle.bench_notation.specs.Places.{stands, StandsBelow};
 ghost use Rattle.bench_notation.specs.Refusals.{SayNoComponent, SayNoLine, SaysNothing, WhenRefused};
 
-use crate::above::Above;
-use crate::kind_words::{Role, kind_of_word};
+use crate::above::{Above, Position};
+use crate::executable_header::ExecutableHeader;
+use crate::executable_line::{fragment_names, operation_and_its_name, selection};
+use crate::kind_words::{Role, kind_of_word, operation_of_word};
+use crate::name_words::only_name;
 use crate::names::Names;
 use crate::refusal::{LineError, Reason};
 use crate::type_notation::{MOST_BRACKETS, read_type};
 use crate::words::take_words;
+use bench_selections::selection_line::Selected;
 use graphql_ast::type_reference::Type;
 use graphql_nodes::directive_location::DirectiveLocation;
 use graphql_nodes::name::{Name, NamedType};
@@ -31,6 +35,7 @@ pub enum Header {
     Directive(Name),
     /// `schema` or `ext-schema`
     Schema(Role),
+    Executable(ExecutableHeader),
 }
 
 /// A line that belongs to the header line above it, or to a field of that header.
@@ -56,6 +61,9 @@ pub enum Component {
     Repeatable,
     /// `root OPERATION NAME`
     Root(OperationType, NamedType),
+    /// `sel DEPTH field NAME`, with an alias behind it or not; `sel DEPTH spread NAME`; `sel DEPTH inline`, with a type
+    /// condition behind it or not
+    Selection(u8, Selected),
 }
 
 /// What a line says.
@@ -64,6 +72,8 @@ pub enum Line {
     Empty,
     /// `---`, which ends a document and begins the next
     Break,
+    /// `===`, which does so too, and divides the documents before it from those behind it
+    Division,
     Header(Header),
     Component(Component),
 }
@@ -75,30 +85,30 @@ pub fn read_line<'a>(
     names: &mut Names,
     words: &mut Vec<&'a str>,
     text: &'a str,
-    above: Above,
+    position: Position,
     place: SourceSpan,
 ) -> Result<Line, LineError>
     ensures says { IfOk result (Says place text.now) }
-    ensures stands { IfOk result (StandsBelow above) }
-    ensures refused { IfErr result (WhenRefused (SaysNothing above place text.now)) }
+    ensures stands { IfOk result (StandsBelow position) }
+    ensures refused { IfErr result (WhenRefused (SaysNothing position place text.now)) }
 {
     if text.is_empty() {
         return Ok(Line::Empty);
     }
     take_words(words, text)?;
-    read_words(names, words.as_slice(), above, place)
+    read_words(names, words.as_slice(), position, place)
 }
 
 /// The words of a line that is not empty.
 fn read_words(
     names: &mut Names,
     words: &[&str],
-    above: Above,
+    position: Position,
     place: SourceSpan,
 ) -> Result<Line, LineError>
     ensures says { IfOk result (SayLine place (texts_of words.now)) }
-    ensures stands { IfOk result (StandsBelow above) }
-    ensures refused { IfErr result (WhenRefused (SayNoLine above place (texts_of words.now))) }
+    ensures stands { IfOk result (StandsBelow position) }
+    ensures refused { IfErr result (WhenRefused (SayNoLine position place (texts_of words.now))) }
 {
     let Some((first, rest)) = words.split_first() else {
         return Err(LineError::Refused(Reason::UnknownLine));
@@ -107,6 +117,11 @@ fn read_words(
         "---" => {
             end_of_words(rest)?;
             Ok(Line::Break)
+        }
+        "===" => {
+            allow(position.may_divide)?;
+            end_of_words(rest)?;
+            Ok(Line::Division)
         }
         "def" => Ok(Line::Header(read_type_header(names, Role::Definition, rest, place)?)),
         "ext" => Ok(Line::Header(read_type_header(names, Role::Extension, rest, place)?)),
@@ -119,7 +134,18 @@ fn read_words(
             end_of_words(rest)?;
             Ok(Line::Header(Header::Schema(Role::Extension)))
         }
-        word => Ok(Line::Component(read_component(names, word, rest, above, place)?)),
+        "operation" => {
+            let (operation, name) = operation_and_its_name(names, rest, place)?;
+            Ok(Line::Header(Header::Executable(ExecutableHeader::Operation(operation, name))))
+        }
+        "fragment" => {
+            let (name, condition) = fragment_names(names, rest, place)?;
+            Ok(Line::Header(Header::Executable(ExecutableHeader::Fragment(name, condition))))
+        }
+        word => {
+            let component = read_component(names, word, rest, position.above, place)?;
+            Ok(Line::Component(component))
+        }
     }
 }
 
@@ -176,6 +202,10 @@ fn read_component(
         "root" => {
             let (operation, name) = operation_and_name(names, above.is_schema(), rest, place)?;
             Ok(Component::Root(operation, name))
+        }
+        "sel" => {
+            let (depth, selected) = selection(names, above, rest, place)?;
+            Ok(Component::Selection(depth, selected))
         }
         _ => Err(LineError::Refused(Reason::UnknownLine)),
     }
@@ -237,16 +267,6 @@ fn allowed_name(
     only_name(names, words, place)
 }
 
-fn only_name(names: &mut Names, words: &[&str], place: SourceSpan) -> Result<Name, LineError>
-    ensures says { IfOk result (AreName place (texts_of words.now)) }
-    ensures refused { IfErr result (WhenRefused ((name : NameView) → ¬ AreName place (texts_of words.now) name)) }
-{
-    let [name] = words else {
-        return Err(LineError::Refused(Reason::WrongNumberOfWords));
-    };
-    names.read(*name, place)
-}
-
 /// The two words that follow, a name and a type, on a line that is allowed here or not.
 fn name_and_type(
     names: &mut Names,
@@ -299,16 +319,4 @@ fn operation_and_name(
         return Err(LineError::Refused(Reason::BadWord));
     };
     Ok((operation, names.read(*name, place)?))
-}
-
-/// The kind of operation of this word, and none for any other word.
-fn operation_of_word(word: &str) -> Option<OperationType>
-    ensures { MatchOption result ((operation : OperationType) → operation_text operation ≢ word.now) (λ operation. operation_text operation ≡ word.now) }
-{
-    match word {
-        "query" => Some(OperationType::Query),
-        "mutation" => Some(OperationType::Mutation),
-        "subscription" => Some(OperationType::Subscription),
-        _ => None,
-    }
 }

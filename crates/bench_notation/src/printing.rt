@@ -1,12 +1,14 @@
 //! Definitions as text.
 ghost use Rattle.std.specs.Prelude.{◌≡◌, ◌++◌, OnOk, IfOk, codes, string_bytes};
 ghost use Rattle.bench_notation.specs.declared.kind_words.Role.{Role};
-ghost use Rattle.bench_notation.specs.Text.{word_line, named_line, typed_line, directives_text, names_text, arguments_text, field_line_text, field_text, fields_text, input_fields_text, values_text, head_text, schema_head_text, header_text, body_text, directive_body_text, root_text, roots_text, definition_text, definitions_text};
+ghost use Rattle.bench_notation.specs.Text.{word_line, named_line, typed_line, directives_text, names_text, arguments_text, field_line_text, field_text, fields_text, input_fields_text, values_text, head_text, schema_head_text, operation_head_text, fragment_head_text, header_text, body_text, directive_body_text, root_text, roots_text, definition_text, definitions_text};
 
 use crate::kind_words::{Role, kind_word};
 use crate::type_notation::push_type;
+use bench_selections::printing::push_selections;
 use graphql_ast::definition::Definition;
 use graphql_ast::directive::{Directive, DirectiveList};
+use graphql_ast::operation::{FragmentDefinition, OperationDefinition};
 use graphql_ast::type_reference::Type;
 use graphql_ast::type_system::{
     DirectiveDefinition, EnumValueDefinition, FieldDefinition, InputValueDefinition,
@@ -18,22 +20,26 @@ use graphql_nodes::operation_type::OperationType;
 use graphql_nodes::type_kind::TypeKind;
 use std::alloc::{AllocError, Global};
 
-/// The text of definitions and extensions. Those that the notation does not have are passed over.
+/// The text of definitions and extensions. What the notation has no line for is left out. The error is want of memory.
 pub fn print(alloc: Global, definitions: &[Definition]) -> Result<String, AllocError>
     ensures { IfOk result (λ text. string_bytes text ≡ definitions_text definitions.now) }
 {
     let mut text = String::new(alloc);
     for definition in definitions {
-        push_definition(&mut text, definition)?;
+        push_definition(alloc, &mut text, definition)?;
     }
     Ok(text)
 }
 
-fn push_definition(text: &mut String, definition: &Definition) -> Result<(), AllocError>
+fn push_definition(
+    alloc: Global,
+    text: &mut String,
+    definition: &Definition,
+) -> Result<(), AllocError>
     ensures { OnOk result (string_bytes text.new ≡ string_bytes text.old ++ definition_text definition.now) }
 {
     push_header(text, definition)?;
-    push_body(text, definition)
+    push_body(alloc, text, definition)
 }
 
 /// The header of a definition or extension, and its own directives.
@@ -84,12 +90,13 @@ fn push_header(text: &mut String, definition: &Definition) -> Result<(), AllocEr
         Definition::SchemaExtension(item) => {
             push_schema_head(text, Role::Extension, &item.directives)
         }
-        Definition::OperationDefinition(_) | Definition::FragmentDefinition(_) => Ok(()),
+        Definition::OperationDefinition(item) => push_operation_head(text, item),
+        Definition::FragmentDefinition(item) => push_fragment_head(text, item),
     }
 }
 
 /// The lines below the header of a definition or extension, and below its own directives.
-fn push_body(text: &mut String, definition: &Definition) -> Result<(), AllocError>
+fn push_body(alloc: Global, text: &mut String, definition: &Definition) -> Result<(), AllocError>
     ensures { OnOk result (string_bytes text.new ≡ string_bytes text.old ++ body_text definition.now) }
 {
     match definition {
@@ -118,10 +125,13 @@ fn push_body(text: &mut String, definition: &Definition) -> Result<(), AllocErro
         Definition::InputObjectTypeExtension(item) => push_input_fields(text, &item.fields),
         Definition::SchemaDefinition(item) => push_roots(text, &item.root_operations),
         Definition::SchemaExtension(item) => push_roots(text, &item.root_operations),
-        Definition::ScalarTypeDefinition(_)
-        | Definition::ScalarTypeExtension(_)
-        | Definition::OperationDefinition(_)
-        | Definition::FragmentDefinition(_) => Ok(()),
+        Definition::OperationDefinition(item) => {
+            push_selections(alloc, text, item.selection_set.as_slice(), 0)
+        }
+        Definition::FragmentDefinition(item) => {
+            push_selections(alloc, text, item.selection_set.as_slice(), 0)
+        }
+        Definition::ScalarTypeDefinition(_) | Definition::ScalarTypeExtension(_) => Ok(()),
     }
 }
 
@@ -175,6 +185,31 @@ fn push_schema_head(
     text.push_str(role.schema_word())?;
     text.push_str("\n")?;
     push_directives(text, "@ ", directives.as_slice())
+}
+
+/// The header of an operation, and its directives.
+fn push_operation_head(text: &mut String, item: &OperationDefinition) -> Result<(), AllocError>
+    ensures { OnOk result (string_bytes text.new ≡ string_bytes text.old ++ operation_head_text item.now) }
+{
+    text.push_str("operation ")?;
+    text.push_str(item.operation_type.name())?;
+    text.push_str(" ")?;
+    match &item.name {
+        Some(name) => text.push_str(name.as_str())?,
+        None => text.push_str("-")?,
+    }
+    text.push_str("\n")?;
+    push_directives(text, "@ ", item.directives.as_slice())
+}
+
+/// The header of a fragment, and its directives.
+fn push_fragment_head(text: &mut String, item: &FragmentDefinition) -> Result<(), AllocError>
+    ensures { OnOk result (string_bytes text.new ≡ string_bytes text.old ++ fragment_head_text item.now) }
+{
+    text.push_str("fragment ")?;
+    text.push_str(item.name.as_str())?;
+    push_named_line(text, " ", &item.type_condition)?;
+    push_directives(text, "@ ", item.directives.as_slice())
 }
 
 /// What an object or interface type has.

@@ -1,10 +1,10 @@
 //! Reading a whole text of the notation.
 ghost use Rattle.std.specs.Prelude.{◌≡◌, All, IfErr, IfOk, OnOk};
-ghost use Rattle.bench_notation.specs.Documents.{AreDocumentsOf, IsReadError, IsReadErrorFrom, ReadTo};
+ghost use Rattle.bench_notation.specs.Documents.{AreDividedDocumentsOf, AreDocumentsOf, IsDividedReadError, IsLinesError, IsReadError, LeadTo};
 ghost use Rattle.bench_notation.specs.Line.{IsLine, lines_of, line_place, texts_of};
 ghost use Rattle.bench_notation.specs.Refusals.{SaysNothing, WhenRefused};
 
-use crate::above::Above;
+use crate::above::{Above, Position};
 use crate::item::OpenItem;
 use crate::line::{Line, read_line};
 use crate::names::Names;
@@ -30,9 +30,21 @@ fn line_place(number: usize) -> SourceSpan
     }
 }
 
+/// Where a text is divided.
+#[derive(Drop)]
+enum Division {
+    /// Nowhere.
+    Never,
+    /// At a line that is still to come.
+    ToCome,
+    /// Behind these documents.
+    After(Items<Document>),
+}
+
 /// The documents that the lines so far say.
 struct DocumentReader {
-    /// The documents before the last.
+    division: Division,
+    /// The documents before the last, from the division on if there is one.
     documents: Items<Document>,
     /// The last document, without the item that is being read.
     document: Document,
@@ -42,6 +54,7 @@ struct DocumentReader {
 impl Drop for DocumentReader {
     fn drop(self) {
         let Self {
+            division: _,
             documents: _,
             document: _,
             item: _,
@@ -50,25 +63,29 @@ impl Drop for DocumentReader {
 }
 
 impl DocumentReader {
-    ghost use Rattle.bench_notation.specs.Documents.{nothing_read, above_next, item_ended, document_ended, line_added, Takes};
+    ghost use Rattle.bench_notation.specs.Documents.{nothing_read, position_next, item_ended, document_ended, divided, line_added, Takes};
 
-    fn new(alloc: Global) -> DocumentReader
-        ensures { result ≡ nothing_read }
+    fn new(alloc: Global, division: Division) -> DocumentReader
+        ensures { result ≡ nothing_read division }
     {
         DocumentReader {
+            division,
             documents: Items::new(alloc),
             document: Document::new(alloc),
             item: None,
         }
     }
 
-    /// What stands above the next line in its document.
-    fn above(&self) -> Above
-        ensures { result ≡ above_next self.now.item }
+    /// Where the next line comes.
+    fn position(&self) -> Position
+        ensures { result ≡ position_next self.now }
     {
-        match &self.item {
-            Some(item) => item.above(),
-            None => Above::Nothing,
+        Position {
+            above: match &self.item {
+                Some(item) => item.above(),
+                None => Above::Nothing,
+            },
+            may_divide: matches!(self.division, Division::ToCome),
         }
     }
 
@@ -81,10 +98,10 @@ impl DocumentReader {
         number: usize,
     ) -> Result<(), LineError>
         ensures taken { OnOk result (Takes text.now (line_place number) self.old self.new) }
-        ensures refused { IfErr result (WhenRefused (SaysNothing (above_next self.old.item) (line_place number) text.now)) }
+        ensures refused { IfErr result (WhenRefused (SaysNothing (position_next self.old) (line_place number) text.now)) }
     {
         let place = line_place(number);
-        let line = read_line(names, words, text, self.above(), place)?;
+        let line = read_line(names, words, text, self.position(), place)?;
         Ok(self.add(names.alloc(), line, place)?)
     }
 
@@ -95,6 +112,7 @@ impl DocumentReader {
         match line {
             Line::Empty => Ok(()),
             Line::Break => self.end_document(alloc),
+            Line::Division => self.divide(alloc),
             Line::Header(header) => {
                 self.end_item(alloc, Some(OpenItem::new(alloc, header, place)))
             }
@@ -123,24 +141,35 @@ impl DocumentReader {
         self.documents.push(document)
     }
 
+    /// Ends the document, after which the documents so far are those before the division.
+    fn divide(&mut self, alloc: Global) -> Result<(), AllocError>
+        ensures { OnOk result (self.new ≡ divided self.old) }
+    {
+        self.end_document(alloc)?;
+        let before = mem::replace(&mut self.documents, Items::new(alloc));
+        self.division = Division::After(before);
+        Ok(())
+    }
+
     /// Ends the last document. All documents, of which there is at least one, are handed out.
     fn finish(&mut self, alloc: Global) -> Result<Vec<Document>, AllocError>
-        ensures { IfOk result (λ documents. documents.items ≡ (document_ended self.old).documents) }
+        ensures documents { IfOk result (λ documents. documents.items ≡ (document_ended self.old).documents) }
+        ensures division { OnOk result (self.new.division ≡ self.old.division) }
     {
         self.end_document(alloc)?;
         Ok(mem::replace(&mut self.documents, Items::new(alloc)).into_vec())
     }
 }
 
-/// Reads these lines, the first of which is counted as line 1, and hands out all documents.
-fn read_lines<'a>(
+/// Takes these lines, the first of which is counted as line 1.
+fn take_lines<'a>(
     alloc: Global,
     lines: &[&'a str],
     reader: &mut DocumentReader,
-) -> Result<Vec<Document>, ReadError>
+) -> Result<(), ReadError>
     ensures read { OnOk result (All IsLine (texts_of lines.now)) }
-    ensures said { IfOk result (λ documents. ReadTo 1 (texts_of lines.now) reader.old documents.items) }
-    ensures refused { IfErr result (IsReadErrorFrom reader.old (texts_of lines.now)) }
+    ensures leads { OnOk result (LeadTo 1 (texts_of lines.now) reader.old reader.new) }
+    ensures refused { IfErr result (IsLinesError reader.old (texts_of lines.now)) }
 {
     let mut names = Names::new(alloc, lines.len())?;
     let mut words = Vec::new(alloc);
@@ -154,18 +183,59 @@ fn read_lines<'a>(
             Err(LineError::Memory) => return Err(ReadError::Memory),
         }
     }
-    Ok(reader.finish(alloc)?)
+    Ok(())
 }
 
-/// Reads a whole text: its documents, of which there is at least one. They have no sources.
+/// Reads a whole text that no line divides: its documents, of which there is at least one. They have no sources.
 ///
-/// The first line that is refused ends the reading.
+/// The first line that is refused ends the reading, and a line that would divide the text is. `Memory` is want of memory.
+/// There is no other error.
 pub fn read(alloc: Global, text: &str) -> Result<Vec<Document>, ReadError>
     ensures read { OnOk result (All IsLine (lines_of text.now)) }
     ensures said { IfOk result (λ documents. AreDocumentsOf text.now documents.items) }
     ensures refused { IfErr result (IsReadError (lines_of text.now)) }
 {
     let lines = lines_of(alloc, text)?;
-    let mut reader = DocumentReader::new(alloc);
-    read_lines(alloc, lines.as_slice(), &mut reader)
+    let mut reader = DocumentReader::new(alloc, Division::Never);
+    take_lines(alloc, lines.as_slice(), &mut reader)?;
+    Ok(reader.finish(alloc)?)
+}
+
+/// The documents of a text that a line divides, of which there is at least one in each part.
+pub struct DividedDocuments {
+    /// Those before the division.
+    pub schema: Vec<Document>,
+    /// Those behind it.
+    pub executable: Vec<Document>,
+}
+
+impl Drop for DividedDocuments {
+    fn drop(self) {
+        let Self {
+            schema: _,
+            executable: _,
+        } = self;
+    }
+}
+
+/// Reads a whole text that one line divides: its documents, which have no sources.
+///
+/// The first line that is refused ends the reading, and a second line that would divide the text is. `NoDivision` is the
+/// error where none is refused and none divides the text. `Memory` is want of memory.
+pub fn read_divided(alloc: Global, text: &str) -> Result<DividedDocuments, ReadError>
+    ensures read { OnOk result (All IsLine (lines_of text.now)) }
+    ensures said { IfOk result (λ documents. AreDividedDocumentsOf text.now documents.schema.items documents.executable.items) }
+    ensures refused { IfErr result (IsDividedReadError (lines_of text.now)) }
+{
+    let lines = lines_of(alloc, text)?;
+    let mut reader = DocumentReader::new(alloc, Division::ToCome);
+    take_lines(alloc, lines.as_slice(), &mut reader)?;
+    let executable = reader.finish(alloc)?;
+    match mem::replace(&mut reader.division, Division::Never) {
+        Division::After(schema) => Ok(DividedDocuments {
+            schema: schema.into_vec(),
+            executable,
+        }),
+        Division::Never | Division::ToCome => Err(ReadError::NoDivision),
+    }
 }

@@ -73,6 +73,9 @@ pub struct RefusedLine {
 pub enum ReadError {
     #[error(transparent)]
     Refused(RefusedLine),
+    /// No line divides the text, which is to be divided.
+    #[error("missing ===")]
+    NoDivision,
     #[error("out of memory")]
     Memory,
 }

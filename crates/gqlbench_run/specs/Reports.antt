@@ -7,7 +7,7 @@ use Rattle.apollo_meaning.specs.Faults.ListFaults.{faults_of}
 use Rattle.apollo_schema.specs.MeantSchema.{MeansSchema}
 use Rattle.apollo_schema.specs.SchemaWriteOut.{write_schema}
 use Rattle.apollo_schema.specs.declared.schema.Schema.{Schema}
-use Rattle.gqltool_run.specs.SchemaCommand.{list_of}
+use Rattle.gqltool_run.specs.Building.{list_of}
 use Rattle.gqltool_run.specs.declared.schema_options.SchemaOptions.{SchemaOptions}
 use Rattle.gqlbench_run.specs.Commands.{AreWordsOf}
 use Rattle.gqlbench_run.specs.LookupQuestions.{field_questions, subtype_questions, has_field, has_subtype}
@@ -32,6 +32,10 @@ pub record HaveTimes (n : ℕ) (times : SchemaTimes) : Type 0 where
   pub write_out : length times.write_out.items ≡ n
   pub rebuild : length times.rebuild.items ≡ n
   pub free : length times.free.items ≡ n
+
+-- each lookup has so many times
+abbrev pub HaveLookupTimes : ℕ → LookupTimes → Type 0
+HaveLookupTimes n times = (length times.type_field.items ≡ n) × (length times.is_subtype.items ≡ n)
 
 -- the same, and what is there is counted
 pub record HaveLookedUp (schema : Schema) (questions : Questions) (n : ℕ) (times : LookupTimes) : Type 0 where

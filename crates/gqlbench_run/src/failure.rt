@@ -7,7 +7,7 @@ use std::io;
 use thiserror::Error;
 
 /// Why a run has nothing to write.
-#[derive(Debug, Clone, Copy, PartialEq, Eq, Error)]
+#[derive(Debug, Drop, Error)]
 pub enum Failure {
     /// The words are none that the program takes.
     #[error("usage: gqlbench schema|lookups [--adopt] [--ignore-builtin] REPEAT")]
@@ -58,8 +58,8 @@ impl Failure {
     ghost use Rattle.gqlbench_run.specs.Commands.{ending_of};
 
     /// How the run ends.
-    pub fn status(self) -> Status
-        ensures { result ≡ ending_of self }
+    pub fn status(&self) -> Status
+        ensures { result ≡ ending_of self.now }
     {
         match self {
             Failure::Usage => Status::Refused,

@@ -11,8 +11,9 @@ use crate::lookup_questions::{
 use crate::phase::{push_phase, push_time};
 use crate::progress::Progress;
 use apollo_schema::schema::Schema;
-use gqltool_run::schema_command::built;
+use gqltool_run::building::built;
 use graphql_ast::document::Document;
+use graphql_nodes::collections::hash_keys::HashKeys;
 use std::alloc::{AllocError, Global};
 use std::io::Write;
 use std::time::{Clock, Instant};
@@ -84,7 +85,7 @@ fn time_subtypes<C: Clock>(
 }
 
 impl LookupTimes {
-    ghost use Rattle.gqlbench_run.specs.Reports.{HaveLookedUp, lookup_phases};
+    ghost use Rattle.gqlbench_run.specs.Reports.{HaveLookupTimes, HaveLookedUp, lookup_phases};
     ghost use Rattle.gqlbench_run.specs.PhaseLines.{ArePhaseLines};
 
     /// What is there is counted once, before a time is taken.
@@ -136,7 +137,7 @@ impl LookupTimes {
 
     /// Adds the line of each phase.
     fn push_lines(&mut self, alloc: Global, text: &mut String) -> Result<(), AllocError>
-        ensures { OnOk result ((lines : List ℕ) × ((string_bytes text.new ≡ string_bytes text.old ++ lines) × ((n : ℕ) → length self.old.type_field.items ≡ n → length self.old.is_subtype.items ≡ n → ArePhaseLines lookup_phases n lines))) }
+        ensures { OnOk result ((lines : List ℕ) × ((string_bytes text.new ≡ string_bytes text.old ++ lines) × ((n : ℕ) → HaveLookupTimes n self.old → ArePhaseLines lookup_phases n lines))) }
     {
         push_phase(alloc, text, "type_field", &mut self.type_field)?;
         push_phase(alloc, text, "is_subtype", &mut self.is_subtype)?;
@@ -177,7 +178,7 @@ pub fn lookup_report<C: Clock, E: Write>(
 ) -> Result<String, Failure>
     ensures { IfOk result (λ text. IsLookupReport command documents.now (string_bytes text)) }
 {
-    let (schema, _faults) = built(alloc, command.options, documents)?;
+    let (schema, _faults) = built(alloc, HashKeys::FIXED, command.options, documents)?;
     let questions = Questions {
         fields: field_questions(alloc, &schema)?,
         subtypes: subtype_questions(alloc, &schema)?,

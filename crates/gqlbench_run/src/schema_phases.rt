@@ -2,7 +2,7 @@
 ghost use Rattle.std.specs.Prelude.{◌≡◌, ◌+◌, ◌++◌, ℕ, List, IfOk, OnOk, length, string_bytes};
 ghost use Rattle.graphql_ast.specs.declared.definition.Definition.{Definition};
 ghost use Rattle.apollo_schema.specs.MeantSchema.{MeansSchema};
-ghost use Rattle.gqltool_run.specs.SchemaCommand.{list_of};
+ghost use Rattle.gqltool_run.specs.Building.{list_of};
 ghost use Rattle.gqlbench_run.specs.Reports.{IsCountsText, IsSchemaReport, counts_text, rebuilt_text};
 
 use crate::command::Command;
@@ -11,10 +11,11 @@ use crate::phase::{push_phase, push_time};
 use crate::progress::Progress;
 use apollo_meaning::build_error::Faults;
 use apollo_schema::schema::Schema;
-use gqltool_run::schema_command::built;
+use gqltool_run::building::built;
 use gqltool_run::schema_options::SchemaOptions;
 use graphql_ast::definition::Definition;
 use graphql_ast::document::Document;
+use graphql_nodes::collections::hash_keys::HashKeys;
 use graphql_nodes::collections::items::Items;
 use std::alloc::{AllocError, Global};
 use std::io::Write;
@@ -60,7 +61,7 @@ fn time_build<C: Clock>(
     ensures { OnOk result (length times.new.items ≡ length times.old.items + 1) }
 {
     let began = Instant::now(clock)?;
-    let built = built(alloc, options, documents)?;
+    let built = built(alloc, HashKeys::FIXED, options, documents)?;
     push_time(clock, began, times)?;
     Ok(built)
 }
@@ -91,7 +92,7 @@ fn time_rebuild<C: Clock>(
     ensures { OnOk result (length times.new.items ≡ length times.old.items + 1) }
 {
     let began = Instant::now(clock)?;
-    let (again, _faults) = built(alloc, REBUILDING, slice::from_ref(written))?;
+    let (again, _faults) = built(alloc, HashKeys::FIXED, REBUILDING, slice::from_ref(written))?;
     let is_equal = again == *schema;
     push_time(clock, began, times)?;
     Ok(is_equal)
@@ -193,7 +194,7 @@ fn counts_text(
 fn counts(alloc: Global, options: SchemaOptions, documents: &[Document]) -> Result<String, Failure>
     ensures { IfOk result (λ text. IsCountsText options documents.now (string_bytes text)) }
 {
-    let (schema, faults) = built(alloc, options, documents)?;
+    let (schema, faults) = built(alloc, HashKeys::FIXED, options, documents)?;
     let written = schema.to_ast(alloc)?;
     let definitions = written.as_slice().len();
     let faults = faults.as_slice().len();

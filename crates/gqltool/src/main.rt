@@ -2,17 +2,29 @@
 #![tactic(auto)]
 
 use gqltool_run::arguments::words;
-use gqltool_run::running::run;
+use gqltool_run::running::run_with_keys;
 use gqltool_run::status::Status;
+use graphql_nodes::collections::hash_keys::HashKeys;
 use std::io;
 use std::process::ExitCode;
+use std::random::RandomSource;
+
+/// Keys of the system's randomness, so that nobody can make names that collide, or fixed ones where it gives none.
+fn drawn_keys(rt: &HostRuntime) -> HashKeys {
+    let mut bytes = [0; 16];
+    match rt.fill_bytes(&mut bytes) {
+        Ok(()) => HashKeys::from_bytes(bytes),
+        Err(_) => HashKeys::FIXED,
+    }
+}
 
 fn run_on_streams(rt: &HostRuntime) -> io::Result<Status> {
     let alloc = rt.alloc();
     let owned = words(rt, alloc)?;
     let words: Vec<&str> = owned.iter().map(|word| word.as_str()).collect(alloc)?;
-    Ok(run(
+    Ok(run_with_keys(
         alloc,
+        drawn_keys(rt),
         words.as_slice(),
         &mut rt.stdin(),
         &mut rt.stdout(),

@@ -1,41 +1,40 @@
--- The commands of the program: their words, and what each answers.
-use Rattle.std.specs.Prelude.{◌≡◌, ℕ, Bool, List, Option}
+-- The commands of the program: what each answers, and what is written of it.
+use Rattle.std.specs.Prelude.{◌≡◌, ◌++◌, ℕ, Bool, List, Option}
 use Rattle.std.specs.Io.KnownBytes.{Appends}
 use Rattle.graphql_ast.specs.declared.definition.Definition.{Definition}
 use Rattle.bench_notation.specs.Text.{definitions_text}
-use Rattle.gqltool_run.specs.declared.command.Command.{Command}
-use Rattle.gqltool_run.specs.declared.command.Command.TheVariants as c
+use Rattle.apollo_coordinate.specs.declared.lookup_answers.SchemaCoordinateLookup.{SchemaCoordinateLookup}
 use Rattle.gqltool_run.specs.declared.failure.Failure.{Failure}
-use Rattle.gqltool_run.specs.SchemaCommand.{IsAnswer, IsCause}
-use Rattle.gqltool_run.specs.SchemaOptions.{AreSchemaWords}
+use Rattle.gqltool_run.specs.declared.task.Task.{Task}
+use Rattle.gqltool_run.specs.declared.task.Task.TheVariants as tasks
+use Rattle.gqltool_run.specs.Building.{IsCause, no_options}
+use Rattle.gqltool_run.specs.CoordCommand.{IsCoordAnswer, coordinate_line, found_line}
+use Rattle.gqltool_run.specs.SchemaCommand.{IsAnswer}
+use Rattle.gqltool_run.specs.Tasks.{Ask}
 
--- these words are this command
-abbrev pub AreWordsOf : List (List ℕ) → Command → Type 0
-AreWordsOf words (c.Schema options) = AreSchemaWords words options
+-- the text is the answer to what was asked and an input, with faults or without
+abbrev pub IsAnswerOf : Task → List ℕ → List ℕ → Bool → Type 0
+IsAnswerOf (tasks.Schema options) input text has_faults = IsAnswer options input text has_faults
+IsAnswerOf (tasks.Coord coordinate) input text has_faults = IsCoordAnswer coordinate input text has_faults
 
--- these words are no command
-abbrev pub AreNoCommand : List (List ℕ) → Type 0
-AreNoCommand words = (command : Command) → ¬ AreWordsOf words command
+-- the text is such as is answered where nothing is at fault: of `schema` the print of definitions, of `coord` the lines of the
+-- coordinate and of something found
+abbrev pub IsPrintOf : Task → List ℕ → Type 0
+IsPrintOf (tasks.Schema options) text = (definitions : List Definition) × (text ≡ definitions_text definitions)
+IsPrintOf (tasks.Coord coordinate) text = (found : SchemaCoordinateLookup) × (text ≡ coordinate_line coordinate ++ found_line found)
 
--- the text is what a command answers to an input, with faults or without
-abbrev pub IsAnswerOf : Command → List ℕ → List ℕ → Bool → Type 0
-IsAnswerOf (c.Schema options) input text has_faults = IsAnswer options input text has_faults
-
--- the text is such as a command answers where nothing is at fault: of `schema` the print of definitions
-abbrev pub IsPrintOf : Command → List ℕ → Type 0
-IsPrintOf (c.Schema options) text = (definitions : List Definition) × (text ≡ definitions_text definitions)
-
--- why a command has no answer to an input
-abbrev pub IsCauseOf : Command → List ℕ → Failure → Type 0
-IsCauseOf (c.Schema options) input failure = IsCause options input failure
+-- why there is no answer to what was asked and an input
+abbrev pub IsCauseOf : Task → List ℕ → Failure → Type 0
+IsCauseOf (tasks.Schema options) input failure = IsCause options input failure
+IsCauseOf (tasks.Coord coordinate) input failure = IsCause no_options input failure
 
 -- the text is the answer to these words and this input
 abbrev pub IsAnswerTo : List (List ℕ) → List ℕ → List ℕ → Bool → Type 0
-IsAnswerTo words input text has_faults = (command : Command) × (AreWordsOf words command × IsAnswerOf command input text has_faults)
+IsAnswerTo words input text has_faults = (task : Task) × (Ask words task × IsAnswerOf task input text has_faults)
 
 -- the text is such as these words answer where nothing is at fault
 abbrev pub IsPrintTo : List (List ℕ) → List ℕ → Type 0
-IsPrintTo words text = (command : Command) × (AreWordsOf words command × IsPrintOf command text)
+IsPrintTo words text = (task : Task) × (Ask words task × IsPrintOf task text)
 
 -- there is an answer to these words and this input
 abbrev pub HaveAnswer : List (List ℕ) → List ℕ → Type 0

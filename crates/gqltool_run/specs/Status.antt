@@ -26,14 +26,17 @@ Writes _ = ⊥
 -- how a run ends that has nothing to write
 abbrev pub status_of : Failure → Status
 status_of f.Usage = s.Refused
+status_of (f.NoCoordinate error) = s.Refused
 status_of f.CannotRead = s.Refused
 status_of (f.RefusedLine refused) = s.Refused
+status_of f.NoDivision = s.Refused
 status_of f.Memory = s.Exhausted
 status_of f.ExtensionIds = s.Exhausted
 
 -- why a run has nothing to write whose input was not read
 abbrev pub failure_of_read : ReadError → Failure
 failure_of_read (r.Refused line) = f.RefusedLine line
+failure_of_read r.NoDivision = f.NoDivision
 failure_of_read r.Memory = f.Memory
 
 -- why a run has nothing to write whose input could not be had

@@ -1,6 +1,6 @@
 //! What a command answers.
 
-/// What is to be written, and whether something is at fault.
+/// What is to be written, and whether there are faults, or nothing is found where something was looked up.
 pub struct Answer {
     pub text: String,
     pub has_faults: bool,

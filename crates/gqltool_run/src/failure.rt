@@ -3,20 +3,27 @@
 use crate::input::InputError;
 use crate::status::Status;
 use bench_notation::refusal::{ReadError, RefusedLine};
+use graphql_nodes::name::InvalidNameError;
 use std::alloc::AllocError;
 use thiserror::Error;
 
 /// Why a run has nothing to write.
-#[derive(Debug, Clone, Copy, PartialEq, Eq, Error)]
+#[derive(Debug, Drop, Error)]
 pub enum Failure {
     /// The words are none that the program takes.
     #[error("usage: gqltool schema [--adopt] [--ignore-builtin] | doc | walk | coord TEXT")]
     Usage,
+    /// The text of `coord` is of no coordinate.
+    #[error(transparent)]
+    NoCoordinate(InvalidNameError),
     /// The input cannot be read, or is not UTF-8.
     #[error("cannot read input")]
     CannotRead,
     #[error(transparent)]
     RefusedLine(RefusedLine),
+    /// No line divides the input, which is to be divided.
+    #[error("missing ===")]
+    NoDivision,
     #[error("out of memory")]
     Memory,
     #[error("extension identities spent")]
@@ -57,6 +64,7 @@ impl From<ReadError> for Failure {
     fn from(error: ReadError) -> Failure {
         match error {
             ReadError::Refused(line) => Failure::RefusedLine(line),
+            ReadError::NoDivision => Failure::NoDivision,
             ReadError::Memory => Failure::Memory,
         }
     }
@@ -67,11 +75,15 @@ impl Failure {
     ghost use Rattle.gqltool_run.specs.Status.{status_of};
 
     /// How the run ends.
-    pub fn status(self) -> Status
-        ensures { result ≡ status_of self }
+    pub fn status(&self) -> Status
+        ensures { result ≡ status_of self.now }
     {
         match self {
-            Failure::Usage | Failure::CannotRead | Failure::RefusedLine(_) => Status::Refused,
+            Failure::Usage
+            | Failure::NoCoordinate(_)
+            | Failure::CannotRead
+            | Failure::RefusedLine(_)
+            | Failure::NoDivision => Status::Refused,
             Failure::Memory | Failure::ExtensionIds => Status::Exhausted,
         }
     }

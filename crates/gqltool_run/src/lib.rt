@@ -3,7 +3,8 @@
 
 pub mod answer;
 pub mod arguments;
-pub mod command;
+pub mod building;
+pub mod coord_command;
 pub mod failure;
 mod fault_printing;
 pub mod input;
@@ -11,3 +12,4 @@ pub mod running;
 pub mod schema_command;
 pub mod schema_options;
 pub mod status;
+pub mod task;

@@ -1,23 +1,26 @@
 //! The run of the program.
-ghost use Rattle.std.specs.Prelude.{All, ◌≡◌, Err, false, true, IfErr, IfOk, IfSome, OnOk, string_bytes};
+ghost use Rattle.std.specs.Prelude.{All, ◌≡◌, ◌⊎◌, Err, false, true, IfErr, IfOk, IfSome, IsErr, OnOk, string_bytes};
 ghost use Rattle.std.specs.Io.KnownBytes.{Appends};
 ghost use Rattle.bench_notation.specs.Line.{IsLine, lines_of, texts_of};
-ghost use Rattle.gqltool_run.specs.Commands.{AppendAnswer, AppendPrint, AreNoCommand, HaveAnswer, IsAnswerOf, IsAnswerTo, IsCauseOf, IsPrintOf, IsPrintTo};
+ghost use Rattle.gqltool_run.specs.Commands.{AppendAnswer, AppendPrint, HaveAnswer, IsAnswerOf, IsAnswerTo, IsCauseOf, IsPrintTo};
 ghost use Rattle.gqltool_run.specs.Status.{Writes};
+ghost use Rattle.gqltool_run.specs.Tasks.{AreNoCommand, AskNoCoordinate};
 
 use crate::answer::Answer;
-use crate::command::{Command, read_command};
+use crate::coord_command::coord_answer;
 use crate::failure::Failure;
 use crate::input::read_all;
 use crate::schema_command::schema_answer;
 use crate::status::Status;
+use crate::task::{Task, read_task};
+use graphql_nodes::collections::hash_keys::HashKeys;
 use std::alloc::Global;
 use std::io::{self, Read, Write};
 
 /// Runs the program on the words that follow its name.
 ///
 /// The output is written only once all of it is there. What is wrong is said on `errors`, in one line; that it
-/// cannot be said there changes nothing.
+/// cannot be said there changes nothing. Tables hash by fixed keys: for an input from strangers, take [`run_with_keys`].
 pub fn run<R: Read, O: Write, E: Write>(
     alloc: Global,
     words: &[&str],
@@ -36,10 +39,38 @@ pub fn run<R: Read, O: Write, E: Write>(
     ensures done { result ≡ Status.Done → AppendPrint (texts_of words.now) (O.contents output.old) (O.contents output.new) }
     ensures not_written { result ≡ Status.NotWritten → IfSome (R.remaining reader.old) (HaveAnswer (texts_of words.now)) }
 
-    // Words that are no command are refused before anything is read.
+    // Words that are no command are refused before anything is read, and so is a text of no coordinate, but for want of memory.
     ensures usage { AreNoCommand (texts_of words.now) → (result ≡ Status.Refused) × (reader.new ≡ reader.old) }
+    ensures no_coordinate { AskNoCoordinate (texts_of words.now) → ((result ≡ Status.Refused) ⊎ (result ≡ Status.Exhausted)) × (reader.new ≡ reader.old) }
 {
-    let answer = match answer_words(alloc, words, reader) {
+    run_with_keys(alloc, HashKeys::FIXED, words, reader, output, errors)
+}
+
+/// The same, for an input from strangers: its tables hash by these keys. What is written is the same under any keys.
+pub fn run_with_keys<R: Read, O: Write, E: Write>(
+    alloc: Global,
+    keys: HashKeys,
+    words: &[&str],
+    reader: &mut R,
+    output: &mut O,
+    errors: &mut E,
+) -> Status
+    ensures refused { result ≡ Status.Refused → output.new ≡ output.old }
+    ensures exhausted { result ≡ Status.Exhausted → output.new ≡ output.old }
+    ensures quiet { Writes result → errors.new ≡ errors.old }
+
+    // What was read, and what is appended to the output.
+    ensures read { Writes result → IfSome (R.remaining reader.old) (λ input. All IsLine (lines_of input)) }
+    ensures means { result ≡ Status.Done → IfSome (R.remaining reader.old) (AppendAnswer (texts_of words.now) false (O.contents output.old) (O.contents output.new)) }
+    ensures faults { result ≡ Status.Faults → IfSome (R.remaining reader.old) (AppendAnswer (texts_of words.now) true (O.contents output.old) (O.contents output.new)) }
+    ensures done { result ≡ Status.Done → AppendPrint (texts_of words.now) (O.contents output.old) (O.contents output.new) }
+    ensures not_written { result ≡ Status.NotWritten → IfSome (R.remaining reader.old) (HaveAnswer (texts_of words.now)) }
+
+    // Words that are no command are refused before anything is read, and so is a text of no coordinate, but for want of memory.
+    ensures usage { AreNoCommand (texts_of words.now) → (result ≡ Status.Refused) × (reader.new ≡ reader.old) }
+    ensures no_coordinate { AskNoCoordinate (texts_of words.now) → ((result ≡ Status.Refused) ⊎ (result ≡ Status.Exhausted)) × (reader.new ≡ reader.old) }
+{
+    let answer = match answer_words(alloc, keys, words, reader) {
         Ok(answer) => answer,
         Err(failure) => {
             let _ = writeln!(errors, "{failure}");
@@ -57,32 +88,35 @@ pub fn run<R: Read, O: Write, E: Write>(
 }
 
 /// The answer to the words and the input. Nothing is read where the words are refused.
-fn answer_words<R: Read>(alloc: Global, words: &[&str], reader: &mut R) -> Result<Answer, Failure>
+fn answer_words<R: Read>(
+    alloc: Global,
+    keys: HashKeys,
+    words: &[&str],
+    reader: &mut R,
+) -> Result<Answer, Failure>
     ensures read { OnOk result (IfSome (R.remaining reader.old) (λ input. All IsLine (lines_of input))) }
     ensures means { IfOk result (λ answer. IfSome (R.remaining reader.old) (λ input. IsAnswerTo (texts_of words.now) input (string_bytes answer.text) answer.has_faults)) }
     ensures printed { IfOk result (λ answer. answer.has_faults ≡ false → IsPrintTo (texts_of words.now) (string_bytes answer.text)) }
     ensures usage { AreNoCommand (texts_of words.now) → (result ≡ Err Failure.Usage) × (reader.new ≡ reader.old) }
+    ensures no_coordinate { AskNoCoordinate (texts_of words.now) → IsErr result × (reader.new ≡ reader.old) }
 {
-    let Some(command) = read_command(words) else {
-        return Err(Failure::Usage);
-    };
+    let task = read_task(alloc, words)?;
     let input = read_all(alloc, reader)?;
-    let answer = answer_command(alloc, command, input.as_str())?;
+    let answer = answer_task(alloc, keys, &task, input.as_str())?;
     Ok(answer)
 }
 
-/// The answer of a command to an input.
+/// The answer to what was asked and an input.
 ///
-/// `RefusedLine` tells the first line that says nothing where it stands; `ExtensionIds` comes only where the numbers don't
-/// suffice for the extensions of the input; `Memory` is want of memory. There is no other error.
-fn answer_command(alloc: Global, command: Command, input: &str) -> Result<Answer, Failure>
+/// The errors are those of [`build_input`](crate::building::build_input).
+fn answer_task(alloc: Global, keys: HashKeys, task: &Task, input: &str) -> Result<Answer, Failure>
     ensures read { OnOk result (All IsLine (lines_of input.now)) }
-    ensures means { IfOk result (λ answer. IsAnswerOf command input.now (string_bytes answer.text) answer.has_faults) }
-    ensures printed { IfOk result (λ answer. answer.has_faults ≡ false → IsPrintOf command (string_bytes answer.text)) }
-    ensures causes { IfErr result (IsCauseOf command input.now) }
+    ensures means { IfOk result (λ answer. IsAnswerOf task.now input.now (string_bytes answer.text) answer.has_faults) }
+    ensures causes { IfErr result (IsCauseOf task.now input.now) }
 {
-    match command {
-        Command::Schema(options) => schema_answer(alloc, options, input),
+    match task {
+        Task::Schema(options) => schema_answer(alloc, keys, *options, input),
+        Task::Coord(coordinate) => coord_answer(alloc, keys, coordinate, input),
     }
 }
 

@@ -12,6 +12,21 @@ pub struct SchemaOptions {
     pub ignore_built_in: bool,
 }
 
+impl SchemaOptions {
+    ghost use Rattle.std.specs.Prelude.{◌≡◌};
+    ghost use Rattle.gqltool_run.specs.Building.{no_options};
+
+    /// Neither option.
+    pub fn none() -> SchemaOptions
+        ensures { result ≡ no_options }
+    {
+        SchemaOptions {
+            adopt: false,
+            ignore_built_in: false,
+        }
+    }
+}
+
 /// The options that these words are, in any order, each at most once. No other words are options.
 pub fn read_options(words: &[&str]) -> Option<SchemaOptions>
     ensures { MatchOption result ((options : SchemaOptions) → ¬ AreOptions (texts_of words.now) options) (AreOptions (texts_of words.now)) }

@@ -3,9 +3,9 @@
 /// How a run ended.
 #[derive(Debug, Clone, Copy, PartialEq, Eq)]
 pub enum Status {
-    /// The output is written, and nothing is at fault.
+    /// The output is written, and nothing is at fault: what was looked up is found, and there is no fault.
     Done,
-    /// The output is written, and something is at fault.
+    /// The output is written, and there are faults, or what was looked up is not found.
     Faults,
     /// The words or the input are refused. No output is written.
     Refused,

@@ -175,7 +175,13 @@ fn error_writers_that_fail_change_no_status(rt: HostRuntime) {
 
 #[test]
 fn nothing_is_read_where_the_words_are_refused(rt: HostRuntime) {
-    let rows: [&[&str]; 2] = [&[], &["schema", "x"]];
+    let rows: [&[&str]; 5] = [
+        &[],
+        &["schema", "x"],
+        &["coord"],
+        &["coord", "9"],
+        &["coord", ""],
+    ];
     for words in rows {
         let mut reader = "foo".as_bytes();
         let mut written = Vec::new(rt.alloc());

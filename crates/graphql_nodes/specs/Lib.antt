@@ -4,6 +4,7 @@ pub mod Clones
 pub mod Comparing
 pub mod ItemsLending
 pub mod KeySets
+pub mod KeyedHash
 pub mod KindTexts
 pub mod LocationTexts
 pub mod NameRefusal

@@ -4,6 +4,7 @@
 //! Each is made from the container and gives it back without taking memory.
 
 pub mod boxed;
+pub mod hash_keys;
 pub mod items;
 pub mod key_set;
 pub mod shared;

@@ -16,6 +16,7 @@ pub mod source;
 pub mod type_kind;
 
 pub use crate::collections::boxed::Boxed;
+pub use crate::collections::hash_keys::HashKeys;
 pub use crate::collections::items::Items;
 pub use crate::collections::key_set::KeySet;
 pub use crate::collections::shared::Shared;

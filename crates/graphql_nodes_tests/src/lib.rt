@@ -7,6 +7,8 @@
 #[cfg(test)]
 mod containers;
 #[cfg(test)]
+mod hash_keys;
+#[cfg(test)]
 mod lists;
 #[cfg(test)]
 mod names;

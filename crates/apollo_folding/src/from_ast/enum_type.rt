@@ -10,6 +10,7 @@ use apollo_component::extension::ComponentOrigin;
 use apollo_meaning::build_error::Fault;
 use apollo_meaning::collision::Collection;
 use apollo_types::enum_type::EnumType;
+use graphql_nodes::collections::hash_keys::HashKeys;
 use graphql_nodes::collections::items::Items;
 use graphql_nodes::collections::table::Table;
 use std::alloc::{AllocError, Global};
@@ -19,12 +20,12 @@ impl Kind for EnumType {
 
     ghost made = { enum_of };
 
-    fn bare(alloc: Global, head: &PartView<'_>) -> Result<Self, AllocError> {
+    fn bare(alloc: Global, keys: HashKeys, head: &PartView<'_>) -> Result<Self, AllocError> {
         Ok(EnumType {
             description: head.description()?,
             name: head.name.clone()?,
             directives: DirectiveList::new(alloc),
-            values: Table::new(alloc),
+            values: Table::with_keys(alloc, keys),
         })
     }
 

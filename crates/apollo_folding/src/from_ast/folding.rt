@@ -3,7 +3,7 @@ ghost use Rattle.apollo_folding.specs.Joins.{Lengthens, FindsIn};
 ghost use Rattle.std.specs.Prelude.{◌≡◌, [], ◌∷◌, ◌++◌, map, OnOk};
 ghost use Rattle.graphql_nodes.specs.Tables.{keys_of};
 ghost use Rattle.apollo_meaning.specs.Types.Components.{component, component_name, distinct_names, distinct_entries};
-ghost use Rattle.apollo_meaning.specs.Faults.TypeFaults.{name_entries};
+ghost use Rattle.apollo_meaning.specs.Faults.TypeFaults.{name_entries, named_entries};
 ghost use Rattle.apollo_meaning.specs.Faults.Collisions.{collision_at, collisions};
 
 use apollo_component::component::{Component, ComponentName};
@@ -112,7 +112,7 @@ pub fn fold_named<T: Named + Drop>(
     errors: &mut Items<Fault>,
 ) -> Result<(), AllocError>
     ensures added { OnOk result (Lengthens distinct_entries table.old (map (λ n. (T.name_of n.value, component origin n)) nodes.now) table.new) }
-    ensures faults { OnOk result (FindsIn distinct_entries table.old (λ es. collisions collection type_name.now (keys_of es) (map (λ n. (T.name_of n.value, n.location)) nodes.now)) errors.old errors.new) }
+    ensures faults { OnOk result (FindsIn distinct_entries table.old (λ es. collisions collection type_name.now (keys_of es) (named_entries T.name_of nodes.now)) errors.old errors.new) }
 {
     for node in nodes {
         fold_entry(table, node, origin, collection, type_name, errors)?;

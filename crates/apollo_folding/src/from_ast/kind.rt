@@ -11,6 +11,7 @@ ghost use Rattle.apollo_folding.specs.Views.{part_seen};
 use crate::views::PartView;
 use apollo_component::extension::ComponentOrigin;
 use apollo_meaning::build_error::Fault;
+use graphql_nodes::collections::hash_keys::HashKeys;
 use graphql_nodes::collections::items::Items;
 use graphql_nodes::node::Node;
 use std::alloc::{AllocError, Global};
@@ -23,8 +24,8 @@ pub trait Kind: Clone + Drop {
     /// The type of parts, with the description and name of a head.
     ghost made: { TypePart → List Sourced → Self };
 
-    /// The type of a definition without its components.
-    fn bare(alloc: Global, head: &PartView<'_>) -> Result<Self, AllocError>
+    /// The type of a definition without its components, whose tables hash by these keys.
+    fn bare(alloc: Global, keys: HashKeys, head: &PartView<'_>) -> Result<Self, AllocError>
         ensures { IfOk result (λ ty. ty ≡ made (part_seen head.now) []) };
 
     /// Folds the components of a part in under an origin, each unless it is there, and notes a fault for each that is.
@@ -44,6 +45,7 @@ pub trait Kind: Clone + Drop {
 /// The type of a definition alone. Components that are there already are noted.
 pub fn type_of_definition<K: Kind>(
     alloc: Global,
+    keys: HashKeys,
     head: &PartView<'_>,
     errors: &mut Items<Fault>,
 ) -> Result<Node<K>, AllocError>
@@ -51,7 +53,7 @@ pub fn type_of_definition<K: Kind>(
         → ty ≡ record { value = K.made d ((origins.Definition, d) ∷ []); location = d.location }) }
     ensures faults { OnOk result (kind_of (part_seen head.now) ≡ K.kind → errors.new ≡ errors.old ++ part_faults [] (part_seen head.now)) }
 {
-    let mut ty = K::bare(alloc, head)?;
+    let mut ty = K::bare(alloc, keys, head)?;
     ty.fold(head, ComponentOrigin::Definition, errors)?;
     Node::new_opt_location(alloc, ty, head.location)
 }

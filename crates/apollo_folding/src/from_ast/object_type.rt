@@ -10,6 +10,7 @@ use apollo_component::extension::ComponentOrigin;
 use apollo_meaning::build_error::Fault;
 use apollo_meaning::collision::Collection;
 use apollo_types::object_type::ObjectType;
+use graphql_nodes::collections::hash_keys::HashKeys;
 use graphql_nodes::collections::items::Items;
 use graphql_nodes::collections::key_set::KeySet;
 use graphql_nodes::collections::table::Table;
@@ -20,13 +21,13 @@ impl Kind for ObjectType {
 
     ghost made = { object_of };
 
-    fn bare(alloc: Global, head: &PartView<'_>) -> Result<Self, AllocError> {
+    fn bare(alloc: Global, keys: HashKeys, head: &PartView<'_>) -> Result<Self, AllocError> {
         Ok(ObjectType {
             description: head.description()?,
             name: head.name.clone()?,
-            implements_interfaces: KeySet::new(alloc),
+            implements_interfaces: KeySet::with_keys(alloc, keys),
             directives: DirectiveList::new(alloc),
-            fields: Table::new(alloc),
+            fields: Table::with_keys(alloc, keys),
         })
     }
 

@@ -9,6 +9,7 @@ use apollo_component::directive_list::DirectiveList;
 use apollo_component::extension::ComponentOrigin;
 use apollo_meaning::build_error::Fault;
 use apollo_types::scalar_type::ScalarType;
+use graphql_nodes::collections::hash_keys::HashKeys;
 use graphql_nodes::collections::items::Items;
 use std::alloc::{AllocError, Global};
 
@@ -17,7 +18,7 @@ impl Kind for ScalarType {
 
     ghost made = { scalar_of };
 
-    fn bare(alloc: Global, head: &PartView<'_>) -> Result<Self, AllocError> {
+    fn bare(alloc: Global, _keys: HashKeys, head: &PartView<'_>) -> Result<Self, AllocError> {
         Ok(ScalarType {
             description: head.description()?,
             name: head.name.clone()?,

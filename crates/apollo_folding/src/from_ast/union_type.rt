@@ -10,6 +10,7 @@ use apollo_component::extension::ComponentOrigin;
 use apollo_meaning::build_error::Fault;
 use apollo_meaning::collision::Collection;
 use apollo_types::union_type::UnionType;
+use graphql_nodes::collections::hash_keys::HashKeys;
 use graphql_nodes::collections::items::Items;
 use graphql_nodes::collections::key_set::KeySet;
 use std::alloc::{AllocError, Global};
@@ -19,12 +20,12 @@ impl Kind for UnionType {
 
     ghost made = { union_of };
 
-    fn bare(alloc: Global, head: &PartView<'_>) -> Result<Self, AllocError> {
+    fn bare(alloc: Global, keys: HashKeys, head: &PartView<'_>) -> Result<Self, AllocError> {
         Ok(UnionType {
             description: head.description()?,
             name: head.name.clone()?,
             directives: DirectiveList::new(alloc),
-            members: KeySet::new(alloc),
+            members: KeySet::with_keys(alloc, keys),
         })
     }
 

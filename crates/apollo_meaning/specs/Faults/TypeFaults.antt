@@ -34,17 +34,20 @@ abbrev pub input_field_names : List TypePart → List NameView
 input_field_names = flat_map (λ p. map (λ f. f.value.name) (body_input_fields p.body))
 
 -- components by name and place
+abbrev pub named_entries : {A : Type 0} → (A → NameView) → List (NodeView A) → List Entry
+named_entries name = map (λ n. (name n.value, n.location))
+
 abbrev pub name_entries : List NameView → List Entry
 name_entries = map (λ n. (n, n.location))
 
 abbrev pub field_entries : List (NodeView FieldDefinition) → List Entry
-field_entries = map (λ f. (f.value.name, f.location))
+field_entries = named_entries (λ f. f.name)
 
 abbrev pub value_entries : List (NodeView EnumValueDefinition) → List Entry
-value_entries = map (λ v. (v.value.value, v.location))
+value_entries = named_entries (λ v. v.value)
 
 abbrev pub input_field_entries : List (NodeView InputValueDefinition) → List Entry
-input_field_entries = map (λ f. (f.value.name, f.location))
+input_field_entries = named_entries (λ f. f.name)
 
 -- components that are dropped, interfaces first, where a part of this body and type name joins these parts
 abbrev pub body_faults : TypeBody → NameView → List TypePart → List Fault

@@ -45,6 +45,14 @@ first_place f xs n = lookup (same n) (map (λ e. (f.key e.1, e)) (definition_pla
 abbrev pub is_met : {P : Type 0} → Family P → List ListItem → ℕ → Placed P → Bool
 is_met f xs i e = option_map_or (λ d. max e.0 d.0 == i) (first_place f xs (f.key e.1)) false
 
+-- how many times an extension is met in the whole list
+abbrev pub times_met : {P : Type 0} → Family P → List ListItem → Placed P → ℕ
+times_met f xs e = length (filter (λ i. is_met f xs i e) (range_with_len 0 (length xs)))
+
+-- one where the extension's key has a definition, and none where it has none
+abbrev pub once_if_defined : {P : Type 0} → Family P → List ListItem → Placed P → ℕ
+once_if_defined f xs e = option_map_or (λ _. 1) (first_place f xs (f.key e.1)) 0
+
 -- the extensions that are met at a moment, by their places
 abbrev pub met_when : {P : Type 0} → Family P → List ListItem → ℕ → List (Placed P)
 met_when f xs i = filter (is_met f xs i) (extension_places f xs)

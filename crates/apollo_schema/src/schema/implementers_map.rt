@@ -38,7 +38,7 @@ fn note(
         implementers.add(name, is_object)?;
         return Ok(());
     }
-    let mut implementers = Implementers::new(alloc);
+    let mut implementers = Implementers::with_keys(alloc, map.hash_keys());
     implementers.add(name, is_object)?;
     map.insert(interface.name.clone()?, implementers)?;
     Ok(())
@@ -62,11 +62,12 @@ fn note_type(
 
 impl Schema {
     /// Under the name of each interface that a type declares, the object types and the interface types that declare it,
-    /// by their keys, in order. Nothing is there through another interface. The error is want of memory.
+    /// by their keys, in order. Nothing is there through another interface. The map hashes as the schema's types do. The
+    /// error is want of memory.
     pub fn implementers_map(&self, alloc: Global) -> Result<Table<Name, Implementers>, AllocError>
         ensures { IfOk result (λ map. map ≡ implementers_map self.now.types) }
     {
-        let mut map = Table::new(alloc);
+        let mut map = Table::with_keys(alloc, self.types.hash_keys());
         for (name, ty) in self.types.iter() {
             note_type(alloc, &mut map, name, ty)?;
         }

@@ -32,13 +32,13 @@ impl Tables {
     }
 }
 
-/// A copy draws the numbers that the original draws.
+/// A copy draws the numbers that the original draws, and hashes by its keys.
 impl Clone for Tables {
     ghost is_clone = { λ a b. b ≡ a };
 
     fn clone(&self) -> Result<Tables, AllocError> {
         let ids = ExtensionSource::starting_at(self.ids.next_number());
-        let mut copy = Tables::new(self.alloc, ids);
+        let mut copy = Tables::new(self.alloc, self.types.hash_keys(), ids);
         copy.copy_from(self)?;
         Ok(copy)
     }

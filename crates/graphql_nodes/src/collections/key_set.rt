@@ -6,6 +6,7 @@ ghost use Rattle.std.specs.Map.Iter.{ShowsInOrder, deref};
 ghost use Rattle.std.specs.List.{find, list_any, IsDistinct};
 ghost use Rattle.graphql_nodes.specs.KeySets.{set_eq, set_eq_equiv, insert_key, remove_key, has_key, IsSetClone};
 
+use crate::collections::hash_keys::HashKeys;
 use indexmap::IndexSet;
 use indexmap::set::Iter;
 use std::alloc::{AllocError, AllocFailed, Global};
@@ -13,9 +14,10 @@ use std::fmt;
 use std::hash::Hash;
 use std::marker::Model;
 
-/// A set in the order of insertion, which contracts see as the list of its keys.
+/// A set in the order of insertion, which contracts see as the list of its keys. They see nothing of the keys that it
+/// hashes by.
 pub struct KeySet<T: Eq + Hash> {
-    set: IndexSet<T>,
+    set: IndexSet<T, HashKeys>,
 }
 
 impl<T: Eq + Hash + Drop> Drop for KeySet<T> {
@@ -36,17 +38,29 @@ impl<T: Eq + Hash> Model for KeySet<T> {
 }
 
 impl<T: Eq + Hash> KeySet<T> {
-    /// No key.
+    /// No key. The set hashes by fixed keys: for one that strangers fill, take [`with_keys`](KeySet::with_keys).
     pub fn new(alloc: Global) -> KeySet<T>
         ensures { result ≡ [] }
     {
+        KeySet::with_keys(alloc, HashKeys::FIXED)
+    }
+
+    /// No key. The set hashes by these keys, and so do its clones.
+    pub fn with_keys(alloc: Global, keys: HashKeys) -> KeySet<T>
+        ensures { result ≡ [] }
+    {
         KeySet {
-            set: IndexSet::new(alloc),
+            set: IndexSet::with_hasher(alloc, keys),
         }
     }
 
+    /// The keys that the set hashes by, for a set that is made beside it. No clause says which they are.
+    pub fn hash_keys(&self) -> HashKeys {
+        *self.set.hasher()
+    }
+
     /// The keys of the set, in order. No two are equal.
-    pub fn from_index_set(set: IndexSet<T>) -> KeySet<T>
+    pub fn from_index_set(set: IndexSet<T, HashKeys>) -> KeySet<T>
         ensures keys { result ≡ set.keys }
         ensures unique { IsDistinct T.eq result }
     {
@@ -55,7 +69,7 @@ impl<T: Eq + Hash> KeySet<T> {
     }
 
     /// The keys as an `IndexSet`.
-    pub fn into_index_set(self) -> IndexSet<T>
+    pub fn into_index_set(self) -> IndexSet<T, HashKeys>
         ensures { result.keys ≡ self }
     {
         let KeySet { set } = self;

@@ -8,6 +8,7 @@ ghost use Rattle.std.specs.Map.Iter.{ShowsInOrder, ShowsValuesInOrder, deref, de
 ghost use Rattle.std.specs.Option.{option_copied, option_copied_mut};
 ghost use Rattle.graphql_nodes.specs.Tables.{keys_of, values_of, lookup, lookup_key, set_value, remove_entry, insert_entry, insert_all, set_value_at, as_map, table_eq, HasUniqueKeys, IsTableClone};
 
+use crate::collections::hash_keys::HashKeys;
 use indexmap::IndexMap;
 use indexmap::map::{Iter, Keys, Values};
 use std::alloc::{AllocError, AllocFailed, Global};
@@ -15,9 +16,10 @@ use std::fmt;
 use std::hash::Hash;
 use std::marker::Model;
 
-/// A map in the order of insertion, which contracts see as the list of its entries.
+/// A map in the order of insertion, which contracts see as the list of its entries. They see nothing of the keys that
+/// it hashes by.
 pub struct Table<K: Eq + Hash, V> {
-    map: IndexMap<K, V>,
+    map: IndexMap<K, V, HashKeys>,
 }
 
 impl<K: Eq + Hash + Drop, V: Drop> Drop for Table<K, V> {
@@ -40,17 +42,29 @@ impl<K: Eq + Hash, V> Model for Table<K, V> {
 impl<K: Eq + Hash, V> Table<K, V> {
     ghost use Rattle.graphql_nodes.specs.TableLending.{LendsEntry, LendsPlace};
 
-    /// No entry.
+    /// No entry. The table hashes by fixed keys: for one that strangers fill, take [`with_keys`](Table::with_keys).
     pub fn new(alloc: Global) -> Table<K, V>
         ensures { result ≡ [] }
     {
+        Table::with_keys(alloc, HashKeys::FIXED)
+    }
+
+    /// No entry. The table hashes by these keys, and so do its clones.
+    pub fn with_keys(alloc: Global, keys: HashKeys) -> Table<K, V>
+        ensures { result ≡ [] }
+    {
         Table {
-            map: IndexMap::new(alloc),
+            map: IndexMap::with_hasher(alloc, keys),
         }
     }
 
+    /// The keys that the table hashes by, for a table that is made beside it. No clause says which they are.
+    pub fn hash_keys(&self) -> HashKeys {
+        *self.map.hasher()
+    }
+
     /// The entries of the map, in order. No two keys are equal.
-    pub fn from_index_map(map: IndexMap<K, V>) -> Table<K, V>
+    pub fn from_index_map(map: IndexMap<K, V, HashKeys>) -> Table<K, V>
         ensures entries { result ≡ map.entries }
         ensures unique { HasUniqueKeys K.eq result }
     {
@@ -59,7 +73,7 @@ impl<K: Eq + Hash, V> Table<K, V> {
     }
 
     /// The entries as an `IndexMap`.
-    pub fn into_index_map(self) -> IndexMap<K, V>
+    pub fn into_index_map(self) -> IndexMap<K, V, HashKeys>
         ensures { result.entries ≡ self }
     {
         let Table { map } = self;
@@ -67,7 +81,7 @@ impl<K: Eq + Hash, V> Table<K, V> {
     }
 
     /// The map of the entries.
-    pub fn as_index_map(&self) -> &IndexMap<K, V>
+    pub fn as_index_map(&self) -> &IndexMap<K, V, HashKeys>
         ensures { result.now.entries ≡ self.now }
     {
         &self.map

@@ -1,7 +1,7 @@
 -- Where a field or an argument is refused, no other component begins with its word.
 use Rattle.std.proofs.Common.{ℕ, List, ◌∷◌, map, subst, sym, ◌∙◌}
 use Rattle.bench_notation.specs.Refusals.{SayNoComponent}
-use Rattle.bench_notation.proofs.LineWords.{no_argument, no_field, passes}
+use Rattle.bench_notation.proofs.LineWords.{no_argument, no_field, no_selection, passes}
 use Rattle.bench_notation.proofs.line.read_component.Goals as goal
 
 pub returns-in_err-name-in-field-clause-refused : goal.returns-in_err-name-in-field-clause-refused
@@ -19,3 +19,10 @@ returns-in_err-name-in-arg-clause-refused c =
     (λ none. subst (λ (first : List ℕ). SayNoComponent c.args.above c.args.place (first ∷ rest)) (sym c.in-arg.is)
     (no_argument c.args.above c.args.place rest (λ name ty are may. none name ty are (c.takes_arguments.ensures ∙ may))))
     c.in_err-name-in-arg.ensures.refused
+
+pub returns-in_err-depth-in-sel-clause-refused : goal.returns-in_err-depth-in-sel-clause-refused
+returns-in_err-depth-in-sel-clause-refused c =
+    let rest : List (List ℕ) = map (λ word. word.now) c.args.rest.now in
+    passes c.from_residual-in_err-depth-in-sel.result c.in_err-depth-in-sel.field-0.0 c.from_residual-in_err-depth-in-sel.ensures.1
+    (λ none. subst (λ (first : List ℕ). SayNoComponent c.args.above c.args.place (first ∷ rest)) (sym c.in-sel.is) (no_selection c.args.above c.args.place rest none))
+    c.in_err-depth-in-sel.ensures.refused

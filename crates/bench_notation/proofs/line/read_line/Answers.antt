@@ -16,6 +16,6 @@ pub returns-clause-refused : goal.returns-clause-refused
 returns-clause-refused c =
     let words : texts_of c.as_slice.result.now ≡ words_of c.args.text.now = ap texts_of c.as_slice.ensures.value ∙ c.in_ok-take_words.ensures in
     let full : ¬ (c.args.text.now ≡ []) = λ empty. let other : false ≡ true = subst (λ (l : List ℕ). false ≡ (length l == 0)) empty c.if-is_empty.ensures in cc in
-    IfErr-weaker c.read_words.result (WhenRefused (SayNoLine c.args.above c.args.place (words_of c.args.text.now))) (WhenRefused (SaysNothing c.args.above c.args.place c.args.text.now))
-    (λ error. weaker error (says_nothing c.args.above c.args.place c.args.text.now full))
-    (subst (λ (l : List (List ℕ)). IfErr c.read_words.result (WhenRefused (SayNoLine c.args.above c.args.place l))) words c.read_words.ensures.refused)
+    IfErr-weaker c.read_words.result (WhenRefused (SayNoLine c.args.position c.args.place (words_of c.args.text.now))) (WhenRefused (SaysNothing c.args.position c.args.place c.args.text.now))
+    (λ error. weaker error (says_nothing c.args.position c.args.place c.args.text.now full))
+    (subst (λ (l : List (List ℕ)). IfErr c.read_words.result (WhenRefused (SayNoLine c.args.position c.args.place l))) words c.read_words.ensures.refused)

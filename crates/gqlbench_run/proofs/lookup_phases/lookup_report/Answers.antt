@@ -16,7 +16,7 @@ returns g c =
       schema = schema;
       means = c.in_ok-schema.ensures.means;
       lines = lines;
-      timed = c.in_ok-push_lines.ensures.1.1 c.args.command.repeat have.type_field have.is_subtype;
+      timed = c.in_ok-push_lines.ensures.1.1 c.args.command.repeat (have.type_field, have.is_subtype);
       is = c.in_ok-push_lines.ensures.1.0
           ∙ ap (λ t. t ++ lines) (c.in_ok-text.ensures ∙ (λ i. calls_text (length (fields i)) (found i) (length (subtypes i)) (subtypes_found i)));
     }

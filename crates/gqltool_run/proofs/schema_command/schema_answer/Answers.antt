@@ -1,53 +1,38 @@
 use Rattle.std.proofs.Common.{◌≡◌, ℕ, ◌==◌, Bool, true, false, not, List, [], ◌∷◌, ◌++◌, length, vec_len, refl, sym, ap, subst, ◌∙◌, arith}
-use Rattle.std.proofs.lemmas.Bool.Decides.{nat_tests}
 use Rattle.std.proofs.lemmas.List.{append-nil}
 use Rattle.std.proofs.lemmas.Result.{err_from_is_err_and}
-use Rattle.graphql_ast.specs.declared.document.Document.{Document}
 use Rattle.apollo_meaning.specs.Faults.Collisions.{Fault}
-use Rattle.apollo_meaning.specs.Faults.ListFaults.{faults_of}
 use Rattle.apollo_schema.specs.SchemaWriteOut.{write_schema}
-use Rattle.apollo_schema.specs.MeantSchema.{MeansSchema}
 use Rattle.gqltool_run.specs.FaultLines.{AreFaultLines}
-use Rattle.gqltool_run.specs.SchemaCommand.{list_of}
+use Rattle.gqltool_run.proofs.FaultLineLemmas.{no-lines, not-false}
 use Rattle.bench_notation.specs.Text.{definitions_text}
 use Rattle.gqltool_run.proofs.schema_command.schema_answer.Goals as goal
-
--- faults without a line are none
-no-lines : (fs : List Fault) (lines : List ℕ) → (length fs == 0) ≡ true → AreFaultLines fs lines → lines ≡ []
-no-lines [] lines h are = are
-no-lines (f ∷ fs) lines h are = absurd (grind (arith, nat_tests, h))
-
-not-false : (b : Bool) → not b ≡ false → b ≡ true
-not-false true h = refl
-not-false false h = sym h
 
 pub returns-clause-means : goal.returns-clause-means
 returns-clause-means c =
     let schema = c.in_ok-schema.schema in
     let lines = c.in_ok-push_faults.ensures.0 in
-    let docs = c.as_slice.ensures.value in
-    let len : vec_len c.in_ok-schema.faults ≡ length c.as_slice-3.result.now = sym c.as_slice-3.ensures.len in
-    let faults = c.in_ok-schema.ensures.faults ∙ ap (λ (l : List Document). faults_of c.args.options.adopt (list_of c.args.options.ignore_built_in l)) docs in
+    let len : vec_len c.in_ok-schema.faults ≡ length c.as_slice-2.result.now = sym c.as_slice-2.ensures.len in
+    let faults = c.as_slice-2.ensures.value in
     record {
-      documents = c.in_ok-documents.documents.items;
-      says = c.in_ok-documents.ensures.said;
       schema = schema;
-      means = subst (λ (l : List Document). MeansSchema 0 c.args.options.adopt (list_of c.args.options.ignore_built_in l) schema) docs c.in_ok-schema.ensures.means;
+      faults = c.in_ok-schema.faults.items;
+      means = c.in_ok-schema.ensures.means;
       lines = lines;
-      prints = c.in_ok-push_faults.ensures.1.0 ∙ ap (λ l. l ++ lines) (c.in_ok-text.ensures ∙ ap definitions_text (c.as_slice-2.ensures.value ∙ c.in_ok-to_ast.ensures));
-      tells = subst (λ (l : List Fault). AreFaultLines l lines) (c.as_slice-3.ensures.value ∙ faults) c.in_ok-push_faults.ensures.1.1;
-      any = ap not (c.is_empty.ensures ∙ ap (λ (n : ℕ). n == 0) len ∙ ap (λ (l : List Fault). length l == 0) (c.as_slice-3.ensures.value ∙ faults));
+      prints = c.in_ok-push_faults.ensures.1.0 ∙ ap (λ l. l ++ lines) (c.in_ok-text.ensures ∙ ap definitions_text (c.as_slice.ensures.value ∙ c.in_ok-to_ast.ensures));
+      tells = subst (λ (l : List Fault). AreFaultLines l lines) faults c.in_ok-push_faults.ensures.1.1;
+      any = ap not (c.is_empty.ensures ∙ ap (λ (n : ℕ). n == 0) len ∙ ap (λ (l : List Fault). length l == 0) faults);
     }
 
 pub returns-clause-printed : goal.returns-clause-printed
 returns-clause-printed c = λ none.
     let lines = c.in_ok-push_faults.ensures.0 in
-    let len : vec_len c.in_ok-schema.faults ≡ length c.as_slice-3.result.now = sym c.as_slice-3.ensures.len in
-    let empty : (length c.as_slice-3.result.now == 0) ≡ true = ap (λ (n : ℕ). n == 0) (sym len) ∙ sym c.is_empty.ensures ∙ not-false c.is_empty.result none in (
+    let len : vec_len c.in_ok-schema.faults ≡ length c.as_slice-2.result.now = sym c.as_slice-2.ensures.len in
+    let empty : (length c.as_slice-2.result.now == 0) ≡ true = ap (λ (n : ℕ). n == 0) (sym len) ∙ sym c.is_empty.ensures ∙ not-false c.is_empty.result none in (
       write_schema c.in_ok-schema.schema,
       c.in_ok-push_faults.ensures.1.0
-          ∙ (λ i. (c.in_ok-text.ensures ∙ ap definitions_text (c.as_slice-2.ensures.value ∙ c.in_ok-to_ast.ensures)) i
-          ++ no-lines c.as_slice-3.result.now lines empty c.in_ok-push_faults.ensures.1.1 i)
+          ∙ (λ i. (c.in_ok-text.ensures ∙ ap definitions_text (c.as_slice.ensures.value ∙ c.in_ok-to_ast.ensures)) i
+          ++ no-lines c.as_slice-2.result.now lines empty c.in_ok-push_faults.ensures.1.1 i)
           ∙ append-nil (definitions_text (write_schema c.in_ok-schema.schema)),
     )
 

@@ -10,7 +10,7 @@ returns c =
       first.0 ++ second.0,
       (
         second.1.0 ∙ ap (λ t. t ++ second.0) first.1.0 ∙ append_assoc (string_bytes c.args.text.now) first.0 second.0,
-        λ n fields subtypes. lines-above (codes "type_field") (codes "is_subtype" ∷ []) n times.type_field.items first.0 second.0 fields first.1.1
-            (last-line (codes "is_subtype") n times.is_subtype.items second.0 subtypes second.1.1),
+        λ n have. lines-above (codes "type_field") (codes "is_subtype" ∷ []) n times.type_field.items first.0 second.0 have.0 first.1.1
+            (last-line (codes "is_subtype") n times.is_subtype.items second.0 have.1 second.1.1),
       ),
     )

@@ -1,0 +1,124 @@
+-- Every schema's write-out means an equal schema, with the same write-out.
+use Rattle.std.proofs.Common.{◌≡◌, ℕ, Bool, true, false, cond, List, [], ◌++◌, drop, flat_map, option_map, sym, ap, subst, ◌∙◌, filter_map}
+use Rattle.std.proofs.lemmas.List.{append-nil}
+use Rattle.std.proofs.lemmas.List.Elements.{filter_map-append, recursion_from_All}
+use Rattle.std.specs.List.{AllByRecursion}
+use Rattle.std.specs.Prelude.{◌≢◌}
+use Rattle.graphql_nodes.specs.BuiltIn.{is_built_in}
+use Rattle.graphql_nodes.specs.NodeView.{NodeView}
+use Rattle.graphql_nodes.specs.SameText.{by_text}
+use Rattle.graphql_nodes.specs.Tables.{keys_of, lookup, values_of}
+use Rattle.graphql_ast.specs.BareTypeSystem.{bare_directive_definition}
+use Rattle.graphql_ast.specs.Definitions.{location_of}
+use Rattle.apollo_types.specs.BareTypes.{bare_schema_definition}
+use Rattle.apollo_types.specs.SchemaDefinitionWriteOut.{write_schema_definition}
+use Rattle.apollo_types.specs.declared.extended_type.ExtendedType.{ExtendedType}
+use Rattle.apollo_types.specs.declared.schema_definition.SchemaDefinition.{SchemaDefinition}
+use Rattle.apollo_meaning.specs.Completion.ImpliedSchema.{completed, implied_schema}
+use Rattle.apollo_meaning.specs.Directives.{directive_definitions, directive_part}
+use Rattle.apollo_meaning.specs.Faults.ListFaults.{faults_in, faults_of}
+use Rattle.apollo_meaning.specs.Items.ListItems.{Added, ListItem, added, added_items, defined_schema}
+use Rattle.apollo_meaning.specs.Order.Places.{folding_order}
+use Rattle.apollo_meaning.specs.Schema.Whole.{whole}
+use Rattle.apollo_schema.specs.EqualSchemas.{AreEqualSchemas}
+use Rattle.apollo_schema.specs.MeantSchema.{AreOf, MeansSchema}
+use Rattle.apollo_schema.specs.SchemaWriteOut.{write_directives, write_held_schema_definition, write_held_type, write_schema}
+use Rattle.apollo_schema.specs.declared.schema.Schema.{Schema}
+use Rattle.apollo_canonical.specs.WrittenAgain.{IsUnmarkedAndRooted, with_built_ins, written_again}
+use Rattle.apollo_canonical.proofs.Rebuild.BuiltIns.{built_ins}
+use Rattle.apollo_canonical.proofs.Rebuild.DirectivesAgain.{directives-again, unique, written_directives}
+use Rattle.apollo_canonical.proofs.Rebuild.Faultless.{faults-none}
+use Rattle.apollo_canonical.proofs.Rebuild.Held.{document_items, document_items-append, items-types}
+use Rattle.apollo_canonical.proofs.Rebuild.Meant.{IsAddedByHand, items-split}
+use Rattle.apollo_canonical.proofs.Rebuild.OneType.{IsAgain}
+use Rattle.apollo_canonical.proofs.Rebuild.SchemaMeant.{NamesRoot, schema_node}
+use Rattle.apollo_canonical.proofs.Rebuild.SchemaWritten.{directives-listed, list-directives, schema_items}
+use Rattle.apollo_canonical.proofs.Rebuild.Tables.{tables-same}
+use Rattle.apollo_canonical.proofs.Rebuild.TypesAgain.{equal_types, same_written}
+use Rattle.apollo_canonical.proofs.Rebuild.Whole.{Y, Z, ends, others, quiet, implied-directives, quiet-implied, same-schema, with-adopted}
+
+module _ (start : ℕ) (adopts c : Bool) (more : List Added) (schema : Schema) (within : IsUnmarkedAndRooted more) (means : MeansSchema start adopts (with_built_ins more) schema) where
+  pub handed : AllByRecursion IsAddedByHand more
+  handed = recursion_from_All (λ a. is_built_in (location_of a.1) ≡ false) more within.unmarked
+
+  pub rooted : AllByRecursion NamesRoot (filter_map defined_schema (added_items more))
+  rooted = recursion_from_All (λ s. s.roots ≢ []) (filter_map defined_schema (added_items more)) within.rooted
+
+  abbrev xs : List ListItem
+  xs = whole adopts (with_built_ins more)
+
+  abbrev pub written_items : List ListItem
+  written_items = Y adopts more handed rooted start schema.types means.types schema.directive_definitions means.directives c
+
+  abbrev pub all_items : List ListItem
+  all_items = Z adopts more handed rooted start schema.types means.types schema.directive_definitions means.directives c
+
+  -- the items of the list with the write-out
+  pub listed : added_items (written_again c schema) ≡ written_items
+  listed =
+      items-split true (added c (write_schema schema))
+      ∙ ap (λ l. built_ins ++ l) (document_items-append c (write_held_schema_definition schema ++ write_directives (values_of schema.directive_definitions)) (flat_map write_held_type (values_of schema.types))
+      ∙ (λ i. (document_items-append c (write_held_schema_definition schema) (write_directives (values_of schema.directive_definitions))
+      ∙ (λ j. definition_items j ++ directives-listed c (values_of schema.directive_definitions) j)) i ++ items-types c (values_of schema.types) i))
+    where
+      definition_items : document_items c (write_held_schema_definition schema) ≡ schema_items c (schema_node start xs).value (schema_node start xs).location schema.types
+      definition_items = ap (λ (n : NodeView SchemaDefinition). document_items c (write_schema_definition n.value n.location schema.types)) means.definition
+
+  pub all-listed : whole true (written_again c schema) ≡ all_items
+  all-listed =
+      ap (completed true) listed
+      ∙ (λ i. with-adopted adopts more handed rooted start schema.types means.types schema.directive_definitions means.directives c i ++ implied_schema true (with-adopted adopts more handed rooted start schema.types means.types schema.directive_definitions means.directives c i))
+
+  pub directive_list : directive_definitions all_items ≡ directive_definitions built_ins ++ written_directives adopts more handed schema.directive_definitions means.directives
+  directive_list =
+      filter_map-append directive_part written_items (ends adopts more handed rooted start schema.types means.types schema.directive_definitions means.directives c)
+      ∙ (λ i. list-directives c (schema_node start xs).value (schema_node start xs).location schema.types (written_directives adopts more handed schema.directive_definitions means.directives) (values_of schema.types) i
+      ++ implied-directives written_items i)
+      ∙ append-nil (directive_definitions built_ins ++ written_directives adopts more handed schema.directive_definitions means.directives)
+
+  module _ (again : ℕ) (rebuilt : Schema) (means_again : MeansSchema again true (written_again c schema) rebuilt) where
+    are_again : AreOf again (folding_order all_items) all_items rebuilt
+    are_again = subst (λ l. AreOf again (folding_order l) l rebuilt) all-listed means_again
+
+    same_definition : (bare_schema_definition (schema_node again all_items).value ≡ bare_schema_definition (schema_node start xs).value)
+        × (write_schema_definition (schema_node again all_items).value (schema_node again all_items).location rebuilt.types ≡ write_schema_definition (schema_node start xs).value (schema_node start xs).location schema.types)
+    same_definition = same-schema adopts more handed rooted start schema.types means.types schema.directive_definitions means.directives c again rebuilt.types are_again.types
+
+    same_directives : (keys_of rebuilt.directive_definitions ≡ keys_of schema.directive_definitions) × ((n : List ℕ) → lookup (by_text n) rebuilt.directive_definitions ≡ lookup (by_text n) schema.directive_definitions)
+    same_directives = directives-again adopts more handed schema.directive_definitions means.directives all_items rebuilt.directive_definitions directive_list are_again.directives
+
+    -- an equal schema
+    pub equal : AreEqualSchemas rebuilt schema
+    equal = (λ i. record {
+      definition = definition i;
+      directive_definitions = (λ n. option_map (λ d. bare_directive_definition d.value) (same_directives.1 n i));
+      types = equal_types adopts more handed start schema.types means.types c (others adopts more handed rooted start schema.types means.types schema.directive_definitions means.directives c)
+          (ends adopts more handed rooted start schema.types means.types schema.directive_definitions means.directives c) (quiet adopts more handed rooted start schema.types means.types schema.directive_definitions means.directives c) (quiet-implied written_items)
+          again rebuilt.types are_again.types i;
+    })
+      where
+        definition : bare_schema_definition rebuilt.schema_definition.value ≡ bare_schema_definition schema.schema_definition.value
+        definition = ap (λ (n : NodeView SchemaDefinition). bare_schema_definition n.value) are_again.definition ∙ same_definition.0 ∙ ap (λ (n : NodeView SchemaDefinition). bare_schema_definition n.value) (sym means.definition)
+
+    -- with the same write-out
+    pub same : write_schema rebuilt ≡ write_schema schema
+    same = (λ i. (definition i ++ ap write_directives (tables-same schema.directive_definitions rebuilt.directive_definitions (unique adopts more handed schema.directive_definitions means.directives) same_directives.0 same_directives.1) i) ++ types i)
+      where
+        definition : write_held_schema_definition rebuilt ≡ write_held_schema_definition schema
+        definition =
+            ap (λ (n : NodeView SchemaDefinition). write_schema_definition n.value n.location rebuilt.types) are_again.definition ∙ same_definition.1
+            ∙ ap (λ (n : NodeView SchemaDefinition). write_schema_definition n.value n.location schema.types) (sym means.definition)
+
+        held : (t u : ExtendedType) → IsAgain t u → write_held_type u ≡ write_held_type t
+        held t u a = (λ i. cond (is_built_in (a.location i)) (drop 1 (a.same i)) (a.same i))
+
+        types : flat_map write_held_type (values_of rebuilt.types) ≡ flat_map write_held_type (values_of schema.types)
+        types = same_written adopts more handed start schema.types means.types c (others adopts more handed rooted start schema.types means.types schema.directive_definitions means.directives c)
+            (ends adopts more handed rooted start schema.types means.types schema.directive_definitions means.directives c) (quiet adopts more handed rooted start schema.types means.types schema.directive_definitions means.directives c) (quiet-implied written_items)
+            again rebuilt.types are_again.types write_held_type held
+
+-- and is without fault
+pub faultless : (start : ℕ) (adopts c : Bool) (more : List Added) (schema : Schema) → IsUnmarkedAndRooted more → MeansSchema start adopts (with_built_ins more) schema → faults_of true (written_again c schema) ≡ []
+faultless start adopts c more schema within means =
+    ap (faults_in true) (listed start adopts c more schema within means)
+    ∙ faults-none adopts more (handed start adopts c more schema within means) (rooted start adopts c more schema within means) start schema.types means.types schema.directive_definitions means.directives c

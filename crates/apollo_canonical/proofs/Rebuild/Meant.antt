@@ -1,0 +1,155 @@
+-- The list of a schema: the built-in definitions, and after them what is handed in.
+use Rattle.std.proofs.Common.{◌≡◌, ℕ, Bool, true, false, cond, List, [], ◌∷◌, ◌++◌, None, Option, Some, flat_map, sym, ap, subst, ◌∙◌, append_assoc}
+use Rattle.std.proofs.lemmas.List.{append-nil, map-append}
+use Rattle.std.proofs.lemmas.List.Elements.{filter_map-append}
+use Rattle.std.specs.List.{AllByRecursion, filter_map}
+use Rattle.std.specs.Option.{option_map_or}
+use Rattle.graphql_nodes.specs.BuiltIn.{is_built_in}
+use Rattle.graphql_nodes.specs.SameText.{same}
+use Rattle.graphql_ast.specs.Definitions.{location_of}
+use Rattle.graphql_ast.specs.declared.definition.Definition.{Definition}
+use Rattle.graphql_ast.specs.declared.definition.Definition.TheVariants as ast
+use Rattle.apollo_built_in.specs.BuiltInTable.{built_in_definitions}
+use Rattle.apollo_component.proofs.Lists.Each.{each-append, each-filter, each-weaken}
+use Rattle.apollo_meaning.specs.Completion.Adoption.{adopted, adopted_by, extended_names, orphans_of, with_adopted}
+use Rattle.apollo_meaning.specs.Completion.ImpliedSchema.{implied_schema, schema_for, adopting_schema, rooted_schema, implicit_roots}
+use Rattle.apollo_meaning.specs.Items.ListItems.{ListItem, Defined, Extended, SchemaDefined, SchemaExtended, Other, Added, added, added_item, added_items, item_of, ignorable_if, defined_part, extended_part}
+use Rattle.apollo_meaning.specs.Items.Named.{first, extensions_of, first_schema, schema_extensions}
+use Rattle.apollo_meaning.specs.Items.Parts.{TypePart, SchemaPart, Root, key_of, roots_in}
+use Rattle.apollo_meaning.specs.Schema.Whole.{whole}
+use Rattle.apollo_canonical.specs.WrittenAgain.{with_built_ins}
+use Rattle.apollo_canonical.proofs.Rebuild.BuiltIns.{built_ins, no-extensions, first-of}
+
+-- an item that isn't marked built-in
+abbrev pub IsHandedIn : ListItem → Type 0
+IsHandedIn (Defined p) = is_built_in p.location ≡ false
+IsHandedIn (Extended p) = is_built_in p.location ≡ false
+IsHandedIn (SchemaDefined s) = Unit {0}
+IsHandedIn (SchemaExtended s) = Unit {0}
+IsHandedIn (Other d) = is_built_in (location_of d) ≡ false
+
+abbrev pub IsAddedByHand : Added → Type 0
+IsAddedByHand a = is_built_in (location_of a.1) ≡ false
+
+handed-item : (b : Bool) (d : Definition) → is_built_in (location_of d) ≡ false → IsHandedIn (ignorable_if b (item_of d))
+handed-item b (ast.OperationDefinition n) h = h
+handed-item b (ast.FragmentDefinition n) h = h
+handed-item b (ast.DirectiveDefinition n) h = h
+handed-item b (ast.SchemaDefinition n) h = tt
+handed-item b (ast.ScalarTypeDefinition n) h = h
+handed-item b (ast.ObjectTypeDefinition n) h = h
+handed-item b (ast.InterfaceTypeDefinition n) h = h
+handed-item b (ast.UnionTypeDefinition n) h = h
+handed-item b (ast.EnumTypeDefinition n) h = h
+handed-item b (ast.InputObjectTypeDefinition n) h = h
+handed-item b (ast.SchemaExtension n) h = tt
+handed-item b (ast.ScalarTypeExtension n) h = h
+handed-item b (ast.ObjectTypeExtension n) h = h
+handed-item b (ast.InterfaceTypeExtension n) h = h
+handed-item b (ast.UnionTypeExtension n) h = h
+handed-item b (ast.EnumTypeExtension n) h = h
+handed-item b (ast.InputObjectTypeExtension n) h = h
+
+pub handed-items : (xs : List Added) → AllByRecursion IsAddedByHand xs → AllByRecursion IsHandedIn (added_items xs)
+handed-items [] a = tt
+handed-items (x ∷ xs) a = (handed-item x.0 x.1 a.0, handed-items xs a.1)
+
+-- a part that isn't marked
+abbrev pub IsUnmarked : TypePart → Type 0
+IsUnmarked p = is_built_in p.location ≡ false
+
+pub unmarked-definitions : (xs : List ListItem) → AllByRecursion IsHandedIn xs → AllByRecursion IsUnmarked (filter_map defined_part xs)
+unmarked-definitions [] a = tt
+unmarked-definitions (Defined p ∷ xs) a = (a.0, unmarked-definitions xs a.1)
+unmarked-definitions (Extended p ∷ xs) a = unmarked-definitions xs a.1
+unmarked-definitions (SchemaDefined s ∷ xs) a = unmarked-definitions xs a.1
+unmarked-definitions (SchemaExtended s ∷ xs) a = unmarked-definitions xs a.1
+unmarked-definitions (Other d ∷ xs) a = unmarked-definitions xs a.1
+
+unmarked-extensions : (xs : List ListItem) → AllByRecursion IsHandedIn xs → AllByRecursion IsUnmarked (filter_map extended_part xs)
+unmarked-extensions [] a = tt
+unmarked-extensions (Defined p ∷ xs) a = unmarked-extensions xs a.1
+unmarked-extensions (Extended p ∷ xs) a = (a.0, unmarked-extensions xs a.1)
+unmarked-extensions (SchemaDefined s ∷ xs) a = unmarked-extensions xs a.1
+unmarked-extensions (SchemaExtended s ∷ xs) a = unmarked-extensions xs a.1
+unmarked-extensions (Other d ∷ xs) a = unmarked-extensions xs a.1
+
+-- a schema definition that is implied defines no type
+pub handed-implied : (adopts : Bool) (xs : List ListItem) → AllByRecursion IsHandedIn (implied_schema adopts xs)
+handed-implied adopts xs = by (first_schema xs)
+  where
+    adopting : (rs is : List Root) → AllByRecursion IsHandedIn (adopting_schema rs is)
+    adopting [] is = (tt, tt)
+    adopting (r ∷ rs) is = (tt, tt)
+
+    rooted : (is : List Root) → AllByRecursion IsHandedIn (rooted_schema is)
+    rooted [] = tt
+    rooted (i ∷ is) = (tt, tt)
+
+    for : (b : Bool) (rs is : List Root) → AllByRecursion IsHandedIn (schema_for b rs is)
+    for true rs is = adopting rs is
+    for false rs is = rooted is
+
+    by : (o : Option SchemaPart) → AllByRecursion IsHandedIn (option_map_or (λ _. []) o (schema_for adopts (roots_in (schema_extensions xs)) (implicit_roots xs)))
+    by (Some s) = tt
+    by None = for adopts (roots_in (schema_extensions xs)) (implicit_roots xs)
+
+module _ (adopts : Bool) (more : List Added) where
+  abbrev pub items : List ListItem
+  items = added_items (with_built_ins more)
+
+  abbrev pub adopted_items : List ListItem
+  adopted_items = cond adopts (adopted items) []
+
+  -- what comes after the built-in definitions in all that the list means
+  abbrev pub later_items : List ListItem
+  later_items = (added_items more ++ adopted_items) ++ implied_schema adopts (with_adopted adopts items)
+
+  pub items-split : items ≡ built_ins ++ added_items more
+  items-split = map-append added_item (added false built_in_definitions) more
+
+  pub adopted-split : with_adopted adopts items ≡ built_ins ++ (added_items more ++ adopted_items)
+  adopted-split = by adopts
+    where
+      by : (b : Bool) → with_adopted b items ≡ built_ins ++ (added_items more ++ cond b (adopted items) [])
+      by true = ap (λ l. l ++ adopted items) items-split ∙ append_assoc built_ins (added_items more) (adopted items)
+      by false = items-split ∙ ap (λ l. built_ins ++ l) (sym (append-nil (added_items more)))
+
+  pub whole-split : whole adopts (with_built_ins more) ≡ built_ins ++ later_items
+  whole-split = ap (λ l. l ++ implied_schema adopts (with_adopted adopts items)) adopted-split ∙ append_assoc built_ins (added_items more ++ adopted_items) (implied_schema adopts (with_adopted adopts items))
+
+  module _ (handed : AllByRecursion IsAddedByHand more) where
+    unmarked : AllByRecursion IsUnmarked (filter_map extended_part items)
+    unmarked = subst (AllByRecursion IsUnmarked) (sym (ap (filter_map extended_part) items-split ∙ filter_map-append extended_part built_ins (added_items more) ∙ ap (λ l. l ++ filter_map extended_part (added_items more)) no-extensions))
+        (unmarked-extensions (added_items more) (handed-items more handed))
+
+    unmarked-orphans : (n : List ℕ) → AllByRecursion IsUnmarked (orphans_of items n)
+    unmarked-orphans n = by (first items n)
+      where
+        by : (o : Option TypePart) → AllByRecursion IsUnmarked (option_map_or (λ _. []) o (extensions_of items n))
+        by (Some d) = tt
+        by None = each-weaken (λ p. IsUnmarked p × (same n (key_of p) ≡ true)) IsUnmarked (λ p h. h.0) (extensions_of items n) (each-filter IsUnmarked (λ p. same n (key_of p)) (filter_map extended_part items) unmarked)
+
+    handed-adopted : AllByRecursion IsHandedIn (adopted items)
+    handed-adopted = go (extended_names items)
+      where
+        by : (ps : List TypePart) → AllByRecursion IsUnmarked ps → AllByRecursion IsHandedIn (adopted_by ps)
+        by [] a = tt
+        by (p ∷ ps) a = (a.0, tt)
+
+        go : (ns : List (List ℕ)) → AllByRecursion IsHandedIn (flat_map (λ n. adopted_by (orphans_of items n)) ns)
+        go [] = tt
+        go (n ∷ ns) = each-append IsHandedIn (adopted_by (orphans_of items n)) (flat_map (λ n. adopted_by (orphans_of items n)) ns) (by (orphans_of items n) (unmarked-orphans n)) (go ns)
+
+    -- none of it is marked built-in
+    pub handed-later : AllByRecursion IsHandedIn later_items
+    handed-later =
+        each-append IsHandedIn (added_items more ++ adopted_items) (implied_schema adopts (with_adopted adopts items))
+        (each-append IsHandedIn (added_items more) adopted_items (handed-items more handed) (by adopts)) (handed-implied adopts (with_adopted adopts items))
+      where
+        by : (b : Bool) → AllByRecursion IsHandedIn (cond b (adopted items) [])
+        by true = handed-adopted
+        by false = tt
+
+    pub first-unmarked : (n : List ℕ) (d : TypePart) → first later_items n ≡ Some d → IsUnmarked d
+    first-unmarked n d h = first-of IsUnmarked n (filter_map defined_part later_items) d (unmarked-definitions later_items handed-later) h

@@ -1,0 +1,262 @@
+-- A schema definition that a list means, and the one that what is written of it means.
+use Rattle.std.proofs.Common.{◌≡◌, ℕ, List, [], ◌∷◌, ◌++◌, None, Option, Some, map, find, flat_map, length, option_map, slice_get, refl, sym, ap, ◌∙◌, ◌==◌}
+use Rattle.std.proofs.lemmas.List.{length-map, map-append}
+use Rattle.std.proofs.lemmas.Simd.{map-map}
+use Rattle.std.specs.List.{AllByRecursion, IsDistinct}
+use Rattle.std.specs.List.Sorted.{IsPermutation}
+use Rattle.graphql_nodes.specs.Comparing.{bare_name}
+use Rattle.graphql_nodes.specs.NodeView.{NodeView}
+use Rattle.graphql_nodes.specs.declared.operation_type.OperationType.{OperationType}
+use Rattle.graphql_nodes.specs.declared.operation_type.OperationType.TheVariants.{Query, Mutation, Subscription}
+use Rattle.graphql_ast.specs.Bare.{bare_directive}
+use Rattle.graphql_ast.specs.declared.definition_parts.DefinitionParts.{DefinitionParts}
+use Rattle.graphql_ast.specs.declared.directive.Directive.{Directive}
+use Rattle.apollo_component.specs.BareComponents.{bare_component, bare_component_name}
+use Rattle.apollo_component.specs.Extensions.{extension_id, place_of}
+use Rattle.apollo_component.specs.WriteOut.{by_origin, identities, of_extensions, of_origin, origins_in}
+use Rattle.apollo_component.specs.declared.component.Component.{Component}
+use Rattle.apollo_component.specs.declared.component.ComponentName.{ComponentName}
+use Rattle.apollo_component.specs.declared.extension.ComponentOrigin.{ComponentOrigin}
+use Rattle.apollo_component.specs.declared.extension.ComponentOrigin.TheVariants.{Definition, Extension}
+use Rattle.apollo_component.specs.declared.extension.ExtensionId.{ExtensionId}
+use Rattle.apollo_component.specs.declared.parts_by_origin.PartsByOrigin.{PartsByOrigin}
+use Rattle.apollo_types.specs.BareTypes.{bare_schema_definition}
+use Rattle.apollo_types.specs.Components.{root_node}
+use Rattle.apollo_types.specs.SchemaDefinitionWriteOut.{schema_components}
+use Rattle.apollo_types.specs.SchemaRoots.{root_of}
+use Rattle.apollo_types.specs.declared.schema_definition.SchemaDefinition.{SchemaDefinition}
+use Rattle.apollo_meaning.specs.Items.Parts.{Root, SchemaPart}
+use Rattle.apollo_meaning.specs.Schema.Definition.{root_in, roots_of, same_operation, schema_definition_of, schema_directives_of, schema_extension_source}
+use Rattle.apollo_meaning.specs.Types.Components.{component, component_name}
+use Rattle.apollo_canonical.specs.Sections.{Sections, in_sections, joined, with_origins}
+use Rattle.apollo_canonical.specs.TypeSections.{no_components, node_of, placed}
+use Rattle.apollo_canonical.proofs.ComponentsKept.{kept, origins-split, roots-there, HasOrigins}
+use Rattle.apollo_canonical.proofs.DirectivesInOrder.{directives-in_order}
+use Rattle.apollo_canonical.proofs.FirstAppearance.{in_order}
+use Rattle.apollo_canonical.proofs.TypeLemmas.{same-placed}
+use Rattle.apollo_canonical.proofs.Rebuild.Numbers.{numbered-distinct, paired, paired-self, renumbered, renumbered-distinct, renumbered-placed}
+use Rattle.apollo_canonical.proofs.Rebuild.SchemaAgain.{alone-permuted, filter-joined, find-first, find-made, from-values, in_operation_order, none-permuted, schema-parts_again}
+use Rattle.apollo_canonical.proofs.Rebuild.SchemaSections.{IsSchemaRow, entries, is_op, roots-origin, roots_for, schema-components, schema-in_order, schema-row, schema_sections, schema_sorts}
+
+-- an extension's identity with what is written of it
+abbrev pub extension_written : SchemaDefinition → ExtensionId → ExtensionId × DefinitionParts
+extension_written d e = (e, of_origin (Extension e) (schema_components d))
+
+-- a root under its operation type
+abbrev pub root_under : ComponentOrigin → Root → OperationType × ComponentName
+root_under o r = (r.value.0, component_name o r.value.1)
+
+-- things with an origin
+abbrev originated : {A : Type 0} → ComponentOrigin → List A → List (ComponentOrigin × A)
+originated o = map (λ x. (o, x))
+
+-- the parts that are written of it, and its extensions as parts of a list
+abbrev pub written_parts_of : SchemaDefinition → PartsByOrigin
+written_parts_of d = by_origin (schema_components d)
+
+abbrev pub schema_extension_of : ExtensionId × DefinitionParts → SchemaPart
+schema_extension_of e = record { location = place_of e.0; description = None; directives = e.1.directives.0; roots = e.1.roots }
+
+-- the schema definition of a part and of extensions with numbers
+abbrev pub made_schema : SchemaPart → List (ℕ × SchemaPart) → SchemaDefinition
+made_schema head es = schema_definition_of head ((Definition, head) ∷ map schema_extension_source es)
+
+pub record IsMadeSchema (d : SchemaDefinition) : Type 0 where
+  pub head : SchemaPart
+  pub extensions : List (ℕ × SchemaPart)
+  pub apart : IsDistinct ◌==◌ (map (λ e. e.0) extensions)
+  pub is : d ≡ made_schema head extensions
+
+-- the part has what is written of the definition
+pub record IsWrittenHead (d : SchemaDefinition) (head : SchemaPart) : Type 0 where
+  pub description : head.description ≡ d.description
+  pub directives : head.directives ≡ (written_parts_of d).definition.directives.0
+  pub roots : head.roots ≡ (written_parts_of d).definition.roots
+
+-- another schema definition has the same parts and says the same
+pub record IsSchemaAgain (d u : SchemaDefinition) : Type 0 where
+  pub description : u.description ≡ d.description
+  pub definition : (written_parts_of u).definition ≡ (written_parts_of d).definition
+  pub extensions : placed (written_parts_of u).extensions ≡ placed (written_parts_of d).extensions
+  pub directives : map (λ c. c.node) u.directives.0 ≡ map (λ c. c.node) d.directives.0
+  pub roots : (op : OperationType) → option_map (λ c. c.name) (root_of u op) ≡ option_map (λ c. c.name) (root_of d op)
+
+-- then they are equal
+pub equal-again : (d u : SchemaDefinition) → IsSchemaAgain d u → bare_schema_definition u ≡ bare_schema_definition d
+equal-again d u a = (λ i. record {
+  description = option_map bare_name (a.description i);
+  directives = directives i;
+  query = root Query i;
+  mutation = root Mutation i;
+  subscription = root Subscription i;
+})
+  where
+    values : (cs : List (Component Directive)) → map (bare_component bare_directive) cs ≡ map (λ n. bare_directive n.value) (map (λ c. c.node) cs)
+    values cs = sym (map-map (λ (n : NodeView Directive). bare_directive n.value) (λ c. c.node) cs)
+
+    directives : map (bare_component bare_directive) u.directives.0 ≡ map (bare_component bare_directive) d.directives.0
+    directives = values u.directives.0 ∙ ap (map (λ n. bare_directive n.value)) a.directives ∙ sym (values d.directives.0)
+
+    named : (o : Option ComponentName) → option_map bare_component_name o ≡ option_map bare_name (option_map (λ c. c.name) o)
+    named None = refl
+    named (Some c) = refl
+
+    root : (op : OperationType) → option_map bare_component_name (root_of u op) ≡ option_map bare_component_name (root_of d op)
+    root op = named (root_of u op) ∙ ap (option_map bare_name) (a.roots op) ∙ sym (named (root_of d op))
+
+-- the directives of a part alone
+abbrev pub only_directives : SchemaPart → DefinitionParts
+only_directives p = record { directives = record { 0 = p.directives }; names = []; fields = []; values = []; input_fields = []; roots = [] }
+
+abbrev pub numbered_directives : ℕ × SchemaPart → ExtensionId × DefinitionParts
+numbered_directives e = (extension_id e.0 e.1.location, only_directives e.1)
+
+-- directives, with the origin of each
+views : (o : ComponentOrigin) (xs : List (NodeView Directive)) → map node_of (map (component o) xs) ≡ map (λ x. (o, x)) xs
+views o xs = map-map node_of (component o) xs
+
+pub directives-in_parts : (head : SchemaPart) (es : List (ℕ × SchemaPart))
+    → map node_of (flat_map schema_directives_of ((Definition, head) ∷ map schema_extension_source es)) ≡ joined (λ d. d.directives.0) (with_origins (record { definition = only_directives head; extensions = map numbered_directives es }))
+directives-in_parts head es = map-append node_of (map (component Definition) head.directives) (flat_map schema_directives_of (map schema_extension_source es)) ∙ (λ i. views Definition head.directives i ++ later es i)
+  where
+    later : (fs : List (ℕ × SchemaPart)) → map node_of (flat_map schema_directives_of (map schema_extension_source fs)) ≡ joined (λ d. d.directives.0) (map (λ e. (Extension e.0, e.1)) (map numbered_directives fs))
+    later [] = refl
+    later (f ∷ fs) =
+        map-append node_of (map (component (Extension (extension_id f.0 f.1.location))) f.1.directives) (flat_map schema_directives_of (map schema_extension_source fs))
+        ∙ (λ i. views (Extension (extension_id f.0 f.1.location)) f.1.directives i ++ later fs i)
+
+numbered-parts : (is : List ℕ) (es : List (ExtensionId × DefinitionParts)) → map schema_extension_source (paired is (map schema_extension_of es)) ≡ map (λ g. (Extension g.0, schema_extension_of g)) (renumbered is es)
+numbered-parts [] es = refl
+numbered-parts (i ∷ is) [] = refl
+numbered-parts (i ∷ is) (e ∷ es) = ap (λ l. schema_extension_source (i, schema_extension_of e) ∷ l) (numbered-parts is es)
+
+perm-entries : (op : OperationType) (n : Option ComponentName) (ys : List Root) → IsPermutation (map (λ x. x.1) (entries op n)) ys → ys ≡ map (λ x. x.1) (entries op n)
+perm-entries op None ys p = none-permuted ys p
+perm-entries op (Some n) ys p = alone-permuted (root_node (op, n)) ys p
+
+-- the root that stands for an entry
+abbrev named_entry : ComponentOrigin × Root → OperationType × ComponentName
+named_entry x = (x.1.value.0, component_name x.0 x.1.value.1)
+
+option-twice : (o : Option (ComponentOrigin × Root)) → option_map (λ r. r.1) (option_map named_entry o) ≡ option_map (λ x. component_name x.0 x.1.value.1) o
+option-twice None = refl
+option-twice (Some x) = refl
+
+module _ (d : SchemaDefinition) (m : IsMadeSchema d) (head : SchemaPart) (h : IsWrittenHead d head) (es : List (ℕ × SchemaPart)) (apart : IsDistinct ◌==◌ (map (λ e. e.0) es))
+    (written : map (λ e. e.1) es ≡ map schema_extension_of (written_parts_of d).extensions) where
+  abbrev is : List ℕ
+  is = map (λ e. e.0) es
+
+  abbrev s : Sections
+  s = schema_sections d
+
+  abbrev p : PartsByOrigin
+  p = record { definition = (written_parts_of d).definition; extensions = renumbered is (written_parts_of d).extensions }
+
+  abbrev u : SchemaDefinition
+  u = made_schema head es
+
+  abbrev gs : List (ExtensionId × DefinitionParts)
+  gs = renumbered is (written_parts_of d).extensions
+
+  many : length is ≡ length (written_parts_of d).extensions
+  many = length-map es (λ e. e.0) ∙ sym (length-map es (λ e. e.1)) ∙ ap length written ∙ length-map (written_parts_of d).extensions schema_extension_of
+
+  same_exts : map (λ e. e.1) gs ≡ map (λ e. e.1) (written_parts_of d).extensions
+  same_exts = same-placed gs (written_parts_of d).extensions (renumbered-placed is (written_parts_of d).extensions many)
+
+  same_definition : p.definition ≡ of_origin Definition (in_sections s)
+  same_definition = ap (of_origin Definition) (schema-components d)
+
+  same_parts : map (λ e. e.1) p.extensions ≡ map (λ e. e.1) (of_extensions (in_sections s))
+  same_parts = same_exts ∙ ap (λ cs. map (λ e. e.1) (of_extensions cs)) (schema-components d)
+
+  sourced : map schema_extension_source es ≡ map (λ g. (Extension g.0, schema_extension_of g)) gs
+  sourced = ap (map schema_extension_source) (paired-self es ∙ ap (paired is) written) ∙ numbered-parts is (written_parts_of d).extensions
+
+  directives-again : map node_of u.directives.0 ≡ joined (λ d. d.directives.0) (with_origins p)
+  directives-again =
+      map-append node_of (map (component Definition) head.directives) (flat_map schema_directives_of (map schema_extension_source es))
+      ∙ (λ i. (views Definition head.directives ∙ ap (originated Definition) h.directives) i ++ (ap (λ l. map node_of (flat_map schema_directives_of l)) sourced ∙ later gs) i)
+    where
+      later : (fs : List (ExtensionId × DefinitionParts)) → map node_of (flat_map schema_directives_of (map (λ g. (Extension g.0, schema_extension_of g)) fs)) ≡ joined (λ d. d.directives.0) (map (λ e. (Extension e.0, e.1)) fs)
+      later [] = refl
+      later (f ∷ fs) =
+          map-append node_of (map (component (Extension f.0)) f.1.directives.0) (flat_map schema_directives_of (map (λ g. (Extension g.0, schema_extension_of g)) fs))
+          ∙ (λ i. views (Extension f.0) f.1.directives.0 i ++ later fs i)
+
+  roots-listed : flat_map roots_of ((Definition, head) ∷ map schema_extension_source es) ≡ map named_entry (joined (λ d. d.roots) (with_origins p))
+  roots-listed =
+      (λ i. (ap (map (root_under Definition)) h.roots ∙ one Definition p.definition.roots) i ++ (ap (flat_map roots_of) sourced ∙ later gs) i)
+      ∙ sym (map-append named_entry (map (λ x. (Definition, x)) p.definition.roots) (joined (λ d. d.roots) (map (λ e. (Extension e.0, e.1)) gs)))
+    where
+      one : (o : ComponentOrigin) (rs : List Root) → map (root_under o) rs ≡ map named_entry (originated o rs)
+      one o rs = sym (map-map named_entry (λ (x : Root). (o, x)) rs)
+
+      later : (fs : List (ExtensionId × DefinitionParts)) → flat_map roots_of (map (λ g. (Extension g.0, schema_extension_of g)) fs) ≡ map named_entry (joined (λ d. d.roots) (map (λ e. (Extension e.0, e.1)) fs))
+      later [] = refl
+      later (f ∷ fs) = (λ i. one (Extension f.0) f.1.roots i ++ later fs i) ∙ sym (map-append named_entry (map (λ x. (Extension f.0, x)) f.1.roots) (joined (λ d. d.roots) (map (λ e. (Extension e.0, e.1)) fs)))
+
+  -- of each operation type there is the root that was there
+  root-found : (op : OperationType) → root_in op ((Definition, head) ∷ map schema_extension_source es) ≡ option_map (λ x. component_name x.0 x.1.value.1) (slice_get (joined (roots_for op) (with_origins p)) 0)
+  root-found op =
+      ap (λ l. option_map (λ r. r.1) (find (λ r. same_operation op r.0) l)) roots-listed
+      ∙ ap (option_map (λ r. r.1)) (find-made (λ r. same_operation op r.0) named_entry (joined (λ d. d.roots) (with_origins p)))
+      ∙ option-twice (find (λ x. is_op op x.1) (joined (λ d. d.roots) (with_origins p)))
+      ∙ ap (option_map (λ x. component_name x.0 x.1.value.1)) (find-first (λ x. is_op op x.1) (joined (λ d. d.roots) (with_origins p)) ∙ ap (λ l. slice_get l 0) (filter-joined (is_op op) (λ d. d.roots) (with_origins p)))
+
+  there : (op : OperationType) → HasOrigins s p same_definition same_parts (entries op (root_of d op))
+  there op =
+      let a = origins-split s p same_definition same_parts (entries Query d.query) (entries Mutation d.mutation ++ (entries Subscription d.subscription ++ [])) (roots-there s p same_definition same_parts) in
+      let b = origins-split s p same_definition same_parts (entries Mutation d.mutation) (entries Subscription d.subscription ++ []) a.1 in
+      let c = origins-split s p same_definition same_parts (entries Subscription d.subscription) [] b.1 in
+      by op a.0 b.0 c.0
+    where
+      by : (op : OperationType) → HasOrigins s p same_definition same_parts (entries Query d.query) → HasOrigins s p same_definition same_parts (entries Mutation d.mutation) → HasOrigins s p same_definition same_parts (entries Subscription d.subscription)
+          → HasOrigins s p same_definition same_parts (entries op (root_of d op))
+      by Query a b c = a
+      by Mutation a b c = b
+      by Subscription a b c = c
+
+  root-values : (op : OperationType) → map (λ x. x.1) (joined (roots_for op) (with_origins p)) ≡ map (λ x. x.1) (entries op (root_of d op))
+  root-values op =
+      perm-entries op (root_of d op) (map (λ x. x.1) (joined (roots_for op) (with_origins p)))
+      (kept s p same_definition same_parts (roots_for op) (entries op (root_of d op)) (λ o. ap (λ cs. roots_for op (of_origin o cs)) (sym (schema-components d)) ∙ roots-origin d o op) (there op))
+
+  root_u : (op : OperationType) → root_of u op ≡ root_in op ((Definition, head) ∷ map schema_extension_source es)
+  root_u Query = refl
+  root_u Mutation = refl
+  root_u Subscription = refl
+
+  entries-again : (op : OperationType) → entries op (root_of u op) ≡ joined (roots_for op) (with_origins p)
+  entries-again op = ap (entries op) (root_u op ∙ root-found op) ∙ (from-values op (joined (roots_for op) (with_origins p)) (root_of d op) (root-values op)).0
+
+  sections-again : schema_sections u ≡ in_operation_order p
+  sections-again = (λ i. record no_components { directives = directives-again i; roots = entries-again Query i ++ (entries-again Mutation i ++ (entries-again Subscription i ++ [])) })
+
+  rows : (js : List ℕ) (ids : List ExtensionId) → AllByRecursion (λ e. IsSchemaRow e.1) (renumbered js (map (λ e. (e, of_origin (Extension e) (schema_components d))) ids))
+  rows [] ids = tt
+  rows (j ∷ js) [] = tt
+  rows (j ∷ js) (e ∷ ids) = (schema-row d (Extension e), rows js ids)
+
+  parts-again : written_parts_of u ≡ p
+  parts-again =
+      ap by_origin (schema-components u ∙ ap in_sections sections-again)
+      ∙ schema-parts_again p (renumbered-distinct is (written_parts_of d).extensions apart) (schema-row d Definition) (rows is (identities (origins_in (schema_components d)))) (ap (in_order schema_sorts) same_exts ∙ schema-in_order d)
+
+  pub schema-again : IsSchemaAgain d u
+  schema-again = record {
+    description = h.description;
+    definition = ap (λ q. q.definition) parts-again;
+    extensions = ap (λ q. placed q.extensions) parts-again ∙ renumbered-placed is (written_parts_of d).extensions many;
+    directives = nodes u.directives.0 ∙ ap (map (λ x. x.1)) directives-again ∙ in_order_again ∙ sym (nodes d.directives.0);
+    roots = (λ op. ap (option_map (λ (c : ComponentName). c.name)) (root_u op ∙ root-found op) ∙ (from-values op (joined (roots_for op) (with_origins p)) (root_of d op) (root-values op)).1);
+  }
+    where
+      nodes : (cs : List (Component Directive)) → map (λ c. c.node) cs ≡ map (λ x. x.1) (map node_of cs)
+      nodes cs = sym (map-map (λ (x : ComponentOrigin × NodeView Directive). x.1) node_of cs)
+
+      in_order_again : map (λ x. x.1) (joined (λ d. d.directives.0) (with_origins p)) ≡ map (λ x. x.1) (map node_of d.directives.0)
+      in_order_again =
+          directives-in_order s (record { definition = only_directives m.head; extensions = map numbered_directives m.extensions }) p (numbered-distinct (λ (p : SchemaPart). p.location) only_directives m.extensions m.apart)
+          (ap (λ (v : SchemaDefinition). map node_of v.directives.0) m.is ∙ directives-in_parts m.head m.extensions) same_definition same_parts

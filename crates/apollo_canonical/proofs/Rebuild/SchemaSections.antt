@@ -1,0 +1,150 @@
+-- The components of a schema definition, whose roots stand in the order of the operation types.
+use Rattle.std.proofs.Common.{◌≡◌, Bool, true, false, cond, List, [], ◌∷◌, ◌++◌, None, Option, Some, map, filter, flat_map, option_map, refl, sym, ap, ◌∙◌}
+use Rattle.std.proofs.lemmas.List.{append-nil}
+use Rattle.std.proofs.lemmas.List.Elements.{filter-append}
+use Rattle.std.specs.List.{cons_option, list_any}
+use Rattle.graphql_nodes.specs.declared.operation_type.OperationType.{OperationType}
+use Rattle.graphql_nodes.specs.declared.operation_type.OperationType.TheVariants.{Query, Mutation, Subscription}
+use Rattle.graphql_ast.specs.declared.definition_parts.DefinitionPart.TheVariants as parts
+use Rattle.graphql_ast.specs.declared.definition_parts.DefinitionParts.{DefinitionParts}
+use Rattle.apollo_component.specs.Extensions.{same_id, same_origin}
+use Rattle.apollo_component.specs.FirstOfEach.{first_of_each}
+use Rattle.apollo_component.specs.WriteOut.{origins_in, identities, of_origin, of_extensions}
+use Rattle.apollo_component.specs.declared.component.ComponentName.{ComponentName}
+use Rattle.apollo_component.specs.declared.extension.ComponentOrigin.{ComponentOrigin}
+use Rattle.apollo_component.specs.declared.extension.ComponentOrigin.TheVariants.{Extension}
+use Rattle.apollo_component.specs.declared.extension.ExtensionId.{ExtensionId}
+use Rattle.apollo_types.specs.Components.{of_root, root_node}
+use Rattle.apollo_types.specs.SchemaDefinitionWriteOut.{schema_components}
+use Rattle.apollo_types.specs.SchemaRoots.{root_of}
+use Rattle.apollo_types.specs.declared.schema_definition.SchemaDefinition.{SchemaDefinition}
+use Rattle.apollo_meaning.specs.Items.Parts.{Root}
+use Rattle.apollo_meaning.specs.Schema.Definition.{same_operation}
+use Rattle.apollo_canonical.specs.Sections.{Sections, as_parts, in_sections}
+use Rattle.apollo_canonical.specs.TypeSections.{node_of, no_components}
+use Rattle.apollo_canonical.proofs.FirstAppearance.{in_order, in_order-map, first-in_order}
+use Rattle.apollo_canonical.proofs.Kept.{each-of, filter-all}
+use Rattle.apollo_canonical.proofs.SectionLemmas.{same_id-equiv, ids_in, ids_in-append, ids_in-sections, picked, picked-append, of_origin-sections, parts_in, has_some, has_some-picked}
+use Rattle.std.proofs.lemmas.Simd.{map-map}
+
+-- the root of an operation type with its origin, if there is one
+abbrev pub entries : OperationType → Option ComponentName → List (ComponentOrigin × Root)
+entries op None = []
+entries op (Some n) = (n.origin, root_node (op, n)) ∷ []
+
+abbrev pub root_entries : SchemaDefinition → List (ComponentOrigin × Root)
+root_entries d = entries Query d.query ++ (entries Mutation d.mutation ++ (entries Subscription d.subscription ++ []))
+
+abbrev pub schema_sections : SchemaDefinition → Sections
+schema_sections d = record no_components { directives = map node_of d.directives.0; roots = root_entries d }
+
+one-root : (op : OperationType) (o : Option ComponentName) (rest : List (OperationType × ComponentName)) (more : List (ComponentOrigin × Root)) → map of_root rest ≡ as_parts parts.Root more
+    → map of_root (cons_option (option_map (λ n. (op, n)) o) rest) ≡ as_parts parts.Root (entries op o ++ more)
+one-root op None rest more e = e
+one-root op (Some n) rest more e = ap (λ l. of_root (op, n) ∷ l) e
+
+-- they are those that are written
+pub schema-components : (d : SchemaDefinition) → schema_components d ≡ in_sections (schema_sections d)
+schema-components d =
+    (λ i. sym (map-map (λ x. (x.0, parts.Directive x.1)) node_of d.directives.0) i
+    ++ one-root Query d.query (cons_option (option_map (λ n. (Mutation, n)) d.mutation) (cons_option (option_map (λ n. (Subscription, n)) d.subscription) [])) (entries Mutation d.mutation ++ (entries Subscription d.subscription ++ []))
+    (one-root Mutation d.mutation (cons_option (option_map (λ n. (Subscription, n)) d.subscription) []) (entries Subscription d.subscription ++ []) (one-root Subscription d.subscription [] [] refl)) i)
+    ∙ ap (λ l. as_parts parts.Directive (map node_of d.directives.0) ++ l) (sym (append-nil (as_parts parts.Root (root_entries d))))
+
+abbrev pub is_op : OperationType → Root → Bool
+is_op op r = same_operation op r.value.0
+
+-- the roots of an operation type among parts
+abbrev pub roots_for : OperationType → DefinitionParts → List Root
+roots_for op d = filter (is_op op) d.roots
+
+cond-nil : {X : Type 0} (b : Bool) → ◌≡◌ {A = List X} [] (cond b [] [])
+cond-nil true = refl
+cond-nil false = refl
+
+module _ (o : ComponentOrigin) where
+  piece : (op other : OperationType) (n : Option ComponentName) → filter (is_op op) (picked o (entries other n)) ≡ cond (same_operation op other) (picked o (entries other n)) []
+  piece op other None = cond-nil (same_operation op other)
+  piece op other (Some n) = by (same_origin o n.origin)
+    where
+      by : (b : Bool) → filter (is_op op) (map (λ (x : ComponentOrigin × Root). x.1) (cond b ((n.origin, root_node (other, n)) ∷ []) [])) ≡ cond (same_operation op other) (map (λ (x : ComponentOrigin × Root). x.1) (cond b ((n.origin, root_node (other, n)) ∷ []) [])) []
+      by true = refl
+      by false = cond-nil (same_operation op other)
+
+  module _ (d : SchemaDefinition) where
+    pub picked-roots : picked o (root_entries d) ≡ picked o (entries Query d.query) ++ (picked o (entries Mutation d.mutation) ++ (picked o (entries Subscription d.subscription) ++ []))
+    picked-roots =
+        picked-append o (entries Query d.query) (entries Mutation d.mutation ++ (entries Subscription d.subscription ++ []))
+        ∙ ap (λ l. picked o (entries Query d.query) ++ l) (picked-append o (entries Mutation d.mutation) (entries Subscription d.subscription ++ [])
+        ∙ ap (λ l. picked o (entries Mutation d.mutation) ++ l) (picked-append o (entries Subscription d.subscription) []))
+
+    pieces : (op : OperationType) → filter (is_op op) (picked o (root_entries d))
+        ≡ cond (same_operation op Query) (picked o (entries Query d.query)) [] ++ (cond (same_operation op Mutation) (picked o (entries Mutation d.mutation)) [] ++ (cond (same_operation op Subscription) (picked o (entries Subscription d.subscription)) [] ++ []))
+    pieces op =
+        ap (filter (is_op op)) picked-roots
+        ∙ filter-append (is_op op) (picked o (entries Query d.query)) (picked o (entries Mutation d.mutation) ++ (picked o (entries Subscription d.subscription) ++ []))
+        ∙ (λ i. piece op Query d.query i ++ (filter-append (is_op op) (picked o (entries Mutation d.mutation)) (picked o (entries Subscription d.subscription) ++ [])
+        ∙ (λ j. piece op Mutation d.mutation j ++ (filter-append (is_op op) (picked o (entries Subscription d.subscription)) [] ∙ ap (λ l. l ++ []) (piece op Subscription d.subscription)) j)) i)
+
+    -- of one operation type there is its root
+    pub picked-for : (op : OperationType) → filter (is_op op) (picked o (root_entries d)) ≡ picked o (entries op (root_of d op))
+    picked-for Query = pieces Query ∙ append-nil (picked o (entries Query d.query))
+    picked-for Mutation = pieces Mutation ∙ append-nil (picked o (entries Mutation d.mutation))
+    picked-for Subscription = pieces Subscription ∙ append-nil (picked o (entries Subscription d.subscription))
+
+-- parts of a schema definition: nothing but directives, and roots in the order of the operation types
+pub record IsSchemaRow (d : DefinitionParts) : Type 0 where
+  pub names : [] ≡ d.names
+  pub fields : [] ≡ d.fields
+  pub values : [] ≡ d.values
+  pub input_fields : [] ≡ d.input_fields
+  pub roots : roots_for Query d ++ (roots_for Mutation d ++ (roots_for Subscription d ++ [])) ≡ d.roots
+
+-- whether parts have directives, and a root of each operation type
+abbrev pub schema_sorts : List (DefinitionParts → Bool)
+schema_sorts = (λ p. has_some p.directives.0) ∷ (λ p. has_some (roots_for Query p)) ∷ (λ p. has_some (roots_for Mutation p)) ∷ (λ p. has_some (roots_for Subscription p)) ∷ []
+
+module _ (d : SchemaDefinition) where
+  pub of_schema-origin : (o : ComponentOrigin) → of_origin o (schema_components d) ≡ parts_in o (schema_sections d)
+  of_schema-origin o = ap (of_origin o) (schema-components d) ∙ of_origin-sections o (schema_sections d)
+
+  pub roots-origin : (o : ComponentOrigin) (op : OperationType) → roots_for op (of_origin o (schema_components d)) ≡ picked o (entries op (root_of d op))
+  roots-origin o op = ap (roots_for op) (of_schema-origin o) ∙ picked-for o d op
+
+  pub schema-row : (o : ComponentOrigin) → IsSchemaRow (of_origin o (schema_components d))
+  schema-row o = record {
+    names = sym (ap (λ p. p.names) (of_schema-origin o));
+    fields = sym (ap (λ p. p.fields) (of_schema-origin o));
+    values = sym (ap (λ p. p.values) (of_schema-origin o));
+    input_fields = sym (ap (λ p. p.input_fields) (of_schema-origin o));
+    roots = (λ i. roots-origin o Query i ++ (roots-origin o Mutation i ++ (roots-origin o Subscription i ++ []))) ∙ sym (picked-roots o d) ∙ sym (ap (λ p. p.roots) (of_schema-origin o));
+  }
+
+  abbrev ids : List ExtensionId
+  ids = identities (origins_in (schema_components d))
+
+  abbrev id_lists : List (List ExtensionId)
+  id_lists = ids_in (map node_of d.directives.0) ∷ ids_in (entries Query d.query) ∷ ids_in (entries Mutation d.mutation) ∷ ids_in (entries Subscription d.subscription) ∷ []
+
+  ids-listed : ids_in (schema_components d) ≡ flat_map (λ l. l) id_lists
+  ids-listed =
+      ap ids_in (schema-components d) ∙ ids_in-sections (schema_sections d)
+      ∙ ap (λ l. ids_in (map node_of d.directives.0) ++ l) (append-nil (ids_in (root_entries d))
+      ∙ ids_in-append (entries Query d.query) (entries Mutation d.mutation ++ (entries Subscription d.subscription ++ []))
+      ∙ ap (λ l. ids_in (entries Query d.query) ++ l) (ids_in-append (entries Mutation d.mutation) (entries Subscription d.subscription ++ [])
+      ∙ ap (λ l. ids_in (entries Mutation d.mutation) ++ l) (ids_in-append (entries Subscription d.subscription) [])))
+
+  -- the parts of extensions are written in the order of these
+  pub schema-in_order : in_order schema_sorts (map (λ e. e.1) (of_extensions (schema_components d))) ≡ true
+  schema-in_order =
+      ap (in_order schema_sorts) (map-map (λ (e : ExtensionId × DefinitionParts). e.1) (λ e. (e, of_origin (Extension e) (schema_components d))) ids)
+      ∙ in_order-map (λ e. of_origin (Extension e) (schema_components d)) schema_sorts ids
+      ∙ (λ i. in_order (
+      (λ e. (ap (λ p. has_some p.directives.0) (of_schema-origin (Extension e)) ∙ has_some-picked e (map node_of d.directives.0)) i)
+      ∷ (λ e. (ap has_some (roots-origin (Extension e) Query) ∙ has_some-picked e (entries Query d.query)) i)
+      ∷ (λ e. (ap has_some (roots-origin (Extension e) Mutation) ∙ has_some-picked e (entries Mutation d.mutation)) i)
+      ∷ (λ e. (ap has_some (roots-origin (Extension e) Subscription) ∙ has_some-picked e (entries Subscription d.subscription)) i)
+      ∷ []
+      ) ids)
+      ∙ ap (in_order (map (λ l e. list_any (same_id e) l) id_lists)) (ap (first_of_each same_id) ids-listed ∙ sym (filter-all (λ _. true) (first_of_each same_id (flat_map (λ l. l) id_lists)) (each-of (λ _. true ≡ true) (λ _. refl) (first_of_each same_id (flat_map (λ l. l) id_lists)))))
+      ∙ first-in_order same_id same_id-equiv (λ _. true) id_lists

@@ -1,0 +1,179 @@
+-- What is written of a schema definition, read as items of a list, and the items about the schema in a written list.
+use Rattle.std.proofs.Common.{◌≡◌, Bool, true, false, cond, List, [], ◌∷◌, ◌++◌, None, Option, Some, map, filter, flat_map, slice_get, refl, sym, ap, subst, ◌∙◌}
+use Rattle.std.proofs.lemmas.List.{append-nil}
+use Rattle.std.proofs.lemmas.List.Elements.{filter-append, filter_map-append}
+use Rattle.std.specs.List.{AllByRecursion, filter_map}
+use Rattle.graphql_nodes.specs.BuiltIn.{is_built_in}
+use Rattle.graphql_nodes.specs.NameView.{NameView}
+use Rattle.graphql_nodes.specs.declared.source.SourceSpan.{SourceSpan}
+use Rattle.graphql_ast.specs.DefinitionParts.{schema_definition, schema_extension}
+use Rattle.graphql_ast.specs.declared.definition.Definition.TheVariants as ast
+use Rattle.graphql_ast.specs.declared.definition_parts.DefinitionParts.{DefinitionParts}
+use Rattle.apollo_built_in.specs.BuiltInTable.{built_in_definitions}
+use Rattle.apollo_component.specs.Extensions.{place_of}
+use Rattle.apollo_component.specs.declared.extension.ExtensionId.{ExtensionId}
+use Rattle.apollo_types.specs.SchemaDefinitionWriteOut.{is_written, write_schema_definition}
+use Rattle.apollo_types.specs.TypeWriteOut.{type_location}
+use Rattle.apollo_types.specs.declared.extended_type.ExtendedType.{ExtendedType}
+use Rattle.apollo_types.specs.declared.schema_definition.SchemaDefinition.{SchemaDefinition}
+use Rattle.apollo_meaning.specs.Directives.{Directives, directive_definitions, directive_part, is_handed_in}
+use Rattle.apollo_meaning.specs.Items.ListItems.{Defined, Extended, ListItem, Other, SchemaDefined, SchemaExtended, defined_schema, extended_schema}
+use Rattle.apollo_meaning.specs.Items.Named.{first_schema, schema_extensions}
+use Rattle.apollo_meaning.specs.Items.Parts.{SchemaPart}
+use Rattle.apollo_schema.specs.SchemaWriteOut.{write_directives}
+use Rattle.apollo_canonical.proofs.Rebuild.About.{Others, Schema, about, directives-about, first_schema-about, is_about, schema_extensions-about}
+use Rattle.apollo_canonical.proofs.Rebuild.BuiltIns.{built_ins}
+use Rattle.apollo_canonical.proofs.Rebuild.Held.{document_items, document_items-append, extension_items, held_items}
+use Rattle.apollo_canonical.proofs.Rebuild.OneSchema.{schema_extension_of, written_parts_of}
+use Rattle.apollo_canonical.proofs.Rebuild.TypesAgain.{IsQuiet}
+use Rattle.apollo_canonical.proofs.Rebuild.WrittenParts.{written, definition_part, extension_of}
+
+no-schema-built_in : about Schema built_ins ≡ []
+unfolding built_in_definitions
+no-schema-built_in = refl
+
+-- types are about neither the schema nor directives
+module _ (c : Bool) where
+  types-else : (ts : List ExtendedType) → (about Schema (flat_map (held_items c) ts) ≡ []) × (about Others (flat_map (held_items c) ts) ≡ [])
+  types-else [] = (refl, refl)
+  types-else (t ∷ ts) = (
+    filter-append (is_about Schema) (held_items c t) (flat_map (held_items c) ts) ∙ (λ i. (held (is_built_in (type_location t))).0 i ++ (types-else ts).0 i),
+    filter-append (is_about Others) (held_items c t) (flat_map (held_items c) ts) ∙ (λ i. (held (is_built_in (type_location t))).1 i ++ (types-else ts).1 i),
+  )
+    where
+      extensions : (es : List (ExtensionId × DefinitionParts)) → (about Schema (map (λ e. Extended (extension_of t e)) es) ≡ []) × (about Others (map (λ e. Extended (extension_of t e)) es) ≡ [])
+      extensions [] = (refl, refl)
+      extensions (e ∷ es) = extensions es
+
+      held : (b : Bool) → (about Schema (cond b (extension_items c t) (Defined (record (definition_part t) { ignorable = c }) ∷ extension_items c t)) ≡ []) × (about Others (cond b (extension_items c t) (Defined (record (definition_part t) { ignorable = c }) ∷ extension_items c t)) ≡ [])
+      held true = extensions (written t).extensions
+      held false = extensions (written t).extensions
+
+-- the definition's part
+abbrev pub written_head : SchemaDefinition → Option SourceSpan → SchemaPart
+written_head d place = record { location = place; description = d.description; directives = (written_parts_of d).definition.directives.0; roots = (written_parts_of d).definition.roots }
+
+module _ (c : Bool) (d : SchemaDefinition) (place : Option SourceSpan) (types : List (NameView × ExtendedType)) where
+  abbrev pub schema_items : List ListItem
+  schema_items = document_items c (write_schema_definition d place types)
+
+  abbrev pub head_items : List ListItem
+  head_items = cond (is_written types d) (SchemaDefined (written_head d place) ∷ []) []
+
+  abbrev pub schema_extension_items : List (ExtensionId × DefinitionParts) → List ListItem
+  schema_extension_items es = map (λ e. SchemaExtended (schema_extension_of e)) es
+
+  pub schema-listed : schema_items ≡ head_items ++ schema_extension_items (written_parts_of d).extensions
+  schema-listed =
+      document_items-append c (cond (is_written types d) (schema_definition d.description (written_parts_of d).definition place ∷ []) []) (map (λ e. schema_extension e.1 (place_of e.0)) (written_parts_of d).extensions)
+      ∙ (λ i. head (is_written types d) i ++ later (written_parts_of d).extensions i)
+    where
+      head : (b : Bool) → document_items c (cond b (schema_definition d.description (written_parts_of d).definition place ∷ []) []) ≡ cond b (SchemaDefined (written_head d place) ∷ []) []
+      head true = refl
+      head false = refl
+
+      later : (es : List (ExtensionId × DefinitionParts)) → document_items c (map (λ e. schema_extension e.1 (place_of e.0)) es) ≡ schema_extension_items es
+      later [] = refl
+      later (e ∷ es) = ap (λ l. SchemaExtended (schema_extension_of e) ∷ l) (later es)
+
+  -- they are all about the schema
+  schema-about : (about Schema schema_items ≡ schema_items) × (about Others schema_items ≡ [])
+  schema-about = (ap (about Schema) schema-listed ∙ of_schema ∙ sym schema-listed, ap (about Others) schema-listed ∙ of_others)
+    where
+      exts : (es : List (ExtensionId × DefinitionParts)) → (about Schema (schema_extension_items es) ≡ schema_extension_items es) × (about Others (schema_extension_items es) ≡ [])
+      exts [] = (refl, refl)
+      exts (e ∷ es) = (ap (λ l. SchemaExtended (schema_extension_of e) ∷ l) (exts es).0, (exts es).1)
+
+      of_schema : about Schema (head_items ++ schema_extension_items (written_parts_of d).extensions) ≡ head_items ++ schema_extension_items (written_parts_of d).extensions
+      of_schema = by (is_written types d)
+        where
+          by : (b : Bool) → about Schema (cond b (SchemaDefined (written_head d place) ∷ []) [] ++ schema_extension_items (written_parts_of d).extensions) ≡ cond b (SchemaDefined (written_head d place) ∷ []) [] ++ schema_extension_items (written_parts_of d).extensions
+          by true = ap (λ l. SchemaDefined (written_head d place) ∷ l) (exts (written_parts_of d).extensions).0
+          by false = (exts (written_parts_of d).extensions).0
+
+      of_others : about Others (head_items ++ schema_extension_items (written_parts_of d).extensions) ≡ []
+      of_others = by (is_written types d)
+        where
+          by : (b : Bool) → about Others (cond b (SchemaDefined (written_head d place) ∷ []) [] ++ schema_extension_items (written_parts_of d).extensions) ≡ []
+          by true = (exts (written_parts_of d).extensions).1
+          by false = (exts (written_parts_of d).extensions).1
+
+  pub schema-quiet : AllByRecursion IsQuiet schema_items
+  schema-quiet = subst (AllByRecursion IsQuiet) (sym schema-listed) (by (is_written types d))
+    where
+      exts : (es : List (ExtensionId × DefinitionParts)) → AllByRecursion IsQuiet (schema_extension_items es)
+      exts [] = tt
+      exts (e ∷ es) = (tt, exts es)
+
+      by : (b : Bool) → AllByRecursion IsQuiet (cond b (SchemaDefined (written_head d place) ∷ []) [] ++ schema_extension_items (written_parts_of d).extensions)
+      by true = (tt, exts (written_parts_of d).extensions)
+      by false = exts (written_parts_of d).extensions
+
+-- directive definitions that are handed in
+abbrev pub directive_items : Directives → List ListItem
+directive_items ds = map (λ d. Other (ast.DirectiveDefinition d)) ds
+
+pub directives-listed : (c : Bool) (ds : Directives) → document_items c (write_directives ds) ≡ directive_items (filter is_handed_in ds)
+directives-listed c ds = go (filter is_handed_in ds)
+  where
+    go : (es : Directives) → document_items c (map ast.DirectiveDefinition es) ≡ directive_items es
+    go [] = refl
+    go (e ∷ es) = ap (λ l. Other (ast.DirectiveDefinition e) ∷ l) (go es)
+
+directives-else : (ds : Directives) → (about Schema (directive_items ds) ≡ []) × (about Others (directive_items ds) ≡ directive_items ds)
+directives-else [] = (refl, refl)
+directives-else (d ∷ ds) = ((directives-else ds).0, ap (λ l. Other (ast.DirectiveDefinition d) ∷ l) (directives-else ds).1)
+
+pub directives-quiet : (ds : Directives) → AllByRecursion IsQuiet (directive_items ds)
+directives-quiet [] = tt
+directives-quiet (d ∷ ds) = (tt, directives-quiet ds)
+
+pub directives-of_items : (ds : Directives) → directive_definitions (directive_items ds) ≡ ds
+directives-of_items [] = refl
+directives-of_items (d ∷ ds) = ap (λ l. d ∷ l) (directives-of_items ds)
+
+-- the whole written list
+module _ (c : Bool) (d : SchemaDefinition) (place : Option SourceSpan) (types : List (NameView × ExtendedType)) (ds : Directives) (ts : List ExtendedType) where
+  abbrev pub written_list : List ListItem
+  written_list = built_ins ++ ((schema_items c d place types ++ directive_items ds) ++ flat_map (held_items c) ts)
+
+  pub list-about_schema : about Schema written_list ≡ schema_items c d place types
+  list-about_schema =
+      filter-append (is_about Schema) built_ins ((schema_items c d place types ++ directive_items ds) ++ flat_map (held_items c) ts)
+      ∙ (λ i. no-schema-built_in i ++ (filter-append (is_about Schema) (schema_items c d place types ++ directive_items ds) (flat_map (held_items c) ts)
+      ∙ (λ j. (filter-append (is_about Schema) (schema_items c d place types) (directive_items ds) ∙ (λ k. (schema-about c d place types).0 k ++ (directives-else ds).0 k) ∙ append-nil (schema_items c d place types)) j ++ (types-else c ts).0 j)
+      ∙ append-nil (schema_items c d place types)) i)
+
+  pub list-about_others : about Others written_list ≡ about Others built_ins ++ directive_items ds
+  list-about_others =
+      filter-append (is_about Others) built_ins ((schema_items c d place types ++ directive_items ds) ++ flat_map (held_items c) ts)
+      ∙ ap (λ l. about Others built_ins ++ l) (filter-append (is_about Others) (schema_items c d place types ++ directive_items ds) (flat_map (held_items c) ts)
+      ∙ (λ j. (filter-append (is_about Others) (schema_items c d place types) (directive_items ds) ∙ (λ k. (schema-about c d place types).1 k ++ (directives-else ds).1 k)) j ++ (types-else c ts).1 j)
+      ∙ append-nil (directive_items ds))
+
+  exts-none : (es : List (ExtensionId × DefinitionParts)) → filter_map defined_schema (schema_extension_items c d place types es) ≡ []
+  exts-none [] = refl
+  exts-none (e ∷ es) = exts-none es
+
+  exts-all : (es : List (ExtensionId × DefinitionParts)) → filter_map extended_schema (schema_extension_items c d place types es) ≡ map schema_extension_of es
+  exts-all [] = refl
+  exts-all (e ∷ es) = ap (λ l. schema_extension_of e ∷ l) (exts-all es)
+
+  pub list-first_schema : first_schema written_list ≡ cond (is_written types d) (Some (written_head d place)) None
+  list-first_schema = first_schema-about written_list ∙ ap first_schema (list-about_schema ∙ schema-listed c d place types) ∙ by (is_written types d)
+    where
+      by : (b : Bool) → first_schema (cond b (SchemaDefined (written_head d place) ∷ []) [] ++ schema_extension_items c d place types (written_parts_of d).extensions) ≡ cond b (Some (written_head d place)) None
+      by true = refl
+      by false = ap (λ l. slice_get l 0) (exts-none (written_parts_of d).extensions)
+
+  pub list-schema_extensions : schema_extensions written_list ≡ map schema_extension_of (written_parts_of d).extensions
+  list-schema_extensions = schema_extensions-about written_list ∙ ap schema_extensions (list-about_schema ∙ schema-listed c d place types) ∙ by (is_written types d)
+    where
+      by : (b : Bool) → schema_extensions (cond b (SchemaDefined (written_head d place) ∷ []) [] ++ schema_extension_items c d place types (written_parts_of d).extensions) ≡ map schema_extension_of (written_parts_of d).extensions
+      by true = exts-all (written_parts_of d).extensions
+      by false = exts-all (written_parts_of d).extensions
+
+  pub list-directives : directive_definitions written_list ≡ directive_definitions built_ins ++ ds
+  list-directives =
+      directives-about written_list ∙ ap directive_definitions list-about_others ∙ filter_map-append directive_part (about Others built_ins) (directive_items ds)
+      ∙ (λ i. sym (directives-about built_ins) i ++ directives-of_items ds i)

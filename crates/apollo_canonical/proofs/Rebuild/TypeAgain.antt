@@ -1,0 +1,215 @@
+-- The type that written parts mean again, under any distinct numbers of the extensions, has what is written of the first.
+use Rattle.std.proofs.Common.{◌≡◌, ℕ, List, [], ◌∷◌, ◌++◌, map, length, flat_map, refl, sym, ap, subst, ◌∙◌, ◌==◌}
+use Rattle.std.proofs.lemmas.List.{map-append}
+use Rattle.std.proofs.lemmas.Simd.{map-map}
+use Rattle.std.specs.List.{AllByRecursion, IsDistinct}
+use Rattle.graphql_nodes.specs.NameView.{NameView}
+use Rattle.graphql_nodes.specs.NodeView.{NodeView}
+use Rattle.graphql_nodes.specs.SameText.{same_text}
+use Rattle.graphql_nodes.specs.Tables.{values_of}
+use Rattle.graphql_ast.specs.declared.definition_parts.DefinitionParts.{DefinitionParts}
+use Rattle.apollo_component.specs.WriteOut.{by_origin, of_origin, identities, origins_in}
+use Rattle.apollo_component.specs.Extensions.{extension_id, place_of}
+use Rattle.apollo_component.specs.declared.component.Component.{Component}
+use Rattle.apollo_component.specs.declared.component.ComponentName.{ComponentName}
+use Rattle.apollo_component.specs.declared.extension.ComponentOrigin.{ComponentOrigin}
+use Rattle.apollo_component.specs.declared.extension.ComponentOrigin.TheVariants.{Definition, Extension}
+use Rattle.apollo_component.specs.declared.extension.ExtensionId.{ExtensionId}
+use Rattle.apollo_component.specs.declared.parts_by_origin.PartsByOrigin.{PartsByOrigin}
+use Rattle.apollo_types.specs.TypeWriteOut.{type_kind, type_description, type_components}
+use Rattle.apollo_types.specs.declared.extended_type.ExtendedType.{ExtendedType}
+use Rattle.apollo_types.specs.declared.extended_type.ExtendedType.TheVariants.{Scalar, Object, Interface, Union, Enum, InputObject}
+use Rattle.apollo_meaning.specs.Items.Parts.{TypePart, TypeBody, ScalarBody, ObjectBody, InterfaceBody, UnionBody, EnumBody, InputObjectBody}
+use Rattle.apollo_meaning.specs.Types.Components.{Sourced, component, component_name, field_entry, value_entry, input_field_entry, body_interfaces, body_members, body_fields, body_values, body_input_fields, directives_of, distinct_names, distinct_entries}
+use Rattle.apollo_meaning.specs.Types.Meaning.{type_at, type_from}
+use Rattle.apollo_meaning.proofs.Order.FoldingLemmas.{type_kind-from, type_name-from, type_location-from}
+use Rattle.apollo_canonical.specs.Sections.{in_sections, with_origins, joined, sections_of}
+use Rattle.apollo_canonical.specs.TypeSections.{node_of, name_of, type_sections, HasWhatIsWritten, HasEachNameOnce}
+use Rattle.apollo_canonical.proofs.ComponentsKept.{written-keeps}
+use Rattle.apollo_canonical.proofs.NamesOnce.{IsNamed, all-named, once-kept}
+use Rattle.apollo_canonical.proofs.Kept.{map-each}
+use Rattle.apollo_canonical.proofs.Once.{all-first}
+use Rattle.apollo_canonical.proofs.SectionLemmas.{of_origin-sections, parts_in}
+use Rattle.apollo_canonical.proofs.TypeLemmas.{components-sections, same-placed}
+use Rattle.apollo_canonical.proofs.Rebuild.Numbers.{renumbered, renumbered-placed, renumbered-distinct}
+use Rattle.apollo_canonical.proofs.Rebuild.WrittenParts.{written, definition_part, extension_of, kind-body}
+use Rattle.apollo_component.proofs.Lists.Each.{each-weaken}
+
+-- what parts have of one sort, with their origins
+abbrev pub shown_in : {A : Type 0} → (TypePart → List A) → List Sourced → List (ComponentOrigin × A)
+shown_in sort = flat_map (λ s. map (λ x. (s.0, x)) (sort s.1))
+
+pub shown-made : {A C : Type 0} (view : C → ComponentOrigin × A) (make : ComponentOrigin → A → C) → ((o : ComponentOrigin) (a : A) → view (make o a) ≡ (o, a)) → (sort : TypePart → List A) (ss : List Sourced)
+    → map view (flat_map (λ s. map (make s.0) (sort s.1)) ss) ≡ shown_in sort ss
+shown-made view make is sort [] = refl
+shown-made {A} view make is sort (s ∷ ss) = map-append view (map (make s.0) (sort s.1)) (flat_map (λ s. map (make s.0) (sort s.1)) ss) ∙ (λ i. one (sort s.1) i ++ shown-made view make is sort ss i)
+  where
+    one : (xs : List A) → map view (map (make s.0) xs) ≡ map (λ x. (s.0, x)) xs
+    one [] = refl
+    one (x ∷ xs) = λ i. is s.0 x i ∷ one xs i
+
+shown-joined : {A : Type 0} (of : TypePart → List A) (sort : DefinitionParts → List A) (part : ExtensionId × DefinitionParts → TypePart) → ((g : ExtensionId × DefinitionParts) → of (part g) ≡ sort g.1) → (gs : List (ExtensionId × DefinitionParts))
+    → shown_in of (map (λ g. (Extension g.0, part g)) gs) ≡ joined sort (map (λ e. (Extension e.0, e.1)) gs)
+shown-joined of sort part is [] = refl
+shown-joined of sort part is (g ∷ gs) = λ i. map (λ x. (Extension g.0, x)) (is g i) ++ shown-joined of sort part is gs i
+
+-- names that differ are all kept
+names-kept : (cs : List ComponentName) (js : List (ComponentOrigin × NameView)) → map name_of cs ≡ js → IsDistinct same_text (map (λ n. n.1) js) → map name_of (distinct_names cs) ≡ js
+names-kept cs js is d =
+    ap (map name_of) (all-first same_text (λ c. c.name) cs (subst (IsDistinct same_text) (ap (map (λ n. n.1)) (sym is) ∙ map-map (λ (n : ComponentOrigin × NameView). n.1) name_of cs) d)) ∙ is
+
+-- and so are entries
+module _ {T : Type 0} (name : NodeView T → NameView) where
+  entries-kept : (es : List (NameView × Component T)) (js : List (ComponentOrigin × NodeView T)) → AllByRecursion (IsNamed name) es → map (λ e. node_of e.1) es ≡ js → IsDistinct same_text (map (λ x. name x.1) js)
+      → map node_of (values_of (distinct_entries es)) ≡ js
+  entries-kept es js named is d =
+      let keys : map (λ x. name x.1) js ≡ map (λ e. e.0) es =
+      ap (map (λ x. name x.1)) (sym is) ∙ map-map (λ (x : ComponentOrigin × NodeView T). name x.1) (λ e. node_of e.1) es
+      ∙ map-each (λ e. name e.1.node) (λ e. e.0) es (each-weaken (IsNamed name) (λ e. name e.1.node ≡ e.0) (λ e h. sym h) es named) in
+      ap (λ l. map node_of (values_of l)) (all-first same_text (λ (e : NameView × Component T). e.0) es (subst (IsDistinct same_text) keys d))
+      ∙ map-map node_of (λ (e : NameView × Component T). e.1) es ∙ is
+
+module _ (t : ExtendedType) (is : List ℕ) where
+  abbrev pub parts_again : PartsByOrigin
+  parts_again = record { definition = (written t).definition; extensions = renumbered is (written t).extensions }
+
+  abbrev pub sourced_again : List Sourced
+  sourced_again = (Definition, definition_part t) ∷ map (λ g. (Extension g.0, extension_of t g)) (renumbered is (written t).extensions)
+
+  abbrev pub type_again : ExtendedType
+  type_again = type_from (definition_part t) sourced_again
+
+  -- a sort of which the type has nothing
+  none-of : {A : Type 0} (sort : DefinitionParts → List A) → ((o : ComponentOrigin) → sort (of_origin o (type_components t)) ≡ []) → [] ≡ joined sort (with_origins parts_again)
+  none-of {A} sort none = sym (λ i. map (λ x. (Definition, x)) (none Definition i) ++ later is (identities (origins_in (type_components t))) i)
+    where
+      later : (js : List ℕ) (ids : List ExtensionId) → joined sort (map (λ e. (Extension e.0, e.1)) (renumbered js (map (λ e. (e, of_origin (Extension e) (type_components t))) ids))) ≡ []
+      later [] ids = refl
+      later (j ∷ js) [] = refl
+      later (j ∷ js) (e ∷ ids) = (λ i. map (λ x. (Extension (extension_id j (place_of e)), x)) (none (Extension e) i) ++ later js ids i)
+
+  -- what is of an origin, by sections
+  of_sections : (o : ComponentOrigin) → of_origin o (type_components t) ≡ parts_in o (type_sections t)
+  of_sections o = ap (of_origin o) (components-sections t) ∙ of_origin-sections o (type_sections t)
+
+  shown-again : {A : Type 0} (of : TypePart → List A) (sort : DefinitionParts → List A) → of (definition_part t) ≡ sort (written t).definition → ((g : ExtensionId × DefinitionParts) → of (extension_of t g) ≡ sort g.1)
+      → shown_in of sourced_again ≡ joined sort (with_origins parts_again)
+  shown-again of sort first each = (λ i. map (λ x. (Definition, x)) (first i) ++ shown-joined of sort (extension_of t) each parts_again.extensions i)
+
+  directives-again : map node_of (flat_map directives_of sourced_again) ≡ joined (λ d. d.directives.0) (with_origins parts_again)
+  directives-again = shown-made node_of component (λ o a. refl) (λ p. p.directives) sourced_again ∙ shown-again (λ p. p.directives) (λ d. d.directives.0) refl (λ g. refl)
+
+  names-again : (of : TypePart → List NameView) → of (definition_part t) ≡ (written t).definition.names → ((g : ExtensionId × DefinitionParts) → of (extension_of t g) ≡ g.1.names)
+      → IsDistinct same_text (map (λ n. n.1) (sections_of parts_again).names)
+      → map name_of (distinct_names (flat_map (λ s. map (component_name s.0) (of s.1)) sourced_again)) ≡ joined (λ d. d.names) (with_origins parts_again)
+  names-again of first each d =
+      names-kept (flat_map (λ s. map (component_name s.0) (of s.1)) sourced_again) (joined (λ d. d.names) (with_origins parts_again))
+      (shown-made name_of component_name (λ o a. refl) of sourced_again ∙ shown-again of (λ d. d.names) first each) d
+
+  entries-again : {T : Type 0} (name : NodeView T → NameView) (entry : ComponentOrigin → NodeView T → NameView × Component T) → ((o : ComponentOrigin) (n : NodeView T) → IsNamed name (entry o n))
+      → ((o : ComponentOrigin) (n : NodeView T) → node_of (entry o n).1 ≡ (o, n))
+      → (of : TypePart → List (NodeView T)) (sort : DefinitionParts → List (NodeView T)) → of (definition_part t) ≡ sort (written t).definition → ((g : ExtensionId × DefinitionParts) → of (extension_of t g) ≡ sort g.1)
+      → IsDistinct same_text (map (λ x. name x.1) (joined sort (with_origins parts_again)))
+      → map node_of (values_of (distinct_entries (flat_map (λ s. map (entry s.0) (of s.1)) sourced_again))) ≡ joined sort (with_origins parts_again)
+  entries-again name entry named is_node of sort first each d =
+      entries-kept name (flat_map (λ s. map (entry s.0) (of s.1)) sourced_again) (joined sort (with_origins parts_again)) (all-named name (λ s. of s.1) entry named sourced_again)
+      (shown-made (λ e. node_of e.1) entry is_node of sourced_again ∙ shown-again of sort first each) d
+
+  module _ (many : length is ≡ length (written t).extensions) (once : HasEachNameOnce (type_sections t)) where
+    same_parts : map (λ e. e.1) parts_again.extensions ≡ map (λ e. e.1) (by_origin (in_sections (type_sections t))).extensions
+    same_parts =
+        same-placed parts_again.extensions (written t).extensions (renumbered-placed is (written t).extensions many)
+        ∙ ap (λ cs. map (λ e. e.1) (by_origin cs).extensions) (components-sections t)
+
+    -- they have the same components, so each name once
+    once_again : HasEachNameOnce (sections_of parts_again)
+    once_again =
+        once-kept (type_sections t) (sections_of parts_again) (written-keeps (type_sections t) parts_again (ap (λ cs. (by_origin cs).definition) (components-sections t)) same_parts) once
+
+-- the type has what the parts have, sort by sort
+sections-again : (t : ExtendedType) (is : List ℕ) → HasEachNameOnce (sections_of (parts_again t is)) → type_sections (type_again t is) ≡ sections_of (parts_again t is)
+sections-again (Scalar n) is once =
+    let t : ExtendedType = Scalar n in
+    (λ i. record {
+      directives = directives-again t is i;
+      names = none-of t is (λ d. d.names) (λ o. ap (λ d. d.names) (of_sections t is o)) i;
+      fields = none-of t is (λ d. d.fields) (λ o. ap (λ d. d.fields) (of_sections t is o)) i;
+      values = none-of t is (λ d. d.values) (λ o. ap (λ d. d.values) (of_sections t is o)) i;
+      input_fields = none-of t is (λ d. d.input_fields) (λ o. ap (λ d. d.input_fields) (of_sections t is o)) i;
+      roots = none-of t is (λ d. d.roots) (λ o. ap (λ d. d.roots) (of_sections t is o)) i;
+    })
+sections-again (Object n) is once =
+    let t : ExtendedType = Object n in
+    (λ i. record {
+      directives = directives-again t is i;
+      names = names-again t is (λ p. body_interfaces p.body) refl (λ g. refl) once.names i;
+      fields = entries-again t is (λ f. f.value.name) field_entry (λ o n. refl) (λ o n. refl) (λ p. body_fields p.body) (λ d. d.fields) refl (λ g. refl) once.fields i;
+      values = none-of t is (λ d. d.values) (λ o. ap (λ d. d.values) (of_sections t is o)) i;
+      input_fields = none-of t is (λ d. d.input_fields) (λ o. ap (λ d. d.input_fields) (of_sections t is o)) i;
+      roots = none-of t is (λ d. d.roots) (λ o. ap (λ d. d.roots) (of_sections t is o)) i;
+    })
+sections-again (Interface n) is once =
+    let t : ExtendedType = Interface n in
+    (λ i. record {
+      directives = directives-again t is i;
+      names = names-again t is (λ p. body_interfaces p.body) refl (λ g. refl) once.names i;
+      fields = entries-again t is (λ f. f.value.name) field_entry (λ o n. refl) (λ o n. refl) (λ p. body_fields p.body) (λ d. d.fields) refl (λ g. refl) once.fields i;
+      values = none-of t is (λ d. d.values) (λ o. ap (λ d. d.values) (of_sections t is o)) i;
+      input_fields = none-of t is (λ d. d.input_fields) (λ o. ap (λ d. d.input_fields) (of_sections t is o)) i;
+      roots = none-of t is (λ d. d.roots) (λ o. ap (λ d. d.roots) (of_sections t is o)) i;
+    })
+sections-again (Union n) is once =
+    let t : ExtendedType = Union n in
+    (λ i. record {
+      directives = directives-again t is i;
+      names = names-again t is (λ p. body_members p.body) refl (λ g. refl) once.names i;
+      fields = none-of t is (λ d. d.fields) (λ o. ap (λ d. d.fields) (of_sections t is o)) i;
+      values = none-of t is (λ d. d.values) (λ o. ap (λ d. d.values) (of_sections t is o)) i;
+      input_fields = none-of t is (λ d. d.input_fields) (λ o. ap (λ d. d.input_fields) (of_sections t is o)) i;
+      roots = none-of t is (λ d. d.roots) (λ o. ap (λ d. d.roots) (of_sections t is o)) i;
+    })
+sections-again (Enum n) is once =
+    let t : ExtendedType = Enum n in
+    (λ i. record {
+      directives = directives-again t is i;
+      names = none-of t is (λ d. d.names) (λ o. ap (λ d. d.names) (of_sections t is o)) i;
+      fields = none-of t is (λ d. d.fields) (λ o. ap (λ d. d.fields) (of_sections t is o)) i;
+      values = entries-again t is (λ v. v.value.value) value_entry (λ o n. refl) (λ o n. refl) (λ p. body_values p.body) (λ d. d.values) refl (λ g. refl) once.values i;
+      input_fields = none-of t is (λ d. d.input_fields) (λ o. ap (λ d. d.input_fields) (of_sections t is o)) i;
+      roots = none-of t is (λ d. d.roots) (λ o. ap (λ d. d.roots) (of_sections t is o)) i;
+    })
+sections-again (InputObject n) is once =
+    let t : ExtendedType = InputObject n in
+    (λ i. record {
+      directives = directives-again t is i;
+      names = none-of t is (λ d. d.names) (λ o. ap (λ d. d.names) (of_sections t is o)) i;
+      fields = none-of t is (λ d. d.fields) (λ o. ap (λ d. d.fields) (of_sections t is o)) i;
+      values = none-of t is (λ d. d.values) (λ o. ap (λ d. d.values) (of_sections t is o)) i;
+      input_fields = entries-again t is (λ f. f.value.name) input_field_entry (λ o n. refl) (λ o n. refl) (λ p. body_input_fields p.body) (λ d. d.input_fields) refl (λ g. refl) once.input_fields i;
+      roots = none-of t is (λ d. d.roots) (λ o. ap (λ d. d.roots) (of_sections t is o)) i;
+    })
+
+type_description-from : (head : TypePart) (done : List Sourced) → type_description (type_from head done) ≡ head.description
+type_description-from head done = by head.body
+  where
+    by : (b : TypeBody) → type_description (type_at b head done) ≡ head.description
+    by ScalarBody = refl
+    by (ObjectBody interfaces fields) = refl
+    by (InterfaceBody interfaces fields) = refl
+    by (UnionBody members) = refl
+    by (EnumBody values) = refl
+    by (InputObjectBody fields) = refl
+
+-- so it has what is written of the first type
+pub has-what-is-written : (t : ExtendedType) → HasEachNameOnce (type_sections t) → (is : List ℕ) → length is ≡ length (written t).extensions → IsDistinct ◌==◌ is → HasWhatIsWritten t (type_again t is)
+has-what-is-written t once is many apart = record {
+  kind = type_kind-from (definition_part t) (sourced_again t is) ∙ kind-body (type_kind t) (written t).definition;
+  description = type_description-from (definition_part t) (sourced_again t is);
+  name = type_name-from (definition_part t) (sourced_again t is);
+  location = type_location-from (definition_part t) (sourced_again t is);
+  parts = parts_again t is;
+  definition = refl;
+  extensions = renumbered-placed is (written t).extensions many;
+  distinct = renumbered-distinct is (written t).extensions apart;
+  sections = sections-again t is (once_again t is many once);
+}

@@ -1,0 +1,160 @@
+-- What a type is written out as is without fault: its components differ, and its extensions have its name and kind.
+use Rattle.std.proofs.Common.{◌≡◌, Bool, true, false, cond, ◌||◌, List, [], ◌∷◌, ◌++◌, Some, map, map-id, filter, flat_map, refl, sym, ap, subst, ◌∙◌, append_assoc}
+use Rattle.std.proofs.lemmas.List.{append-nil, map-append}
+use Rattle.std.proofs.lemmas.List.Concat.{flat_map-append}
+use Rattle.std.specs.Cmp.{IsEquivalence}
+use Rattle.std.specs.List.{AllByRecursion, IsDistinct, list_any}
+use Rattle.std.specs.Option.{option_map_or}
+use Rattle.graphql_nodes.specs.NameView.{NameView}
+use Rattle.graphql_nodes.specs.SameText.{same, same_text}
+use Rattle.graphql_nodes.specs.declared.type_kind.TypeKind.{TypeKind}
+use Rattle.graphql_nodes.specs.declared.type_kind.TypeKind.TheVariants as kinds
+use Rattle.graphql_nodes.proofs.Texts.{same-is}
+use Rattle.apollo_component.specs.EachAfter.{each_after}
+use Rattle.apollo_component.proofs.Lists.Each.{each-append}
+use Rattle.apollo_meaning.specs.Faults.Collisions.{Entry, collision, collision_at, collisions}
+use Rattle.apollo_meaning.specs.Faults.TypeFaults.{interface_names, member_names, field_names, value_names, input_field_names, name_entries, body_faults, part_faults, joining_fault, kind_mismatch}
+use Rattle.apollo_meaning.specs.Items.ListItems.{Defined, Extended}
+use Rattle.apollo_meaning.specs.Items.Named.{extensions_of, first, of_kind}
+use Rattle.apollo_meaning.specs.Items.Parts.{TypePart, TypeBody, ScalarBody, ObjectBody, InterfaceBody, UnionBody, EnumBody, InputObjectBody, key_of, kind_of, same_kind}
+use Rattle.apollo_meaning.specs.Steps.Prefixes.{found_at}
+use Rattle.apollo_meaning.specs.Types.Components.{body_interfaces, body_members, body_fields, body_values, body_input_fields}
+use Rattle.apollo_meaning.specs.declared.collision.Collection.{Collection}
+use Rattle.apollo_meaning.specs.declared.collision.Collection.TheVariants as c
+use Rattle.apollo_meaning.proofs.Faults.KeptLemmas.{name_laws}
+use Rattle.apollo_meaning.proofs.Items.ItemLemmas.{parts-extended}
+use Rattle.apollo_canonical.proofs.Kept.{find-none}
+
+-- an element of a list of which no two are the same is the same as none before it
+pub new-after : {X : Type 0} (same : X → X → Bool) → IsEquivalence same → (xs : List X) (y : X) (ys : List X) → IsDistinct same (xs ++ y ∷ ys) → list_any (same y) xs ≡ false
+unfolding IsDistinct
+new-after same laws [] y ys d = refl
+new-after {X} same laws (x ∷ xs) y ys d = ap (λ b. b || list_any (same y) xs) (laws.symm y x ∙ at xs d.0) ∙ new-after same laws xs y ys d.1
+  where
+    at : (zs : List X) → AllByRecursion (λ k. same x k ≡ false) (zs ++ y ∷ ys) → same x y ≡ false
+    at [] a = a.0
+    at (z ∷ zs) a = at zs a.1
+
+pub distinct-front : {X : Type 0} (same : X → X → Bool) (xs ys : List X) → IsDistinct same (xs ++ ys) → IsDistinct same xs
+unfolding IsDistinct
+distinct-front same [] ys d = tt
+distinct-front {X} same (x ∷ xs) ys d = (front xs d.0, distinct-front same xs ys d.1)
+  where
+    front : (zs : List X) → AllByRecursion (λ k. same x k ≡ false) (zs ++ ys) → AllByRecursion (λ k. same x k ≡ false) zs
+    front [] a = tt
+    front (z ∷ zs) a = (a.0, front zs a.1)
+
+-- names that differ from those before them, and from one another, collide with none
+module _ (c : Collection) (ty : NameView) (before : List NameView) where
+  after-none : (done es : List Entry) → IsDistinct same_text ((before ++ map (λ e. e.0) done) ++ map (λ e. e.0) es) → each_after (λ done. collision_at c ty (before ++ map (λ e. e.0) done)) done es ≡ []
+  after-none done [] d = refl
+  after-none done (e ∷ es) d =
+      let others : List NameView = before ++ map (λ e. e.0) done in
+      let more : (before ++ map (λ e. e.0) (done ++ e ∷ [])) ++ map (λ e. e.0) es ≡ others ++ e.0 ∷ map (λ e. e.0) es =
+      ap (λ l. (before ++ l) ++ map (λ e. e.0) es) (map-append (λ (e : Entry). e.0) done (e ∷ [])) ∙ ap (λ l. l ++ map (λ e. e.0) es) (sym (append_assoc before (map (λ e. e.0) done) (e.0 ∷ []))) ∙ append_assoc others (e.0 ∷ []) (map (λ e. e.0) es) in
+      (λ i. option_map_or (λ kept. (e.1, collision c kept ty) ∷ []) (find-none (same_text e.0) others (new-after same_text name_laws others e.0 (map (λ e. e.0) es) d) i) [] ++ after-none (done ++ e ∷ []) es (subst (IsDistinct same_text) (sym more) d) i)
+
+  collisions-none : (es : List Entry) → IsDistinct same_text (before ++ map (λ e. e.0) es) → collisions c ty before es ≡ []
+  collisions-none es d = after-none [] es (subst (λ l. IsDistinct same_text (l ++ map (λ e. e.0) es)) (sym (append-nil before)) d)
+
+entry-names : {A : Type 0} (name : A → NameView) (entry : A → Entry) → ((a : A) → (entry a).0 ≡ name a) → (xs : List A) → map name xs ≡ map (λ e. e.0) (map entry xs)
+entry-names name entry is [] = refl
+entry-names name entry is (x ∷ xs) = λ i. sym (is x) i ∷ entry-names name entry is xs i
+
+-- what a part has of a sort, by name
+abbrev pub interfaces_in : TypePart → List NameView
+interfaces_in p = body_interfaces p.body
+
+abbrev pub members_in : TypePart → List NameView
+members_in p = body_members p.body
+
+abbrev pub fields_in : TypePart → List NameView
+fields_in p = map (λ f. f.value.name) (body_fields p.body)
+
+abbrev pub values_in : TypePart → List NameView
+values_in p = map (λ v. v.value.value) (body_values p.body)
+
+abbrev pub input_fields_in : TypePart → List NameView
+input_fields_in p = map (λ f. f.value.name) (body_input_fields p.body)
+
+-- no two components of a sort have one name
+pub record HaveEachNameOnce (ps : List TypePart) : Type 0 where
+  pub interfaces : IsDistinct same_text (flat_map interfaces_in ps)
+  pub members : IsDistinct same_text (flat_map members_in ps)
+  pub fields : IsDistinct same_text (flat_map fields_in ps)
+  pub values : IsDistinct same_text (flat_map values_in ps)
+  pub input_fields : IsDistinct same_text (flat_map input_fields_in ps)
+
+module _ (ps : List TypePart) (ty : NameView) where
+  NewAfter : (TypePart → List NameView) → List NameView → Type 0
+  NewAfter sort names = IsDistinct same_text (flat_map sort ps ++ names)
+
+  names-none : (co : Collection) (sort : TypePart → List NameView) (ns : List NameView) → IsDistinct same_text (flat_map sort ps ++ ns) → collisions co ty (flat_map sort ps) (name_entries ns) ≡ []
+  names-none co sort ns d = collisions-none co ty (flat_map sort ps) (name_entries ns) (subst (λ l. IsDistinct same_text (flat_map sort ps ++ l)) (sym (map-id ns) ∙ entry-names (λ n. n) (λ n. (n, n.location)) (λ n. refl) ns) d)
+
+  entries-none : {A : Type 0} (co : Collection) (sort : TypePart → List NameView) (name : A → NameView) (entry : A → Entry) → ((a : A) → (entry a).0 ≡ name a) → (xs : List A) → IsDistinct same_text (flat_map sort ps ++ map name xs)
+      → collisions co ty (flat_map sort ps) (map entry xs) ≡ []
+  entries-none co sort name entry is xs d = collisions-none co ty (flat_map sort ps) (map entry xs) (subst (λ l. IsDistinct same_text (flat_map sort ps ++ l)) (entry-names name entry is xs) d)
+
+  body-none : (body : TypeBody) → IsDistinct same_text (interface_names ps ++ body_interfaces body) → IsDistinct same_text (member_names ps ++ body_members body) → IsDistinct same_text (field_names ps ++ map (λ f. f.value.name) (body_fields body))
+      → IsDistinct same_text (value_names ps ++ map (λ v. v.value.value) (body_values body)) → IsDistinct same_text (input_field_names ps ++ map (λ f. f.value.name) (body_input_fields body)) → body_faults body ty ps ≡ []
+  body-none ScalarBody i m f v n = refl
+  body-none (ObjectBody interfaces fields) i m f v n =
+      (λ k. names-none c.ObjectInterfaces interfaces_in interfaces i k ++ entries-none c.ObjectFields fields_in (λ f. f.value.name) (λ f. (f.value.name, f.location)) (λ f. refl) fields f k)
+  body-none (InterfaceBody interfaces fields) i m f v n =
+      (λ k. names-none c.InterfaceInterfaces interfaces_in interfaces i k ++ entries-none c.InterfaceFields fields_in (λ f. f.value.name) (λ f. (f.value.name, f.location)) (λ f. refl) fields f k)
+  body-none (UnionBody members) i m f v n = names-none c.UnionMembers members_in members m
+  body-none (EnumBody values) i m f v n = entries-none c.EnumValues values_in (λ v. v.value.value) (λ v. (v.value.value, v.location)) (λ v. refl) values v
+  body-none (InputObjectBody fields) i m f v n = entries-none c.InputFields input_fields_in (λ f. f.value.name) (λ f. (f.value.name, f.location)) (λ f. refl) fields n
+
+-- parts whose components differ are without fault, one after another
+parts-none : (ps : List TypePart) (p : TypePart) (rest : List TypePart) → HaveEachNameOnce (ps ++ p ∷ rest) → part_faults ps p ≡ []
+parts-none ps p rest h =
+    body-none ps p.name p.body (front interfaces_in h.interfaces) (front members_in h.members) (front fields_in h.fields) (front values_in h.values) (front input_fields_in h.input_fields)
+  where
+    front : (sort : TypePart → List NameView) → IsDistinct same_text (flat_map sort (ps ++ p ∷ rest)) → IsDistinct same_text (flat_map sort ps ++ sort p)
+    front sort d = distinct-front same_text (flat_map sort ps ++ sort p) (flat_map sort rest) (subst (IsDistinct same_text) (flat_map-append sort ps (p ∷ rest) ∙ sym (append_assoc (flat_map sort ps) (sort p) (flat_map sort rest))) d)
+
+same_kind-refl : (k : TypeKind) → same_kind k k ≡ true
+same_kind-refl kinds.Scalar = refl
+same_kind-refl kinds.Object = refl
+same_kind-refl kinds.Interface = refl
+same_kind-refl kinds.Union = refl
+same_kind-refl kinds.Enum = refl
+same_kind-refl kinds.InputObject = refl
+
+-- an extension has the name and the kind of a definition
+abbrev pub Fits : TypePart → TypePart → Type 0
+Fits d e = (key_of e ≡ key_of d) × (kind_of e ≡ kind_of d)
+
+module _ (d : TypePart) where
+  pub fits-of_kind : (es : List TypePart) → AllByRecursion (Fits d) es → of_kind (kind_of d) es ≡ es
+  fits-of_kind [] a = refl
+  fits-of_kind (e ∷ es) a = ap (λ b. cond b (e ∷ of_kind (kind_of d) es) (of_kind (kind_of d) es)) (ap (same_kind (kind_of d)) a.0.1 ∙ same_kind-refl (kind_of d)) ∙ ap (λ l. e ∷ l) (fits-of_kind es a.1)
+
+  -- those before one are the definition and the extensions before it
+  extensions-found : (done : List TypePart) → AllByRecursion (Fits d) done → (e : TypePart) → Fits d e → extensions_of (Defined d ∷ map Extended done) (key_of e) ≡ done
+  extensions-found done fit e f = ap (filter (λ p. same (key_of e) (key_of p))) (parts-extended done) ∙ own done fit
+    where
+      own : (ps : List TypePart) → AllByRecursion (Fits d) ps → filter (λ p. same (key_of e) (key_of p)) ps ≡ ps
+      own [] a = refl
+      own (p ∷ ps) a = ap (λ b. cond b (p ∷ filter (λ p. same (key_of e) (key_of p)) ps) (filter (λ p. same (key_of e) (key_of p)) ps)) (same-is (key_of e) (key_of p) (f.0 ∙ sym a.0.0)) ∙ ap (λ l. p ∷ l) (own ps a.1)
+
+  extension-none : (done : List TypePart) (e : TypePart) (rest : List TypePart) → AllByRecursion (Fits d) done → Fits d e → HaveEachNameOnce ((d ∷ done) ++ e ∷ rest) → found_at (Defined d ∷ map Extended done) (Extended e) ≡ []
+  extension-none done e rest fit f h =
+      ap (λ b. option_map_or (λ x. joining_fault x (x ∷ of_kind (kind_of x) (extensions_of (Defined d ∷ map Extended done) (key_of e))) e) (cond b (Some d) (first (map Extended done) (key_of e))) []) (same-is (key_of e) (key_of d) f.0)
+      ∙ ap (λ l. joining_fault d (d ∷ of_kind (kind_of d) l) e) (extensions-found done fit e f)
+      ∙ ap (λ l. joining_fault d (d ∷ l) e) (fits-of_kind done fit)
+      ∙ ap (λ b. cond b (part_faults (d ∷ done) e) (kind_mismatch d e ∷ [])) (ap (same_kind (kind_of d)) f.1 ∙ same_kind-refl (kind_of d))
+      ∙ parts-none (d ∷ done) e rest h
+
+  extensions-none : (done es : List TypePart) → AllByRecursion (Fits d) done → AllByRecursion (Fits d) es → HaveEachNameOnce ((d ∷ done) ++ es) → each_after found_at (Defined d ∷ map Extended done) (map Extended es) ≡ []
+  extensions-none done [] fit a h = refl
+  extensions-none done (e ∷ es) fit a h =
+      let more : map Extended done ++ Extended e ∷ [] ≡ map Extended (done ++ e ∷ []) = sym (map-append Extended done (e ∷ [])) in
+      (λ i. extension-none done e es fit a.0 h i ++ ap (λ l. each_after found_at (Defined d ∷ l) (map Extended es)) more i)
+      ∙ extensions-none (done ++ e ∷ []) es (each-append (Fits d) done (e ∷ []) fit (a.0, tt)) a.1 (subst HaveEachNameOnce (ap (λ l. d ∷ l) (sym (append_assoc done (e ∷ []) es))) h)
+
+  -- a definition and the extensions after it
+  pub type-faultless : (es : List TypePart) → AllByRecursion (Fits d) es → HaveEachNameOnce (d ∷ es) → each_after found_at [] (Defined d ∷ map Extended es) ≡ []
+  type-faultless es fit h = (λ i. (append-nil (part_faults [] d) ∙ parts-none [] d es h) i ++ extensions-none [] es tt fit h i)

@@ -1,0 +1,296 @@
+-- The types of a list with a write-out are the types that were written out.
+use Rattle.std.proofs.Common.{◌≡◌, ℕ, Bool, true, false, cond, not, List, [], ◌∷◌, ◌++◌, None, Option, Some, is_some, map, map-id, ◌+◌, filter, flat_map, option_map, refl, sym, ap, subst, ◌∙◌, ◌==◌}
+use Rattle.std.proofs.lemmas.List.{append-nil}
+use Rattle.std.proofs.lemmas.List.Elements.{filter-append}
+use Rattle.std.specs.List.{AllByRecursion, IsDistinct, filter_map, list_any}
+use Rattle.std.specs.Option.{option_map_or, option_or, unwrap_or}
+use Rattle.graphql_nodes.specs.BuiltIn.{is_built_in}
+use Rattle.graphql_nodes.specs.Comparing.{entries_by_text}
+use Rattle.graphql_nodes.specs.NameView.{NameView}
+use Rattle.graphql_nodes.specs.SameText.{same, same_text, by_text}
+use Rattle.graphql_nodes.specs.Tables.{HasUniqueKeys, keys_of, values_of, lookup}
+use Rattle.graphql_ast.specs.declared.definition_parts.DefinitionParts.{DefinitionParts}
+use Rattle.apollo_component.specs.FirstOfEach.{first_of_each}
+use Rattle.apollo_component.specs.declared.extension.ExtensionId.{ExtensionId}
+use Rattle.apollo_component.proofs.Lists.Each.{each-weaken, filter-fails}
+use Rattle.apollo_types.specs.BareTypes.{bare_extended_type}
+use Rattle.apollo_types.specs.TypeWriteOut.{type_location, type_name}
+use Rattle.apollo_types.specs.declared.extended_type.ExtendedType.{ExtendedType}
+use Rattle.apollo_meaning.specs.Items.ListItems.{ListItem, Defined, Extended, SchemaDefined, SchemaExtended, Other, Added, Folding, OfType, OfSchema, defined_part}
+use Rattle.apollo_meaning.specs.Items.Named.{first, extensions_of, of_kind}
+use Rattle.apollo_meaning.specs.Items.Parts.{TypePart, key_of, kind_of}
+use Rattle.apollo_meaning.specs.Order.Places.{folding_order}
+use Rattle.apollo_meaning.specs.Schema.Whole.{whole}
+use Rattle.apollo_meaning.specs.Types.Meaning.{AreTypesOf, type_names, type_from, parts}
+use Rattle.apollo_meaning.proofs.Items.ItemLemmas.{first-append}
+use Rattle.apollo_meaning.proofs.Items.PartLemmas.{of_name}
+use Rattle.apollo_meaning.proofs.Order.FoldingLemmas.{type_location-from, type_name-from}
+use Rattle.apollo_meaning.proofs.Order.PlaceLemmas.{folding_order-forget}
+use Rattle.apollo_meaning.proofs.Types.TypeLemmas.{type_foldings}
+use Rattle.apollo_meaning.proofs.Faults.KeptLemmas.{name_laws}
+use Rattle.apollo_canonical.specs.WrittenAgain.{with_built_ins}
+use Rattle.apollo_canonical.proofs.FirstAppearance.{new_to_these, first-there, first_of_each-append}
+use Rattle.apollo_canonical.proofs.Kept.{each-both, each-from_map, filter-all, passes}
+use Rattle.apollo_canonical.proofs.Once.{all-first}
+use Rattle.apollo_canonical.proofs.Rebuild.About.{Name, about, is_about, first-about, extensions-about}
+use Rattle.apollo_canonical.proofs.Rebuild.BuiltIns.{built_ins, built_in_names, all-names, about-built_ins, first-built_in}
+use Rattle.apollo_canonical.proofs.Rebuild.Held.{held_items, extension_items, about-types, defines-types}
+use Rattle.apollo_canonical.proofs.Rebuild.Meant.{IsAddedByHand, later_items, whole-split, first-unmarked}
+use Rattle.apollo_canonical.proofs.Rebuild.Names.{defined_names, defined_names-append, type_names-first, type_names-distinct, names-of_first, among-defined, first-key}
+use Rattle.apollo_canonical.proofs.Rebuild.Numbers.{numbers_of, numbers-rise, rising-distinct}
+use Rattle.apollo_canonical.proofs.Rebuild.OneType.{IsMade, IsAgain, made, rebuilt}
+use Rattle.apollo_canonical.proofs.Rebuild.OwnDefinition.{definition-own}
+use Rattle.apollo_canonical.proofs.Rebuild.Tables.{each-entry, values-by_keys}
+use Rattle.apollo_canonical.proofs.Rebuild.TypeFaults.{Fits, fits-of_kind}
+use Rattle.apollo_canonical.proofs.Rebuild.WrittenParts.{written, definition_part, extension_of, kind-body}
+
+-- the extensions of a name that are folded, with their numbers forgotten
+numbers-forget : (n : List ℕ) (start : ℕ) (fs : List Folding) → map (λ e. e.1) (numbers_of n start fs) ≡ filter (λ p. same n (key_of p)) (type_foldings fs)
+numbers-forget n start [] = refl
+numbers-forget n start (OfSchema s ∷ fs) = numbers-forget n (start + 1) fs
+numbers-forget n start (OfType p ∷ fs) = by (same n (key_of p)) (numbers-forget n (start + 1) fs)
+  where
+    by : (b : Bool) → map (λ e. e.1) (numbers_of n (start + 1) fs) ≡ filter (λ q. same n (key_of q)) (type_foldings fs)
+        → map (λ e. e.1) (cond b ((start, p) ∷ numbers_of n (start + 1) fs) (numbers_of n (start + 1) fs)) ≡ cond b (p ∷ filter (λ q. same n (key_of q)) (type_foldings fs)) (filter (λ q. same n (key_of q)) (type_foldings fs))
+    by true rest = ap (λ l. p ∷ l) rest
+    by false rest = rest
+
+-- a type of a list is made of its name's first definition
+pub record IsMeant (xs : List ListItem) (n : List ℕ) (t : ExtendedType) : Type 0 where
+  pub head : TypePart
+  pub first_one : first xs n ≡ Some head
+  pub extensions : List (ℕ × TypePart)
+  pub apart : IsDistinct ◌==◌ (map (λ e. e.0) extensions)
+  pub is : t ≡ made head extensions
+
+module _ (start : ℕ) (xs : List ListItem) (types : List (NameView × ExtendedType)) (are : AreTypesOf start (folding_order xs) xs types) where
+  pub meant : (n : List ℕ) (t : ExtendedType) → lookup (by_text n) types ≡ Some t → IsMeant xs n t
+  meant n t h = by (first xs n) refl (sym (are.each n) ∙ h)
+    where
+      by : (o : Option TypePart) → first xs n ≡ o → option_map (λ d. type_from d (parts start (folding_order xs) n d)) (first xs n) ≡ Some t → IsMeant xs n t
+      by None e g = absurd (let f : None ≡ Some t = sym (ap (option_map (λ d. type_from d (parts start (folding_order xs) n d))) e) ∙ g in cc)
+      by (Some d) e g = record {
+        head = d;
+        first_one = e;
+        extensions = numbers_of n start (folding_order xs);
+        apart = rising-distinct start (numbers_of n start (folding_order xs)) (numbers-rise n start (folding_order xs));
+        is = ap (λ o. unwrap_or o t) (sym g ∙ ap (option_map (λ d. type_from d (parts start (folding_order xs) n d))) e);
+      }
+
+  pub unmeant : (n : List ℕ) → lookup (by_text n) types ≡ None → first xs n ≡ None
+  unmeant n h = by (first xs n) (sym (are.each n) ∙ h)
+    where
+      by : (o : Option TypePart) → option_map (λ d. type_from d (parts start (folding_order xs) n d)) o ≡ None → o ≡ None
+      by None g = refl
+      by (Some d) g = absurd (let f : Some (type_from d (parts start (folding_order xs) n d)) ≡ None = g in cc)
+
+  pub unique : HasUniqueKeys same_text types
+  unique = subst (IsDistinct same_text) (sym are.names) (type_names-distinct xs)
+
+  -- each type has the name that it stands under
+  pub own_names : AllByRecursion (λ e. type_name e.1 ≡ e.0) types
+  own_names =
+      each-both (λ e. option_map (λ d. d.name) (first xs e.0.text) ≡ Some e.0) (λ e. lookup (by_text e.0.text) types ≡ Some e.1) (λ e. type_name e.1 ≡ e.0) one types
+      (each-from_map (λ k. option_map (λ d. d.name) (first xs k.text) ≡ Some k) (λ e. e.0) types (subst (AllByRecursion (λ k. option_map (λ d. d.name) (first xs k.text) ≡ Some k)) (sym are.names) (names-of_first xs)))
+      (each-entry types unique)
+    where
+      one : (e : NameView × ExtendedType) → option_map (λ d. d.name) (first xs e.0.text) ≡ Some e.0 → lookup (by_text e.0.text) types ≡ Some e.1 → type_name e.1 ≡ e.0
+      one e name found =
+          let m : IsMeant xs e.0.text e.1 = meant e.0.text e.1 found in
+          ap type_name m.is ∙ type_name-from m.head _ ∙ ap (λ o. unwrap_or o e.0) (sym (ap (option_map (λ (d : TypePart). d.name)) m.first_one) ∙ name)
+
+-- items that say nothing of types
+abbrev pub IsQuiet : ListItem → Type 0
+IsQuiet (Defined p) = ⊥
+IsQuiet (Extended p) = ⊥
+IsQuiet (SchemaDefined s) = Unit {0}
+IsQuiet (SchemaExtended s) = Unit {0}
+IsQuiet (Other d) = Unit {0}
+
+pub about-quiet : (n : List ℕ) (xs : List ListItem) → AllByRecursion IsQuiet xs → about (Name n) xs ≡ []
+about-quiet n [] q = refl
+about-quiet n (Defined p ∷ xs) q = absurd q.0
+about-quiet n (Extended p ∷ xs) q = absurd q.0
+about-quiet n (SchemaDefined s ∷ xs) q = about-quiet n xs q.1
+about-quiet n (SchemaExtended s ∷ xs) q = about-quiet n xs q.1
+about-quiet n (Other d ∷ xs) q = about-quiet n xs q.1
+
+pub defines-quiet : (xs : List ListItem) → AllByRecursion IsQuiet xs → defined_names xs ≡ []
+defines-quiet [] q = refl
+defines-quiet (Defined p ∷ xs) q = absurd q.0
+defines-quiet (Extended p ∷ xs) q = absurd q.0
+defines-quiet (SchemaDefined s ∷ xs) q = defines-quiet xs q.1
+defines-quiet (SchemaExtended s ∷ xs) q = defines-quiet xs q.1
+defines-quiet (Other d ∷ xs) q = defines-quiet xs q.1
+
+-- the types of a list of which nothing but its head is built in
+module _ (adopts : Bool) (more : List Added) (handed : AllByRecursion IsAddedByHand more) (start : ℕ) (types : List (NameView × ExtendedType))
+    (are : AreTypesOf start (folding_order (whole adopts (with_built_ins more))) (whole adopts (with_built_ins more)) types) where
+  abbrev xs : List ListItem
+  xs = whole adopts (with_built_ins more)
+
+  first-split : (n : List ℕ) → first xs n ≡ option_or (first built_ins n) (first (later_items adopts more) n)
+  first-split n = ap (λ l. first l n) (whole-split adopts more) ∙ first-append built_ins (later_items adopts more) n
+
+  module _ (n : List ℕ) (t : ExtendedType) (found : lookup (by_text n) types ≡ Some t) where
+    abbrev m : IsMeant xs n t
+    m = meant start xs types are n t found
+
+    pub is-made : IsMade t
+    is-made = record { head = m.head; extensions = m.extensions; apart = m.apart; is = m.is }
+
+    location : type_location t ≡ m.head.location
+    location = ap type_location m.is ∙ type_location-from m.head _
+
+    pub key : same n (type_name t).text ≡ true
+    key = ap (λ (k : NameView). same n k.text) (ap type_name m.is ∙ type_name-from m.head _) ∙ first-key n (filter_map defined_part xs) m.head m.first_one
+
+    -- its place is marked built-in where its name is that of a built-in type
+    marked-where : (o : Option TypePart) → first built_ins n ≡ o → is_built_in (type_location t) ≡ is_some o
+    marked-where (Some b) e =
+        let head_is : m.head ≡ b = ap (λ o. unwrap_or o b) (sym m.first_one ∙ first-split n ∙ ap (λ o. option_or o (first (later_items adopts more) n)) e) in
+        ap is_built_in (location ∙ ap (λ (p : TypePart). p.location) head_is) ∙ (first-built_in n b e).marked
+    marked-where None e = ap is_built_in location ∙ first-unmarked adopts more handed n m.head (sym (first-split n ∙ ap (λ o. option_or o (first (later_items adopts more) n)) e) ∙ m.first_one)
+
+    -- the built-in definition, or else what is written of the type, is the type's definition with its extensions
+    pub written-view : (c : Bool) → (b : Bool) × (about (Name n) built_ins ++ held_items c t ≡ Defined (record (definition_part t) { ignorable = b }) ∷ extension_items c t)
+    written-view c = by (first built_ins n) refl
+      where
+        by : (o : Option TypePart) → first built_ins n ≡ o → (b : Bool) × (about (Name n) built_ins ++ held_items c t ≡ Defined (record (definition_part t) { ignorable = b }) ∷ extension_items c t)
+        by None e = (c, (λ i. (about-built_ins n ∙ ap (λ o. option_map_or (λ d. Defined d ∷ []) o []) e) i ++ cond (marked-where None e i) (extension_items c t) (Defined (record (definition_part t) { ignorable = c }) ∷ extension_items c t)))
+        by (Some b) e =
+            let head_is : m.head ≡ b = ap (λ o. unwrap_or o b) (sym m.first_one ∙ first-split n ∙ ap (λ o. option_or o (first (later_items adopts more) n)) e) in
+            let own : definition_part t ≡ b = ap definition_part (m.is ∙ ap (λ p. made p m.extensions) head_is) ∙ definition-own b m.extensions (first-built_in n b e).plain (first-built_in n b e).once in (
+              false,
+              (λ i. (about-built_ins n ∙ ap (λ o. option_map_or (λ d. Defined d ∷ []) o []) e) i ++ cond (marked-where (Some b) e i) (extension_items c t) (Defined (record (definition_part t) { ignorable = c }) ∷ extension_items c t))
+                  ∙ ap (λ p. Defined p ∷ extension_items c t) (sym own),
+            )
+
+  -- entries are marked built-in where built-in names have theirs
+  marked : AllByRecursion (λ e. is_built_in (type_location e.1) ≡ list_any (same_text e.0) built_in_names) types
+  marked = each-weaken (λ e. lookup (by_text e.0.text) types ≡ Some e.1) (λ e. is_built_in (type_location e.1) ≡ list_any (same_text e.0) built_in_names)
+      (λ e found. marked-where e.0.text e.1 found (first built_ins e.0.text) refl ∙ sym (among-defined e.0 built_ins)) types (each-entry types (unique start xs types are))
+
+  -- what a name's part of the written list is
+  module _ (c : Bool) (others ends : List ListItem) (quiet : AllByRecursion IsQuiet others) (quiet_end : AllByRecursion IsQuiet ends) where
+    abbrev pub again_items : List ListItem
+    again_items = (built_ins ++ (others ++ flat_map (held_items c) (values_of types))) ++ ends
+
+    view : (n : List ℕ) → about (Name n) again_items ≡ about (Name n) built_ins ++ option_map_or (held_items c) (lookup (by_text n) types) []
+    view n =
+        filter-append (is_about (Name n)) (built_ins ++ (others ++ flat_map (held_items c) (values_of types))) ends
+        ∙ (λ i. filter-append (is_about (Name n)) built_ins (others ++ flat_map (held_items c) (values_of types)) i ++ about-quiet n ends quiet_end i)
+        ∙ append-nil (about (Name n) built_ins ++ about (Name n) (others ++ flat_map (held_items c) (values_of types)))
+        ∙ ap (λ l. about (Name n) built_ins ++ l) (filter-append (is_about (Name n)) others (flat_map (held_items c) (values_of types))
+        ∙ (λ i. about-quiet n others quiet i ++ about-types c n types (unique start xs types are) (own_names start xs types are) i))
+
+    pub view-nothing : (n : List ℕ) → lookup (by_text n) types ≡ None → about (Name n) again_items ≡ []
+    view-nothing n none =
+        view n
+        ∙ (λ i. (about-built_ins n ∙ ap (λ o. option_map_or (λ d. Defined d ∷ []) o []) (front (first built_ins n) (sym (first-split n) ∙ unmeant start xs types are n none))) i ++ option_map_or (held_items c) (none i) [])
+      where
+        front : (o : Option TypePart) → option_or o (first (later_items adopts more) n) ≡ None → o ≡ None
+        front None g = refl
+        front (Some d) g = g
+
+    module _ (n : List ℕ) (t : ExtendedType) (found : lookup (by_text n) types ≡ Some t) where
+      abbrev pub flag : Bool
+      flag = (written-view n t found c).0
+
+      pub view-type : about (Name n) again_items ≡ Defined (record (definition_part t) { ignorable = flag }) ∷ extension_items c t
+      view-type = view n ∙ ap (λ o. about (Name n) built_ins ++ option_map_or (held_items c) o []) found ∙ (written-view n t found c).1
+
+      pub first-again : first again_items n ≡ Some (record (definition_part t) { ignorable = flag })
+      first-again = first-about n again_items ∙ ap (λ l. first l n) view-type ∙ ap (λ b. cond b (Some (record (definition_part t) { ignorable = flag })) (first (extension_items c t) n)) (key n t found)
+
+      pub extensions-again : extensions_of again_items n ≡ map (extension_of t) (written t).extensions
+      extensions-again = extensions-about n again_items ∙ ap (λ l. extensions_of l n) view-type ∙ go (written t).extensions
+        where
+          go : (es : List (ExtensionId × DefinitionParts)) → extensions_of (map (λ e. Extended (extension_of t e)) es) n ≡ map (extension_of t) es
+          go [] = refl
+          go (e ∷ es) = ap (λ b. cond b (extension_of t e ∷ extensions_of (map (λ e. Extended (extension_of t e)) es) n) (extensions_of (map (λ e. Extended (extension_of t e)) es) n)) (key n t found) ∙ ap (λ l. extension_of t e ∷ l) (go es)
+
+      pub fits : (es : List (ExtensionId × DefinitionParts)) → AllByRecursion (Fits (record (definition_part t) { ignorable = flag })) (map (extension_of t) es)
+      fits [] = tt
+      fits (e ∷ es) = ((refl, kind-body _ e.1 ∙ sym (kind-body _ (written t).definition)), fits es)
+
+      numbers-again : (again : ℕ) → map (λ e. e.1) (numbers_of n again (folding_order again_items)) ≡ map (extension_of t) (written t).extensions
+      numbers-again again =
+          numbers-forget n again (folding_order again_items)
+          ∙ ap (λ fs. filter (λ p. same n (key_of p)) (type_foldings fs)) (folding_order-forget again_items)
+          ∙ of_name again_items n (record (definition_part t) { ignorable = flag }) first-again
+          ∙ ap (of_kind (kind_of (definition_part t))) extensions-again
+          ∙ fits-of_kind (record (definition_part t) { ignorable = flag }) (map (extension_of t) (written t).extensions) (fits (written t).extensions)
+
+    known : AllByRecursion (λ k. list_any (same_text k) built_in_names ≡ true) built_in_names
+    known = subst (AllByRecursion (λ k. list_any (same_text k) built_in_names ≡ true)) all-names (first-there same_text name_laws built_in_names)
+
+    -- the same names are defined, in order
+    pub names-again : type_names again_items ≡ keys_of types
+    names-again =
+        type_names-first again_items
+        ∙ ap (first_of_each same_text) (defined ∙ ap (λ ks. built_in_names ++ filter new ks) keys ∙ ap (λ l. built_in_names ++ l) twice ∙ sym keys)
+        ∙ all-first same_text (λ k. k) (keys_of types) (subst (IsDistinct same_text) (sym (map-id (keys_of types))) (unique start xs types are))
+      where
+        new : NameView → Bool
+        new = new_to_these same_text built_in_names
+
+        rest : List NameView
+        rest = filter new (first_of_each same_text (defined_names (later_items adopts more)))
+
+        keys : keys_of types ≡ built_in_names ++ rest
+        keys =
+            are.names ∙ type_names-first xs ∙ ap (λ l. first_of_each same_text (defined_names l)) (whole-split adopts more)
+            ∙ ap (first_of_each same_text) (defined_names-append built_ins (later_items adopts more))
+            ∙ first_of_each-append same_text name_laws built_in_names (defined_names (later_items adopts more)) ∙ ap (λ l. l ++ rest) all-names
+
+        twice : filter new (built_in_names ++ rest) ≡ rest
+        twice =
+            filter-append new built_in_names rest
+            ∙ (λ i. filter-fails (λ k. list_any (same_text k) built_in_names ≡ true) new (λ k e. ap not e) built_in_names known i ++ filter-all new rest (passes new (first_of_each same_text (defined_names (later_items adopts more)))) i)
+
+        defined : defined_names again_items ≡ built_in_names ++ filter new (keys_of types)
+        defined =
+            defined_names-append (built_ins ++ (others ++ flat_map (held_items c) (values_of types))) ends
+            ∙ (λ i. defined_names-append built_ins (others ++ flat_map (held_items c) (values_of types)) i ++ defines-quiet ends quiet_end i)
+            ∙ append-nil (built_in_names ++ defined_names (others ++ flat_map (held_items c) (values_of types)))
+            ∙ ap (λ l. built_in_names ++ l) (defined_names-append others (flat_map (held_items c) (values_of types))
+            ∙ (λ i. defines-quiet others quiet i ++ defines-types c built_in_names types (own_names start xs types are) marked i))
+
+    module _ (again : ℕ) (types_again : List (NameView × ExtendedType)) (are_again : AreTypesOf again (folding_order again_items) again_items types_again) where
+      -- each type is there again
+      pub type-there : (n : List ℕ) (t : ExtendedType) → lookup (by_text n) types ≡ Some t → (u : ExtendedType) × (lookup (by_text n) types_again ≡ Some u) × IsAgain t u
+      type-there n t found =
+          let ms : List (ℕ × TypePart) = numbers_of n again (folding_order again_items) in (
+            made (record (definition_part t) { ignorable = flag n t found }) ms,
+            are_again.each n ∙ ap (option_map (λ d. type_from d (parts again (folding_order again_items) n d))) (first-again n t found),
+            rebuilt t (is-made n t found) (flag n t found) ms (rising-distinct again ms (numbers-rise n again (folding_order again_items))) (numbers-again n t found again),
+          )
+
+      -- and no other
+      pub none-there : (n : List ℕ) → lookup (by_text n) types ≡ None → lookup (by_text n) types_again ≡ None
+      none-there n none =
+          are_again.each n ∙ ap (option_map (λ d. type_from d (parts again (folding_order again_items) n d))) (first-about n again_items ∙ ap (λ l. first l n) (view-nothing n none))
+
+      -- under the same names, in order
+      pub same_names : keys_of types_again ≡ keys_of types
+      same_names = are_again.names ∙ names-again
+
+      -- what equal types give is the same
+      pub equal_types : entries_by_text bare_extended_type types_again ≡ entries_by_text bare_extended_type types
+      equal_types = λ i n. by n (lookup (by_text n) types) refl i
+        where
+          by : (n : List ℕ) (o : Option ExtendedType) → lookup (by_text n) types ≡ o → option_map bare_extended_type (lookup (by_text n) types_again) ≡ option_map bare_extended_type (lookup (by_text n) types)
+          by n None e = ap (option_map bare_extended_type) (none-there n e ∙ sym e)
+          by n (Some t) e = ap (option_map bare_extended_type) (type-there n t e).1 ∙ ap Some (type-there n t e).2.equal ∙ sym (ap (option_map bare_extended_type) e)
+
+      -- and so is what they are written out as
+      pub same_written : {X : Type 0} (give : ExtendedType → List X) → ((t u : ExtendedType) → IsAgain t u → give u ≡ give t) → flat_map give (values_of types_again) ≡ flat_map give (values_of types)
+      same_written give alike =
+          values-by_keys give types_again (subst (IsDistinct same_text) (sym same_names) (unique start xs types are))
+          ∙ (λ i. flat_map (λ k. by k.text (lookup (by_text k.text) types) refl i) (same_names i))
+          ∙ sym (values-by_keys give types (unique start xs types are))
+        where
+          by : (n : List ℕ) (o : Option ExtendedType) → lookup (by_text n) types ≡ o → option_map_or give (lookup (by_text n) types_again) [] ≡ option_map_or give (lookup (by_text n) types) []
+          by n None e = ap (λ o. option_map_or give o []) (none-there n e ∙ sym e)
+          by n (Some t) e = ap (λ o. option_map_or give o []) (type-there n t e).1 ∙ alike t (type-there n t e).0 (type-there n t e).2 ∙ sym (ap (λ o. option_map_or give o []) e)

@@ -1,0 +1,15 @@
+use Rattle.apollo_canonical.proofs.Rebuild.Canonical.{equal, faultless, same}
+use Rattle.apollo_canonical.proofs.Rebuild.Existence.{rebuilds}
+use Rattle.apollo_canonical.proofs.laws.canonical.Goals as goal
+
+pub returns-clause-faults : goal.returns-clause-faults
+returns-clause-faults c = λ schema m ignores. faultless m.start m.adopts ignores m.more schema m.within m.means
+
+pub returns-clause-equal : goal.returns-clause-equal
+returns-clause-equal c = λ schema rebuilt m ignores again. equal m.start m.adopts ignores m.more schema m.within m.means again rebuilt
+
+pub returns-clause-written : goal.returns-clause-written
+returns-clause-written c = λ schema rebuilt m ignores again. same m.start m.adopts ignores m.more schema m.within m.means again rebuilt
+
+pub returns-clause-means : goal.returns-clause-means
+returns-clause-means c = λ schema m ignores again. ∣ rebuilds m.start m.adopts ignores m.more schema m.within m.means again ∣₁

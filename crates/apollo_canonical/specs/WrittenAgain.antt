@@ -1,0 +1,35 @@
+-- Lists that the law of the write-out speaks of: GraphQL specification of October 2021, sections 3 and 3.3.
+use Rattle.std.specs.Prelude.{◌≡◌, ◌≢◌, ℕ, Bool, List, [], ◌++◌, false, filter_map, All}
+use Rattle.graphql_nodes.specs.BuiltIn.{is_built_in}
+use Rattle.graphql_ast.specs.Definitions.{location_of}
+use Rattle.graphql_ast.specs.declared.definition.Definition.{Definition}
+use Rattle.apollo_built_in.specs.BuiltInTable.{built_in_definitions}
+use Rattle.apollo_meaning.specs.Items.ListItems.{Added, added, added_items, defined_schema}
+use Rattle.apollo_schema.specs.MeantSchema.{MeansSchema}
+use Rattle.apollo_schema.specs.SchemaWriteOut.{write_schema}
+use Rattle.apollo_schema.specs.declared.schema.Schema.{Schema}
+
+-- the built-in definitions, and these after them
+abbrev pub with_built_ins : List Added → List Added
+with_built_ins more = added false built_in_definitions ++ more
+
+-- none of these is marked built-in, and each schema definition among them names a root
+pub record IsUnmarkedAndRooted (more : List Added) : Type 0 where
+  pub unmarked : All (λ a. is_built_in (location_of a.1) ≡ false) more
+  pub rooted : All (λ s. s.roots ≢ []) (filter_map defined_schema (added_items more))
+
+-- a schema that some such list means, with extensions numbered from some number, under some setting of adoption
+pub record IsMeantByList (schema : Schema) : Type 0 where
+  pub start : ℕ
+  pub adopts : Bool
+  pub more : List Added
+  pub within : IsUnmarkedAndRooted more
+  pub means : MeansSchema start adopts (with_built_ins more) schema
+
+-- the write-out of a schema, added as one document after the built-in definitions
+abbrev pub written_again : Bool → Schema → List Added
+written_again ignores schema = with_built_ins (added ignores (write_schema schema))
+
+-- what a schema that the list means is written out as
+abbrev pub IsWriteOutOf : ℕ → Bool → List Added → List Definition → Type 0
+IsWriteOutOf start adopts xs ds = (schema : Schema) × MeansSchema start adopts xs schema × (ds ≡ write_schema schema)

@@ -1,0 +1,7 @@
+use Rattle.std.proofs.Common.{◌≡◌, ◌++◌, map}
+use Rattle.graphql_ast.specs.DefinitionParts.{type_extension}
+use Rattle.apollo_component.specs.Extensions.{place_of}
+use Rattle.apollo_component.proofs.extension_parts.write_types_of.Given as goal
+
+abbrev pub invariant-loop-id : goal.invariant-loop-id
+invariant-loop-id l = l.written.items ++ map (λ e. type_extension l.kind l.name e.1 (place_of e.0)) l.id-iterator ≡ l.fn.written.items ++ map (λ e. type_extension l.kind l.name e.1 (place_of e.0)) l.fn.extensions

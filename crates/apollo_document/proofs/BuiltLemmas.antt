@@ -1,0 +1,143 @@
+-- Tables that stand for a list hold its document.
+use Rattle.std.proofs.Common.{◌≡◌, ◌∙◌, ap, sym, subst, refl, Bool, true, false, cond, List, [], ◌∷◌, ◌++◌, filter, Option, None, Some, option_map, is_some, unwrap_or}
+use Rattle.std.specs.List.{AllByRecursion, AllZip, filter_map, find, cons_option}
+use Rattle.graphql_nodes.specs.NameView.{NameView}
+use Rattle.graphql_nodes.specs.NodeView.{NodeView}
+use Rattle.graphql_nodes.specs.SameText.{same_text}
+use Rattle.graphql_ast.specs.declared.selection.Selection as ast
+use Rattle.graphql_ast.specs.declared.operation.OperationDefinition.{OperationDefinition}
+use Rattle.graphql_ast.specs.declared.operation.FragmentDefinition.{FragmentDefinition}
+use Rattle.apollo_component.specs.FirstOfEach.{same_key}
+use Rattle.apollo_schema.specs.MetaFields.{plain_name}
+use Rattle.apollo_schema.specs.declared.schema.Schema.{Schema}
+use Rattle.apollo_executable.specs.Listed.{listed}
+use Rattle.apollo_executable.specs.Erasure.{at_place, erased_set, erased_operation, erased_fragment}
+use Rattle.apollo_executable.specs.declared.selection.SelectionSet.{SelectionSet}
+use Rattle.apollo_executable.specs.declared.operation.Operation.{Operation}
+use Rattle.apollo_executable.specs.declared.operation.Fragment.{Fragment}
+use Rattle.apollo_elaboration.specs.SelectionFaults.{faults_of}
+use Rattle.apollo_elaboration.specs.Typable.{Fault, has_type}
+use Rattle.apollo_elaboration.specs.declared.selection_path.SelectionPath.{SelectionPath}
+use Rattle.apollo_elaboration.specs.declared.selection_path.ExecutableDefinitionName.{ExecutableDefinitionName}
+use Rattle.apollo_elaboration.specs.declared.selection_path.ExecutableDefinitionName.TheVariants as roots
+use Rattle.apollo_elaboration.proofs.AgainLemmas.{one_typed}
+use Rattle.apollo_document.specs.DocumentFaults.{rooted_faults, faults_in_operation, on_type_faults, faults_in_fragment}
+use Rattle.apollo_executable.specs.declared.document.ExecutableDocument.{ExecutableDocument}
+use Rattle.apollo_elaboration.specs.Stripped.{stripped}
+use Rattle.apollo_elaboration.specs.TypedSelections.{IsTypedSet}
+use Rattle.apollo_elaboration.specs.Elaborated.{elaborated}
+use Rattle.apollo_elaboration.proofs.ErasureLemmas.{erased_is_stripped}
+use Rattle.apollo_elaboration.proofs.TypingLemmas.{elaborated_is_typed}
+use Rattle.apollo_document.specs.AddedDefinitions.{Added, operations}
+use Rattle.apollo_document.specs.KeptDefinitions.{root_in, is_rooted, is_anonymous, first_if_anonymous, named, kept_anonymous, kept_named, kept_fragments}
+use Rattle.apollo_document.specs.TypedDefinitions.{stripped_operation, stripped_fragment, IsOperationOf, IsFragmentOf}
+use Rattle.apollo_document.specs.Documents.{IsUnderName, IsDocumentOf}
+use Rattle.apollo_document.specs.Stands.{operation_from, root_or_none, typed_operation, fragment_on_type, typed_fragment, entries_by, Stands}
+use Rattle.apollo_document.specs.declared.tables.Tables.{Tables}
+use Rattle.apollo_document.proofs.ListLemmas.{first_all}
+
+abbrev Op : Type 0
+Op = NodeView OperationDefinition
+
+abbrev pub with_selections : Op → List ast.Selection → Op
+with_selections n l = record { value = record { operation_type = n.value.operation_type; name = n.value.name; variables = n.value.variables; directives = n.value.directives; selection_set = l }; location = n.location }
+
+abbrev pub fragment_with : NodeView FragmentDefinition → List ast.Selection → NodeView FragmentDefinition
+fragment_with n l = record { value = record { name = n.value.name; type_condition = n.value.type_condition; directives = n.value.directives; selection_set = l }; location = n.location }
+
+built_operation : (s : Option Schema) (n : Op) → is_rooted s n ≡ true → IsOperationOf s n (typed_operation s n)
+built_operation s n h = by (root_in s n.value.operation_type) refl h
+  where
+    by : (o : Option NameView) → root_in s n.value.operation_type ≡ o → is_some o ≡ true → IsOperationOf s n (typed_operation s n)
+    by None e h = cc
+    by (Some root) e h =
+        let is : root_or_none s n ≡ root = ap (λ (o : Option NameView). unwrap_or o (plain_name [])) e in
+        let same : at_place erased_operation (typed_operation s n) ≡ at_place (stripped_operation s root) n =
+        ap (with_selections n) (erased_is_stripped s (root_or_none s n) n.value.selection_set ∙ ap (λ r. stripped s r n.value.selection_set) is) in
+        (root, (e, (same, subst (λ r. IsTypedSet s r (elaborated s (root_or_none s n) n.value.selection_set)) is (elaborated_is_typed s (root_or_none s n) n.value.selection_set))))
+
+built_fragment : (s : Option Schema) (n : NodeView FragmentDefinition) → IsFragmentOf s n (typed_fragment s n)
+built_fragment s n =
+    let same : at_place erased_fragment (typed_fragment s n) ≡ at_place (stripped_fragment s) n = ap (fragment_with n) (erased_is_stripped s n.value.type_condition n.value.selection_set) in
+    (same, elaborated_is_typed s n.value.type_condition n.value.selection_set)
+
+-- kept operations are rooted
+rooted_first : (s : Option Schema) (os : List Op) (n : Op) → first_if_anonymous (find (is_rooted s) os) ≡ Some n → is_rooted s n ≡ true
+rooted_first s [] n h = cc
+rooted_first s (o ∷ os) n h = by (is_rooted s o) refl h (rooted_first s os n)
+  where
+    same : (c : Bool) → is_rooted s o ≡ true → cond c (Some o) None ≡ Some n → is_rooted s n ≡ true
+    same true e h = ap (is_rooted s) (sym (ap (λ (x : Option Op). unwrap_or x o) h)) ∙ e
+    same false e h = cc
+
+    by : (b : Bool) → is_rooted s o ≡ b → first_if_anonymous (cond b (Some o) (find (is_rooted s) os)) ≡ Some n → (first_if_anonymous (find (is_rooted s) os) ≡ Some n → is_rooted s n ≡ true) → is_rooted s n ≡ true
+    by true e h rest = same (is_anonymous o) e h
+    by false e h rest = rest h
+
+rooted_named : (s : Option Schema) (os : List Op) → AllByRecursion (λ x. is_rooted s x.1 ≡ true) (filter_map named (filter (is_rooted s) os))
+rooted_named s [] = tt
+rooted_named s (o ∷ os) = by (is_rooted s o) refl (rooted_named s os)
+  where
+    put : (x : Option NameView) → is_rooted s o ≡ true → AllByRecursion (λ x. is_rooted s x.1 ≡ true) (filter_map named (filter (is_rooted s) os))
+        → AllByRecursion (λ (x : NameView × Op). is_rooted s x.1 ≡ true) (cons_option (option_map (λ (name : NameView). (name, o)) x) (filter_map named (filter (is_rooted s) os)))
+    put None e rest = rest
+    put (Some m) e rest = (e, rest)
+
+    by : (b : Bool) → is_rooted s o ≡ b → AllByRecursion (λ x. is_rooted s x.1 ≡ true) (filter_map named (filter (is_rooted s) os)) → AllByRecursion (λ (x : NameView × Op). is_rooted s x.1 ≡ true) (filter_map named (cond b (o ∷ filter (is_rooted s) os) (filter (is_rooted s) os)))
+    by true e rest = put o.value.name e rest
+    by false e rest = rest
+
+built_table : {A B : Type 0} (R : A → B → Type 0) (f : A → B) (P : A → Type 0) → ((a : A) → P a → R a (f a)) → (es : List (NameView × A)) → AllByRecursion (λ x. P x.1) es → AllZip (IsUnderName R) es (entries_by f es)
+built_table R f P made [] a = tt
+built_table R f P made (e ∷ es) a = ((refl, made e.1 a.0), built_table R f P made es a.1)
+
+any_table : {A : Type 0} (es : List (NameView × A)) → AllByRecursion (λ x. Unit {0}) es
+any_table [] = tt
+any_table (e ∷ es) = (tt, any_table es)
+
+built_option : {A B : Type 0} (R : A → B → Type 0) (f : A → B) (o : Option A) → ((a : A) → o ≡ Some a → R a (f a)) → AllZip R (listed o) (listed (option_map f o))
+built_option R f None made = tt
+built_option R f (Some a) made = (made a refl, tt)
+
+pub built_document : (s : Option Schema) (xs : List Added) (t : Tables) (document : ExecutableDocument) → Stands s xs t → document.operations ≡ t.operations → document.fragments ≡ t.fragments → IsDocumentOf s xs document
+built_document s xs t document stands ops frags =
+    let os = operations xs in
+    record {
+      anonymous = subst (λ o. AllZip (IsOperationOf s) (listed (kept_anonymous s xs)) (listed o)) (sym (ap (λ m. m.anonymous) ops ∙ stands.anonymous))
+          (built_option (IsOperationOf s) (typed_operation s) (kept_anonymous s xs) (λ n e. built_operation s n (rooted_first s os n e)));
+      named = subst (λ es. AllZip (IsUnderName (IsOperationOf s)) (kept_named s xs) es) (sym (ap (λ m. m.named) ops ∙ stands.named))
+          (built_table (IsOperationOf s) (typed_operation s) (λ n. is_rooted s n ≡ true) (built_operation s) (kept_named s xs) (first_all (λ (x : NameView × Op). is_rooted s x.1 ≡ true) (same_key same_text) (filter_map named (filter (is_rooted s) os)) (rooted_named s os)));
+      fragments = subst (λ es. AllZip (IsUnderName (IsFragmentOf s)) (kept_fragments s xs) es) (sym (frags ∙ stands.fragments))
+          (built_table (IsFragmentOf s) (typed_fragment s) (λ n. Unit {0}) (λ n _. built_fragment s n) (kept_fragments s xs) (any_table (kept_fragments s xs)));
+    }
+
+-- a set that is typed and erased to the stripped list is the one that stands for it
+exact : (s : Option Schema) (ty : NameView) (xs : List ast.Selection) (set : SelectionSet) → erased_set set ≡ stripped s ty xs → IsTypedSet s ty set → set ≡ elaborated s ty xs
+exact s ty xs set h g = one_typed s ty set (elaborated s ty xs) g (elaborated_is_typed s ty xs) (h ∙ sym (erased_is_stripped s ty xs))
+
+-- what the code makes of an operation and of a fragment
+pub operation_made : (s : Option Schema) (n : Op) (g : OperationDefinition) (root : NameView) (below : List ast.Selection) (set : SelectionSet) (made : Operation) (node : NodeView Operation) → root_in s n.value.operation_type ≡ Some root
+    → g ≡ n.value → below ≡ n.value.selection_set → erased_set set ≡ stripped s root below → IsTypedSet s root set
+    → made ≡ record { operation_type = g.operation_type; name = g.name; variables = g.variables; directives = g.directives; selection_set = set } → node ≡ record { value = made; location = n.location }
+    → Some node ≡ option_map (λ (root : NameView). at_place (operation_from s root) n) (root_in s n.value.operation_type)
+operation_made s n g root below set made node r same selections h typed m at =
+    let inner : set ≡ elaborated s root n.value.selection_set = exact s root below set h typed ∙ ap (elaborated s root) selections in
+    let whole : made ≡ operation_from s root n.value = m ∙ (λ i. record { operation_type = (same i).operation_type; name = (same i).name; variables = (same i).variables; directives = (same i).directives; selection_set = inner i }) in
+    ap Some (at ∙ (λ i. record { value = whole i; location = n.location })) ∙ ap (option_map (λ (root : NameView). at_place (operation_from s root) n)) (sym r)
+
+pub operation_faults_made : (s : Option Schema) (n : Op) (name : ExecutableDefinitionName) (root : NameView) (below : List ast.Selection) (path : SelectionPath) (before : List Fault) → root_in s n.value.operation_type ≡ Some root → below ≡ n.value.selection_set
+    → path ≡ record { root = name; nested_fields = [] } → before ++ faults_of s root path below ≡ before ++ faults_in_operation s name n
+operation_faults_made s n name root below path before r selections is = (λ i. before ++ faults_of s root (is i) (selections i)) ∙ ap (λ o. before ++ rooted_faults s name n o) (sym r)
+
+pub fragment_made : (s : Option Schema) (n : NodeView FragmentDefinition) (g : FragmentDefinition) (ty : NameView) (below : List ast.Selection) (set : SelectionSet) (made : Fragment) (node : NodeView Fragment) → has_type s n.value.type_condition ≡ true
+    → g ≡ n.value → ty ≡ n.value.type_condition → below ≡ n.value.selection_set → erased_set set ≡ stripped s ty below → IsTypedSet s ty set
+    → made ≡ record { name = g.name; directives = g.directives; selection_set = set } → node ≡ record { value = made; location = n.location }
+    → Some node ≡ cond (has_type s n.value.type_condition) (Some (typed_fragment s n)) None
+fragment_made s n g ty below set made node there same is selections h typed m at =
+    let inner : set ≡ elaborated s n.value.type_condition n.value.selection_set = exact s ty below set h typed ∙ (λ i. elaborated s (is i) (selections i)) in
+    let whole : made ≡ fragment_on_type s n.value = m ∙ (λ i. record { name = (same i).name; directives = (same i).directives; selection_set = inner i }) in
+    ap Some (at ∙ (λ i. record { value = whole i; location = n.location })) ∙ ap (λ b. cond b (Some (typed_fragment s n)) None) (sym there)
+
+pub fragment_faults_made : (s : Option Schema) (n : NodeView FragmentDefinition) (ty : NameView) (below : List ast.Selection) (path : SelectionPath) (before : List Fault) → has_type s n.value.type_condition ≡ true → ty ≡ n.value.type_condition → below ≡ n.value.selection_set
+    → path ≡ record { root = roots.Fragment n.value.name; nested_fields = [] } → before ++ faults_of s ty path below ≡ before ++ faults_in_fragment s n
+fragment_faults_made s n ty below path before there is selections at = (λ i. before ++ faults_of s (is i) (at i) (selections i)) ∙ ap (λ b. before ++ on_type_faults s n b) (sym there)

@@ -1,0 +1,6 @@
+mod AgainLemmas
+mod BuiltLemmas
+mod ListLemmas
+mod OperationLemmas
+mod StandsLemmas
+mod WrittenLemmas

@@ -1,0 +1,36 @@
+-- The list of definitions that are added to a document: GraphQL specification of October 2021, section 2.2.
+use Rattle.std.specs.Prelude.{Bool, List, map, filter_map, Option, None, Some}
+use Rattle.graphql_nodes.specs.NodeView.{NodeView}
+use Rattle.graphql_ast.specs.declared.definition.Definition.{Definition}
+use Rattle.graphql_ast.specs.declared.definition.Definition.TheVariants as d
+use Rattle.graphql_ast.specs.declared.operation.OperationDefinition.{OperationDefinition}
+use Rattle.graphql_ast.specs.declared.operation.FragmentDefinition.{FragmentDefinition}
+
+-- a definition, and whether one of the type system was at fault when it was added
+abbrev pub Added : Type 0
+Added = Bool × Definition
+
+abbrev pub added : Bool → List Definition → List Added
+added errors ds = map (λ d. (errors, d)) ds
+
+-- the operation or the fragment that a definition is
+abbrev pub operation_of : Definition → Option (NodeView OperationDefinition)
+operation_of (d.OperationDefinition n) = Some n
+operation_of _ = None
+
+abbrev pub fragment_of : Definition → Option (NodeView FragmentDefinition)
+fragment_of (d.FragmentDefinition n) = Some n
+fragment_of _ = None
+
+abbrev pub operation_in : Added → Option (NodeView OperationDefinition)
+operation_in x = operation_of x.1
+
+abbrev pub fragment_in : Added → Option (NodeView FragmentDefinition)
+fragment_in x = fragment_of x.1
+
+-- the operations and the fragments of a list, in order
+abbrev pub operations : List Added → List (NodeView OperationDefinition)
+operations xs = filter_map operation_in xs
+
+abbrev pub fragments : List Added → List (NodeView FragmentDefinition)
+fragments xs = filter_map fragment_in xs

@@ -1,0 +1,101 @@
+-- What is wrong with a list of definitions that a document is built of, in order: GraphQL specification of October 2021, sections
+-- 2.2 to 2.8. What is kept before a definition is what the list up to it keeps.
+use Rattle.std.specs.Prelude.{Bool, true, false, List, [], ◌∷◌, ◌++◌, Option, None, Some, option_map}
+use Rattle.graphql_nodes.specs.NameView.{NameView}
+use Rattle.graphql_nodes.specs.NodeView.{NodeView}
+use Rattle.graphql_nodes.specs.OperationTexts.{operation_text}
+use Rattle.graphql_nodes.specs.SameText.{same_text}
+use Rattle.graphql_nodes.specs.Tables.{lookup_key}
+use Rattle.graphql_nodes.specs.declared.source.SourceSpan.{SourceSpan}
+use Rattle.graphql_ast.specs.Definitions.{name_of, location_of}
+use Rattle.graphql_ast.specs.DefinitionTexts.{definition_text}
+use Rattle.graphql_ast.specs.declared.definition.Definition.{Definition}
+use Rattle.graphql_ast.specs.declared.definition.Definition.TheVariants as d
+use Rattle.graphql_ast.specs.declared.operation.OperationDefinition.{OperationDefinition}
+use Rattle.graphql_ast.specs.declared.operation.FragmentDefinition.{FragmentDefinition}
+use Rattle.apollo_component.specs.EachAfter.{each_after}
+use Rattle.apollo_schema.specs.declared.schema.Schema.{Schema}
+use Rattle.apollo_elaboration.specs.SelectionFaults.{faults_of}
+use Rattle.apollo_elaboration.specs.Typable.{Fault, has_type}
+use Rattle.apollo_elaboration.specs.declared.build_error.BuildError.{BuildError}
+use Rattle.apollo_elaboration.specs.declared.build_error.BuildError.TheVariants as e
+use Rattle.apollo_elaboration.specs.declared.selection_path.ExecutableDefinitionName.{ExecutableDefinitionName}
+use Rattle.apollo_elaboration.specs.declared.selection_path.ExecutableDefinitionName.TheVariants.{AnonymousOperation, NamedOperation, Fragment}
+use Rattle.apollo_document.specs.AddedDefinitions.{Added}
+use Rattle.apollo_document.specs.KeptDefinitions.{root_in, kept_anonymous, kept_named, kept_fragments, is_repeated}
+
+-- an anonymous operation at this place isn't the only one
+abbrev pub ambiguous : Option SourceSpan → Fault
+ambiguous place = (place, e.AmbiguousAnonymousOperation)
+
+abbrev pub ambiguous_if : Option (Option SourceSpan) → List Fault
+ambiguous_if None = []
+ambiguous_if (Some place) = ambiguous place ∷ []
+
+-- a name that is taken by a kept definition is at fault; else what is wrong with the definition is
+abbrev pub unless_taken : (NameView → BuildError) → NameView → Option NameView → List Fault → List Fault
+unless_taken collision name (Some kept) wrong = (name.location, collision kept) ∷ []
+unless_taken collision name None wrong = wrong
+
+-- an operation without a root type is at fault; else its selections are
+abbrev pub rooted_faults : Option Schema → ExecutableDefinitionName → NodeView OperationDefinition → Option NameView → List Fault
+rooted_faults s name n (Some root) = faults_of s root (record { root = name; nested_fields = [] }) n.value.selection_set
+rooted_faults s name n None = (n.location, e.UndefinedRootOperation (operation_text n.value.operation_type)) ∷ []
+
+abbrev pub faults_in_operation : Option Schema → ExecutableDefinitionName → NodeView OperationDefinition → List Fault
+faults_in_operation s name n = rooted_faults s name n (root_in s n.value.operation_type)
+
+-- a named operation, after an anonymous one at this place if there is one, and where its name is taken if it is
+abbrev pub named_faults : Option Schema → Option (Option SourceSpan) → Option NameView → NameView → NodeView OperationDefinition → List Fault
+named_faults s anonymous taken name n = ambiguous_if anonymous ++ unless_taken e.OperationNameCollision name taken (faults_in_operation s (NamedOperation n.value.operation_type name) n)
+
+-- an anonymous operation after a kept one is at fault, and so is that, once
+abbrev pub after_anonymous : Bool → Option SourceSpan → Option SourceSpan → List Fault
+after_anonymous false kept place = ambiguous kept ∷ ambiguous place ∷ []
+after_anonymous true kept place = ambiguous place ∷ []
+
+-- one after a kept named one is at fault; else what is wrong with it is
+abbrev pub unless_named : {A : Type 0} → List A → Option SourceSpan → List Fault → List Fault
+unless_named [] place wrong = wrong
+unless_named (x ∷ xs) place wrong = ambiguous place ∷ []
+
+abbrev pub anonymous_faults : {A : Type 0} → Option Schema → Option (Option SourceSpan) → Bool → List A → NodeView OperationDefinition → List Fault
+anonymous_faults s (Some kept) repeated others n = after_anonymous repeated kept n.location
+anonymous_faults s None repeated others n = unless_named others n.location (faults_in_operation s (AnonymousOperation n.value.operation_type) n)
+
+-- where the operation that is kept as the anonymous one stands
+abbrev pub anonymous_place : Option Schema → List Added → Option (Option SourceSpan)
+anonymous_place s before = option_map (λ n. n.location) (kept_anonymous s before)
+
+abbrev pub operation_faults : Option Schema → List Added → NodeView OperationDefinition → Option NameView → List Fault
+operation_faults s before n (Some name) = named_faults s (anonymous_place s before) (lookup_key (same_text name) (kept_named s before)) name n
+operation_faults s before n None = anonymous_faults s (anonymous_place s before) (is_repeated s before) (kept_named s before) n
+
+-- a fragment whose condition is no type is at fault; else its selections are
+abbrev pub on_type_faults : Option Schema → NodeView FragmentDefinition → Bool → List Fault
+on_type_faults s n true = faults_of s n.value.type_condition (record { root = Fragment n.value.name; nested_fields = [] }) n.value.selection_set
+on_type_faults s n false = (n.value.type_condition.location, e.UndefinedTypeInNamedFragmentTypeCondition n.value.type_condition n.value.name) ∷ []
+
+abbrev pub faults_in_fragment : Option Schema → NodeView FragmentDefinition → List Fault
+faults_in_fragment s n = on_type_faults s n (has_type s n.value.type_condition)
+
+abbrev pub fragment_faults : Option Schema → Option NameView → NodeView FragmentDefinition → List Fault
+fragment_faults s taken n = unless_taken e.FragmentNameCollision n.value.name taken (faults_in_fragment s n)
+
+-- a definition of the type system is at fault, if it is to be
+abbrev pub type_system_faults : Bool → Definition → List Fault
+type_system_faults true d = (location_of d, e.TypeSystemDefinition (name_of d) (definition_text d)) ∷ []
+type_system_faults false d = []
+
+-- what is wrong with a definition after these
+abbrev pub definition_faults : Option Schema → List Added → Bool → Definition → List Fault
+definition_faults s before errors (d.OperationDefinition n) = operation_faults s before n n.value.name
+definition_faults s before errors (d.FragmentDefinition n) = fragment_faults s (lookup_key (same_text n.value.name) (kept_fragments s before)) n
+definition_faults s before errors other = type_system_faults errors other
+
+abbrev pub faults_at : Option Schema → List Added → Added → List Fault
+faults_at s before x = definition_faults s before x.0 x.1
+
+-- what is wrong with a list
+abbrev pub document_faults : Option Schema → List Added → List Fault
+document_faults s xs = each_after (faults_at s) [] xs

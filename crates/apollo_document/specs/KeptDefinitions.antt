@@ -1,0 +1,68 @@
+-- The operations and fragments that a document of a list of definitions has, over a schema value or without a schema: GraphQL
+-- specification of October 2021, sections 2.3 and 2.8. The roots are those of section 3.3.1.
+use Rattle.std.specs.Prelude.{Bool, ◌&&◌, cond, List, [], ◌∷◌, map, filter, filter_map, Option, None, Some, option_map, is_some, not}
+use Rattle.std.specs.List.{find, list_any}
+use Rattle.graphql_nodes.specs.NameView.{NameView}
+use Rattle.graphql_nodes.specs.NodeView.{NodeView}
+use Rattle.graphql_nodes.specs.OperationTexts.{default_type_text}
+use Rattle.graphql_nodes.specs.SameText.{same_text}
+use Rattle.graphql_nodes.specs.declared.operation_type.OperationType.{OperationType}
+use Rattle.graphql_ast.specs.declared.operation.OperationDefinition.{OperationDefinition}
+use Rattle.graphql_ast.specs.declared.operation.FragmentDefinition.{FragmentDefinition}
+use Rattle.apollo_component.specs.FirstOfEach.{first_of_each, same_key}
+use Rattle.apollo_types.specs.SchemaRoots.{root_of}
+use Rattle.apollo_schema.specs.MetaFields.{plain_name}
+use Rattle.apollo_schema.specs.declared.schema.Schema.{Schema}
+use Rattle.apollo_elaboration.specs.Typable.{has_type}
+use Rattle.apollo_document.specs.AddedDefinitions.{Added, operations, fragments}
+
+-- the root type of a kind of operation: the one that the schema names, or without a schema the default name
+abbrev pub root_in : Option Schema → OperationType → Option NameView
+root_in None kind = Some (plain_name (default_type_text kind))
+root_in (Some s) kind = option_map (λ root. root.name) (root_of s.schema_definition.value kind)
+
+-- an operation is rooted if its kind has a root type
+abbrev pub is_rooted : Option Schema → NodeView OperationDefinition → Bool
+is_rooted s n = is_some (root_in s n.value.operation_type)
+
+abbrev pub is_anonymous : NodeView OperationDefinition → Bool
+is_anonymous n = not (is_some n.value.name)
+
+abbrev pub if_anonymous : NodeView OperationDefinition → Option (NodeView OperationDefinition)
+if_anonymous n = cond (is_anonymous n) (Some n) None
+
+abbrev pub first_if_anonymous : Option (NodeView OperationDefinition) → Option (NodeView OperationDefinition)
+first_if_anonymous None = None
+first_if_anonymous (Some n) = if_anonymous n
+
+-- the anonymous operation: the first rooted operation of the list, if it is anonymous
+abbrev pub kept_anonymous : Option Schema → List Added → Option (NodeView OperationDefinition)
+kept_anonymous s xs = first_if_anonymous (find (is_rooted s) (operations xs))
+
+-- an operation under its name, if it has one
+abbrev pub named : NodeView OperationDefinition → Option (NameView × NodeView OperationDefinition)
+named n = option_map (λ (name : NameView). (name, n)) n.value.name
+
+-- the named operations: the first rooted one of each name
+abbrev pub kept_named : Option Schema → List Added → List (NameView × NodeView OperationDefinition)
+kept_named s xs = first_of_each (same_key same_text) (filter_map named (filter (is_rooted s) (operations xs)))
+
+-- a fragment has a type if its condition is one
+abbrev pub is_on_type : Option Schema → NodeView FragmentDefinition → Bool
+is_on_type s n = has_type s n.value.type_condition
+
+abbrev pub under_name : NodeView FragmentDefinition → NameView × NodeView FragmentDefinition
+under_name n = (n.value.name, n)
+
+-- the fragments: the first of each name whose condition is a type
+abbrev pub kept_fragments : Option Schema → List Added → List (NameView × NodeView FragmentDefinition)
+kept_fragments s xs = first_of_each (same_key same_text) (map under_name (filter (is_on_type s) (fragments xs)))
+
+-- what stands after the first that passes
+abbrev pub after_first : {A : Type 0} → (A → Bool) → List A → List A
+after_first p [] = []
+after_first p (x ∷ xs) = cond (p x) xs (after_first p xs)
+
+-- an anonymous operation is kept, and another stands after it
+abbrev pub is_repeated : Option Schema → List Added → Bool
+is_repeated s xs = is_some (kept_anonymous s xs) && list_any is_anonymous (after_first (is_rooted s) (operations xs))

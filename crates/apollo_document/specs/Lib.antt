@@ -1,0 +1,9 @@
+pub mod AddedDefinitions
+pub mod BuilderStands
+pub mod DocumentFaults
+pub mod Documents
+pub mod KeptDefinitions
+pub mod Stands
+pub mod Takes
+pub mod TypedDefinitions
+pub mod WrittenAgain

@@ -1,0 +1,68 @@
+-- What a builder holds for a list. The code is proved against this.
+use Rattle.std.specs.Prelude.{◌≡◌, List, ◌∷◌, [], ◌++◌, map, Option, None, Some, option_map, unwrap_or}
+use Rattle.graphql_nodes.specs.NameView.{NameView}
+use Rattle.graphql_nodes.specs.NodeView.{NodeView}
+use Rattle.graphql_ast.specs.declared.operation.OperationDefinition.{OperationDefinition}
+use Rattle.graphql_ast.specs.declared.operation.FragmentDefinition.{FragmentDefinition}
+use Rattle.apollo_schema.specs.MetaFields.{plain_name}
+use Rattle.apollo_schema.specs.declared.schema.Schema.{Schema}
+use Rattle.apollo_executable.specs.Erasure.{at_place}
+use Rattle.apollo_executable.specs.declared.operation.Operation.{Operation}
+use Rattle.apollo_executable.specs.declared.operation.Fragment.{Fragment}
+use Rattle.apollo_elaboration.specs.Elaborated.{elaborated}
+use Rattle.apollo_document.specs.AddedDefinitions.{Added}
+use Rattle.apollo_document.specs.KeptDefinitions.{root_in, kept_anonymous, kept_named, kept_fragments, is_repeated}
+use Rattle.apollo_document.specs.DocumentFaults.{document_faults}
+use Rattle.apollo_document.specs.declared.tables.Tables.{Tables}
+use Rattle.apollo_document.specs.declared.state.State.{State}
+use Rattle.apollo_document.specs.declared.state.State.TheVariants.{Open, Failed}
+
+-- an operation from this root type, typed
+abbrev pub operation_from : Option Schema → NameView → OperationDefinition → Operation
+operation_from s root o = record {
+  operation_type = o.operation_type;
+  name = o.name;
+  variables = o.variables;
+  directives = o.directives;
+  selection_set = elaborated s root o.selection_set;
+}
+
+-- an operation that is kept is rooted
+abbrev pub root_or_none : Option Schema → NodeView OperationDefinition → NameView
+root_or_none s n = unwrap_or (root_in s n.value.operation_type) (plain_name [])
+
+abbrev pub typed_operation : Option Schema → NodeView OperationDefinition → NodeView Operation
+typed_operation s n = at_place (operation_from s (root_or_none s n)) n
+
+abbrev pub fragment_on_type : Option Schema → FragmentDefinition → Fragment
+fragment_on_type s f = record { name = f.name; directives = f.directives; selection_set = elaborated s f.type_condition f.selection_set }
+
+abbrev pub typed_fragment : Option Schema → NodeView FragmentDefinition → NodeView Fragment
+typed_fragment s n = at_place (fragment_on_type s) n
+
+-- entries whose values are what f gives
+abbrev pub entries_by : {A B : Type 0} → (A → B) → List (NameView × A) → List (NameView × B)
+entries_by f es = map (λ e. (e.0, f e.1)) es
+
+-- a definition that is built, put last under its name, unless that is taken
+abbrev pub put_unless_taken : {V : Type 0} → NameView → Option NameView → Option V → List (NameView × V) → List (NameView × V)
+put_unless_taken name None (Some v) es = es ++ (name, v) ∷ []
+put_unless_taken name None None es = es
+put_unless_taken name (Some kept) v es = es
+
+-- these tables are those of the list
+pub record Stands (s : Option Schema) (xs : List Added) (t : Tables) : Type 0 where
+  pub anonymous : t.operations.anonymous ≡ option_map (typed_operation s) (kept_anonymous s xs)
+  pub named : t.operations.named ≡ entries_by (typed_operation s) (kept_named s xs)
+  pub fragments : t.fragments ≡ entries_by (typed_fragment s) (kept_fragments s xs)
+  pub repeated : t.multiple_anonymous ≡ is_repeated s xs
+  pub faults : t.errors ≡ document_faults s xs
+
+abbrev pub StateStands : Option Schema → List Added → State → Type 0
+StateStands s xs (Open tables) = Stands s xs tables
+StateStands s xs Failed = ⊥
+
+-- a call was refused
+abbrev pub StateFailed : State → Type 0
+StateFailed (Open tables) = ⊥
+StateFailed Failed = Unit {0}

@@ -1,0 +1,103 @@
+//! The builder of executable documents: documents of syntax go in, in any number, and a typed document comes out.
+ghost use Rattle.std.specs.Prelude.{◌≡◌, ◌↔◌, List, [], ◌++◌, Option, Err, OnOk, OnErr, IfOk, IfErr};
+ghost use Rattle.std.specs.Option.{option_copied};
+ghost use Rattle.graphql_nodes.specs.Sources.{merged};
+ghost use Rattle.apollo_document.specs.AddedDefinitions.{Added, added};
+ghost use Rattle.apollo_document.specs.DocumentFaults.{document_faults};
+ghost use Rattle.apollo_document.specs.Documents.{IsDocumentOf};
+
+use crate::state::State;
+use crate::tables::Tables;
+use apollo_elaboration::build_error::Faults;
+use apollo_executable::document::ExecutableDocument;
+use apollo_folding::builder_error::BuilderError;
+use apollo_schema::schema::Schema;
+use graphql_ast::document::Document;
+use std::alloc::Global;
+
+/// A builder of an executable document, over a schema or without one: GraphQL specification of October 2021, sections 2.2 to
+/// 2.8. Documents of syntax go in, in any number.
+///
+/// Of operations the first of each name is kept that has a root type in the schema, and an anonymous one if it is the first of
+/// all that have; of fragments the first of each name whose condition is a type of the schema. Their selections are kept where
+/// they are typable, as [`elaborate_selections`](apollo_elaboration::elaboration::elaborate_selections) says. All else is at
+/// fault, but for definitions of the type system where these are none.
+///
+/// After want of memory the builder holds nothing, and each later call answers `Failed`.
+pub struct ExecutableDocumentBuilder<'schema> {
+    schema: Option<&'schema Schema>,
+    state: State,
+}
+
+impl<'schema> Drop for ExecutableDocumentBuilder<'schema> {
+    fn drop(self) {
+        let Self {
+            schema: _,
+            state: _,
+        } = self;
+    }
+}
+
+impl<'schema> ExecutableDocumentBuilder<'schema> {
+    ghost use Rattle.apollo_schema.specs.declared.schema.Schema as schemas;
+    ghost use Rattle.apollo_document.specs.BuilderStands.{StandsFor, HasFailed, sources_of};
+
+    /// A builder of no definition, over this schema or without one. Without a schema each operation has the default name of its
+    /// root type, each name is that of a type, and every selection is typable.
+    pub fn new(alloc: Global, schema: Option<&'schema Schema>) -> ExecutableDocumentBuilder<'schema>
+        ensures stands { StandsFor (option_copied schema.entry) [] result }
+        ensures sources { sources_of result ≡ [] }
+    {
+        ExecutableDocumentBuilder {
+            schema,
+            state: State::Open(Tables::new(alloc)),
+        }
+    }
+
+    /// Adds the definitions of a document, in order, and its sources. Definitions of the type system are passed over; with
+    /// `type_system_definitions_are_errors` each is a fault.
+    ///
+    /// `Memory` is want of memory, and drops all that was added; `Failed` comes exactly after that, and changes nothing. No other
+    /// error comes.
+    pub fn add_ast_document(
+        &mut self,
+        document: &Document,
+        type_system_definitions_are_errors: bool,
+    ) -> Result<(), BuilderError>
+        ensures stands { OnOk result ((schema : Option schemas.Schema) (xs : List Added) → StandsFor schema xs self.old → StandsFor schema (xs ++ added type_system_definitions_are_errors document.now.definitions) self.new) }
+        ensures sources { OnOk result (sources_of self.new ≡ merged (sources_of self.old) document.now.sources) }
+        ensures refused { OnErr result (HasFailed self.new) }
+        ensures failed { HasFailed self.old ↔ (result ≡ Err BuilderError.Failed) }
+        ensures memory { OnErr result ((HasFailed self.old → ⊥) → result ≡ Err BuilderError.Memory) }
+        ensures unchanged { HasFailed self.old → self.new ≡ self.old }
+    {
+        let schema = self.schema;
+        let State::Open(tables) = &mut self.state else {
+            return Err(BuilderError::Failed);
+        };
+        if tables
+            .take_document(schema, document, type_system_definitions_are_errors)
+            .is_err()
+        {
+            self.state = State::Failed;
+            return Err(BuilderError::Memory);
+        }
+        Ok(())
+    }
+
+    /// The document of what was added, and what is wrong with it, in the order of the definitions. It takes no memory: `Failed`
+    /// comes exactly after a refusal, and no other error does.
+    pub fn build(self) -> Result<(ExecutableDocument, Faults), BuilderError>
+        ensures built { IfOk result (λ built. (schema : Option schemas.Schema) (xs : List Added) → StandsFor schema xs self.entry → IsDocumentOf schema xs built.0) }
+        ensures faults { IfOk result (λ built. (schema : Option schemas.Schema) (xs : List Added) → StandsFor schema xs self.entry → built.1.items ≡ document_faults schema xs) }
+        ensures sources { IfOk result (λ built. built.0.sources ≡ sources_of self.entry) }
+        ensures failed { HasFailed self.entry ↔ (result ≡ Err BuilderError.Failed) }
+        ensures refused { OnErr result (HasFailed self.entry) }
+    {
+        let ExecutableDocumentBuilder { schema: _, state } = self;
+        match state {
+            State::Open(tables) => Ok(tables.into_document()),
+            State::Failed => Err(BuilderError::Failed),
+        }
+    }
+}

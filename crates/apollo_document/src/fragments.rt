@@ -1,0 +1,89 @@
+//! Named fragments taken into a document: GraphQL specification of October 2021, section 2.8.
+ghost use Rattle.std.specs.Prelude.{◌≡◌, ◌++◌, cond, None, Some, IfOk, OnOk};
+ghost use Rattle.std.specs.Option.{option_copied};
+ghost use Rattle.graphql_nodes.specs.SameText.{same_text};
+ghost use Rattle.graphql_nodes.specs.Tables.{lookup_key};
+ghost use Rattle.apollo_elaboration.specs.Typable as typable;
+ghost use Rattle.apollo_document.specs.DocumentFaults.{faults_in_fragment, fragment_faults};
+ghost use Rattle.apollo_document.specs.Stands.{typed_fragment, put_unless_taken};
+
+use apollo_elaboration::build_error::{BuildError, Fault};
+use apollo_elaboration::elaboration::elaborate_selections;
+use apollo_elaboration::selection_path::{ExecutableDefinitionName, SelectionPath};
+use apollo_elaboration::typable::has_type;
+use apollo_executable::document::FragmentMap;
+use apollo_executable::operation::Fragment;
+use apollo_executable::selection::SelectionSet;
+use apollo_schema::schema::Schema;
+use graphql_ast::operation::FragmentDefinition;
+use graphql_nodes::collections::items::Items;
+use graphql_nodes::node::Node;
+use std::alloc::{AllocError, Global};
+
+/// The fragment with these selections.
+fn fragment_over(
+    definition: &FragmentDefinition,
+    selection_set: SelectionSet,
+) -> Result<Fragment, AllocError>
+    ensures { IfOk result (λ fragment. fragment ≡ record { name = definition.now.name; directives = definition.now.directives; selection_set = selection_set }) }
+{
+    Ok(Fragment {
+        name: definition.name.clone()?,
+        directives: definition.directives.clone()?,
+        selection_set,
+    })
+}
+
+/// The fragment, typed, if its condition is a type. What is wrong with it is noted.
+fn build_fragment(
+    alloc: Global,
+    schema: Option<&Schema>,
+    node: &Node<FragmentDefinition>,
+    errors: &mut Items<Fault>,
+) -> Result<Option<Node<Fragment>>, AllocError>
+    ensures built { IfOk result (λ fragment. fragment ≡ cond (typable.has_type (option_copied schema.entry) node.now.value.type_condition) (Some (typed_fragment (option_copied schema.entry) node.now)) None) }
+    ensures errors { OnOk result (errors.new ≡ errors.old ++ faults_in_fragment (option_copied schema.entry) node.now) }
+{
+    if !has_type(schema, &node.type_condition) {
+        let error = BuildError::UndefinedTypeInNamedFragmentTypeCondition {
+            type_name: node.type_condition.clone()?,
+            fragment_name: node.name.clone()?,
+        };
+        errors.push((node.type_condition.location(), error))?;
+        return Ok(None);
+    }
+    let mut path = SelectionPath {
+        root: ExecutableDefinitionName::Fragment(node.name.clone()?),
+        nested_fields: Items::new(alloc),
+    };
+    let ty = &node.type_condition;
+    let selections = node.selection_set.as_slice();
+    let set = elaborate_selections(alloc, schema, ty, selections, &mut path, errors)?;
+    let fragment = fragment_over(node, set)?;
+    Ok(Some(node.same_location(alloc, fragment)?))
+}
+
+/// Puts a fragment under its name, typed, if its condition is a type and its name isn't taken. What is wrong with it is noted.
+pub(crate) fn put_fragment(
+    alloc: Global,
+    schema: Option<&Schema>,
+    fragments: &mut FragmentMap,
+    node: &Node<FragmentDefinition>,
+    errors: &mut Items<Fault>,
+) -> Result<(), AllocError>
+    ensures fragments { OnOk result (fragments.new ≡ put_unless_taken node.now.value.name (lookup_key (same_text node.now.value.name) fragments.old) (cond (typable.has_type (option_copied schema.entry) node.now.value.type_condition) (Some (typed_fragment (option_copied schema.entry) node.now)) None) fragments.old) }
+    ensures errors { OnOk result (errors.new ≡ errors.old ++ fragment_faults (option_copied schema.entry) (lookup_key (same_text node.now.value.name) fragments.old) node.now) }
+{
+    if let Some((kept, _)) = fragments.get_key_value(&node.name) {
+        let error = BuildError::FragmentNameCollision {
+            name_at_previous_location: kept.clone()?,
+        };
+        errors.push((node.name.location(), error))?;
+        return Ok(());
+    }
+    let Some(fragment) = build_fragment(alloc, schema, node, errors)? else {
+        return Ok(());
+    };
+    fragments.insert(node.name.clone()?, fragment)?;
+    Ok(())
+}

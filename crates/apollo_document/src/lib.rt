@@ -1,0 +1,17 @@
+//! Executable documents built from documents of syntax, over a schema or without one: GraphQL specification of October 2021,
+//! sections 2.2 to 2.8.
+#![tactic(auto)]
+
+mod definitions;
+pub mod document_builder;
+mod fragments;
+pub mod laws;
+mod operations;
+mod state;
+mod tables;
+
+pub use crate::document_builder::ExecutableDocumentBuilder;
+pub use apollo_elaboration::build_error::{BuildError, Fault, Faults};
+pub use apollo_elaboration::field_set::FieldSet;
+pub use apollo_elaboration::selection_path::{ExecutableDefinitionName, SelectionPath};
+pub use apollo_folding::builder_error::BuilderError;

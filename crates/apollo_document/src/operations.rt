@@ -1,0 +1,166 @@
+//! Operations taken into a document: GraphQL specification of October 2021, section 2.3.
+ghost use Rattle.std.specs.Prelude.{◌≡◌, ◌++◌, ◌∷◌, [], Option, IfOk, OnOk, option_map};
+ghost use Rattle.std.specs.Option.{option_copied};
+ghost use Rattle.graphql_nodes.specs.NameView.{NameView};
+ghost use Rattle.graphql_nodes.specs.SameText.{same_text};
+ghost use Rattle.graphql_nodes.specs.Tables.{lookup_key};
+ghost use Rattle.apollo_executable.specs.Erasure.{at_place};
+ghost use Rattle.apollo_elaboration.specs.declared.build_error.BuildError.TheVariants as faults;
+ghost use Rattle.apollo_elaboration.specs.declared.selection_path.ExecutableDefinitionName.TheVariants as roots;
+ghost use Rattle.apollo_document.specs.KeptDefinitions.{root_in};
+ghost use Rattle.graphql_nodes.specs.OperationTexts.{operation_text};
+ghost use Rattle.apollo_document.specs.DocumentFaults.{ambiguous, ambiguous_if, unless_taken, faults_in_operation, after_anonymous};
+ghost use Rattle.apollo_document.specs.Stands.{operation_from, put_unless_taken};
+
+use apollo_elaboration::build_error::{BuildError, Fault};
+use apollo_elaboration::elaboration::elaborate_selections;
+use apollo_elaboration::selection_path::{ExecutableDefinitionName, SelectionPath};
+use apollo_executable::operation::Operation;
+use apollo_executable::selection::SelectionSet;
+use apollo_schema::schema::Schema;
+use graphql_ast::operation::OperationDefinition;
+use graphql_nodes::collections::items::Items;
+use graphql_nodes::collections::static_text::StaticText;
+use graphql_nodes::collections::table::Table;
+use graphql_nodes::name::{Name, NamedType};
+use graphql_nodes::node::Node;
+use graphql_nodes::operation_type::OperationType;
+use graphql_nodes::source::SourceSpan;
+use std::alloc::{AllocError, Global};
+
+/// The root type of this kind of operation, if it has one. Without a schema it has the default name.
+fn root_type(
+    alloc: Global,
+    schema: Option<&Schema>,
+    operation_type: OperationType,
+) -> Result<Option<NamedType>, AllocError>
+    ensures { IfOk result (λ root. root ≡ root_in (option_copied schema.entry) operation_type) }
+{
+    match schema {
+        None => Ok(Some(operation_type.default_type_name(alloc)?)),
+        Some(schema) => match schema.root_operation(operation_type) {
+            Some(root) => Ok(Some(root.clone()?)),
+            None => Ok(None),
+        },
+    }
+}
+
+/// The operation with these selections.
+fn operation_over(
+    definition: &OperationDefinition,
+    selection_set: SelectionSet,
+) -> Result<Operation, AllocError>
+    ensures { IfOk result (λ operation. operation ≡ record { operation_type = definition.now.operation_type; name = definition.now.name; variables = definition.now.variables; directives = definition.now.directives; selection_set = selection_set }) }
+{
+    Ok(Operation {
+        operation_type: definition.operation_type,
+        name: definition.name.clone()?,
+        variables: definition.variables.clone()?,
+        directives: definition.directives.clone()?,
+        selection_set,
+    })
+}
+
+/// Notes that an anonymous operation at this place isn't the only one.
+pub(crate) fn note_ambiguous(
+    place: Option<SourceSpan>,
+    errors: &mut Items<Fault>,
+) -> Result<(), AllocError>
+    ensures { OnOk result (errors.new ≡ errors.old ++ ambiguous place ∷ []) }
+{
+    errors.push((place, BuildError::AmbiguousAnonymousOperation))
+}
+
+/// Notes the anonymous operation, if there is one: another operation comes after it.
+pub(crate) fn note_kept(
+    anonymous: &Option<Node<Operation>>,
+    errors: &mut Items<Fault>,
+) -> Result<(), AllocError>
+    ensures { OnOk result (errors.new ≡ errors.old ++ ambiguous_if (option_map (λ o. o.location) anonymous.now)) }
+{
+    if let Some(kept) = anonymous {
+        note_ambiguous(kept.location(), errors)?;
+    }
+    Ok(())
+}
+
+/// Notes that the operation has no root type.
+fn note_unrooted(
+    node: &Node<OperationDefinition>,
+    errors: &mut Items<Fault>,
+) -> Result<(), AllocError>
+    ensures { OnOk result (errors.new ≡ errors.old ++ (node.now.location, faults.UndefinedRootOperation (operation_text node.now.value.operation_type)) ∷ []) }
+{
+    let error = BuildError::UndefinedRootOperation {
+        operation_type: StaticText::new(node.operation_type.name()),
+    };
+    errors.push((node.location(), error))
+}
+
+/// The operation, typed, if it has a root type. What is wrong with it is noted.
+pub(crate) fn build_operation(
+    alloc: Global,
+    schema: Option<&Schema>,
+    node: &Node<OperationDefinition>,
+    name: ExecutableDefinitionName,
+    errors: &mut Items<Fault>,
+) -> Result<Option<Node<Operation>>, AllocError>
+    ensures built { IfOk result (λ operation. operation ≡ option_map (λ (root : NameView). at_place (operation_from (option_copied schema.entry) root) node.now) (root_in (option_copied schema.entry) node.now.value.operation_type)) }
+    ensures errors { OnOk result (errors.new ≡ errors.old ++ faults_in_operation (option_copied schema.entry) name node.now) }
+{
+    let Some(root) = root_type(alloc, schema, node.operation_type)? else {
+        note_unrooted(node, errors)?;
+        return Ok(None);
+    };
+    let mut path = SelectionPath {
+        root: name,
+        nested_fields: Items::new(alloc),
+    };
+    let selections = node.selection_set.as_slice();
+    let set = elaborate_selections(alloc, schema, &root, selections, &mut path, errors)?;
+    let operation = operation_over(node, set)?;
+    Ok(Some(node.same_location(alloc, operation)?))
+}
+
+/// Puts a named operation under its name, typed, if it has a root type and its name isn't taken. What is wrong with it is noted.
+pub(crate) fn put_named(
+    alloc: Global,
+    schema: Option<&Schema>,
+    named: &mut Table<Name, Node<Operation>>,
+    node: &Node<OperationDefinition>,
+    name: &Name,
+    errors: &mut Items<Fault>,
+) -> Result<(), AllocError>
+    ensures named { OnOk result (named.new ≡ put_unless_taken name.now (lookup_key (same_text name.now) named.old) (option_map (λ (root : NameView). at_place (operation_from (option_copied schema.entry) root) node.now) (root_in (option_copied schema.entry) node.now.value.operation_type)) named.old) }
+    ensures errors { OnOk result (errors.new ≡ errors.old ++ unless_taken faults.OperationNameCollision name.now (lookup_key (same_text name.now) named.old) (faults_in_operation (option_copied schema.entry) (roots.NamedOperation node.now.value.operation_type name.now) node.now)) }
+{
+    if let Some((kept, _)) = named.get_key_value(name) {
+        let error = BuildError::OperationNameCollision {
+            name_at_previous_location: kept.clone()?,
+        };
+        errors.push((name.location(), error))?;
+        return Ok(());
+    }
+    let root = ExecutableDefinitionName::NamedOperation(node.operation_type, name.clone()?);
+    let Some(operation) = build_operation(alloc, schema, node, root, errors)? else {
+        return Ok(());
+    };
+    named.insert(name.clone()?, operation)?;
+    Ok(())
+}
+
+/// Notes an anonymous operation after the kept one, which stands at `kept`. That one is noted too, at the first of them.
+pub(crate) fn note_further_anonymous(
+    kept: Option<SourceSpan>,
+    multiple_anonymous: bool,
+    place: Option<SourceSpan>,
+    errors: &mut Items<Fault>,
+) -> Result<(), AllocError>
+    ensures { OnOk result (errors.new ≡ errors.old ++ after_anonymous multiple_anonymous kept place) }
+{
+    if !multiple_anonymous {
+        note_ambiguous(kept, errors)?;
+    }
+    note_ambiguous(place, errors)?;
+    Ok(())
+}

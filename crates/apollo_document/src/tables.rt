@@ -1,0 +1,261 @@
+//! What a builder of documents holds until it fails.
+ghost use Rattle.std.specs.Prelude.{◌≡◌, Bool, List, [], ◌++◌, Option, None, Some, OnOk};
+ghost use Rattle.std.specs.Option.{option_copied};
+ghost use Rattle.graphql_nodes.specs.Sources.{merged};
+ghost use Rattle.apollo_schema.specs.declared.schema.Schema.{Schema};
+ghost use Rattle.apollo_document.specs.AddedDefinitions.{Added, added};
+ghost use Rattle.apollo_document.specs.DocumentFaults.{type_system_faults};
+ghost use Rattle.apollo_document.specs.Stands.{Stands};
+ghost use Rattle.apollo_document.specs.Takes.{Takes};
+ghost use Rattle.graphql_ast.specs.declared.definition.Definition.TheVariants as definitions;
+
+use crate::definitions::{as_fragment, as_operation};
+use crate::fragments::put_fragment;
+use crate::operations::{
+    build_operation, note_ambiguous, note_further_anonymous, note_kept, put_named,
+};
+use apollo_elaboration::build_error::{BuildError, Fault, Faults};
+use apollo_elaboration::selection_path::ExecutableDefinitionName;
+use apollo_executable::document::{ExecutableDocument, FragmentMap};
+use apollo_executable::operation_map::OperationMap;
+use apollo_schema::schema::Schema;
+use graphql_ast::definition::Definition;
+use graphql_ast::document::Document;
+use graphql_ast::operation::{FragmentDefinition, OperationDefinition};
+use graphql_nodes::collections::items::Items;
+use graphql_nodes::collections::static_text::StaticText;
+use graphql_nodes::collections::table::Table;
+use graphql_nodes::name::Name;
+use graphql_nodes::node::Node;
+use graphql_nodes::source::{SourceMap, merge_sources};
+use std::alloc::{AllocError, Global};
+
+/// What a builder of documents holds until it fails: the kept operations and fragments, typed, the sources, and the faults.
+pub struct Tables {
+    pub alloc: Global,
+    pub sources: SourceMap,
+    pub operations: OperationMap,
+    pub fragments: FragmentMap,
+    /// Whether an anonymous operation came after the kept one.
+    pub multiple_anonymous: bool,
+    pub errors: Items<Fault>,
+}
+
+impl Drop for Tables {
+    fn drop(self) {
+        let Self {
+            alloc: _,
+            sources: _,
+            operations: _,
+            fragments: _,
+            multiple_anonymous: _,
+            errors: _,
+        } = self;
+    }
+}
+
+impl Tables {
+    /// Tables of no definition.
+    pub fn new(alloc: Global) -> Tables
+        ensures stands { (schema : Option Schema) → Stands schema [] result }
+        ensures sources { result.sources ≡ [] }
+    {
+        Tables {
+            alloc,
+            sources: Table::new(alloc),
+            operations: OperationMap::new(alloc),
+            fragments: Table::new(alloc),
+            multiple_anonymous: false,
+            errors: Items::new(alloc),
+        }
+    }
+
+    /// Takes an operation of this name.
+    fn take_named(
+        &mut self,
+        schema: Option<&Schema>,
+        node: &Node<OperationDefinition>,
+        name: &Name,
+    ) -> Result<(), AllocError>
+        ensures stands { OnOk result (node.now.value.name ≡ Some name.now → (errors : Bool) → Takes (option_copied schema.entry) (errors, definitions.OperationDefinition node.now) self.old self.new) }
+        ensures sources { self.new.sources ≡ self.old.sources }
+    {
+        note_kept(&self.operations.anonymous, &mut self.errors)?;
+        put_named(
+            self.alloc,
+            schema,
+            &mut self.operations.named,
+            node,
+            name,
+            &mut self.errors,
+        )?;
+        Ok(())
+    }
+
+    /// Takes an operation without a name.
+    fn take_anonymous(
+        &mut self,
+        schema: Option<&Schema>,
+        node: &Node<OperationDefinition>,
+    ) -> Result<(), AllocError>
+        ensures stands { OnOk result (node.now.value.name ≡ None → (errors : Bool) → Takes (option_copied schema.entry) (errors, definitions.OperationDefinition node.now) self.old self.new) }
+        ensures sources { self.new.sources ≡ self.old.sources }
+    {
+        if let Some(kept) = &self.operations.anonymous {
+            let kept = kept.location();
+            note_further_anonymous(
+                kept,
+                self.multiple_anonymous,
+                node.location(),
+                &mut self.errors,
+            )?;
+            self.multiple_anonymous = true;
+            return Ok(());
+        }
+        if !self.operations.named.is_empty() {
+            note_ambiguous(node.location(), &mut self.errors)?;
+            return Ok(());
+        }
+        let root = ExecutableDefinitionName::AnonymousOperation(node.operation_type);
+        self.operations.anonymous = build_operation(
+            self.alloc,
+            schema,
+            node,
+            root,
+            &mut self.errors,
+        )?;
+        Ok(())
+    }
+
+    /// Takes an operation.
+    fn take_operation(
+        &mut self,
+        schema: Option<&Schema>,
+        node: &Node<OperationDefinition>,
+    ) -> Result<(), AllocError>
+        ensures stands { OnOk result ((errors : Bool) → Takes (option_copied schema.entry) (errors, definitions.OperationDefinition node.now) self.old self.new) }
+        ensures sources { self.new.sources ≡ self.old.sources }
+    {
+        match &node.name {
+            Some(name) => self.take_named(schema, node, name)?,
+            None => self.take_anonymous(schema, node)?,
+        }
+        Ok(())
+    }
+
+    /// Takes a fragment.
+    fn take_fragment(
+        &mut self,
+        schema: Option<&Schema>,
+        node: &Node<FragmentDefinition>,
+    ) -> Result<(), AllocError>
+        ensures stands { OnOk result ((errors : Bool) → Takes (option_copied schema.entry) (errors, definitions.FragmentDefinition node.now) self.old self.new) }
+        ensures sources { self.new.sources ≡ self.old.sources }
+    {
+        put_fragment(
+            self.alloc,
+            schema,
+            &mut self.fragments,
+            node,
+            &mut self.errors,
+        )?;
+        Ok(())
+    }
+
+    /// Notes a definition of the type system, if such are faults.
+    fn note_type_system(
+        &mut self,
+        definition: &Definition,
+        type_system_definitions_are_errors: bool,
+    ) -> Result<(), AllocError>
+        ensures noted { OnOk result (self.new ≡ record self.old { errors = self.old.errors ++ type_system_faults type_system_definitions_are_errors definition.now }) }
+        ensures sources { self.new.sources ≡ self.old.sources }
+    {
+        if !type_system_definitions_are_errors {
+            return Ok(());
+        }
+        let error = BuildError::TypeSystemDefinition {
+            name: definition.name().cloned()?,
+            describe: StaticText::new(definition.describe()),
+        };
+        self.errors.push((definition.location(), error))
+    }
+
+    /// Takes a definition.
+    fn take_one(
+        &mut self,
+        schema: Option<&Schema>,
+        definition: &Definition,
+        type_system_definitions_are_errors: bool,
+    ) -> Result<(), AllocError>
+        ensures stands { OnOk result (Takes (option_copied schema.entry) (type_system_definitions_are_errors, definition.now) self.old self.new) }
+        ensures sources { self.new.sources ≡ self.old.sources }
+    {
+        if let Some(node) = as_operation(definition) {
+            self.take_operation(schema, node)?;
+            return Ok(());
+        }
+        if let Some(node) = as_fragment(definition) {
+            self.take_fragment(schema, node)?;
+            return Ok(());
+        }
+        self.note_type_system(definition, type_system_definitions_are_errors)?;
+        Ok(())
+    }
+
+    /// Takes definitions in order.
+    fn take(
+        &mut self,
+        schema: Option<&Schema>,
+        definitions: &[Definition],
+        type_system_definitions_are_errors: bool,
+    ) -> Result<(), AllocError>
+        ensures stands { OnOk result ((xs : List Added) → Stands (option_copied schema.entry) xs self.old → Stands (option_copied schema.entry) (xs ++ added type_system_definitions_are_errors definitions.now) self.new) }
+        ensures sources { self.new.sources ≡ self.old.sources }
+    {
+        for definition in definitions {
+            self.take_one(schema, definition, type_system_definitions_are_errors)?;
+        }
+        Ok(())
+    }
+
+    /// Takes a document: its definitions, and then its sources.
+    pub fn take_document(
+        &mut self,
+        schema: Option<&Schema>,
+        document: &Document,
+        type_system_definitions_are_errors: bool,
+    ) -> Result<(), AllocError>
+        ensures stands { OnOk result ((xs : List Added) → Stands (option_copied schema.entry) xs self.old → Stands (option_copied schema.entry) (xs ++ added type_system_definitions_are_errors document.now.definitions) self.new) }
+        ensures sources { OnOk result (self.new.sources ≡ merged self.old.sources document.now.sources) }
+    {
+        self.take(
+            schema,
+            document.definitions.as_slice(),
+            type_system_definitions_are_errors,
+        )?;
+        merge_sources(&mut self.sources, &document.sources)?;
+        Ok(())
+    }
+
+    /// The document of these tables, and the faults.
+    pub fn into_document(self) -> (ExecutableDocument, Faults)
+        ensures document { result.0 ≡ record { sources = self.sources; operations = self.operations; fragments = self.fragments } }
+        ensures faults { result.1.items ≡ self.errors }
+    {
+        let Tables {
+            alloc: _,
+            sources,
+            operations,
+            fragments,
+            multiple_anonymous: _,
+            errors,
+        } = self;
+        let document = ExecutableDocument {
+            sources,
+            operations,
+            fragments,
+        };
+        (document, errors.into_vec())
+    }
+}

@@ -1,0 +1,80 @@
+-- The typed selections that stand for the typable ones of an untyped list. The code is proved against these; that they erase to
+-- the stripped list, and are typed, follows.
+use Rattle.std.specs.Prelude.{List, Option, Some, option_map}
+use Rattle.std.specs.List.{filter_map}
+use Rattle.graphql_nodes.specs.NameView.{NameView}
+use Rattle.graphql_nodes.specs.NodeView.{NodeView}
+use Rattle.graphql_ast.specs.declared.directive.Argument.{Argument}
+use Rattle.graphql_ast.specs.declared.directive.DirectiveList.{DirectiveList}
+use Rattle.graphql_ast.specs.declared.selection.Selection as ast
+use Rattle.graphql_ast.specs.declared.selection.Selection.TheOpen as layer
+use Rattle.graphql_ast.specs.declared.selection.Selection.TheFolds as folds
+use Rattle.graphql_ast.specs.declared.selection.Field as ast_field
+use Rattle.graphql_ast.specs.declared.selection.InlineFragment as ast_inline
+use Rattle.graphql_ast.specs.declared.selection.FragmentSpread as ast_spread
+use Rattle.graphql_ast.specs.declared.type_system.FieldDefinition.{FieldDefinition}
+use Rattle.apollo_schema.specs.declared.schema.Schema.{Schema}
+use Rattle.apollo_executable.specs.declared.selection.Selection.{Selection, roll-Selection}
+use Rattle.apollo_executable.specs.declared.selection.Selection.TheOpen.{Selection-F}
+use Rattle.apollo_executable.specs.declared.selection.Field.{Field, roll-Field}
+use Rattle.apollo_executable.specs.declared.selection.InlineFragment.{InlineFragment, roll-InlineFragment}
+use Rattle.apollo_executable.specs.declared.selection.FragmentSpread.{FragmentSpread}
+use Rattle.apollo_executable.specs.declared.selection.SelectionSet.{SelectionSet, roll-SelectionSet}
+use Rattle.apollo_elaboration.specs.Typable.{child_of, is_bare, typable_field, typable_fragment, if_typable}
+use Rattle.apollo_elaboration.specs.Stripped.{in_place_of}
+
+abbrev pub TS : Type 0
+TS = NameView → Option Selection
+
+abbrev pub TF : Type 0
+TF = NameView → Option Field
+
+abbrev pub TI : Type 0
+TI = NameView → Option InlineFragment
+
+abbrev pub typed_spread : ast_spread.FragmentSpread → FragmentSpread
+typed_spread x = record { fragment_name = x.fragment_name; directives = x.directives }
+
+abbrev pub set_of : NameView → List Selection → SelectionSet
+set_of ty xs = roll-SelectionSet (record { ty = ty; selections = xs })
+
+abbrev pub field_of : Option NameView → NameView → List (NodeView Argument) → DirectiveList → (NameView → List Selection) → NodeView FieldDefinition → Field
+field_of alias name arguments directives below d = roll-Field (record {
+  definition = d;
+  alias = alias;
+  name = name;
+  arguments = arguments;
+  directives = directives;
+  selection_set = set_of (child_of d) (below (child_of d));
+})
+
+abbrev pub fragment_of : Option NameView → DirectiveList → (NameView → List Selection) → NameView → InlineFragment
+fragment_of condition directives below child = roll-InlineFragment (record { type_condition = condition; directives = directives; selection_set = set_of child (below child) })
+
+-- one level of a selection
+abbrev pub selection_step : layer.Selection-F TS TF TI → TS
+selection_step (layer.Selection-F.Field n) ty = option_map (λ (f : Field). roll-Selection (Selection-F.Field (in_place_of n f))) (n.value ty)
+selection_step (layer.Selection-F.FragmentSpread n) ty = Some (roll-Selection (Selection-F.FragmentSpread (in_place_of n (typed_spread n.value))))
+selection_step (layer.Selection-F.InlineFragment n) ty = option_map (λ (f : InlineFragment). roll-Selection (Selection-F.InlineFragment (in_place_of n f))) (n.value ty)
+
+abbrev pub typed_below : List TS → NameView → List Selection
+typed_below ss ty = filter_map (λ (s : TS). s ty) ss
+
+-- one level of a field, and of an inline fragment
+abbrev pub field_step : Option Schema → layer.Field-F TS TF TI → TF
+field_step s f ty = if_typable (field_of f.alias f.name f.arguments f.directives (typed_below f.selection_set)) (typable_field s ty f.name (is_bare f.selection_set))
+
+abbrev pub fragment_step : Option Schema → layer.InlineFragment-F TS TF TI → TI
+fragment_step s f ty = if_typable (fragment_of f.type_condition f.directives (typed_below f.selection_set)) (typable_fragment s ty f.type_condition)
+
+abbrev pub elaborated_selection : Option Schema → NameView → ast.Selection → Option Selection
+elaborated_selection s ty x = folds.fold-Selection TS TF TI selection_step (field_step s) (fragment_step s) x ty
+
+abbrev pub elaborated_field : Option Schema → NameView → ast_field.Field → Option Field
+elaborated_field s ty f = folds.fold-Field TS TF TI selection_step (field_step s) (fragment_step s) f ty
+
+abbrev pub elaborated_fragment : Option Schema → NameView → ast_inline.InlineFragment → Option InlineFragment
+elaborated_fragment s ty f = folds.fold-InlineFragment TS TF TI selection_step (field_step s) (fragment_step s) f ty
+
+abbrev pub elaborated : Option Schema → NameView → List ast.Selection → SelectionSet
+elaborated s ty xs = set_of ty (filter_map (elaborated_selection s ty) xs)

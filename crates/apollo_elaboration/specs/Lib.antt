@@ -1,0 +1,9 @@
+pub mod BareErrors
+pub mod Elaborated
+pub mod FieldSets
+pub mod PathTexts
+pub mod SelectionFaults
+pub mod Stripped
+pub mod Typable
+pub mod TypedSelections
+pub mod Within

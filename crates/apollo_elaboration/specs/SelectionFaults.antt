@@ -1,0 +1,66 @@
+-- The faults of an untyped list in a type, in order: for each typable selection those of its subselections in its child type,
+-- where the path is longer by the response key of a field; for each other one what is wrong with it. GraphQL specification of
+-- October 2021, sections 2.4 to 2.8.
+use Rattle.std.specs.Prelude.{List, [], ◌∷◌, ◌++◌, Option, None, Result, Ok, Err}
+use Rattle.std.specs.List.{flat_map}
+use Rattle.graphql_nodes.specs.NameView.{NameView}
+use Rattle.graphql_nodes.specs.NodeView.{NodeView}
+use Rattle.graphql_nodes.specs.declared.source.SourceSpan.{SourceSpan}
+use Rattle.graphql_ast.specs.declared.selection.Selection.{Selection}
+use Rattle.graphql_ast.specs.declared.selection.Selection.TheOpen.{Selection-F, Field-F, InlineFragment-F}
+use Rattle.graphql_ast.specs.declared.selection.Selection.TheFolds as folds
+use Rattle.graphql_ast.specs.declared.selection.Field.{Field}
+use Rattle.graphql_ast.specs.declared.selection.InlineFragment.{InlineFragment}
+use Rattle.graphql_ast.specs.declared.type_system.FieldDefinition.{FieldDefinition}
+use Rattle.apollo_schema.specs.declared.schema.Schema.{Schema}
+use Rattle.apollo_executable.specs.SelectionParts.{key_of}
+use Rattle.apollo_elaboration.specs.Typable.{Fault, Wrong, child_of, is_bare, typable_field, typable_fragment}
+use Rattle.apollo_elaboration.specs.declared.selection_path.SelectionPath.{SelectionPath}
+
+-- the path of what is inside a field with this response key
+abbrev pub inside : SelectionPath → NameView → SelectionPath
+inside path key = record { root = path.root; nested_fields = path.nested_fields ++ key ∷ [] }
+
+-- the faults of a selection in a type, by its path
+abbrev pub FS : Type 0
+FS = NameView → SelectionPath → List Fault
+
+-- those of a field or an inline fragment, by the place of its node too
+abbrev pub FN : Type 0
+FN = NameView → Wrong
+
+-- one level of a selection
+abbrev pub faults_step : Selection-F FS FN FN → FS
+faults_step (Selection-F.Field n) ty path = n.value ty n.location path
+faults_step (Selection-F.FragmentSpread n) ty path = []
+faults_step (Selection-F.InlineFragment n) ty path = n.value ty n.location path
+
+-- those of selections, in order
+abbrev pub faults_below : List FS → FS
+faults_below ss ty path = flat_map (λ (s : FS). s ty path) ss
+
+-- those below what is typable, or what is wrong
+abbrev pub found : {A : Type 0} → (A → List Fault) → Option SourceSpan → SelectionPath → Result A Wrong → List Fault
+found below place path (Ok a) = below a
+found below place path (Err wrong) = wrong place path
+
+-- one level of a field, and of an inline fragment
+abbrev pub field_faults_step : Option Schema → Field-F FS FN FN → FN
+field_faults_step s f ty place path =
+    found (λ d. faults_below f.selection_set (child_of d) (inside path (key_of f.alias f.name))) place (inside path (key_of f.alias f.name)) (typable_field s ty f.name (is_bare f.selection_set))
+
+abbrev pub fragment_faults_step : Option Schema → InlineFragment-F FS FN FN → FN
+fragment_faults_step s f ty place path = found (λ child. faults_below f.selection_set child path) place path (typable_fragment s ty f.type_condition)
+
+abbrev pub faults_of_selection : Option Schema → NameView → SelectionPath → Selection → List Fault
+faults_of_selection s ty path x = folds.fold-Selection FS FN FN faults_step (field_faults_step s) (fragment_faults_step s) x ty path
+
+abbrev pub faults_of_field : Option Schema → NameView → Option SourceSpan → SelectionPath → Field → List Fault
+faults_of_field s ty place path f = folds.fold-Field FS FN FN faults_step (field_faults_step s) (fragment_faults_step s) f ty place path
+
+abbrev pub faults_of_fragment : Option Schema → NameView → Option SourceSpan → SelectionPath → InlineFragment → List Fault
+faults_of_fragment s ty place path f = folds.fold-InlineFragment FS FN FN faults_step (field_faults_step s) (fragment_faults_step s) f ty place path
+
+-- those of a list
+abbrev pub faults_of : Option Schema → NameView → SelectionPath → List Selection → List Fault
+faults_of s ty path xs = flat_map (faults_of_selection s ty path) xs

@@ -1,0 +1,96 @@
+-- Which untyped selections are typable in a type, over a schema value or without a schema, and what is wrong with the others:
+-- GraphQL specification of October 2021, sections 2.4 to 2.8. The leaf types are those of sections 3.5 and 3.9.
+use Rattle.std.specs.Prelude.{◌==◌, Bool, true, false, List, [], ◌∷◌, ◌++◌, length, Option, None, Some, is_some, Result, Ok, Err, codes}
+use Rattle.graphql_nodes.specs.NameView.{NameView}
+use Rattle.graphql_nodes.specs.NodeView.{NodeView}
+use Rattle.graphql_nodes.specs.SameText.{same_text}
+use Rattle.graphql_nodes.specs.Tables.{lookup_key}
+use Rattle.graphql_nodes.specs.declared.source.SourceSpan.{SourceSpan}
+use Rattle.graphql_ast.specs.TypeReferences.{inner_name}
+use Rattle.graphql_ast.specs.declared.type_reference.Type.{Named}
+use Rattle.graphql_ast.specs.declared.type_system.FieldDefinition.{FieldDefinition}
+use Rattle.apollo_component.specs.declared.component.Component.{Component}
+use Rattle.apollo_types.specs.declared.extended_type.ExtendedType.{ExtendedType}
+use Rattle.apollo_types.specs.declared.extended_type.ExtendedType.TheVariants.{Scalar, Enum}
+use Rattle.apollo_schema.specs.Lookups.{field_at, type_at}
+use Rattle.apollo_schema.specs.MetaFields.{plain_name, plain_node}
+use Rattle.apollo_schema.specs.declared.schema.Schema.{Schema}
+use Rattle.apollo_elaboration.specs.declared.build_error.BuildError.{BuildError}
+use Rattle.apollo_elaboration.specs.declared.build_error.BuildError.TheVariants as e
+use Rattle.apollo_elaboration.specs.declared.selection_path.SelectionPath.{SelectionPath}
+
+abbrev pub Fault : Type 0
+Fault = Option SourceSpan × BuildError
+
+-- what is wrong with a selection, by the place of its node and by its path: nothing, where it falls silently
+abbrev pub Wrong : Type 0
+Wrong = Option SourceSpan → SelectionPath → List Fault
+
+-- the definition of any field without a schema
+abbrev pub unknown_field : NameView → NodeView FieldDefinition
+unknown_field name = plain_node (record { description = None; name = name; arguments = []; ty = Named (plain_name (codes "UNKNOWN")); directives = record { 0 = [] } })
+
+-- a field that isn't defined is at fault where its type is, with the name that the schema has the type under
+abbrev pub undefined : NameView → Option NameView → Wrong
+undefined name (Some key) place path = (name.location, e.UndefinedField key name path) ∷ []
+undefined name None place path = []
+
+-- the definition that a schema gives for a field, or what is wrong
+abbrev pub defined_as : NameView → Option NameView → Option (Component FieldDefinition) → Result (NodeView FieldDefinition) Wrong
+defined_as name key (Some c) = Ok c.node
+defined_as name key None = Err (undefined name key)
+
+abbrev pub defined_in : Schema → NameView → NameView → Result (NodeView FieldDefinition) Wrong
+defined_in s ty name = defined_as name (lookup_key (same_text ty) s.types) (field_at s ty name)
+
+-- what is wrong with subselections from a type: it is a scalar or an enum. Types of the other kinds, and those that the
+-- schema lacks, may have some
+abbrev pub leaf_fault : NameView → Option ExtendedType → Option Wrong
+leaf_fault ty (Some (Scalar n)) = Some (λ place path. (place, e.SubselectionOnScalarType ty path) ∷ [])
+leaf_fault ty (Some (Enum n)) = Some (λ place path. (place, e.SubselectionOnEnumType ty path) ∷ [])
+leaf_fault ty _ = None
+
+-- the type that subselections of a field are from: the name inside all lists of its type
+abbrev pub child_of : NodeView FieldDefinition → NameView
+child_of d = inner_name d.value.ty
+
+abbrev pub leaf_at : Schema → NodeView FieldDefinition → Option Wrong
+leaf_at s d = leaf_fault (child_of d) (type_at s.types (child_of d))
+
+-- there are no subselections
+abbrev pub is_bare : {A : Type 0} → List A → Bool
+is_bare selections = length selections == 0
+
+-- a definition stands where there are no subselections, or they are from no leaf type
+abbrev pub unless_leaf : Bool → NodeView FieldDefinition → Option Wrong → Result (NodeView FieldDefinition) Wrong
+unless_leaf true d leaf = Ok d
+unless_leaf false d None = Ok d
+unless_leaf false d (Some wrong) = Err wrong
+
+abbrev pub with_subselections : Schema → Bool → Result (NodeView FieldDefinition) Wrong → Result (NodeView FieldDefinition) Wrong
+with_subselections s bare (Ok d) = unless_leaf bare d (leaf_at s d)
+with_subselections s bare (Err wrong) = Err wrong
+
+-- the definition of a field that is typable in a type, with subselections or bare, or what is wrong with it
+abbrev pub typable_field : Option Schema → NameView → NameView → Bool → Result (NodeView FieldDefinition) Wrong
+typable_field None ty name bare = Ok (unknown_field name)
+typable_field (Some s) ty name bare = with_subselections s bare (defined_in s ty name)
+
+-- a schema has a type of the name; without a schema each name has one
+abbrev pub has_type : Option Schema → NameView → Bool
+has_type None ty = true
+has_type (Some s) ty = is_some (type_at s.types ty)
+
+abbrev pub if_there : Bool → NameView → Result NameView Wrong
+if_there true condition = Ok condition
+if_there false condition = Err (λ place path. (condition.location, e.UndefinedTypeInInlineFragmentTypeCondition condition path) ∷ [])
+
+-- the child type of an inline fragment that is typable in a type, by its condition, or what is wrong with it
+abbrev pub typable_fragment : Option Schema → NameView → Option NameView → Result NameView Wrong
+typable_fragment s ty None = Ok ty
+typable_fragment s ty (Some condition) = if_there (has_type s condition) condition
+
+-- what f makes of what is typable
+abbrev pub if_typable : {A B E : Type 0} → (A → B) → Result A E → Option B
+if_typable f (Ok a) = Some (f a)
+if_typable f (Err wrong) = None

@@ -1,0 +1,232 @@
+//! Untyped selections made into typed ones: GraphQL specification of October 2021, sections 2.4 to 2.8.
+//!
+//! Input nodes are borrowed. The path of a field is pushed and popped; its keys are copied for a fault alone. Arguments and
+//! directives are shared with the input.
+ghost use Rattle.std.specs.Prelude.{◌≡◌, ◌++◌, [], IfOk, OnOk};
+ghost use Rattle.std.specs.List.{cons_option};
+ghost use Rattle.std.specs.Option.{option_copied};
+ghost use Rattle.apollo_executable.specs.SelectionParts.{key_of};
+ghost use Rattle.apollo_elaboration.specs.Elaborated as spec;
+ghost use Rattle.apollo_elaboration.specs.Elaborated.{elaborated, elaborated_selection, elaborated_field, elaborated_fragment};
+ghost use Rattle.apollo_elaboration.specs.SelectionFaults.{faults_of, faults_of_selection, faults_of_field, faults_of_fragment};
+ghost use Rattle.apollo_elaboration.specs.Within.{faults_within};
+
+use crate::build_error::Fault;
+use crate::selection_path::SelectionPath;
+use crate::typable::{typable_field, typable_fragment};
+use apollo_executable::selection::{
+    Field, FragmentSpread, InlineFragment, Selection, SelectionSet,
+};
+use apollo_schema::schema::Schema;
+use graphql_ast::selection as ast;
+use graphql_ast::type_system::FieldDefinition;
+use graphql_nodes::collections::items::Items;
+use graphql_nodes::name::{Name, NamedType};
+use graphql_nodes::node::Node;
+use std::alloc::{AllocError, Global};
+
+/// The key of a field in a response: its alias, or else its name (section 2.7).
+fn response_key(field: &ast::Field) -> &Name
+    ensures { result.now ≡ key_of field.now.alias field.now.name }
+{
+    match &field.alias {
+        Some(alias) => alias,
+        None => &field.name,
+    }
+}
+
+/// Adds the selection at the end, if there is one.
+fn push_kept(
+    selections: &mut Items<Selection>,
+    selection: Option<Selection>,
+) -> Result<(), AllocError>
+    ensures { OnOk result (selections.new ≡ selections.old ++ cons_option selection []) }
+{
+    match selection {
+        Some(selection) => selections.push(selection),
+        None => Ok(()),
+    }
+}
+
+/// The spread, typed.
+fn typed_spread(spread: &ast::FragmentSpread) -> Result<FragmentSpread, AllocError>
+    ensures { IfOk result (λ typed. typed ≡ spec.typed_spread spread.now) }
+{
+    Ok(FragmentSpread {
+        fragment_name: spread.fragment_name.clone()?,
+        directives: spread.directives.clone()?,
+    })
+}
+
+/// The field with this definition and set.
+fn field_over(
+    field: &ast::Field,
+    definition: Node<FieldDefinition>,
+    selection_set: SelectionSet,
+) -> Result<Field, AllocError>
+    ensures { IfOk result (λ typed. typed ≡ record { definition = definition; alias = field.now.alias; name = field.now.name; arguments = field.now.arguments; directives = field.now.directives; selection_set = selection_set }) }
+{
+    Ok(Field {
+        definition,
+        alias: field.alias.clone()?,
+        name: field.name.clone()?,
+        arguments: field.arguments.clone()?,
+        directives: field.directives.clone()?,
+        selection_set,
+    })
+}
+
+/// The inline fragment with this set.
+fn fragment_over(
+    fragment: &ast::InlineFragment,
+    selection_set: SelectionSet,
+) -> Result<InlineFragment, AllocError>
+    ensures { IfOk result (λ typed. typed ≡ record { type_condition = fragment.now.type_condition; directives = fragment.now.directives; selection_set = selection_set }) }
+{
+    Ok(InlineFragment {
+        type_condition: fragment.type_condition.clone()?,
+        directives: fragment.directives.clone()?,
+        selection_set,
+    })
+}
+
+/// The typable selections from this type, typed. The faults of the others are noted.
+#[cycle(elaborate)]
+pub(crate) fn elaborate_set(
+    alloc: Global,
+    schema: Option<&Schema>,
+    ty: &NamedType,
+    selections: &[ast::Selection],
+    path: &mut SelectionPath,
+    faults: &mut Items<Fault>,
+) -> Result<SelectionSet, AllocError>
+    ensures set { IfOk result (λ set. set ≡ elaborated (option_copied schema.entry) ty.now selections.now) }
+    ensures faults { OnOk result (faults.new ≡ faults.old ++ faults_of (option_copied schema.entry) ty.now path.old selections.now) }
+    ensures path { path.new ≡ path.old }
+{
+    let mut kept = Items::new(alloc);
+    for selection in selections {
+        let typed = elaborate_selection(alloc, schema, ty, selection, path, faults)?;
+        push_kept(&mut kept, typed)?;
+    }
+    Ok(SelectionSet {
+        ty: ty.clone()?,
+        selections: kept,
+    })
+}
+
+/// The selection, typed, if it is typable.
+#[cycle(elaborate)]
+fn elaborate_selection(
+    alloc: Global,
+    schema: Option<&Schema>,
+    ty: &NamedType,
+    selection: &ast::Selection,
+    path: &mut SelectionPath,
+    faults: &mut Items<Fault>,
+) -> Result<Option<Selection>, AllocError>
+    ensures typed { IfOk result (λ kept. kept ≡ elaborated_selection (option_copied schema.entry) ty.now selection.now) }
+    ensures faults { OnOk result (faults.new ≡ faults.old ++ faults_of_selection (option_copied schema.entry) ty.now path.old selection.now) }
+    ensures path { path.new ≡ path.old }
+{
+    match selection {
+        ast::Selection::Field(node) => {
+            match elaborate_field(alloc, schema, ty, node, path, faults)? {
+                None => Ok(None),
+                Some(field) => Ok(Some(Selection::Field(node.same_location(alloc, field)?))),
+            }
+        }
+        ast::Selection::FragmentSpread(node) => {
+            let spread = typed_spread(node)?;
+            Ok(Some(Selection::FragmentSpread(node.same_location(alloc, spread)?)))
+        }
+        ast::Selection::InlineFragment(node) => {
+            match elaborate_fragment(alloc, schema, ty, node, path, faults)? {
+                None => Ok(None),
+                Some(inline) => Ok(Some(Selection::InlineFragment(node.same_location(
+                    alloc, inline,
+                )?))),
+            }
+        }
+    }
+}
+
+/// The field, typed, if it is typable. While it is looked at, its key is the last of the path.
+#[cycle(elaborate)]
+fn elaborate_field(
+    alloc: Global,
+    schema: Option<&Schema>,
+    ty: &NamedType,
+    node: &Node<ast::Field>,
+    path: &mut SelectionPath,
+    faults: &mut Items<Fault>,
+) -> Result<Option<Field>, AllocError>
+    ensures typed { IfOk result (λ kept. kept ≡ elaborated_field (option_copied schema.entry) ty.now node.now.value) }
+    ensures faults { OnOk result (faults.new ≡ faults.old ++ faults_of_field (option_copied schema.entry) ty.now node.now.location path.old node.now.value) }
+    ensures path { path.new ≡ path.old }
+{
+    path.nested_fields.push(response_key(node).clone()?)?;
+    let typed = elaborate_within(alloc, schema, ty, node, path, faults);
+    path.nested_fields.pop();
+    let field = typed?;
+    Ok(field)
+}
+
+/// The field, typed, if it is typable, where its key is the last of the path.
+#[cycle(elaborate)]
+fn elaborate_within(
+    alloc: Global,
+    schema: Option<&Schema>,
+    ty: &NamedType,
+    node: &Node<ast::Field>,
+    path: &mut SelectionPath,
+    faults: &mut Items<Fault>,
+) -> Result<Option<Field>, AllocError>
+    ensures typed { IfOk result (λ kept. kept ≡ elaborated_field (option_copied schema.entry) ty.now node.now.value) }
+    ensures faults { OnOk result (faults.new ≡ faults.old ++ faults_within (option_copied schema.entry) ty.now node.now.location path.old node.now.value) }
+    ensures path { path.new ≡ path.old }
+{
+    let Some(definition) = typable_field(alloc, schema, ty, node, path, faults)? else {
+        return Ok(None);
+    };
+    let child = definition.ty.inner_named_type();
+    let set = elaborate_set(
+        alloc,
+        schema,
+        child,
+        node.selection_set.as_slice(),
+        path,
+        faults,
+    )?;
+    let field = field_over(node, definition, set)?;
+    Ok(Some(field))
+}
+
+/// The inline fragment, typed, if it is typable.
+#[cycle(elaborate)]
+fn elaborate_fragment(
+    alloc: Global,
+    schema: Option<&Schema>,
+    ty: &NamedType,
+    node: &Node<ast::InlineFragment>,
+    path: &mut SelectionPath,
+    faults: &mut Items<Fault>,
+) -> Result<Option<InlineFragment>, AllocError>
+    ensures typed { IfOk result (λ kept. kept ≡ elaborated_fragment (option_copied schema.entry) ty.now node.now.value) }
+    ensures faults { OnOk result (faults.new ≡ faults.old ++ faults_of_fragment (option_copied schema.entry) ty.now node.now.location path.old node.now.value) }
+    ensures path { path.new ≡ path.old }
+{
+    let Some(child) = typable_fragment(schema, ty, node, path, faults)? else {
+        return Ok(None);
+    };
+    let set = elaborate_set(
+        alloc,
+        schema,
+        child,
+        node.selection_set.as_slice(),
+        path,
+        faults,
+    )?;
+    let inline = fragment_over(node, set)?;
+    Ok(Some(inline))
+}

@@ -1,0 +1,33 @@
+//! Laws of elaboration, for those who build on it; and what `==` answers at paths and the errors of a build.
+//!
+//! Each law is a function that does nothing. A proof cites it by a call, and finds its clauses there.
+ghost use Rattle.std.specs.Prelude.{◌≡◌, [], Option};
+ghost use Rattle.graphql_nodes.specs.Clones.{IsExact};
+ghost use Rattle.graphql_nodes.specs.Comparing.{ComparesBy};
+ghost use Rattle.graphql_nodes.specs.NameView.{NameView};
+ghost use Rattle.apollo_executable.specs.Erasure.{erased_set};
+ghost use Rattle.apollo_elaboration.specs.BareErrors.{bare_root, bare_path, bare_build_error};
+ghost use Rattle.apollo_elaboration.specs.SelectionFaults.{faults_of};
+ghost use Rattle.apollo_elaboration.specs.Stripped.{stripped};
+ghost use Rattle.apollo_elaboration.specs.TypedSelections.{IsTypedSet};
+
+use crate::build_error::BuildError;
+use crate::selection_path::{ExecutableDefinitionName, SelectionPath};
+use apollo_executable::selection::SelectionSet;
+use apollo_schema::schema::Schema;
+
+/// The selections that a typed set is erased to are all typable in its type, so nothing of them is at fault; and no two typed
+/// sets from one type are erased to the same selections. GraphQL specification of October 2021, sections 2.4 to 2.8.
+pub fn typed_sets()
+    ensures stripped { (schema : Option Schema) (ty : NameView) (set : SelectionSet) → IsTypedSet schema ty set → stripped schema ty (erased_set set) ≡ erased_set set }
+    ensures faultless { (schema : Option Schema) (ty : NameView) (path : SelectionPath) (set : SelectionSet) → IsTypedSet schema ty set → faults_of schema ty path (erased_set set) ≡ [] }
+    ensures unique { (schema : Option Schema) (ty : NameView) (a b : SelectionSet) → IsTypedSet schema ty a → IsTypedSet schema ty b → erased_set a ≡ erased_set b → a ≡ b }
+{}
+
+/// Paths and the errors of a build are equal exactly where they are one without the locations of names. GraphQL specification of
+/// October 2021, sections 2.2 to 2.8.
+pub fn equality_of_build_errors()
+    ensures definition_name { ComparesBy ⟦<ExecutableDefinitionName as PartialEq>⟧.eq bare_root }
+    ensures path { ComparesBy ⟦<SelectionPath as PartialEq>⟧.eq bare_path }
+    ensures build_error { ComparesBy ⟦<BuildError as PartialEq>⟧.eq bare_build_error }
+{}

@@ -1,0 +1,151 @@
+-- The names of the fragments whose places are marked.
+use Rattle.std.proofs.Common.{◌≡◌, ◌↔◌, inl, inr, ℕ, Bool, true, false, ◌||◌, cond, List, [], ◌∷◌, map, filter, Option, None, Some, refl, sym, ap, ◌∙◌, get_or, eq-eqb}
+use Rattle.std.specs.Prelude.{nat_eq, position, slice_index_or}
+use Rattle.std.specs.Option.{option_map_or}
+use Rattle.std.proofs.lemmas.Bool.{eqb-true}
+use Rattle.std.proofs.lemmas.List.Quantifiers.{position-Some}
+use Rattle.graphql_nodes.specs.NameView.{NameView}
+use Rattle.graphql_nodes.specs.NodeView.{NodeView}
+use Rattle.graphql_nodes.specs.SameText.{same, by_text}
+use Rattle.graphql_nodes.specs.Tables.{keys_of, lookup}
+use Rattle.graphql_nodes.proofs.Texts.{same-true, same-is}
+use Rattle.apollo_walks.specs.Selections.{Names, no_names, with_name, fragment_of}
+use Rattle.apollo_walks.specs.Reachable.{Among, Reachable}
+use Rattle.apollo_walks.specs.Course.{course}
+use Rattle.apollo_walks.proofs.Courses.{whole-opens, reach-found}
+use Rattle.apollo_executable.specs.Walks.Plain.{Plain, plain, fragments_of}
+use Rattle.apollo_executable.specs.Walks.Left.{marked_names, opened_names}
+use Rattle.apollo_executable.specs.declared.operation.Fragment.{Fragment}
+use Rattle.apollo_executable.specs.declared.document.ExecutableDocument.{ExecutableDocument}
+
+-- ---- fragments under their keys
+
+unfoldable plain_in : Bool → Option (NodeView Fragment) → Option Plain
+plain_in deep None = None
+plain_in deep (Some n) = Some (plain deep n.value.selection_set.selections)
+
+fragment_of-entries : (deep : Bool) (es : List (NameView × NodeView Fragment)) (n : List ℕ)
+    → fragment_of (map (λ e. (e.0.text, plain deep e.1.value.selection_set.selections)) es) n ≡ plain_in deep (lookup (by_text n) es)
+unfolding plain_in
+fragment_of-entries deep [] n = refl
+fragment_of-entries deep (e ∷ es) n = at (same n e.0.text) (fragment_of-entries deep es n)
+  where
+    at : (b : Bool) → fragment_of (map (λ e. (e.0.text, plain deep e.1.value.selection_set.selections)) es) n ≡ plain_in deep (lookup (by_text n) es) →
+        cond b (Some (plain deep e.1.value.selection_set.selections)) (fragment_of (map (λ e. (e.0.text, plain deep e.1.value.selection_set.selections)) es) n)
+        ≡ plain_in deep (cond b (Some e.1) (lookup (by_text n) es))
+    at true h = refl
+    at false h = h
+
+pub found-some : (deep : Bool) (d : ExecutableDocument) (n : List ℕ) (f : NodeView Fragment) → lookup (by_text n) d.fragments ≡ Some f
+    → fragment_of (fragments_of deep d) n ≡ Some (plain deep f.value.selection_set.selections)
+unfolding fragments_of plain_in
+found-some deep d n f is = fragment_of-entries deep d.fragments n ∙ ap (plain_in deep) is
+
+pub found-none : (deep : Bool) (d : ExecutableDocument) (n : List ℕ) → lookup (by_text n) d.fragments ≡ None → fragment_of (fragments_of deep d) n ≡ None
+unfolding fragments_of plain_in
+found-none deep d n is = fragment_of-entries deep d.fragments n ∙ ap (plain_in deep) is
+
+-- ---- marks
+
+nameless : NameView
+nameless = record { text = []; location = None }
+
+abbrev at_place : List Bool → Option ℕ → Bool
+at_place flags place = option_map_or (λ i. slice_index_or flags i false) place false
+
+module _ (keys : List NameView) (fs gs : List Bool) (n : List ℕ) (i : ℕ) where
+  is_named : position (by_text n) keys ≡ Some i → ((k : ℕ) → slice_index_or gs k false ≡ cond (nat_eq i k) true (slice_index_or fs k false)) →
+      (m : List ℕ) (place : Option ℕ) → position (by_text m) keys ≡ place → (b : Bool) → same n m ≡ b →
+      at_place gs place ≡ (b || at_place fs place)
+  is_named there at m None is true alike =
+      let e = ap (λ k. position (by_text k) keys) (same-true n m alike) in
+      let f = sym there ∙ e ∙ is in absurd (cc)
+  is_named there at m None is false other = refl
+  is_named there at m (Some j) is true alike =
+      let e = sym there ∙ ap (λ k. position (by_text k) keys) (same-true n m alike) ∙ is in
+      let f : i ≡ j = cc in
+      at j ∙ ap (λ b. cond b true (slice_index_or fs j false)) (eq-eqb i j f)
+  is_named there at m (Some j) is false other = at j ∙ go (nat_eq i j) refl
+    where
+      go : (b : Bool) → nat_eq i j ≡ b → cond b true (slice_index_or fs j false) ≡ slice_index_or fs j false
+      go false h = refl
+      go true h =
+          let one = position-Some (by_text n) keys i nameless there in
+          let two = position-Some (by_text m) keys j nameless is in
+          let e = same-true n _ one.1 ∙ ap (λ k. (get_or keys k nameless).text) (eqb-true i j h) ∙ sym (same-true m _ two.1) in
+          let f = same-is n m e in
+          absurd (cc)
+
+pub marked_names-mark : (d : ExecutableDocument) (fs gs : List Bool) (n : List ℕ) (i : ℕ) → position (by_text n) (keys_of d.fragments) ≡ Some i →
+    ((k : ℕ) → slice_index_or gs k false ≡ cond (nat_eq i k) true (slice_index_or fs k false)) → marked_names d gs ≡ with_name n (marked_names d fs)
+unfolding marked_names with_name
+marked_names-mark d fs gs n i place at = λ j m. is_named (keys_of d.fragments) fs gs n i place at m (position (by_text m) (keys_of d.fragments)) refl (same n m) refl j
+
+pub marked_names-at : (d : ExecutableDocument) (fs : List Bool) (n : List ℕ) (i : ℕ) (b : Bool) → position (by_text n) (keys_of d.fragments) ≡ Some i → slice_index_or fs i false ≡ b → marked_names d fs n ≡ b
+unfolding marked_names
+marked_names-at d fs n i b place is = ap (at_place fs) place ∙ is
+
+pub marked_names-none : (d : ExecutableDocument) (fs : List Bool) (n : List ℕ) → position (by_text n) (keys_of d.fragments) ≡ None → marked_names d fs n ≡ false
+unfolding marked_names
+marked_names-none d fs n missing = ap (at_place fs) missing
+
+no_flag : (place : Option ℕ) → at_place [] place ≡ false
+no_flag None = refl
+no_flag (Some i) = refl
+
+pub marked_names-empty : (d : ExecutableDocument) (fs : List Bool) → fs ≡ [] → marked_names d fs ≡ no_names
+unfolding marked_names
+marked_names-empty d fs is = ap (marked_names d) is ∙ (λ j n. no_flag (position (by_text n) (keys_of d.fragments)) j)
+
+-- ---- the names as a list
+
+filter-none : {A : Type 0} (xs : List A) → filter (λ _. false) xs ≡ []
+filter-none [] = refl
+filter-none (x ∷ xs) = filter-none xs
+
+pub opened_names-empty : (d : ExecutableDocument) (names : Names) → names ≡ no_names → opened_names d names ≡ []
+opened_names-empty d names is = ap (opened_names d) is ∙ filter-none (map (λ k. k.text) (keys_of d.fragments))
+
+module _ {A : Type 0} (p : A → Bool) (a : A) where
+  Among-filter : (xs : List A) → Among a (filter p xs) → p a ≡ true
+  Among-filter [] h = absurd h
+  Among-filter (x ∷ xs) h = by (p x) refl (Among-filter xs) h
+    where
+      by : (b : Bool) → p x ≡ b → (Among a (filter p xs) → p a ≡ true) → Among a (cond b (x ∷ filter p xs) (filter p xs)) → p a ≡ true
+      by true e rest (inl i) = ap p i ∙ e
+      by true e rest (inr later) = rest later
+      by false e rest later = rest later
+
+  filter-Among : (xs : List A) → p a ≡ true → Among a xs → Among a (filter p xs)
+  filter-Among [] held h = h
+  filter-Among (x ∷ xs) held h = by (p x) refl (filter-Among xs held) h
+    where
+      by : (b : Bool) → p x ≡ b → (Among a xs → Among a (filter p xs)) → Among a (x ∷ xs) → Among a (cond b (x ∷ filter p xs) (filter p xs))
+      by true e rest (inl i) = inl i
+      by true e rest (inr later) = inr (rest later)
+      by false e rest (inl i) = let f = sym e ∙ ap p (sym i) ∙ held in absurd (cc)
+      by false e rest (inr later) = rest later
+
+key-Among : (deep : Bool) (es : List (NameView × NodeView Fragment)) (n : List ℕ) (set : Plain)
+    → fragment_of (map (λ e. (e.0.text, plain deep e.1.value.selection_set.selections)) es) n ≡ Some set → Among n (map (λ k. k.text) (keys_of es))
+key-Among deep [] n set found = absurd (cc)
+key-Among deep (e ∷ es) n set found = by (same n e.0.text) refl (key-Among deep es n set) found
+  where
+    by : (b : Bool) → same n e.0.text ≡ b
+        → (fragment_of (map (λ e. (e.0.text, plain deep e.1.value.selection_set.selections)) es) n ≡ Some set → Among n (map (λ k. k.text) (keys_of es)))
+        → cond b (Some (plain deep e.1.value.selection_set.selections)) (fragment_of (map (λ e. (e.0.text, plain deep e.1.value.selection_set.selections)) es) n) ≡ Some set
+        → Among n (map (λ k. k.text) (keys_of (e ∷ es)))
+    by true alike rest _ = inl (same-true n e.0.text alike)
+    by false other rest found = inr (rest found)
+
+-- the names that are opened at the end of a whole walk are those that it leads to
+pub opened_names-reached : (deep : Bool) (d : ExecutableDocument) (s : Plain) (names : Names) → names ≡ (course (fragments_of deep d) no_names s).opened
+    → (n : List ℕ) → Among n (opened_names d names) ↔ Reachable (fragments_of deep d) s n
+unfolding fragments_of
+opened_names-reached deep d s names is n =
+    let keys = map (λ k. k.text) (keys_of d.fragments) in
+    let opens = whole-opens (fragments_of deep d) s n in (
+      λ h. opens.0 (sym (ap (λ (N : Names). N n) is) ∙ Among-filter names n keys h),
+      λ r. let found = reach-found (fragments_of deep d) s n r in
+          filter-Among names n keys (ap (λ (N : Names). N n) is ∙ opens.1 r) (key-Among deep d.fragments n found.0 found.1),
+    )

@@ -1,0 +1,30 @@
+use Rattle.std.proofs.Common.{rules, ◌≡◌, Some, Result, Ok, Bor, refl, sym, ap, subst, ◌∙◌, true≢false}
+use Rattle.std.specs.declared.alloc.AllocError.{AllocError}
+use Rattle.graphql_nodes.specs.NodeView.{NodeView}
+use Rattle.apollo_executable.specs.Walks.Introspection.{IsMetaName}
+use Rattle.apollo_executable.specs.Walks.NextItem.{GivesFirst}
+use Rattle.apollo_executable.specs.declared.selection.Field.{Field}
+use Rattle.apollo_executable.proofs.Walking.IntrospectionLemmas.{AreMeta, meta-introspection, introspection-meta}
+use Rattle.apollo_executable.proofs.operation.Operation.is_introspection.Goals as goal
+
+pub returns-then-not-is_meta_name-clause-answer : goal.returns-then-not-is_meta_name-clause-answer
+returns-then-not-is_meta_name-clause-answer c =
+    let walk = c.root_fields-walk in
+    let field = c.in_ok-field.field-0 in
+    let given : c.in-Some.field ≡ Ok field = search rules in
+    let first = subst (λ (r : Result (Bor (NodeView Field)) AllocError). GivesFirst c.loop-field.walk (Some r) c.next.new.self) given c.in-Some.ensures.steps.gives in
+    let named = c.as_str.ensures ∙ ap (λ (f : Field). f.name.text) c.deref.ensures in (
+      λ no. absurd (true≢false (sym no)),
+      λ is.
+          let all = c.loop-field.invariant.0 (introspection-meta c.args.document.now c.args.self.now walk.result.coming walk.ensures.coming is) in
+          let head = (subst AreMeta first.0 all).0 in
+          sym c.if-not-is_meta_name.true ∙ c.is_meta_name.ensures.1 (subst IsMetaName (sym named) head),
+    )
+
+pub returns-clause-answer : goal.returns-clause-answer
+returns-clause-answer c =
+    let walk = c.root_fields-walk in (
+      λ _. meta-introspection c.args.document.now c.args.self.now walk.result.coming walk.ensures.coming (c.is_query.ensures.0 c.if-not-is_query.false)
+          (c.loop-field.invariant.1 (subst AreMeta (sym c.in_default.ensures.steps.gives.0) tt)),
+      λ _. refl,
+    )

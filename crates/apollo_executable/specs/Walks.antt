@@ -1,0 +1,6 @@
+pub mod Introspection
+pub mod Left
+pub mod NextItem
+pub mod Plain
+pub mod Seen
+pub mod WalkView

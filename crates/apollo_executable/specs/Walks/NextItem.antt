@@ -1,0 +1,42 @@
+-- What a call of `next` gives of a walk, and what it leaves.
+use Rattle.std.specs.Prelude.{◌≡◌, ◌<◌, ℕ, suc, Bool, true, false, [], ◌∷◌, length, Option, None, Some, IfNone, cond, Result, Ok, Err}
+use Rattle.std.specs.Borrow.{Bor}
+use Rattle.std.specs.declared.alloc.AllocError.{AllocError}
+use Rattle.graphql_nodes.specs.NodeView.{NodeView}
+use Rattle.apollo_executable.specs.Walks.WalkView.{WalkView, IsWithinTurns, TakesAllTurns, AreReachedNames}
+use Rattle.apollo_executable.specs.declared.selection.Field.{Field}
+
+abbrev pub Item : Type 0
+Item = Result (Bor (NodeView Field)) AllocError
+
+-- the item was the first of those that were to come, and the others are left
+abbrev pub GivesFirst : WalkView → Option Item → WalkView → Type 0
+-- nothing was to come
+GivesFirst old None new = (old.coming ≡ []) × (new.coming ≡ []) × (new.ended ≡ true)
+GivesFirst old (Some (Ok field)) new = (old.coming ≡ field.now ∷ new.coming) × (old.ended ≡ false) × (new.ended ≡ false)
+-- after the error nothing comes
+GivesFirst old (Some (Err error)) new = (old.ended ≡ false) × (new.coming ≡ []) × (new.ended ≡ true)
+
+-- after the end nothing changes any more, and each item takes a turn
+abbrev pub TakesTurns : WalkView → Option Item → WalkView → Type 0
+TakesTurns old None new = old.ended ≡ true → new ≡ old
+TakesTurns old (Some item) new = old.taken < new.taken
+
+-- a whole walk is over
+abbrev pub IsOver : Bool → WalkView → Type 0
+IsOver deep walk = TakesAllTurns deep walk.document walk.start walk.taken × AreReachedNames deep walk.document walk.start walk.opened
+
+-- a call of `next` at old that gave the item and left new
+pub record IsNext (deep : Bool) (old : WalkView) (item : Option Item) (new : WalkView) : Type 0 where
+  pub document : new.document ≡ old.document
+  pub start : new.start ≡ old.start
+  pub gives : GivesFirst old item new
+  pub takes : TakesTurns old item new
+  -- at every moment
+  pub bound : IsWithinTurns deep new.document new.start new.taken
+  -- where it wasn't over before
+  pub over : IfNone item (old.ended ≡ false → IsOver deep new)
+
+-- a field each, and the error that may come in place of one
+abbrev pub most_items : WalkView → ℕ
+most_items walk = cond walk.ended 0 (suc (length walk.coming))

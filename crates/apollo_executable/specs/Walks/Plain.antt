@@ -1,0 +1,73 @@
+-- Typed selections as a walk sees them: GraphQL specification of October 2021, sections 2.4 to 2.8. A walk over root fields
+-- sees nothing below a field.
+use Rattle.std.specs.Prelude.{Bool, List, [], ◌∷◌, map, cond}
+use Rattle.graphql_nodes.specs.NodeView.{NodeView}
+use Rattle.apollo_walks.specs.Selections.{Selections, none, field, spread, inline, Fragments}
+use Rattle.apollo_executable.specs.declared.selection.Selection.{Selection, fold-Selection, roll-Selection}
+use Rattle.apollo_executable.specs.declared.selection.Selection.TheOpen.{Selection-F, Field-F, InlineFragment-F, SelectionSet-F}
+use Rattle.apollo_executable.specs.declared.selection.Selection.TheFolds.{map-Selection, map-Field, map-InlineFragment, map-SelectionSet}
+use Rattle.apollo_executable.specs.declared.selection.Field.{Field, roll-Field}
+use Rattle.apollo_executable.specs.declared.selection.InlineFragment.{InlineFragment, roll-InlineFragment}
+use Rattle.apollo_executable.specs.declared.selection.SelectionSet.{SelectionSet, roll-SelectionSet}
+use Rattle.apollo_executable.specs.declared.document.ExecutableDocument.{ExecutableDocument}
+
+abbrev pub Plain : Type 0
+Plain = Selections (NodeView Field)
+
+-- each with what it is as a walk sees it: a selection put before others, the selections of a field, an inline fragment, a set
+abbrev pub PS : Type 0
+PS = Selection × (Plain → Plain)
+
+abbrev pub PF : Type 0
+PF = Field × Plain
+
+abbrev pub PI : Type 0
+PI = InlineFragment × Plain
+
+abbrev pub PL : Type 0
+PL = SelectionSet × Plain
+
+-- a field as a node, where its value has more with it
+abbrev pub node_of : {A : Type 0} → NodeView (Field × A) → NodeView Field
+node_of n = record { value = n.value.0; location = n.location }
+
+-- where `deep` is false, nothing below a field is seen
+abbrev pub when_deep : Bool → Plain → Plain
+when_deep deep below = cond deep below none
+
+abbrev pub put_before : Bool → Selection-F PS PF PI PL → Plain → Plain
+put_before deep (Selection-F.Field n) rest = field (node_of n) (when_deep deep n.value.1) rest
+put_before deep (Selection-F.FragmentSpread n) rest = spread n.value.fragment_name.text rest
+put_before deep (Selection-F.InlineFragment n) rest = inline n.value.1 rest
+
+-- one selection after the other
+abbrev pub in_order : List PS → Plain
+in_order [] = none
+in_order (s ∷ ss) = s.1 (in_order ss)
+
+abbrev pub selection_step : Bool → Selection-F PS PF PI PL → PS
+selection_step deep s = (roll-Selection (map-Selection PS PF PI PL Selection Field InlineFragment SelectionSet (λ e. e.0) (λ e. e.0) (λ e. e.0) (λ e. e.0) s), put_before deep s)
+
+abbrev pub field_step : Field-F PS PF PI PL → PF
+field_step f = (roll-Field (map-Field PS PF PI PL Selection Field InlineFragment SelectionSet (λ e. e.0) (λ e. e.0) (λ e. e.0) (λ e. e.0) f), f.selection_set.1)
+
+abbrev pub inline_step : InlineFragment-F PS PF PI PL → PI
+inline_step f = (roll-InlineFragment (map-InlineFragment PS PF PI PL Selection Field InlineFragment SelectionSet (λ e. e.0) (λ e. e.0) (λ e. e.0) (λ e. e.0) f), f.selection_set.1)
+
+abbrev pub set_step : SelectionSet-F PS PF PI PL → PL
+set_step s = (roll-SelectionSet (map-SelectionSet PS PF PI PL Selection Field InlineFragment SelectionSet (λ e. e.0) (λ e. e.0) (λ e. e.0) (λ e. e.0) s), in_order s.selections)
+
+abbrev pub seen_selection : Bool → Selection → PS
+seen_selection deep = fold-Selection PS PF PI PL (selection_step deep) field_step inline_step set_step
+
+-- some selections, as a walk sees them
+unfoldable pub plain : Bool → List Selection → Plain
+plain deep ss = in_order (map (seen_selection deep) ss)
+
+-- what a walk looks at below a field
+abbrev pub below_of : Bool → Field → List Selection
+below_of deep f = cond deep f.selection_set.selections []
+
+-- the fragments of a document, under the keys of its map
+unfoldable pub fragments_of : Bool → ExecutableDocument → Fragments (NodeView Field)
+fragments_of deep document = map (λ e. (e.0.text, plain deep e.1.value.selection_set.selections)) document.fragments

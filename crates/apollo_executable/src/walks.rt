@@ -1,0 +1,14 @@
+//! Walks over the fields of a selection set, through inline fragments and named fragments: GraphQL specification of October
+//! 2021, sections 2.8 and 6.3.2.
+//!
+//! A walk opens each fragment at the first spread of its name, and passes over spreads of names that are opened or that no
+//! fragment has: so it ends on documents whose fragments lead to one another, and gives each field that is reached as often
+//! as it stands there.
+
+pub mod all_fields;
+mod calls;
+mod flags;
+mod introspection;
+mod open_lists;
+pub mod root_fields;
+mod walk;

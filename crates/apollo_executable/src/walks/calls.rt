@@ -1,0 +1,99 @@
+//! Walks over selection sets and operations.
+ghost use Rattle.std.specs.Prelude.{IfOk, map, true, false};
+ghost use Rattle.apollo_executable.specs.Walks.WalkView.{AreWalked, IsNewWalk};
+
+use crate::document::ExecutableDocument;
+use crate::operation::Operation;
+use crate::selection::{Field, SelectionSet};
+use crate::walks::all_fields::AllFields;
+use crate::walks::root_fields::RootFields;
+use graphql_nodes::node::Node;
+use std::alloc::{AllocError, Global};
+
+impl SelectionSet {
+    /// A walk over the root fields of this set: those that stand in it or are reached through fragments, and none below a
+    /// field. Making it takes no memory. GraphQL specification of October 2021, section 6.3.2.
+    ///
+    /// That the set may belong to a fragment doesn't open that fragment.
+    pub fn root_fields<'doc>(
+        &'doc self,
+        alloc: Global,
+        document: &'doc ExecutableDocument,
+    ) -> RootFields<'doc>
+        ensures { IsNewWalk false document.now self.now result }
+    {
+        RootFields::new(alloc, document, self)
+    }
+
+    /// A walk over all fields that this set reaches, through fragments and below fields: each field comes before those below
+    /// it. Making it takes no memory.
+    ///
+    /// That the set may belong to a fragment doesn't open that fragment.
+    pub fn all_fields<'doc>(
+        &'doc self,
+        alloc: Global,
+        document: &'doc ExecutableDocument,
+    ) -> AllFields<'doc>
+        ensures { IsNewWalk true document.now self.now result }
+    {
+        AllFields::new(alloc, document, self)
+    }
+
+    /// The fields of a whole walk over root fields, as [`root_fields`](SelectionSet::root_fields) gives them. The error is
+    /// want of memory.
+    pub fn collect_root<'doc>(
+        &'doc self,
+        alloc: Global,
+        document: &'doc ExecutableDocument,
+    ) -> Result<Vec<&'doc Node<Field>>, AllocError>
+        ensures { IfOk result (λ fields. AreWalked false document.now self.now (map (λ field. field.now) fields.items)) }
+    {
+        let mut fields = Vec::new(alloc);
+        let mut walk = self.root_fields(alloc, document);
+        while let Some(field) = walk.next() {
+            fields.push(field?)?;
+        }
+        Ok(fields)
+    }
+
+    /// The fields of a whole walk over all fields, as [`all_fields`](SelectionSet::all_fields) gives them. The error is want
+    /// of memory.
+    pub fn collect_all<'doc>(
+        &'doc self,
+        alloc: Global,
+        document: &'doc ExecutableDocument,
+    ) -> Result<Vec<&'doc Node<Field>>, AllocError>
+        ensures { IfOk result (λ fields. AreWalked true document.now self.now (map (λ field. field.now) fields.items)) }
+    {
+        let mut fields = Vec::new(alloc);
+        let mut walk = self.all_fields(alloc, document);
+        while let Some(field) = walk.next() {
+            fields.push(field?)?;
+        }
+        Ok(fields)
+    }
+}
+
+impl Operation {
+    /// A walk over the root fields of the operation, as [`SelectionSet::root_fields`] makes it.
+    pub fn root_fields<'doc>(
+        &'doc self,
+        alloc: Global,
+        document: &'doc ExecutableDocument,
+    ) -> RootFields<'doc>
+        ensures { IsNewWalk false document.now self.now.selection_set result }
+    {
+        self.selection_set.root_fields(alloc, document)
+    }
+
+    /// A walk over all fields that the operation reaches, as [`SelectionSet::all_fields`] makes it.
+    pub fn all_fields<'doc>(
+        &'doc self,
+        alloc: Global,
+        document: &'doc ExecutableDocument,
+    ) -> AllFields<'doc>
+        ensures { IsNewWalk true document.now self.now.selection_set result }
+    {
+        self.selection_set.all_fields(alloc, document)
+    }
+}

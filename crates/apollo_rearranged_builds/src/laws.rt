@@ -1,0 +1,38 @@
+//! Laws of what rearranged lists of definitions are built to, for those who compose schemas or keep registries of them.
+ghost use Rattle.std.specs.Prelude.{◌≡◌, ◌++◌, ℕ, Bool, List};
+ghost use Rattle.std.specs.List.Sorted.{IsPermutation};
+ghost use Rattle.apollo_meaning.specs.Faults.ListFaults.{faults_of};
+ghost use Rattle.apollo_meaning.specs.Items.ListItems.{Added, added_items};
+ghost use Rattle.apollo_rearrangement.specs.Documents.{Documents, added_each, added_joined};
+ghost use Rattle.apollo_rearrangement.specs.Rearranged.{AreRearranged};
+ghost use Rattle.apollo_rearranged_builds.specs.BuiltAlike.{BuildEqualSchemas, BuildSameFaults, MeanEqualSchemas, StandFor};
+ghost use Rattle.apollo_schema.specs.BuilderStands.{StandsFor};
+ghost use Rattle.apollo_schema.specs.declared.schema_builder.SchemaBuilder.{SchemaBuilder};
+
+use apollo_rearrangement::laws::rearranged_types_are_equal;
+
+/// Two lists of the same definitions that keep, for each type name, the order of its definitions and the order of its
+/// extensions, and so for the directive definitions of each name, the schema definitions and the schema extensions, mean
+/// equal schemas, whatever numbers their extensions get; and have the same faults, with their locations, in some order.
+/// So do builders that stand for them. GraphQL specification of October 2021, section 3.
+pub fn rearranged()
+    ensures schemas { (adopts : Bool) (xs ys : List Added) → AreRearranged (added_items xs) (added_items ys) → MeanEqualSchemas adopts xs ys }
+    ensures faults { (adopts : Bool) (xs ys : List Added) → AreRearranged (added_items xs) (added_items ys) → IsPermutation (faults_of adopts xs) (faults_of adopts ys) }
+    ensures built { (xs ys : List Added) → AreRearranged (added_items xs) (added_items ys) → (b c : SchemaBuilder) → StandFor xs ys b c → BuildEqualSchemas b c }
+    ensures found { (xs ys : List Added) → AreRearranged (added_items xs) (added_items ys) → (b c : SchemaBuilder) → StandFor xs ys b c → BuildSameFaults b c }
+{
+    rearranged_types_are_equal();
+}
+
+/// Documents that are added one by one, with one setting, mean the schema of one document of all their definitions, and have
+/// its faults in the same order; and a builder to which they were added stands for what that one adds.
+pub fn documents_one_by_one()
+    ensures schemas { (adopts ignores : Bool) (xs : List Added) (documents : Documents)
+        → MeanEqualSchemas adopts (xs ++ added_each ignores documents) (xs ++ added_joined ignores documents) }
+    ensures faults { (adopts ignores : Bool) (xs : List Added) (documents : Documents)
+        → faults_of adopts (xs ++ added_each ignores documents) ≡ faults_of adopts (xs ++ added_joined ignores documents) }
+    ensures stands { (b : SchemaBuilder) (start : ℕ) (ignores : Bool) (xs : List Added) (documents : Documents)
+        → StandsFor start (xs ++ added_each ignores documents) b → StandsFor start (xs ++ added_joined ignores documents) b }
+{
+    rearranged_types_are_equal();
+}

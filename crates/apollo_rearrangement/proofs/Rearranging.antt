@@ -1,0 +1,36 @@
+-- Rearranged lists: an equivalence that goes on in longer lists.
+use Rattle.std.proofs.Common.{◌≡◌, Bool, true, false, List, [], ◌∷◌, ◌++◌, filter, refl, sym, ◌∙◌}
+use Rattle.std.proofs.lemmas.List.Elements.{filter-append}
+use Rattle.std.proofs.lemmas.List.Sorted.{IsPermutation-append, IsPermutation-append_comm, IsPermutation-refl, IsPermutation-sym, IsPermutation-trans}
+use Rattle.apollo_meaning.specs.Items.ListItems.{ListItem}
+use Rattle.apollo_rearrangement.specs.Rearranged.{AreRearranged, Group, is_in}
+
+pub rearranged-refl : (xs : List ListItem) → AreRearranged xs xs
+rearranged-refl xs = record { same_definitions = IsPermutation-refl xs; in_order = λ g. refl }
+
+pub rearranged-sym : (xs ys : List ListItem) → AreRearranged xs ys → AreRearranged ys xs
+rearranged-sym xs ys r = record { same_definitions = IsPermutation-sym xs ys r.same_definitions; in_order = λ g. sym (r.in_order g) }
+
+pub rearranged-trans : (xs ys zs : List ListItem) → AreRearranged xs ys → AreRearranged ys zs → AreRearranged xs zs
+rearranged-trans xs ys zs r s = record { same_definitions = IsPermutation-trans xs ys zs r.same_definitions s.same_definitions; in_order = λ g. r.in_order g ∙ s.in_order g }
+
+pub rearranged-append : (xs ys us vs : List ListItem) → AreRearranged xs ys → AreRearranged us vs → AreRearranged (xs ++ us) (ys ++ vs)
+rearranged-append xs ys us vs r s = record {
+  same_definitions = IsPermutation-append xs ys us vs r.same_definitions s.same_definitions;
+  in_order = λ g. filter-append (is_in g) xs us ∙ (λ i. r.in_order g i ++ s.in_order g i) ∙ sym (filter-append (is_in g) ys vs);
+}
+
+-- neighbours that share no group change places
+pub neighbours-rearranged : (before after : List ListItem) (x y : ListItem) → ((g : Group) → is_in g x ≡ true → is_in g y ≡ false) → AreRearranged (before ++ x ∷ y ∷ after) (before ++ y ∷ x ∷ after)
+neighbours-rearranged before after x y apart =
+    rearranged-append before before (x ∷ y ∷ after) (y ∷ x ∷ after) (rearranged-refl before) (rearranged-append (x ∷ y ∷ []) (y ∷ x ∷ []) after after two (rearranged-refl after))
+  where
+    in_order : (g : Group) → filter (is_in g) (x ∷ y ∷ []) ≡ filter (is_in g) (y ∷ x ∷ [])
+    in_order g = by (is_in g x) refl
+      where
+        by : (b : Bool) → is_in g x ≡ b → filter (is_in g) (x ∷ y ∷ []) ≡ filter (is_in g) (y ∷ x ∷ [])
+        by true e = rw (e, apart g e) refl
+        by false e = rw e refl
+
+    two : AreRearranged (x ∷ y ∷ []) (y ∷ x ∷ [])
+    two = record { same_definitions = IsPermutation-append_comm (x ∷ []) (y ∷ []); in_order = in_order }

@@ -1,0 +1,205 @@
+-- What is found of one subject, that of its first definition with its extensions and that of each further definition, in
+-- another order.
+use Rattle.std.proofs.Common.{◌≡◌, ℕ, Bool, true, false, cond, List, [], ◌∷◌, ◌++◌, Option, Some, None, filter, slice_get, refl, sym, ap, subst, ◌∙◌, append_assoc}
+use Rattle.std.specs.List.{cons_option, filter_map, flat_map}
+use Rattle.std.specs.List.Sorted.{IsPermutation}
+use Rattle.std.specs.Option.{option_map_or}
+use Rattle.std.proofs.lemmas.Grind.{flat_map-append}
+use Rattle.std.proofs.lemmas.List.{append-nil}
+use Rattle.std.proofs.lemmas.List.Elements.{filter-append, filter_map-append}
+use Rattle.std.proofs.lemmas.List.Sorted.{IsPermutation-refl, IsPermutation-trans, IsPermutation-append_left, IsPermutation-append_right, IsPermutation-append_comm}
+use Rattle.graphql_nodes.proofs.Texts.{same-true}
+use Rattle.graphql_nodes.specs.NodeView.{NodeView}
+use Rattle.graphql_nodes.specs.SameText.{same}
+use Rattle.graphql_ast.specs.declared.type_system.DirectiveDefinition.{DirectiveDefinition}
+use Rattle.apollo_component.proofs.Lists.EachAfter.{each_after-push}
+use Rattle.apollo_component.proofs.Lists.Ends.{all-kept, snoc_ind}
+use Rattle.apollo_meaning.proofs.Items.ItemLemmas.{found-push}
+use Rattle.apollo_meaning.specs.Directives.{directive_part}
+use Rattle.apollo_meaning.specs.Faults.Collisions.{Fault}
+use Rattle.apollo_meaning.specs.Faults.RootFaults.{further_schema, schema_faults}
+use Rattle.apollo_meaning.specs.Faults.TypeFaults.{extension_faults, further_definition, joining_fault, part_faults}
+use Rattle.apollo_meaning.specs.Items.ListItems.{ListItem, Defined, Extended, SchemaDefined, SchemaExtended, Other, defined_schema}
+use Rattle.apollo_meaning.specs.Items.Named.{extensions_of, first, of_kind, schema_extensions}
+use Rattle.apollo_meaning.specs.Items.Parts.{TypePart, SchemaPart, key_of, kind_of}
+use Rattle.apollo_meaning.specs.Order.Places.{Family, schemas, types}
+use Rattle.apollo_meaning.specs.Steps.Joining.{joining_faults, schema_begun_faults, schema_joining_faults, type_begun_faults}
+use Rattle.apollo_meaning.specs.Steps.Prefixes.{found, found_at}
+use Rattle.apollo_rearrangement.proofs.Agreement.{definitions_of, first-is, found_at-own}
+use Rattle.apollo_rearrangement.proofs.Subjects.{Subject, TheSchema, TypeNamed, of_directive, same_subject, subject}
+
+-- how faults are found: at a further definition, at the first one with extensions before it, and at an extension after
+-- a first definition and extensions
+pub record Finding (P : Type 0) : Type 0 where
+  pub further : P → P → List Fault
+  pub begun : P → List P → List Fault
+  pub joins : P → List P → P → List Fault
+  pub more : (d : P) (es : List P) (e : P) → begun d (es ++ e ∷ []) ≡ begun d es ++ joins d es e
+
+module _ {P : Type 0} (by_kind : Finding P) where
+  -- what is found at definitions and extensions of one key
+  abbrev pub grouped : List P → List P → List Fault
+  grouped [] es = []
+  grouped (d ∷ ds) es = by_kind.begun d es ++ flat_map (by_kind.further d) ds
+
+  -- at one more definition, and at one more extension
+  abbrev pub at_definition : List P → List P → P → List Fault
+  at_definition [] es p = by_kind.begun p es
+  at_definition (d ∷ ds) es p = by_kind.further d p
+
+  abbrev pub at_extension : List P → List P → P → List Fault
+  at_extension [] es e = []
+  at_extension (d ∷ ds) es e = by_kind.joins d es e
+
+  grouped-definition : (ds es : List P) (p : P) → grouped (ds ++ p ∷ []) es ≡ grouped ds es ++ at_definition ds es p
+  grouped-definition [] es p = append-nil (by_kind.begun p es)
+  grouped-definition (d ∷ ds) es p =
+      ap (λ l. by_kind.begun d es ++ l) (flat_map-append (by_kind.further d) ds (p ∷ []) ∙ ap (λ l. flat_map (by_kind.further d) ds ++ l) (append-nil (by_kind.further d p)))
+      ∙ sym (append_assoc (by_kind.begun d es) (flat_map (by_kind.further d) ds) (by_kind.further d p))
+
+  grouped-extension : (ds es : List P) (e : P) → IsPermutation (grouped ds es ++ at_extension ds es e) (grouped ds (es ++ e ∷ []))
+  grouped-extension [] es e = IsPermutation-refl []
+  grouped-extension (d ∷ ds) es e =
+      let first = by_kind.begun d es in
+      let others = flat_map (by_kind.further d) ds in
+      let here = by_kind.joins d es e in
+      rw (append_assoc first others here, by_kind.more d es e, append_assoc first here others) (IsPermutation-append_right first (others ++ here) (here ++ others) (IsPermutation-append_comm others here))
+
+module _ {P : Type 0} (f : Family P) (n : List ℕ) (by_kind : Finding P) (k : Subject) where
+  abbrev has : P → Bool
+  has p = same n (f.key p)
+
+  abbrev pub defined_of : List ListItem → List P
+  defined_of xs = filter has (filter_map f.defined xs)
+
+  abbrev pub extended_of : List ListItem → List P
+  extended_of xs = filter has (filter_map f.extended xs)
+
+  abbrev about : ListItem → Bool
+  about x = same_subject k (subject x)
+
+  -- an item defines something of the family, or extends something, or does neither; and what is found at it is so
+  pub data Plays (x : ListItem) : Type 0 where
+    Defines : (p : P) → f.defined x ≡ Some p → f.extended x ≡ None → about x ≡ has p → ((xs : List ListItem) → has p ≡ true → found_at xs x ≡ at_definition by_kind (defined_of xs) (extended_of xs) p) → Plays x
+    Extends : (p : P) → f.defined x ≡ None → f.extended x ≡ Some p → about x ≡ has p → ((xs : List ListItem) → has p ≡ true → found_at xs x ≡ at_extension by_kind (defined_of xs) (extended_of xs) p) → Plays x
+    Neither : f.defined x ≡ None → f.extended x ≡ None → about x ≡ false → Plays x
+
+  -- what is found at those of the subject is grouped
+  abbrev IsGrouped : List ListItem → Type 0
+  IsGrouped xs = IsPermutation (found (filter about xs)) (grouped by_kind (defined_of xs) (extended_of xs))
+
+  module _ (xs : List ListItem) (x : ListItem) (so_far : IsGrouped xs) where
+    abbrev more : List ListItem
+    more = xs ++ x ∷ []
+
+    taken : (which : ListItem → Option P) (o : Option P) → which x ≡ o → filter has (filter_map which more) ≡ filter has (filter_map which xs) ++ filter has (cons_option o [])
+    taken which o e =
+        ap (filter has) (filter_map-append which xs (x ∷ []) ∙ ap (λ o. filter_map which xs ++ cons_option o []) e) ∙ filter-append has (filter_map which xs) (cons_option o [])
+
+    taken-none : (which : ListItem → Option P) → which x ≡ None → filter has (filter_map which more) ≡ filter has (filter_map which xs)
+    taken-none which e = taken which None e ∙ append-nil (filter has (filter_map which xs))
+
+    taken-some : (which : ListItem → Option P) (p : P) (b : Bool) → which x ≡ Some p → has p ≡ b → filter has (filter_map which more) ≡ filter has (filter_map which xs) ++ cond b (p ∷ []) []
+    taken-some which p b e own = taken which (Some p) e ∙ ap (λ b. filter has (filter_map which xs) ++ cond b (p ∷ []) []) own
+
+    kept : about x ≡ true → found (filter about more) ≡ found (filter about xs) ++ found_at xs x
+    kept e =
+        ap found (filter-append about xs (x ∷ []) ∙ ap (λ b. filter about xs ++ cond b (x ∷ []) []) e) ∙ found-push (filter about xs) x
+        ∙ ap (λ l. found (filter about xs) ++ l) (found_at-own about (λ y z s. ap (same_subject k) s) xs x e)
+
+    dropped : about x ≡ false → found (filter about more) ≡ found (filter about xs)
+    dropped e = ap found (filter-append about xs (x ∷ []) ∙ ap (λ b. filter about xs ++ cond b (x ∷ []) []) e ∙ append-nil (filter about xs))
+
+    unchanged : about x ≡ false → defined_of more ≡ defined_of xs → extended_of more ≡ extended_of xs → IsGrouped more
+    unchanged e d x = rw (dropped e, d, x) so_far
+
+    longer : (l : List Fault) → found_at xs x ≡ l → about x ≡ true → IsPermutation (found (filter about more)) (grouped by_kind (defined_of xs) (extended_of xs) ++ l)
+    longer l at e = rw (kept e, at) (IsPermutation-append_left l (found (filter about xs)) (grouped by_kind (defined_of xs) (extended_of xs)) so_far)
+
+    pub grouped-more : Plays x → IsGrouped more
+    grouped-more (Neither d e a) = unchanged a (taken-none f.defined d) (taken-none f.extended e)
+    grouped-more (Defines p d e a at) = by (has p) refl
+      where
+        by : (b : Bool) → has p ≡ b → IsGrouped more
+        by false own = unchanged (a ∙ own) (taken-some f.defined p false d own ∙ append-nil (defined_of xs)) (taken-none f.extended e)
+        by true own =
+            rw (taken-some f.defined p true d own, taken-none f.extended e, grouped-definition by_kind (defined_of xs) (extended_of xs) p)
+            (longer (at_definition by_kind (defined_of xs) (extended_of xs) p) (at xs own) (a ∙ own))
+    grouped-more (Extends p d e a at) = by (has p) refl
+      where
+        by : (b : Bool) → has p ≡ b → IsGrouped more
+        by false own = unchanged (a ∙ own) (taken-none f.defined d) (taken-some f.extended p false e own ∙ append-nil (extended_of xs))
+        by true own =
+            rw (taken-none f.defined d, taken-some f.extended p true e own)
+            (IsPermutation-trans _ _ _ (longer (at_extension by_kind (defined_of xs) (extended_of xs) p) (at xs own) (a ∙ own)) (grouped-extension by_kind (defined_of xs) (extended_of xs) p))
+
+  pub regrouped : ((x : ListItem) → Plays x) → (xs : List ListItem) → IsGrouped xs
+  regrouped plays = snoc_ind IsGrouped (IsPermutation-refl []) (λ xs x so_far. grouped-more xs x so_far (plays x))
+
+-- what is found of a type
+abbrev pub finding_types : Finding TypePart
+finding_types = record { further = further_definition; begun = type_begun_faults; joins = extension_faults; more = more }
+  where
+    more : (d : TypePart) (es : List TypePart) (e : TypePart) → type_begun_faults d (es ++ e ∷ []) ≡ type_begun_faults d es ++ extension_faults d es e
+    more d es e =
+        ap (λ l. part_faults [] d ++ l) (each_after-push (λ before. joining_fault d (d ∷ of_kind (kind_of d) before)) [] es e)
+        ∙ sym (append_assoc (part_faults [] d) (joining_faults d (d ∷ []) es) (extension_faults d es e))
+
+-- and of the schema
+abbrev pub finding_schemas : Finding SchemaPart
+finding_schemas = record { further = λ s t. further_schema s t ∷ []; begun = schema_begun_faults; joins = λ s es. schema_faults (s ∷ es); more = more }
+  where
+    more : (s : SchemaPart) (es : List SchemaPart) (e : SchemaPart) → schema_begun_faults s (es ++ e ∷ []) ≡ schema_begun_faults s es ++ schema_faults (s ∷ es) e
+    more s es e =
+        ap (λ l. schema_faults [] s ++ l) (each_after-push schema_faults (s ∷ []) es e) ∙ sym (append_assoc (schema_faults [] s) (schema_joining_faults (s ∷ []) es) (schema_faults (s ∷ es) e))
+
+-- by the first definition, if there is one, or by the definitions
+at-first : {P : Type 0} (by_kind : Finding P) (ds es : List P) (p : P) → option_map_or (λ d. by_kind.further d p) (slice_get ds 0) (by_kind.begun p es) ≡ at_definition by_kind ds es p
+at-first by_kind [] es p = refl
+at-first by_kind (d ∷ ds) es p = refl
+
+at-joined : {P : Type 0} (by_kind : Finding P) (ds es : List P) (e : P) → option_map_or (λ d. by_kind.joins d es e) (slice_get ds 0) [] ≡ at_extension by_kind ds es e
+at-joined by_kind [] es e = refl
+at-joined by_kind (d ∷ ds) es e = refl
+
+plays-type : (n : List ℕ) (x : ListItem) → Plays types n finding_types (TypeNamed n) x
+plays-type n (Defined p) = Defines p refl refl refl (λ xs own.
+    ap (λ (m : List ℕ). option_map_or (λ d. further_definition d p) (first xs m) (type_begun_faults p (extensions_of xs m))) (sym (same-true n (key_of p) own))
+    ∙ ap (λ o. option_map_or (λ d. further_definition d p) o (type_begun_faults p (extensions_of xs n))) (first-is xs n)
+    ∙ at-first finding_types (definitions_of xs n) (extensions_of xs n) p)
+plays-type n (Extended p) = Extends p refl refl refl (λ xs own.
+    ap (λ (m : List ℕ). option_map_or (λ d. extension_faults d (extensions_of xs m) p) (first xs m) []) (sym (same-true n (key_of p) own))
+    ∙ ap (λ o. option_map_or (λ d. extension_faults d (extensions_of xs n) p) o []) (first-is xs n)
+    ∙ at-joined finding_types (definitions_of xs n) (extensions_of xs n) p)
+plays-type n (SchemaDefined s) = Neither refl refl refl
+plays-type n (SchemaExtended s) = Neither refl refl refl
+plays-type n (Other d) = Neither refl refl (by (directive_part (Other d)))
+  where
+    by : (o : Option (NodeView DirectiveDefinition)) → same_subject (TypeNamed n) (of_directive o) ≡ false
+    by None = refl
+    by (Some m) = refl
+
+plays-schema : (x : ListItem) → Plays schemas [] finding_schemas TheSchema x
+plays-schema (Defined p) = Neither refl refl refl
+plays-schema (Extended p) = Neither refl refl refl
+plays-schema (SchemaDefined s) = Defines s refl refl refl (λ xs own.
+    (λ i. option_map_or (λ d. further_schema d s ∷ []) (slice_get (all-kept (filter_map defined_schema xs) i) 0) (schema_begun_faults s (all-kept (schema_extensions xs) i)))
+    ∙ at-first finding_schemas (defined_of schemas [] finding_schemas TheSchema xs) (extended_of schemas [] finding_schemas TheSchema xs) s)
+plays-schema (SchemaExtended e) = Extends e refl refl refl (λ xs own.
+    (λ i. option_map_or (λ s. schema_faults (s ∷ all-kept (schema_extensions xs) i) e) (slice_get (all-kept (filter_map defined_schema xs) i) 0) [])
+    ∙ at-joined finding_schemas (defined_of schemas [] finding_schemas TheSchema xs) (extended_of schemas [] finding_schemas TheSchema xs) e)
+plays-schema (Other d) = Neither refl refl (by (directive_part (Other d)))
+  where
+    by : (o : Option (NodeView DirectiveDefinition)) → same_subject TheSchema (of_directive o) ≡ false
+    by None = refl
+    by (Some m) = refl
+
+-- what is found at the definitions and extensions of a name, by itself
+pub type-regrouped : (n : List ℕ) (xs : List ListItem) → IsPermutation (found (filter (λ x. same_subject (TypeNamed n) (subject x)) xs)) (grouped finding_types (definitions_of xs n) (extensions_of xs n))
+type-regrouped n = regrouped types n finding_types (TypeNamed n) (plays-type n)
+
+-- and at those of the schema
+pub schema-regrouped : (xs : List ListItem) → IsPermutation (found (filter (λ x. same_subject TheSchema (subject x)) xs)) (grouped finding_schemas (filter_map defined_schema xs) (schema_extensions xs))
+schema-regrouped xs =
+    subst (IsPermutation (found (filter (λ x. same_subject TheSchema (subject x)) xs))) (λ i. grouped finding_schemas (sym (all-kept (filter_map defined_schema xs)) i) (sym (all-kept (schema_extensions xs)) i))
+    (regrouped schemas [] finding_schemas TheSchema plays-schema xs)

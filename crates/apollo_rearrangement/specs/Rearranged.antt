@@ -1,0 +1,37 @@
+-- Lists of the same definitions in another order: GraphQL specification of October 2021, sections 3 and 3.4.3.
+use Rattle.std.specs.Prelude.{◌≡◌, ℕ, Bool, false, List, Option, filter, is_some, option_map}
+use Rattle.std.specs.List.Sorted.{IsPermutation}
+use Rattle.std.specs.Option.{option_map_or}
+use Rattle.graphql_nodes.specs.SameText.{same}
+use Rattle.apollo_meaning.specs.Directives.{directive_part, has_text}
+use Rattle.apollo_meaning.specs.Items.ListItems.{ListItem, defined_part, defined_schema, extended_part, extended_schema}
+use Rattle.apollo_meaning.specs.Items.Parts.{key_of}
+use Rattle.apollo_meaning.specs.Order.Places.{folding_order}
+use Rattle.apollo_meaning.specs.Types.Meaning.{type_of}
+use Rattle.apollo_types.specs.BareTypes.{BareType, bare_extended_type}
+
+-- definitions among which the order counts: those of a type's name, the extensions of a type's name, the directive
+-- definitions of a name, the definitions of the schema, and its extensions
+pub data Group : Type 0 where
+  DefinitionsOf : List ℕ → Group
+  ExtensionsOf : List ℕ → Group
+  DirectiveDefinitionsOf : List ℕ → Group
+  SchemaDefinitions : Group
+  SchemaExtensions : Group
+
+abbrev pub is_in : Group → ListItem → Bool
+is_in (DefinitionsOf n) x = option_map_or (λ p. same n (key_of p)) (defined_part x) false
+is_in (ExtensionsOf n) x = option_map_or (λ p. same n (key_of p)) (extended_part x) false
+is_in (DirectiveDefinitionsOf n) x = option_map_or (has_text n) (directive_part x) false
+is_in SchemaDefinitions x = is_some (defined_schema x)
+is_in SchemaExtensions x = is_some (extended_schema x)
+
+-- the lists have the same definitions, and those of each group stand in the same order; those of different groups may
+-- change places
+pub record AreRearranged (xs ys : List ListItem) : Type 0 where
+  pub same_definitions : IsPermutation xs ys
+  pub in_order : (g : Group) → filter (is_in g) xs ≡ filter (is_in g) ys
+
+-- what `==` compares of the type that a name means, with extensions numbered from `start`
+abbrev pub type_meant : ℕ → List ListItem → List ℕ → Option BareType
+type_meant start xs n = option_map bare_extended_type (type_of start (folding_order xs) xs n)

@@ -1,0 +1,68 @@
+//! Laws of lists of definitions that are rearranged, for those who build on what such a list means.
+ghost use Rattle.std.specs.Prelude.{◌≡◌, ◌++◌, ◌∷◌, ℕ, Bool, List, true, false};
+ghost use Rattle.std.specs.List.Sorted.{IsPermutation};
+ghost use Rattle.apollo_meaning.specs.Completion.ImpliedSchema.{completed};
+ghost use Rattle.apollo_meaning.specs.Directives.{directive_definitions, directive_of};
+ghost use Rattle.apollo_meaning.specs.Faults.ListFaults.{faults_of};
+ghost use Rattle.apollo_meaning.specs.Items.ListItems.{Added, ListItem, added_items};
+ghost use Rattle.apollo_meaning.specs.Items.Named.{first_schema, schema_extensions};
+ghost use Rattle.apollo_rearrangement.specs.Documents.{Documents, added_each, added_joined};
+ghost use Rattle.apollo_rearrangement.specs.Rearranged.{AreRearranged, Group, is_in, type_meant};
+
+use apollo_meaning::laws::folded_extensions;
+
+/// Each list is a rearrangement of itself; what is rearranged can be put back; and what is rearranged twice is rearranged.
+pub fn rearranging_is_an_equivalence()
+    ensures itself { (xs : List ListItem) → AreRearranged xs xs }
+    ensures back { (xs ys : List ListItem) → AreRearranged xs ys → AreRearranged ys xs }
+    ensures twice { (xs ys zs : List ListItem) → AreRearranged xs ys → AreRearranged ys zs → AreRearranged xs zs }
+{}
+
+/// Lists that are joined are rearranged where each of them is.
+pub fn joined_lists_are_rearranged()
+    ensures { (xs ys us vs : List ListItem) → AreRearranged xs ys → AreRearranged us vs → AreRearranged (xs ++ us) (ys ++ vs) }
+{}
+
+/// Two neighbours change places where no group has both: definitions of different names, a definition and an extension,
+/// what is of a type and what is of the schema. GraphQL specification of October 2021, section 3.
+pub fn neighbours_change_places()
+    ensures { (before after : List ListItem) (x y : ListItem) → ((g : Group) → is_in g x ≡ true → is_in g y ≡ false)
+        → AreRearranged (before ++ x ∷ y ∷ after) (before ++ y ∷ x ∷ after) }
+{}
+
+/// What rearranged lists are completed with, types that are adopted and an implied schema definition, is rearranged too.
+/// GraphQL specification of October 2021, sections 3.3.1 and 3.4.3.
+pub fn completed_lists_are_rearranged()
+    ensures { (adopts : Bool) (xs ys : List ListItem) → AreRearranged xs ys → AreRearranged (completed adopts xs) (completed adopts ys) }
+{}
+
+/// Each name means equal types in rearranged lists, whatever numbers their extensions get. GraphQL specification of October
+/// 2021, section 3.4.3.
+pub fn rearranged_types_are_equal()
+    ensures { (start other : ℕ) (xs ys : List ListItem) (n : List ℕ) → AreRearranged xs ys → type_meant start xs n ≡ type_meant other ys n }
+{
+    folded_extensions();
+}
+
+/// Each directive's name means the same definition in rearranged lists. GraphQL specification of October 2021, section 3.13.
+pub fn rearranged_directives_are_the_same()
+    ensures { (xs ys : List ListItem) (n : List ℕ) → AreRearranged xs ys → directive_of (directive_definitions xs) n ≡ directive_of (directive_definitions ys) n }
+{}
+
+/// The schema has the same first definition and the same extensions in rearranged lists. GraphQL specification of October
+/// 2021, sections 3.3 and 3.3.2.
+pub fn rearranged_schema_parts_are_the_same()
+    ensures definition { (xs ys : List ListItem) → AreRearranged xs ys → first_schema xs ≡ first_schema ys }
+    ensures extensions { (xs ys : List ListItem) → AreRearranged xs ys → schema_extensions xs ≡ schema_extensions ys }
+{}
+
+/// Rearranged lists have the same faults, with their locations, in some order. GraphQL specification of October 2021,
+/// section 3.
+pub fn rearranged_faults_are_the_same()
+    ensures { (adopts : Bool) (xs ys : List Added) → AreRearranged (added_items xs) (added_items ys) → IsPermutation (faults_of adopts xs) (faults_of adopts ys) }
+{}
+
+/// Documents that are added one by one add what one document of all their definitions adds.
+pub fn documents_one_by_one()
+    ensures { (ignores : Bool) (documents : Documents) → added_each ignores documents ≡ added_joined ignores documents }
+{}

@@ -1,0 +1,142 @@
+//! Documents whose definitions change places: their schemas are equal and their faults the same, or, where extensions of one
+//! name change places, they are not.
+
+use crate::accounts::push_faults;
+use crate::building::{ADOPTING, PLAIN, Settings, View, begun, is_built_of, schema_in, show};
+use apollo_schema::build_failure::BuildFailure;
+use apollo_schema::schema::Schema;
+use bench_notation::reading::read;
+use graphql_ast::document::Document;
+use std::alloc::{AllocError, Global};
+use std::slice;
+use std::test::Fail;
+
+/// A view that adds the faults of a build, and whether another document builds an equal schema.
+#[derive(Drop)]
+struct Pair<'a> {
+    alloc: Global,
+    settings: Settings,
+    other: &'a Document,
+    text: &'a mut String,
+}
+
+impl<'a> View for Pair<'a> {
+    fn view(&mut self, built: &Result<Schema, BuildFailure>, _next: u64) -> Result<(), AllocError> {
+        if let Err(BuildFailure::Faults(found)) = built {
+            push_faults(self.text, found.errors.as_slice())?;
+        }
+        let other = slice::from_ref(self.other);
+        let is_equal = match schema_in(built) {
+            Some(schema) => is_built_of(self.alloc, self.settings, schema, other)?,
+            None => false,
+        };
+        write!(self.text, "equal: {is_equal}\n")
+    }
+}
+
+/// Adds what is at fault in a document, and whether the other one builds an equal schema.
+fn push_pair(
+    alloc: Global,
+    text: &mut String,
+    settings: Settings,
+    document: &Document,
+    other: &Document,
+) -> Result<(), AllocError> {
+    let mut builder = begun(alloc, settings)?;
+    // After a refusal no schema is built.
+    let _ = builder.add_ast(document);
+    let mut pair = Pair {
+        alloc,
+        settings,
+        other,
+        text,
+    };
+    show(&mut pair, builder)
+}
+
+/// The definitions of a document in another order, each at its own place.
+fn in_order(alloc: Global, document: &Document, order: &[usize]) -> Result<Document, AllocError> {
+    let mut other = Document::new(alloc);
+    for place in order {
+        if let Some(definition) = document.definitions.get(*place) {
+            other.definitions.push(definition.clone()?)?;
+        }
+    }
+    Ok(other)
+}
+
+/// What is told of a document that a text says, and of its definitions in another order.
+fn told(alloc: Global, settings: Settings, input: &str, order: &[usize]) -> Result<String, Fail> {
+    let documents = read(alloc, input)?;
+    let mut text = String::new(alloc);
+    for document in documents.iter() {
+        let other = in_order(alloc, document, order)?;
+        push_pair(alloc, &mut text, settings, document, &other)?;
+        push_pair(alloc, &mut text, settings, &other, document)?;
+    }
+    Ok(text)
+}
+
+#[test]
+fn two_definitions_change_places(rt: HostRuntime) -> Result<(), Fail> {
+    let input = "def object A\nfield a Int\nfield a Int\ndef object B\nfield b Int\nfield b Int";
+    let text = told(rt.alloc(), PLAIN, input, &[1, 0])?;
+    assert_eq!(rt;
+        text.as_str(),
+        "1:3-3 duplicate definitions for the `a` field of object type `A`\n1:6-6 duplicate definitions for the `b` field of object type `B`\nequal: true\n1:6-6 duplicate definitions for the `b` field of object type `B`\n1:3-3 duplicate definitions for the `a` field of object type `A`\nequal: true\n"
+    );
+    Ok(())
+}
+
+#[test]
+fn an_extension_goes_behind_its_definition(rt: HostRuntime) -> Result<(), Fail> {
+    let input = "ext object Q\nfield a Int\ndef object Q\nfield a Int\nfield b Int";
+    let text = told(rt.alloc(), PLAIN, input, &[1, 0])?;
+    assert_eq!(rt;
+        text.as_str(),
+        "1:2-2 duplicate definitions for the `a` field of object type `Q`\nequal: true\n1:2-2 duplicate definitions for the `a` field of object type `Q`\nequal: true\n"
+    );
+    Ok(())
+}
+
+#[test]
+fn schema_extensions_go_last(rt: HostRuntime) -> Result<(), Fail> {
+    let input =
+        "ext-schema\nroot query A\nschema\nroot query Q\ndef object Q\nfield a Int\next-schema\nroot mutation M\nroot query B";
+    let text = told(rt.alloc(), PLAIN, input, &[1, 2, 0, 3])?;
+    assert_eq!(rt;
+        text.as_str(),
+        "1:2-2 duplicate definitions for the `query` root operation type\n1:9-9 duplicate definitions for the `query` root operation type\nequal: true\n1:2-2 duplicate definitions for the `query` root operation type\n1:9-9 duplicate definitions for the `query` root operation type\nequal: true\n"
+    );
+    Ok(())
+}
+
+/// Extensions of the schema and of two types, and no definition.
+const EXTENSIONS_ALONE: &str =
+    "ext-schema\nroot query A\next object A\nfield a Int\next-schema\nroot query B\next object B\nfield b Int\nfield b Int";
+
+#[test]
+fn type_extensions_go_before_schema_extensions(rt: HostRuntime) -> Result<(), Fail> {
+    let text = told(rt.alloc(), ADOPTING, EXTENSIONS_ALONE, &[3, 1, 0, 2])?;
+    assert_eq!(rt;
+        text.as_str(),
+        "1:9-9 duplicate definitions for the `b` field of object type `B`\n1:6-6 duplicate definitions for the `query` root operation type\nequal: true\n1:9-9 duplicate definitions for the `b` field of object type `B`\n1:6-6 duplicate definitions for the `query` root operation type\nequal: true\n"
+    );
+    let text = told(rt.alloc(), PLAIN, EXTENSIONS_ALONE, &[3, 1, 0, 2])?;
+    assert_eq!(rt;
+        text.as_str(),
+        "1:3-3 type extension for undefined type `A`\n1:7-7 type extension for undefined type `B`\n1:1-1 schema extension without a schema definition\n1:5-5 schema extension without a schema definition\nequal: true\n1:7-7 type extension for undefined type `B`\n1:3-3 type extension for undefined type `A`\n1:1-1 schema extension without a schema definition\n1:5-5 schema extension without a schema definition\nequal: true\n"
+    );
+    Ok(())
+}
+
+#[test]
+fn extensions_of_one_name_and_two_kinds_do_not_change_places(rt: HostRuntime) -> Result<(), Fail> {
+    let input = "ext object A\nfield a Int\next interface A\nfield b Int";
+    let text = told(rt.alloc(), ADOPTING, input, &[1, 0])?;
+    assert_eq!(rt;
+        text.as_str(),
+        "1:3-3 adding an interface type extension, but `A` is an object type\nequal: false\n1:1-1 adding an object type extension, but `A` is an interface type\nequal: false\n"
+    );
+    Ok(())
+}

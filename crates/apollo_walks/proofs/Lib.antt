@@ -1,0 +1,10 @@
+pub mod Account
+pub mod Accounts
+pub mod Courses
+pub mod Depth
+pub mod Names
+pub mod Once
+pub mod Orders
+pub mod Reached
+pub mod Steps
+pub mod Totals

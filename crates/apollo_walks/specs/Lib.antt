@@ -1,0 +1,7 @@
+pub mod Course
+pub mod Reachable
+pub mod Selections
+pub mod Turns
+pub mod WalkOrder
+pub mod Whole
+pub mod WorkedWalk

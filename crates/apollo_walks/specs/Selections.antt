@@ -1,0 +1,46 @@
+-- Selections as a walk sees them: GraphQL specification of October 2021, sections 2.4 to 2.8.
+use Rattle.std.specs.Prelude.{ℕ, Bool, false, ◌||◌, cond, List, [], ◌∷◌, ◌++◌, Option, None, Some}
+use Rattle.graphql_nodes.specs.SameText.{same}
+
+-- a list of selections, its first one and then the others. A field has what a walk meets below it, a spread the text of its
+-- name
+pub data Selections (F : Type 0) : Type 0 where
+  none : Selections F
+  field : F → Selections F → Selections F → Selections F
+  spread : List ℕ → Selections F → Selections F
+  inline : Selections F → Selections F → Selections F
+
+-- the fragments of a document, under the texts of their names
+abbrev pub Fragments : Type 0 → Type 0
+Fragments F = List (List ℕ × Selections F)
+
+-- a set of names, by its test
+abbrev pub Names : Type 0
+Names = List ℕ → Bool
+
+abbrev pub no_names : Names
+no_names = λ _. false
+
+-- the set with one more name
+unfoldable pub with_name : List ℕ → Names → Names
+with_name n names = λ m. same n m || names m
+
+module _ {F : Type 0} where
+  -- the fragment of that name
+  abbrev pub fragment_of : Fragments F → List ℕ → Option (Selections F)
+  fragment_of [] n = None
+  fragment_of (e ∷ es) n = cond (same n e.0) (Some e.1) (fragment_of es n)
+
+  -- the fields there, through inline fragments and below fields, but not through spreads
+  abbrev pub occurrences : Selections F → List F
+  occurrences none = []
+  occurrences (field f below rest) = f ∷ (occurrences below ++ occurrences rest)
+  occurrences (spread n rest) = occurrences rest
+  occurrences (inline inner rest) = occurrences inner ++ occurrences rest
+
+  -- the names that are spread there
+  abbrev pub spread_names : Selections F → List (List ℕ)
+  spread_names none = []
+  spread_names (field f below rest) = spread_names below ++ spread_names rest
+  spread_names (spread n rest) = n ∷ spread_names rest
+  spread_names (inline inner rest) = spread_names inner ++ spread_names rest

@@ -1,0 +1,67 @@
+//! Laws of walks, for those who build on what a walk gives. Each law is a function that does nothing: a proof cites it by a
+//! call.
+//!
+//! `F` stands for the fields, whatever they are.
+ghost use Rattle.std.specs.Prelude.{◌≡◌, ◌≤◌, ◌+◌, ◌*◌, ◌↔◌, ◌∷◌, [], ℕ, List, true, codes};
+ghost use Rattle.std.specs.List.Sorted.{IsPermutation};
+ghost use Rattle.apollo_walks.specs.Selections.{Selections, Fragments, Names, no_names};
+ghost use Rattle.apollo_walks.specs.Reachable.{Among, Reachable, AreReachable, IsClosed, IsReached};
+ghost use Rattle.apollo_walks.specs.WalkOrder.{Order};
+ghost use Rattle.apollo_walks.specs.Turns.{AreAllTurns, AreWithinTurns, turns_in_reach, selections_in_reach};
+ghost use Rattle.apollo_walks.specs.Course.{course};
+ghost use Rattle.apollo_walks.specs.Whole.{IsWalk};
+ghost use Rattle.apollo_walks.specs.WorkedWalk.{worked_start, worked_first, worked_fragments};
+
+/// There is a walk over any selections, cyclic ones too, and it gives each field that is reached exactly as often as it
+/// stands there, in the order of walks. GraphQL specification of October 2021, sections 2.8 and 6.3.2.
+pub fn walks_reach_each_field_once<F>()
+    ensures { (fragments : Fragments F) (s : Selections F) → IsWalk fragments s (course fragments no_names s).fields }
+{}
+
+/// The order of walks leaves no choice: from the same opened names, the same selections give the same fields, and leave the
+/// same names opened.
+pub fn walks_have_one_order<F>()
+    ensures { (fragments : Fragments F) (before x y : Names) (s : Selections F) (fs gs : List F)
+        → Order fragments before s fs x → Order fragments before s gs y → (fs ≡ gs) × (x ≡ y) }
+{}
+
+/// Fields in the order of walks are those of a whole walk.
+pub fn fields_in_order_are_a_walk<F>()
+    ensures { (fragments : Fragments F) (opened : Names) (s : Selections F) (fields : List F)
+        → Order fragments no_names s fields opened → IsWalk fragments s fields }
+{}
+
+/// A walk gives the fields that stand in the selections or in a fragment that they lead to, and no others.
+pub fn walks_give_what_is_reached<F>()
+    ensures { (fragments : Fragments F) (s : Selections F) (fields : List F) (f : F)
+        → IsWalk fragments s fields → Among f fields ↔ IsReached fragments s f }
+{}
+
+/// The names that selections lead to are in each set that has the defined names which are spread there, and with each
+/// fragment in it those which are spread in that fragment.
+pub fn reachable_names_are_the_fewest<F>()
+    ensures { (fragments : Fragments F) (s : Selections F) (set : Names) → IsClosed fragments s set → (n : List ℕ) → Reachable fragments s n → set n ≡ true }
+{}
+
+/// The turns of a walk over any selections: one, and one for each fragment that is reached, and those of the selections and
+/// of each of these fragments. They are at most two for each selection in reach, and one.
+pub fn walks_take_few_turns<F>()
+    ensures all { (fragments : Fragments F) (s : Selections F) → AreAllTurns fragments s (course fragments no_names s).turns }
+    ensures few { (fragments : Fragments F) (s : Selections F) → AreWithinTurns fragments s (course fragments no_names s).turns }
+{}
+
+/// The names that selections lead to are one list but for their order, so the turns of a walk over them are one number, and
+/// it is at most two for each selection in reach, and one.
+pub fn reachable_names_are_one_list<F>()
+    ensures names { (fragments : Fragments F) (s : Selections F) (ms ns : List (List ℕ)) → AreReachable fragments s ms → AreReachable fragments s ns → IsPermutation ms ns }
+    ensures turns { (fragments : Fragments F) (s : Selections F) (m n : ℕ) → AreAllTurns fragments s m → AreAllTurns fragments s n → m ≡ n }
+    ensures few { (fragments : Fragments F) (s : Selections F) (ns : List (List ℕ)) → AreReachable fragments s ns
+        → turns_in_reach fragments s ns ≤ 2 * selections_in_reach fragments s ns + 1 }
+{}
+
+/// Worked walks over fragments that spread one another, computed: from outside, and from one of them, which is opened again.
+pub fn worked_walks()
+    ensures outside { (course worked_fragments no_names worked_start).fields ≡ codes "b" ∷ codes "a" ∷ codes "c" ∷ [] }
+    ensures turns_outside { (course worked_fragments no_names worked_start).turns ≡ 13 }
+    ensures inside { (course worked_fragments no_names worked_first).fields ≡ codes "a" ∷ codes "c" ∷ codes "b" ∷ codes "a" ∷ codes "c" ∷ [] }
+{}

@@ -1,0 +1,70 @@
+//! What the definition of a directive has.
+ghost use Rattle.std.specs.Prelude.{◌≡◌, IfOk};
+
+use graphql_ast::definition::Definition;
+use graphql_ast::type_system::{DirectiveDefinition, InputValueDefinition};
+use graphql_nodes::collections::items::Items;
+use graphql_nodes::directive_location::DirectiveLocation;
+use graphql_nodes::name::Name;
+use graphql_nodes::node::Node;
+use graphql_nodes::source::SourceSpan;
+use std::alloc::{AllocError, Global};
+
+/// What the definition of a directive has, and no other.
+pub struct DirectiveParts {
+    pub arguments: Items<Node<InputValueDefinition>>,
+    /// Whether the directive may be applied again at the same place.
+    pub is_repeatable: bool,
+    /// The places where the directive may be applied.
+    pub locations: Items<DirectiveLocation>,
+}
+
+impl Drop for DirectiveParts {
+    fn drop(self) {
+        let Self {
+            arguments: _,
+            is_repeatable: _,
+            locations: _,
+        } = self;
+    }
+}
+
+impl DirectiveParts {
+    ghost use Rattle.bench_notation.specs.Components.{no_directive_parts, directive_definition};
+
+    /// No part.
+    pub fn new(alloc: Global) -> DirectiveParts
+        ensures { result ≡ no_directive_parts }
+    {
+        DirectiveParts {
+            arguments: Items::new(alloc),
+            is_repeatable: false,
+            locations: Items::new(alloc),
+        }
+    }
+
+    /// The definition of the directive of this name, with these parts.
+    pub fn into_definition(
+        self,
+        alloc: Global,
+        name: Name,
+        place: SourceSpan,
+    ) -> Result<Definition, AllocError>
+        ensures { IfOk result (λ definition. definition ≡ directive_definition name self place) }
+    {
+        let DirectiveParts {
+            arguments,
+            is_repeatable,
+            locations,
+        } = self;
+        let definition = DirectiveDefinition {
+            description: None,
+            name,
+            arguments,
+            repeatable: is_repeatable,
+            locations,
+        };
+        let definition = Node::new_opt_location(alloc, definition, Some(place))?;
+        Ok(Definition::DirectiveDefinition(definition))
+    }
+}

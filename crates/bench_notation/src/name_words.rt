@@ -1,0 +1,56 @@
+//! Words that are names, and no more words.
+ghost use Rattle.std.specs.Prelude.{Option, IfErr, IfOk};
+ghost use Rattle.graphql_nodes.specs.NameView.{NameView};
+ghost use Rattle.bench_notation.specs.Line.{AreName, AreNameAndAlias, AreOptionalName, texts_of};
+ghost use Rattle.bench_notation.specs.Refusals.{WhenRefused};
+
+use crate::names::Names;
+use crate::refusal::{LineError, Reason};
+use graphql_nodes::name::Name;
+use graphql_nodes::source::SourceSpan;
+
+/// One name.
+pub fn only_name(names: &mut Names, words: &[&str], place: SourceSpan) -> Result<Name, LineError>
+    ensures says { IfOk result (AreName place (texts_of words.now)) }
+    ensures refused { IfErr result (WhenRefused ((name : NameView) → ¬ AreName place (texts_of words.now) name)) }
+{
+    let [name] = words else {
+        return Err(LineError::Refused(Reason::WrongNumberOfWords));
+    };
+    names.read(*name, place)
+}
+
+/// One name or none.
+pub fn optional_name(
+    names: &mut Names,
+    words: &[&str],
+    place: SourceSpan,
+) -> Result<Option<Name>, LineError>
+    ensures says { IfOk result (AreOptionalName place (texts_of words.now)) }
+    ensures refused { IfErr result (WhenRefused ((name : Option NameView) → ¬ AreOptionalName place (texts_of words.now) name)) }
+{
+    match words {
+        [] => Ok(None),
+        [name] => Ok(Some(names.read(*name, place)?)),
+        _ => Err(LineError::Refused(Reason::WrongNumberOfWords)),
+    }
+}
+
+/// A name, and an alias behind it or none.
+pub fn name_and_alias(
+    names: &mut Names,
+    words: &[&str],
+    place: SourceSpan,
+) -> Result<(Name, Option<Name>), LineError>
+    ensures says { IfOk result (λ both. AreNameAndAlias place (texts_of words.now) both.0 both.1) }
+    ensures refused { IfErr result (WhenRefused ((name : NameView) (alias : Option NameView) → ¬ AreNameAndAlias place (texts_of words.now) name alias)) }
+{
+    let Some((name, rest)) = words.split_first() else {
+        return Err(LineError::Refused(Reason::WrongNumberOfWords));
+    };
+    if rest.len() > 1 {
+        return Err(LineError::Refused(Reason::WrongNumberOfWords));
+    }
+    let name = names.read(*name, place)?;
+    Ok((name, optional_name(names, rest, place)?))
+}

@@ -1,0 +1,76 @@
+//! Nodes of what one line says.
+ghost use Rattle.std.specs.Prelude.{◌≡◌, IfOk};
+ghost use Rattle.bench_notation.specs.Components.{applied_directive, enum_value, input_value, root_operation};
+
+use graphql_ast::directive::{Directive, DirectiveList};
+use graphql_ast::type_reference::Type;
+use graphql_ast::type_system::{EnumValueDefinition, InputValueDefinition};
+use graphql_nodes::collections::items::Items;
+use graphql_nodes::name::{Name, NamedType};
+use graphql_nodes::node::Node;
+use graphql_nodes::operation_type::OperationType;
+use graphql_nodes::source::SourceSpan;
+use std::alloc::{AllocError, Global};
+
+/// A directive without arguments.
+pub fn applied_directive(
+    alloc: Global,
+    name: Name,
+    place: SourceSpan,
+) -> Result<Node<Directive>, AllocError>
+    ensures { IfOk result (λ node. node ≡ applied_directive name place) }
+{
+    let directive = Directive {
+        name,
+        arguments: Items::new(alloc),
+    };
+    Node::new_opt_location(alloc, directive, Some(place))
+}
+
+/// An argument, or a field of an input object type.
+pub fn input_value(
+    alloc: Global,
+    name: Name,
+    ty: Type,
+    directives: DirectiveList,
+    place: SourceSpan,
+) -> Result<Node<InputValueDefinition>, AllocError>
+    ensures { IfOk result (λ node. node ≡ input_value name ty directives place) }
+{
+    let value = InputValueDefinition {
+        description: None,
+        name,
+        ty: Node::new_opt_location(alloc, ty, Some(place))?,
+        default_value: None,
+        directives,
+    };
+    Node::new_opt_location(alloc, value, Some(place))
+}
+
+/// A value of an enum.
+pub fn enum_value(
+    alloc: Global,
+    value: Name,
+    place: SourceSpan,
+) -> Result<Node<EnumValueDefinition>, AllocError>
+    ensures { IfOk result (λ node. node ≡ enum_value value place) }
+{
+    let value = EnumValueDefinition {
+        description: None,
+        value,
+        directives: DirectiveList::new(alloc),
+    };
+    Node::new_opt_location(alloc, value, Some(place))
+}
+
+/// A root of the schema.
+pub fn root_operation(
+    alloc: Global,
+    operation: OperationType,
+    name: NamedType,
+    place: SourceSpan,
+) -> Result<Node<(OperationType, NamedType)>, AllocError>
+    ensures { IfOk result (λ node. node ≡ root_operation operation name place) }
+{
+    Node::new_opt_location(alloc, (operation, name), Some(place))
+}

@@ -1,0 +1,2 @@
+pub mod FoldedText
+pub mod OpenLemmas

@@ -1,0 +1,3 @@
+pub mod Nesting
+pub mod OpenSelections
+pub mod Text

@@ -1,0 +1,16 @@
+-- What the open selections become with the lines to come.
+use Rattle.std.specs.Prelude.{ℕ, ◌+◌, List, [], ◌∷◌, ◌++◌}
+use Rattle.graphql_ast.specs.declared.selection.Selection.{Selection}
+use Rattle.bench_selections.specs.Nesting.{selection_of, selections_at}
+use Rattle.bench_selections.specs.declared.selection_line.SelectionLine.{SelectionLine}
+use Rattle.bench_selections.specs.declared.nesting.OpenSelection.{OpenSelection}
+use Rattle.bench_selections.specs.declared.nesting.Nesting.{Nesting}
+
+-- the selections of a depth, of which the first of these is open, each further one in the one before it, and of the last one
+-- these are known
+abbrev pub combined_at : ℕ → List OpenSelection → List Selection → List SelectionLine → List Selection
+combined_at depth [] selections lines = selections ++ selections_at depth lines
+combined_at depth (outer ∷ inner) selections lines = outer.before ++ selection_of outer.line (combined_at (depth + 1) inner selections lines) ∷ selections_at depth lines
+
+abbrev pub combined : Nesting → List SelectionLine → List Selection
+combined nesting lines = combined_at 0 nesting.path.items nesting.selections lines

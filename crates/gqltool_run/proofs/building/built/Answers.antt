@@ -1,0 +1,117 @@
+use Rattle.std.proofs.Common.{◌≡◌, ℕ, ◌+◌, ◌<◌, Bool, false, get_or, take, drop, Err, List, [], ◌∷◌, ◌++◌, length, sym, ap, subst, ◌∙◌, append_assoc, arith}
+use Rattle.std.proofs.lemmas.List.{append-nil, map-append, take_more, take-append-drop, take_all}
+use Rattle.std.proofs.lemmas.Grind.{flat_map-append}
+use Rattle.graphql_ast.specs.declared.document.Document.{Document}
+use Rattle.apollo_built_in.specs.BuiltInTable.{built_in_definitions}
+use Rattle.apollo_meaning.specs.Items.ListItems.{Added, added}
+use Rattle.apollo_folding.specs.declared.builder_error.BuilderError.TheVariants as refusals
+use Rattle.apollo_schema.specs.declared.build_failure.BuildFailure.TheVariants as builds
+use Rattle.apollo_schema.specs.BuilderStands.{StandsFor}
+use Rattle.apollo_meaning.specs.Order.SpentIds.{SpendsIdsSoFar, SpendsIds}
+use Rattle.apollo_meaning.specs.Faults.ListFaults.{faults_of}
+use Rattle.apollo_schema.specs.MeantSchema.{MeansSchema}
+use Rattle.apollo_meaning.proofs.Order.LongerLemmas.{spends-longer}
+use Rattle.gqltool_run.specs.Building.{all_definitions, list_of}
+use Rattle.gqltool_run.proofs.building.built.Goals as goal
+
+-- the list with the definitions of more documents
+list-append : (b : Bool) (ds es : List Document) → list_of b (ds ++ es) ≡ list_of b ds ++ added b (all_definitions es)
+unfolding list_of
+list-append b ds es =
+    ap (λ l. added false built_in_definitions ++ added b l) (flat_map-append (λ (document : Document). document.definitions) ds es)
+    ∙ ap (λ l. added false built_in_definitions ++ l) (map-append (λ d. (b, d)) (all_definitions ds) (all_definitions es))
+    ∙ sym (append_assoc (added false built_in_definitions) (added b (all_definitions ds)) (added b (all_definitions es)))
+
+-- and with those of one
+list-turn : (b : Bool) (ds : List Document) (i : ℕ) (d : Document) → i < length ds → d ≡ get_or ds i d → list_of b (take (i + 1) ds) ≡ list_of b (take i ds) ++ added b d.definitions
+list-turn b ds i d lt is =
+    ap (list_of b) (take_more ds i d lt ∙ ap (λ e. take i ds ++ e ∷ []) (sym is))
+    ∙ list-append b (take i ds) (d ∷ [])
+    ∙ ap (λ l. list_of b (take i ds) ++ added b l) (append-nil d.definitions)
+
+pub loop-document-init : goal.loop-document-init
+loop-document-init c = record { stands = c.in_ok-builder.ensures.stands; adopts = c.in_ok-builder.ensures.adopts; ignores = c.in_ok-builder.ensures.ignores }
+
+pub loop-document-preserved : goal.loop-document-preserved
+loop-document-preserved c =
+    let b = c.args.options.ignore_built_in in
+    let ds = c.args.documents.now in
+    let i = c.loop-document.document-index in
+    let d = c.document-item.result in
+    let before = c.loop-document.invariant in
+    record {
+      stands = subst (λ (l : List Added). StandsFor 0 l c.add_ast.new.self) (sym (list-turn b ds i d (omega arith) c.document-item.is))
+          (subst (λ (s : Bool). StandsFor 0 (list_of b (take i ds) ++ added s d.definitions) c.add_ast.new.self) before.ignores
+          (c.in-Ok.ensures.stands 0 (list_of b (take i ds)) before.stands));
+      adopts = c.in-Ok.ensures.settings.0 ∙ before.adopts;
+      ignores = c.in-Ok.ensures.settings.1 ∙ before.ignores;
+    }
+
+pub returns-in-Ok-build-clause-means : goal.returns-in-Ok-build-clause-means
+returns-in-Ok-build-clause-means c =
+    let b = c.args.options.ignore_built_in in
+    let ds = c.args.documents.now in
+    let i = c.loop-document.document-index in
+    let before = c.loop-document.invariant in
+    subst (λ (l : List Document). MeansSchema 0 c.args.options.adopt (list_of b l) c.in-Ok-build.schema) (take_all i ds (omega arith))
+    (subst (λ (s : Bool). MeansSchema 0 s (list_of b (take i ds)) c.in-Ok-build.schema) before.adopts
+    (c.in-Ok-build.ensures.built 0 (list_of b (take i ds)) before.stands))
+
+pub returns-in-Ok-build-clause-faults : goal.returns-in-Ok-build-clause-faults
+returns-in-Ok-build-clause-faults c =
+    let b = c.args.options.ignore_built_in in
+    let ds = c.args.documents.now in
+    let i = c.loop-document.document-index in
+    let before = c.loop-document.invariant in
+    c.new.ensures.items ∙ sym (c.in-Ok-build.ensures.faultless 0 (list_of b (take i ds)) before.stands)
+    ∙ ap (λ (s : Bool). faults_of s (list_of b (take i ds))) before.adopts
+    ∙ ap (λ l. faults_of c.args.options.adopt (list_of b l)) (take_all i ds (omega arith))
+
+pub returns-in-Err-Faults-clause-means : goal.returns-in-Err-Faults-clause-means
+returns-in-Err-Faults-clause-means c =
+    let b = c.args.options.ignore_built_in in
+    let ds = c.args.documents.now in
+    let i = c.loop-document.document-index in
+    let before = c.loop-document.invariant in
+    let all = (rw c.in-Err-Faults.field-0-is at c.in-Err-Faults.ensures.faults) 0 (list_of b (take i ds)) before.stands in
+    rw c.in-Err-Faults.field-0-is (subst (λ (l : List Document). MeansSchema 0 c.args.options.adopt (list_of b l) c.in-Err-Faults.built.partial) (take_all i ds (omega arith))
+    (subst (λ (s : Bool). MeansSchema 0 s (list_of b (take i ds)) c.in-Err-Faults.built.partial) before.adopts all.0))
+
+pub returns-in-Err-Faults-clause-faults : goal.returns-in-Err-Faults-clause-faults
+returns-in-Err-Faults-clause-faults c =
+    let b = c.args.options.ignore_built_in in
+    let ds = c.args.documents.now in
+    let i = c.loop-document.document-index in
+    let before = c.loop-document.invariant in
+    let all = (rw c.in-Err-Faults.field-0-is at c.in-Err-Faults.ensures.faults) 0 (list_of b (take i ds)) before.stands in
+    let whole : c.in-Err-Faults.built.errors.items ≡ faults_of c.args.options.adopt (list_of b ds) =
+    all.1.0.0 ∙ ap (λ (s : Bool). faults_of s (list_of b (take i ds))) before.adopts ∙ ap (λ l. faults_of c.args.options.adopt (list_of b l)) (take_all i ds (omega arith)) in
+    rw c.in-Err-Faults.field-0-is whole
+
+-- what one document's definitions spend, all that are added spend
+pub returns-in-Err-ExtensionIds-clause-spent : goal.returns-in-Err-ExtensionIds-clause-spent
+returns-in-Err-ExtensionIds-clause-spent c = λ spent.
+    let b = c.args.options.ignore_built_in in
+    let adopt = c.args.options.adopt in
+    let ds = c.args.documents.now in
+    let i = c.loop-document.document-index in
+    let d = c.document-item.result in
+    let before = c.loop-document.invariant in
+    let refused : c.add_ast.result ≡ Err refusals.ExtensionIds = cc in
+    let so_far : SpendsIdsSoFar 0 (list_of b (take (i + 1) ds)) =
+    subst (SpendsIdsSoFar 0) (sym (list-turn b ds i d (omega arith) c.document-item.is))
+    (subst (λ (s : Bool). SpendsIdsSoFar 0 (list_of b (take i ds) ++ added s d.definitions)) before.ignores
+    (c.add_ast.ensures.spent refused 0 (list_of b (take i ds)) before.stands)) in
+    subst (SpendsIds 0 adopt) (sym (list-append b (take (i + 1) ds) (drop (i + 1) ds)) ∙ ap (list_of b) (take-append-drop (i + 1) ds))
+    (spends-longer 0 adopt (list_of b (take (i + 1) ds)) (added b (all_definitions (drop (i + 1) ds))) so_far)
+
+pub returns-in-Err-ExtensionIds-build-clause-spent : goal.returns-in-Err-ExtensionIds-build-clause-spent
+returns-in-Err-ExtensionIds-build-clause-spent c = λ spent.
+    let b = c.args.options.ignore_built_in in
+    let ds = c.args.documents.now in
+    let i = c.loop-document.document-index in
+    let before = c.loop-document.invariant in
+    let refused : c.build.result ≡ Err builds.ExtensionIds = cc in
+    subst (λ (l : List Document). SpendsIds 0 c.args.options.adopt (list_of b l)) (take_all i ds (omega arith))
+    (subst (λ (s : Bool). SpendsIds 0 s (list_of b (take i ds))) before.adopts
+    (c.build.ensures.spent refused 0 (list_of b (take i ds)) before.stands))

@@ -1,0 +1,37 @@
+-- What the words of the command line ask for: docs/NOTATION.md.
+use Rattle.std.specs.Prelude.{◌≡◌, ◌⊎◌, ℕ, List, [], ◌∷◌, None, codes}
+use Rattle.apollo_coordinate.specs.CoordinateText.{IsCoordinateText, Says}
+use Rattle.apollo_coordinate.specs.Refusals.{without_at}
+use Rattle.gqltool_run.specs.declared.failure.Failure.{Failure}
+use Rattle.gqltool_run.specs.declared.failure.Failure.TheVariants as failures
+use Rattle.gqltool_run.specs.declared.schema_options.SchemaOptions.{SchemaOptions}
+use Rattle.gqltool_run.specs.declared.task.Task.{Task}
+use Rattle.gqltool_run.specs.declared.task.Task.TheVariants as tasks
+use Rattle.gqltool_run.specs.SchemaOptions.{AreSchemaWords}
+
+-- these words are the command `coord` with this text
+abbrev pub AreCoordWords : List (List ℕ) → List ℕ → Type 0
+AreCoordWords words text = words ≡ codes "coord" ∷ text ∷ []
+
+-- these words ask for this
+abbrev pub Ask : List (List ℕ) → Task → Type 0
+Ask words (tasks.Schema options) = AreSchemaWords words options
+Ask words (tasks.Coord coordinate) = (text : List ℕ) × (AreCoordWords words text × Says text coordinate)
+
+-- these words are no command
+abbrev pub AreNoCommand : List (List ℕ) → Type 0
+AreNoCommand words = ((options : SchemaOptions) → ¬ AreSchemaWords words options) × ((text : List ℕ) → ¬ AreCoordWords words text)
+
+-- these words are the command `coord` with a text of no coordinate
+abbrev pub AskNoCoordinate : List (List ℕ) → Type 0
+AskNoCoordinate words = (text : List ℕ) × (AreCoordWords words text × ¬ IsCoordinateText text)
+
+-- why a text is not read: it is of no coordinate, and is told without the `@` that it may begin with; or memory was wanting
+abbrev pub IsTextRefusal : List ℕ → Failure → Type 0
+IsTextRefusal text (failures.NoCoordinate error) = ¬ IsCoordinateText text × (error ≡ record { name = without_at text; location = None })
+IsTextRefusal text failures.Memory = Unit {0}
+IsTextRefusal text _ = ⊥
+
+-- why words are refused: they are no command, or the text of `coord` is refused
+abbrev pub IsRefusalOf : List (List ℕ) → Failure → Type 0
+IsRefusalOf words failure = (AreNoCommand words × (failure ≡ failures.Usage)) ⊎ ((text : List ℕ) × (AreCoordWords words text × IsTextRefusal text failure))

@@ -1,0 +1,142 @@
+//! The keys that tables and sets hash by, and their hasher.
+//!
+//! Whoever knows the keys can make names that all get one hash, and a table of such names takes a time that grows with
+//! their square. So a table of names from strangers is given keys that nobody can foretell. The hasher is std's
+//! `FoldHasher` with both of its numbers taken from the keys: each step multiplies two words of the text, each joined
+//! with a secret one, so without the keys no two texts can be chosen that collide under many of them.
+ghost use Rattle.std.specs.Prelude.{◌≡◌, ◌+◌, ◌≤◌, length};
+ghost use Rattle.std.specs.Hash.FoldHasher as folding;
+ghost use Rattle.graphql_nodes.specs.KeyedHash as keyed;
+
+use std::fmt;
+use std::hash::{BuildHasher, Hasher};
+
+/// What a table or set hashes by, and keeps through clones. Answers and orders never depend on it, and contracts see
+/// nothing of it.
+#[derive(Clone, Copy, PartialEq, Eq)]
+pub struct HashKeys {
+    start: u64,
+    factor: u64,
+}
+
+impl HashKeys {
+    /// The keys of a table that is given none: the same in each run.
+    pub const FIXED: HashKeys = HashKeys {
+        start: 0x243f_6a88_85a3_08d3,
+        factor: 0x9e37_79b9_7f4a_7c15,
+    };
+
+    /// The keys that these bytes are. Where names come from strangers, the bytes are random ones of the system.
+    pub fn from_bytes(bytes: [u8; 16]) -> HashKeys {
+        let words = u128::from_le_bytes(bytes);
+        HashKeys {
+            start: (words & 0xFFFF_FFFF_FFFF_FFFF) as u64,
+            factor: (words >> 64) as u64,
+        }
+    }
+}
+
+impl fmt::Debug for HashKeys {
+    fn fmt<W: fmt::Write>(&self, f: &mut fmt::Formatter<W>) -> fmt::Result {
+        f.debug_struct("HashKeys").finish_non_exhaustive()
+    }
+}
+
+impl BuildHasher for HashKeys {
+    type Hasher = KeyedHasher;
+
+    ghost build_hasher = { λ keys. record { state = keys.start; factor = keys.factor } };
+
+    fn build_hasher(&self) -> KeyedHasher {
+        KeyedHasher {
+            state: self.start,
+            factor: self.factor,
+        }
+    }
+}
+
+/// A hash that is under way under keys.
+#[derive(Clone, Copy)]
+pub struct KeyedHasher {
+    state: u64,
+    factor: u64,
+}
+
+impl Hasher for KeyedHasher {
+    ghost write = { keyed.write };
+
+    ghost finish = { λ hasher. hasher.state };
+
+    fn finish(&self) -> u64 {
+        self.state
+    }
+
+    fn write(&mut self, bytes: &[u8]) {
+        let len = bytes.len();
+        if len <= 8 {
+            self.state = folded_multiply(
+                self.state ^ read_short(bytes),
+                self.factor ^ (2 * len as u64),
+            );
+            return;
+        }
+        let factor = self.factor;
+        let mut state = self.state.wrapping_add(len as u64);
+        let mut at = 0;
+        while len - at > 16 {
+            state = mix(bytes, state, factor, at, at + 8);
+            at += 16;
+        }
+        self.state = mix(bytes, state, factor, len.saturating_sub(16), len - 8);
+    }
+}
+
+/// The two halves of the 128 bits of a product, joined.
+fn folded_multiply(left: u64, right: u64) -> u64
+    ensures { result ≡ folding.folded_multiply left right }
+{
+    let product = left as u128 * right as u128;
+    (product & 0xFFFF_FFFF_FFFF_FFFF) as u64 ^ (product >> 64) as u64
+}
+
+/// The state after the words at two places.
+fn mix(bytes: &[u8], state: u64, factor: u64, first: usize, second: usize) -> u64
+    requires first { first + 8 ≤ length bytes.now }
+    requires second { second + 8 ≤ length bytes.now }
+    ensures { result ≡ keyed.mix factor bytes.now state first second }
+{
+    folded_multiply(
+        read_u64(bytes, first) ^ state,
+        read_u64(bytes, second) ^ factor,
+    )
+}
+
+/// The four bytes from a place on, the lowest first.
+fn read_u32(bytes: &[u8], at: usize) -> u64
+    requires { at + 4 ≤ length bytes.now }
+    ensures { result ≡ folding.read_u32 bytes.now at }
+{
+    u32::from_le_bytes([bytes[at], bytes[at + 1], bytes[at + 2], bytes[at + 3]]) as u64
+}
+
+/// The eight bytes from a place on, the lowest first.
+fn read_u64(bytes: &[u8], at: usize) -> u64
+    requires { at + 8 ≤ length bytes.now }
+    ensures { result ≡ folding.read_u64 bytes.now at }
+{
+    read_u32(bytes, at) | read_u32(bytes, at + 4) << 32
+}
+
+/// Up to eight bytes as one number, by reads that may overlap.
+fn read_short(bytes: &[u8]) -> u64
+    ensures { result ≡ folding.read_short bytes.now }
+{
+    let len = bytes.len();
+    if len >= 4 {
+        read_u32(bytes, 0) | read_u32(bytes, len - 4) << 32
+    } else if len > 0 {
+        bytes[0] as u64 | (bytes[len / 2] as u64) << 8 | (bytes[len - 1] as u64) << 16
+    } else {
+        0
+    }
+}
