@@ -96,32 +96,26 @@ impl PartsByOrigin {
         Ok(())
     }
 
-    /// A type of this kind as syntax: its definition, at this place, then its extensions, each at its own. The error is
-    /// want of memory.
-    pub fn into_type(
+    /// Adds a type of this kind as syntax at the end: its definition, at this place, then its extensions, each at its own.
+    /// The error is want of memory.
+    pub fn write_type(
         self,
         alloc: Global,
         kind: TypeKind,
         description: Option<NodeStr>,
         name: &Name,
         location: Option<SourceSpan>,
-    ) -> Result<Vec<Definition>, AllocError>
-        ensures { IfOk result (λ written. written.items ≡ written_type kind description name.now self location) }
+        written: &mut Vec<Definition>,
+    ) -> Result<(), AllocError>
+        ensures { OnOk result (written.new.items ≡ written.old.items ++ written_type kind description name.now self location) }
     {
         let PartsByOrigin {
             definition,
             extensions,
         } = self;
-        let mut written = Vec::new(alloc);
-        written.push(definition.into_definition(
-            alloc,
-            kind,
-            description,
-            name.clone()?,
-            location,
-        )?)?;
-        extensions.write_types(alloc, kind, name, &mut written)?;
-        Ok(written)
+        let own_name = name.clone()?;
+        written.push(definition.into_definition(alloc, kind, description, own_name, location)?)?;
+        extensions.write_types(alloc, kind, name, written)
     }
 
     /// The schema's definition as syntax: the definition, at this place, if it is written, then its extensions, each at

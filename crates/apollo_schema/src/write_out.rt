@@ -34,10 +34,12 @@ pub fn write_type(
 ) -> Result<(), AllocError>
     ensures { OnOk result (written.new.items ≡ written.old.items ++ write_held_type ty.now) }
 {
-    let mut definitions = ty.to_ast(alloc)?;
-    if ty.is_built_in() {
-        let _definition = definitions.remove(0);
+    if !ty.is_built_in() {
+        ty.write_to(alloc, written)?;
+        return Ok(());
     }
+    let mut definitions = ty.to_ast(alloc)?;
+    let _definition = definitions.remove(0);
     written.append(&mut definitions)?;
     Ok(())
 }

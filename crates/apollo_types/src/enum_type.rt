@@ -3,7 +3,7 @@ ghost use Rattle.std.specs.Prelude.{◌≡◌, IfOk};
 
 use crate::components::{Components, Part};
 use crate::origins::Origins;
-use crate::write_out::{identities_of, write_type};
+use crate::write_out::{identities_of, type_as_syntax};
 use apollo_component::component::Component;
 use apollo_component::directive_list::DirectiveList;
 use apollo_component::extension::ExtensionId;
@@ -56,7 +56,7 @@ impl EnumType {
     ghost use Rattle.apollo_types.specs.TypeWriteOut.{enum_components, write_enum};
 
     /// The components: directives, values.
-    fn components(&self) -> Components<'_>
+    pub(crate) fn components(&self) -> Components<'_>
         ensures rest { result ≡ enum_components self.now }
         ensures runs { ComponentsInOrder }
     {
@@ -93,10 +93,10 @@ impl EnumType {
     ) -> Result<Vec<Definition>, AllocError>
         ensures { IfOk result (λ written. written.items ≡ write_enum self.now location) }
     {
-        write_type(
+        type_as_syntax(
             alloc,
             TypeKind::Enum,
-            &self.description,
+            self.description.as_ref(),
             &self.name,
             self.components(),
             location,

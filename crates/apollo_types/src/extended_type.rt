@@ -1,7 +1,8 @@
 //! Types of any kind: GraphQL specification of October 2021, section 3.4.
-ghost use Rattle.std.specs.Prelude.{◌≡◌, IfOk};
+ghost use Rattle.std.specs.Prelude.{◌≡◌, ◌++◌, IfOk, OnOk};
 ghost use Rattle.std.specs.Option.{option_copied};
 
+use crate::components::Components;
 use crate::enum_type::EnumType;
 use crate::input_object_type::InputObjectType;
 use crate::interface_type::InterfaceType;
@@ -9,7 +10,7 @@ use crate::object_type::ObjectType;
 use crate::origins::Origins;
 use crate::scalar_type::ScalarType;
 use crate::union_type::UnionType;
-use crate::write_out::identities_of;
+use crate::write_out::{add_type, identities_of};
 use apollo_component::directive_list::DirectiveList;
 use apollo_component::extension::ExtensionId;
 use graphql_ast::definition::Definition;
@@ -51,7 +52,7 @@ impl ExtendedType {
     ghost use Rattle.graphql_nodes.specs.BuiltIn.{is_built_in};
     ghost use Rattle.apollo_types.specs.TypeKinds.{as_scalar, as_object, as_interface, as_union, as_enum, as_input_object, is_scalar, is_object, is_interface, is_union, is_enum, is_input_object, is_leaf, is_input_type, is_output_type};
     ghost use Rattle.apollo_types.specs.TypeWriteOut.{write_type, type_kind, type_name, type_location, type_directives, type_description, type_components};
-    ghost use Rattle.apollo_types.specs.Components.{OriginsInOrder};
+    ghost use Rattle.apollo_types.specs.Components.{ComponentsInOrder, OriginsInOrder};
     ghost use Rattle.apollo_component.specs.WriteOut.{origins_in, identities};
 
     /// The kind of the type.
@@ -261,20 +262,28 @@ impl ExtendedType {
         }
     }
 
+    /// The components: directives, then interfaces, then fields; or directives, then members, values or input fields.
+    fn components(&self) -> Components<'_>
+        ensures rest { result ≡ type_components self.now }
+        ensures runs { ComponentsInOrder }
+    {
+        match self {
+            ExtendedType::Scalar(node) => node.components(),
+            ExtendedType::Object(node) => node.components(),
+            ExtendedType::Interface(node) => node.components(),
+            ExtendedType::Union(node) => node.components(),
+            ExtendedType::Enum(node) => node.components(),
+            ExtendedType::InputObject(node) => node.components(),
+        }
+    }
+
     /// The origins of the components: those of directives, then interfaces, then fields; or of directives, then members,
     /// values or input fields.
     pub fn iter_origins(&self) -> Origins<'_>
         ensures rest { result ≡ origins_in (type_components self.now) }
         ensures runs { OriginsInOrder }
     {
-        match self {
-            ExtendedType::Scalar(node) => node.iter_origins(),
-            ExtendedType::Object(node) => node.iter_origins(),
-            ExtendedType::Interface(node) => node.iter_origins(),
-            ExtendedType::Union(node) => node.iter_origins(),
-            ExtendedType::Enum(node) => node.iter_origins(),
-            ExtendedType::InputObject(node) => node.iter_origins(),
-        }
+        Origins::new(self.components())
     }
 
     /// The identities of the extensions that the components come from, by first appearance among their
@@ -289,13 +298,23 @@ impl ExtendedType {
     pub fn to_ast(&self, alloc: Global) -> Result<Vec<Definition>, AllocError>
         ensures { IfOk result (λ written. written.items ≡ write_type self.now) }
     {
-        match self {
-            ExtendedType::Scalar(node) => node.to_ast(alloc, node.location()),
-            ExtendedType::Object(node) => node.to_ast(alloc, node.location()),
-            ExtendedType::Interface(node) => node.to_ast(alloc, node.location()),
-            ExtendedType::Union(node) => node.to_ast(alloc, node.location()),
-            ExtendedType::Enum(node) => node.to_ast(alloc, node.location()),
-            ExtendedType::InputObject(node) => node.to_ast(alloc, node.location()),
-        }
+        let mut written = Vec::new(alloc);
+        self.write_to(alloc, &mut written)?;
+        Ok(written)
+    }
+
+    /// Adds the type as syntax at the end, as [`to_ast`](ExtendedType::to_ast) answers it. The error is want of memory.
+    pub fn write_to(&self, alloc: Global, written: &mut Vec<Definition>) -> Result<(), AllocError>
+        ensures { OnOk result (written.new.items ≡ written.old.items ++ write_type self.now) }
+    {
+        add_type(
+            alloc,
+            self.kind(),
+            self.description(),
+            self.name(),
+            self.components(),
+            self.location(),
+            written,
+        )
     }
 }

@@ -3,7 +3,7 @@ ghost use Rattle.std.specs.Prelude.{◌≡◌, IfOk};
 
 use crate::components::{Components, Part};
 use crate::origins::Origins;
-use crate::write_out::{identities_of, write_type};
+use crate::write_out::{identities_of, type_as_syntax};
 use apollo_component::component::Component;
 use apollo_component::directive_list::DirectiveList;
 use apollo_component::extension::ExtensionId;
@@ -56,7 +56,7 @@ impl InputObjectType {
     ghost use Rattle.apollo_types.specs.TypeWriteOut.{input_object_components, write_input_object};
 
     /// The components: directives, fields.
-    fn components(&self) -> Components<'_>
+    pub(crate) fn components(&self) -> Components<'_>
         ensures rest { result ≡ input_object_components self.now }
         ensures runs { ComponentsInOrder }
     {
@@ -93,10 +93,10 @@ impl InputObjectType {
     ) -> Result<Vec<Definition>, AllocError>
         ensures { IfOk result (λ written. written.items ≡ write_input_object self.now location) }
     {
-        write_type(
+        type_as_syntax(
             alloc,
             TypeKind::InputObject,
-            &self.description,
+            self.description.as_ref(),
             &self.name,
             self.components(),
             location,

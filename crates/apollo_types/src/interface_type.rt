@@ -3,7 +3,7 @@ ghost use Rattle.std.specs.Prelude.{◌≡◌, IfOk};
 
 use crate::components::{Components, Part};
 use crate::origins::Origins;
-use crate::write_out::{identities_of, write_type};
+use crate::write_out::{identities_of, type_as_syntax};
 use apollo_component::component::{Component, ComponentName};
 use apollo_component::directive_list::DirectiveList;
 use apollo_component::extension::ExtensionId;
@@ -59,7 +59,7 @@ impl InterfaceType {
     ghost use Rattle.apollo_types.specs.TypeWriteOut.{interface_components, write_interface};
 
     /// The components: directives, interfaces, fields.
-    fn components(&self) -> Components<'_>
+    pub(crate) fn components(&self) -> Components<'_>
         ensures rest { result ≡ interface_components self.now }
         ensures runs { ComponentsInOrder }
     {
@@ -96,10 +96,10 @@ impl InterfaceType {
     ) -> Result<Vec<Definition>, AllocError>
         ensures { IfOk result (λ written. written.items ≡ write_interface self.now location) }
     {
-        write_type(
+        type_as_syntax(
             alloc,
             TypeKind::Interface,
-            &self.description,
+            self.description.as_ref(),
             &self.name,
             self.components(),
             location,

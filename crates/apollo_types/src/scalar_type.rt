@@ -3,7 +3,7 @@ ghost use Rattle.std.specs.Prelude.{◌≡◌, IfOk};
 
 use crate::components::{Components, Part};
 use crate::origins::Origins;
-use crate::write_out::{identities_of, write_type};
+use crate::write_out::{identities_of, type_as_syntax};
 use apollo_component::directive_list::DirectiveList;
 use apollo_component::extension::ExtensionId;
 use graphql_ast::definition::Definition;
@@ -51,7 +51,7 @@ impl ScalarType {
     ghost use Rattle.apollo_types.specs.TypeWriteOut.{scalar_components, write_scalar};
 
     /// The components: directives.
-    fn components(&self) -> Components<'_>
+    pub(crate) fn components(&self) -> Components<'_>
         ensures rest { result ≡ scalar_components self.now }
         ensures runs { ComponentsInOrder }
     {
@@ -84,10 +84,10 @@ impl ScalarType {
     ) -> Result<Vec<Definition>, AllocError>
         ensures { IfOk result (λ written. written.items ≡ write_scalar self.now location) }
     {
-        write_type(
+        type_as_syntax(
             alloc,
             TypeKind::Scalar,
-            &self.description,
+            self.description.as_ref(),
             &self.name,
             self.components(),
             location,

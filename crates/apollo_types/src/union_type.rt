@@ -3,7 +3,7 @@ ghost use Rattle.std.specs.Prelude.{◌≡◌, IfOk};
 
 use crate::components::{Components, Part};
 use crate::origins::Origins;
-use crate::write_out::{identities_of, write_type};
+use crate::write_out::{identities_of, type_as_syntax};
 use apollo_component::component::ComponentName;
 use apollo_component::directive_list::DirectiveList;
 use apollo_component::extension::ExtensionId;
@@ -54,7 +54,7 @@ impl UnionType {
     ghost use Rattle.apollo_types.specs.TypeWriteOut.{union_components, write_union};
 
     /// The components: directives, members.
-    fn components(&self) -> Components<'_>
+    pub(crate) fn components(&self) -> Components<'_>
         ensures rest { result ≡ union_components self.now }
         ensures runs { ComponentsInOrder }
     {
@@ -91,10 +91,10 @@ impl UnionType {
     ) -> Result<Vec<Definition>, AllocError>
         ensures { IfOk result (λ written. written.items ≡ write_union self.now location) }
     {
-        write_type(
+        type_as_syntax(
             alloc,
             TypeKind::Union,
-            &self.description,
+            self.description.as_ref(),
             &self.name,
             self.components(),
             location,

@@ -1,5 +1,6 @@
 //! Types, and the schema's definition, as syntax.
 ghost use Rattle.std.specs.Prelude.{◌≡◌, List, ◌∷◌, [], ◌++◌, IfOk, OnOk};
+ghost use Rattle.std.specs.Option.{option_copied};
 ghost use Rattle.apollo_component.specs.WriteOut.{identities, by_origin, written_type};
 ghost use Rattle.apollo_component.specs.declared.extension.ComponentOrigin.{ComponentOrigin as Origin};
 
@@ -39,18 +40,44 @@ pub(crate) fn identities_of(
     Ok(ids)
 }
 
-/// The type that these components make, as syntax: its definition, at this place, then its extensions.
-pub(crate) fn write_type(
+/// Adds the type that these components make as syntax at the end: its definition, at this place, then its extensions. The
+/// error is want of memory.
+pub(crate) fn add_type(
     alloc: Global,
     kind: TypeKind,
-    description: &Option<NodeStr>,
+    description: Option<&NodeStr>,
+    name: &Name,
+    components: Components<'_>,
+    location: Option<SourceSpan>,
+    written: &mut Vec<Definition>,
+) -> Result<(), AllocError>
+    ensures { OnOk result (written.new.items ≡ written.old.items ++ written_type kind (option_copied description) name.now (by_origin components.entry) location) }
+{
+    let parts = components.by_origin(alloc)?;
+    let copy = description.cloned()?;
+    parts.write_type(alloc, kind, copy, name, location, written)
+}
+
+/// The type that these components make as syntax, as [`add_type`] adds it. The error is want of memory.
+pub(crate) fn type_as_syntax(
+    alloc: Global,
+    kind: TypeKind,
+    description: Option<&NodeStr>,
     name: &Name,
     components: Components<'_>,
     location: Option<SourceSpan>,
 ) -> Result<Vec<Definition>, AllocError>
-    ensures { IfOk result (λ written. written.items ≡ written_type kind description.now name.now (by_origin components.entry) location) }
+    ensures { IfOk result (λ written. written.items ≡ written_type kind (option_copied description) name.now (by_origin components.entry) location) }
 {
-    let parts = components.by_origin(alloc)?;
-    let written = parts.into_type(alloc, kind, description.clone()?, name, location)?;
+    let mut written = Vec::new(alloc);
+    add_type(
+        alloc,
+        kind,
+        description,
+        name,
+        components,
+        location,
+        &mut written,
+    )?;
     Ok(written)
 }
