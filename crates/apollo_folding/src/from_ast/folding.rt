@@ -1,24 +1,50 @@
 //! Components folded into the collections of a type.
 ghost use Rattle.apollo_folding.specs.Joins.{Lengthens, FindsIn};
-ghost use Rattle.std.specs.Prelude.{◌≡◌, [], ◌∷◌, ◌++◌, map, OnOk};
+ghost use Rattle.std.specs.Prelude.{◌≡◌, [], ◌∷◌, ◌++◌, map, IfOk, OnOk};
 ghost use Rattle.graphql_nodes.specs.Tables.{keys_of};
 ghost use Rattle.apollo_meaning.specs.Types.Components.{component, component_name, distinct_names, distinct_entries};
 ghost use Rattle.apollo_meaning.specs.Faults.TypeFaults.{name_entries, named_entries};
 ghost use Rattle.apollo_meaning.specs.Faults.Collisions.{collision_at, collisions};
 
+use crate::views::{BodyView, PartView};
 use apollo_component::component::{Component, ComponentName};
 use apollo_component::directive_list::DirectiveList;
 use apollo_component::extension::ComponentOrigin;
 use apollo_meaning::build_error::Fault;
 use apollo_meaning::collision::Collection;
 use graphql_ast::directive::Directive;
+use graphql_nodes::collections::hash_keys::HashKeys;
 use graphql_nodes::collections::items::Items;
 use graphql_nodes::collections::key_set::KeySet;
 use graphql_nodes::collections::table::Table;
 use graphql_nodes::name::Name;
 use graphql_nodes::named::Named;
 use graphql_nodes::node::Node;
-use std::alloc::AllocError;
+use indexmap::IndexMap;
+use std::alloc::{AllocError, Global};
+
+/// How many things of this part stand under names.
+fn named_count(part: &PartView<'_>) -> usize {
+    match part.body {
+        BodyView::Scalar | BodyView::Union(_) => 0,
+        BodyView::Object(_, fields) | BodyView::Interface(_, fields) => fields.len(),
+        BodyView::Enum(values) => values.len(),
+        BodyView::InputObject(fields) => fields.len(),
+    }
+}
+
+/// No entry, with room for what stands under names in this part. The table hashes by these keys. The error is want of
+/// memory.
+pub fn table_for<T>(
+    alloc: Global,
+    keys: HashKeys,
+    part: &PartView<'_>,
+) -> Result<Table<Name, Component<T>>, AllocError>
+    ensures { IfOk result (λ table. table ≡ []) }
+{
+    let map = IndexMap::with_capacity_and_hasher(alloc, named_count(part), keys)?;
+    Ok(Table::from_index_map(map))
+}
 
 /// Adds directives at the end, in order.
 pub fn fold_directives(
