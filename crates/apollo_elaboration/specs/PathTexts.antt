@@ -1,5 +1,5 @@
 -- The text of a path, which begins with that of its definition's name. GraphQL specification of October 2021, sections 2.3 to 2.8.
-use Rattle.std.specs.Prelude.{ℕ, List, [], ◌∷◌, ◌++◌, codes, encode_utf8_all}
+use Rattle.std.specs.Prelude.{ℕ, List, [], ◌∷◌, ◌++◌, codes}
 use Rattle.graphql_nodes.specs.NameView.{NameView}
 use Rattle.graphql_nodes.specs.OperationTexts.{operation_text}
 use Rattle.apollo_elaboration.specs.declared.selection_path.ExecutableDefinitionName.{ExecutableDefinitionName}
@@ -12,10 +12,14 @@ root_text (AnonymousOperation kind) = operation_text kind
 root_text (NamedOperation kind name) = operation_text kind ++ (codes " " ++ name.text)
 root_text (Fragment name) = codes "fragment " ++ name.text
 
+-- ` → `, whose arrow is U+2192, in UTF-8
+abbrev pub arrow : List ℕ
+arrow = 32 ∷ 226 ∷ 134 ∷ 146 ∷ 32 ∷ []
+
 -- each response key behind an arrow
 abbrev pub keys_text : List NameView → List ℕ
 keys_text [] = []
-keys_text (key ∷ keys) = encode_utf8_all (codes " → ") ++ (key.text ++ keys_text keys)
+keys_text (key ∷ keys) = arrow ++ (key.text ++ keys_text keys)
 
 -- `query Q → user → id`
 abbrev pub path_text : SelectionPath → List ℕ
