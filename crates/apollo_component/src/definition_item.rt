@@ -32,6 +32,10 @@ pub trait NodePart: Drop {
     /// Adds a node of it at the end of its list. The error is want of memory.
     fn push_node(node: Node<Self>, parts: &mut DefinitionParts) -> Result<(), AllocError>
         ensures { OnOk result (parts.new ≡ with_part (node_part node) parts.old) };
+
+    /// Makes room at the end of its list for so many more. The error is want of memory.
+    fn make_room(parts: &mut DefinitionParts, count: usize) -> Result<(), AllocError>
+        ensures { parts.new ≡ parts.old };
 }
 
 impl<T: NodePart> DefinitionItem for Node<T> {
@@ -58,6 +62,10 @@ impl NodePart for Directive {
     {
         parts.directives.push(node)
     }
+
+    fn make_room(parts: &mut DefinitionParts, count: usize) -> Result<(), AllocError> {
+        parts.directives.0.reserve_exact(count)
+    }
 }
 
 impl NodePart for FieldDefinition {
@@ -67,6 +75,10 @@ impl NodePart for FieldDefinition {
         ensures { OnOk result (parts.new ≡ with_part (sorts.Field node) parts.old) }
     {
         parts.fields.push(node)
+    }
+
+    fn make_room(parts: &mut DefinitionParts, count: usize) -> Result<(), AllocError> {
+        parts.fields.reserve_exact(count)
     }
 }
 
@@ -78,6 +90,10 @@ impl NodePart for EnumValueDefinition {
     {
         parts.values.push(node)
     }
+
+    fn make_room(parts: &mut DefinitionParts, count: usize) -> Result<(), AllocError> {
+        parts.values.reserve_exact(count)
+    }
 }
 
 impl NodePart for InputValueDefinition {
@@ -88,6 +104,10 @@ impl NodePart for InputValueDefinition {
     {
         parts.input_fields.push(node)
     }
+
+    fn make_room(parts: &mut DefinitionParts, count: usize) -> Result<(), AllocError> {
+        parts.input_fields.reserve_exact(count)
+    }
 }
 
 impl NodePart for (OperationType, NamedType) {
@@ -97,5 +117,9 @@ impl NodePart for (OperationType, NamedType) {
         ensures { OnOk result (parts.new ≡ with_part (sorts.Root node) parts.old) }
     {
         parts.roots.push(node)
+    }
+
+    fn make_room(parts: &mut DefinitionParts, count: usize) -> Result<(), AllocError> {
+        parts.roots.reserve_exact(count)
     }
 }

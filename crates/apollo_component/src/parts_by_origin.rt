@@ -65,6 +65,7 @@ impl PartsByOrigin {
     ) -> Result<(), AllocError>
         ensures { OnOk result ((cs : List SourcedPart) → self.old ≡ by_origin cs → self.new ≡ by_origin (cs ++ map (sourced T.node_part) components.now)) }
     {
+        T::make_room(&mut self.definition, components.len())?;
         for component in components {
             self.add(alloc, component.origin, component.node.clone()?)?;
         }
@@ -80,6 +81,7 @@ impl PartsByOrigin {
     ) -> Result<(), AllocError>
         ensures { OnOk result ((cs : List SourcedPart) → self.old ≡ by_origin cs → self.new ≡ by_origin (cs ++ map (sourced T.node_part) components.entry)) }
     {
+        T::make_room(&mut self.definition, components.len())?;
         for component in components {
             self.add(alloc, component.origin, component.node.clone()?)?;
         }
@@ -90,6 +92,7 @@ impl PartsByOrigin {
     pub fn add_names(&mut self, alloc: Global, names: &[ComponentName]) -> Result<(), AllocError>
         ensures { OnOk result ((cs : List SourcedPart) → self.old ≡ by_origin cs → self.new ≡ by_origin (cs ++ map sourced_name names.now)) }
     {
+        self.definition.names.reserve_exact(names.len())?;
         for name in names {
             self.add(alloc, name.origin, name.name.clone()?)?;
         }

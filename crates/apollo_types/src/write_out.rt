@@ -51,7 +51,7 @@ pub(crate) fn add_type(
     location: Option<SourceSpan>,
     written: &mut Vec<Definition>,
 ) -> Result<(), AllocError>
-    ensures { OnOk result (written.new.items ≡ written.old.items ++ written_type kind (option_copied description) name.now (by_origin components.entry) location) }
+    ensures { OnOk result (written.new.items ≡ written.old.items ++ written_type kind (option_copied description.entry) name.now (by_origin components.entry) location) }
 {
     let parts = components.by_origin(alloc)?;
     let copy = description.cloned()?;
@@ -67,7 +67,7 @@ pub(crate) fn type_as_syntax(
     components: Components<'_>,
     location: Option<SourceSpan>,
 ) -> Result<Vec<Definition>, AllocError>
-    ensures { IfOk result (λ written. written.items ≡ written_type kind (option_copied description) name.now (by_origin components.entry) location) }
+    ensures { IfOk result (λ written. written.items ≡ written_type kind (option_copied description.entry) name.now (by_origin components.entry) location) }
 {
     let mut written = Vec::new(alloc);
     add_type(
