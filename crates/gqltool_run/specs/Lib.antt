@@ -1,6 +1,7 @@
 pub mod Building
 pub mod Commands
 pub mod CoordCommand
+pub mod DocumentBuilding
 pub mod FaultLines
 pub mod SchemaCommand
 pub mod SchemaOptions

@@ -5,6 +5,7 @@ pub mod answer;
 pub mod arguments;
 pub mod building;
 pub mod coord_command;
+pub mod document_building;
 pub mod failure;
 mod fault_printing;
 pub mod input;
