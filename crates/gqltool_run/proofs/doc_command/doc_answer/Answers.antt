@@ -1,4 +1,4 @@
-use Rattle.std.proofs.Common.{◌≡◌, List, ◌++◌, ap, subst, ◌∙◌, append_assoc}
+use Rattle.std.proofs.Common.{List, ◌++◌, ap, subst, ◌∙◌, append_assoc}
 use Rattle.apollo_meaning.specs.Faults.Collisions.{Fault}
 use Rattle.apollo_elaboration.specs.Typable.{Fault as DocumentFault}
 use Rattle.bench_notation.specs.Text.{definitions_text}

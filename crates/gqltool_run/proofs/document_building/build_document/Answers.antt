@@ -1,4 +1,4 @@
-use Rattle.std.proofs.Common.{◌≡◌, false, List, Some, ap, subst, ◌∙◌}
+use Rattle.std.proofs.Common.{false, List, Some, ap, subst, ◌∙◌}
 use Rattle.std.proofs.lemmas.Result.{err_from_is_err_and}
 use Rattle.graphql_ast.specs.declared.document.Document.{Document}
 use Rattle.apollo_meaning.specs.Faults.ListFaults.{faults_of}
