@@ -60,7 +60,10 @@ fn a_line_divides_schema_documents_from_executable_ones(rt: HostRuntime) -> Resu
     let schema = printed(alloc, documents.schema.as_slice())?;
     assert_eq!(rt; schema.as_str(), "def object A\n---\n");
     let executable = printed(alloc, documents.executable.as_slice())?;
-    assert_eq!(rt; executable.as_str(), "operation query Q\nsel 0 field a\n---\n");
+    assert_eq!(rt;
+        executable.as_str(),
+        "operation query Q\nsel 0 field a\n---\n"
+    );
     Ok(())
 }
 
@@ -75,22 +78,34 @@ fn refusal_of(alloc: Global, text: &str) -> Option<ReadError> {
 #[test]
 fn a_text_is_divided_once(rt: HostRuntime) -> Result<(), Fail> {
     let alloc = rt.alloc();
-    assert_eq!(rt; refusal_of(alloc, "def object T\n---\n"), Some(ReadError::NoDivision));
+    assert_eq!(rt;
+        refusal_of(alloc, "def object T\n---\n"),
+        Some(ReadError::NoDivision)
+    );
     let second = RefusedLine {
         number: 3,
         reason: Reason::MisplacedLine,
     };
-    assert_eq!(rt; refusal_of(alloc, "===\n---\n=== x\n"), Some(ReadError::Refused(second)));
+    assert_eq!(rt;
+        refusal_of(alloc, "===\n---\n=== x\n"),
+        Some(ReadError::Refused(second))
+    );
     let long = RefusedLine {
         number: 1,
         reason: Reason::WrongNumberOfWords,
     };
-    assert_eq!(rt; refusal_of(alloc, "=== x\n"), Some(ReadError::Refused(long)));
+    assert_eq!(rt;
+        refusal_of(alloc, "=== x\n"),
+        Some(ReadError::Refused(long))
+    );
     let unknown = RefusedLine {
         number: 2,
         reason: Reason::UnknownLine,
     };
-    assert_eq!(rt; refusal_of(alloc, "def object T\nfoo\n"), Some(ReadError::Refused(unknown)));
+    assert_eq!(rt;
+        refusal_of(alloc, "def object T\nfoo\n"),
+        Some(ReadError::Refused(unknown))
+    );
     Ok(())
 }
 

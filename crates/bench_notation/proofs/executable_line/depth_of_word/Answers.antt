@@ -16,10 +16,12 @@ returns-in_default-after c =
     no_plus_first c.args.word.now c.in_default-after.field-0.now c.in_default-after.ensures
 
 pub returns-in-Ok : goal.returns-in-Ok
-returns-in-Ok c =
-    (c.if-depth-le-MOST_DEPTH.true, number_word c.args.word.now c.in-Ok.depth c.in-Ok.ensures.value.0
-    (not_first c.args.word.now 43 (lit< tt) c.in-None.ensures)
-    (λ zero. absurd (not_first c.args.word.now 48 (lit< tt) c.in_default.ensures zero)))
+returns-in-Ok c = (
+  c.if-depth-le-MOST_DEPTH.true,
+  number_word c.args.word.now c.in-Ok.depth c.in-Ok.ensures.value.0
+      (not_first c.args.word.now 43 (lit< tt) c.in-None.ensures)
+      (λ zero. absurd (not_first c.args.word.now 48 (lit< tt) c.in_default.ensures zero)),
+)
 
 pub returns-in_default-parse : goal.returns-in_default-parse
 returns-in_default-parse c = λ depth small same.
