@@ -13,6 +13,7 @@ use apollo_executable::document::ExecutableDocument;
 use apollo_folding::builder_error::BuilderError;
 use apollo_schema::schema::Schema;
 use graphql_ast::document::Document;
+use graphql_nodes::collections::hash_keys::HashKeys;
 use std::alloc::Global;
 
 /// A builder of an executable document, over a schema or without one: GraphQL specification of October 2021, sections 2.2 to
@@ -44,13 +45,33 @@ impl<'schema> ExecutableDocumentBuilder<'schema> {
 
     /// A builder of no definition, over this schema or without one. Without a schema each operation has the default name of its
     /// root type, each name is that of a type, and every selection is typable.
+    ///
+    /// The document's tables hash by the keys of the schema, and without one by fixed keys: for documents from strangers without
+    /// a schema, take [`with_keys`](ExecutableDocumentBuilder::with_keys).
     pub fn new(alloc: Global, schema: Option<&'schema Schema>) -> ExecutableDocumentBuilder<'schema>
+        ensures stands { StandsFor (option_copied schema.entry) [] result }
+        ensures sources { sources_of result ≡ [] }
+    {
+        let keys = match schema {
+            Some(schema) => schema.types.hash_keys(),
+            None => HashKeys::FIXED,
+        };
+        ExecutableDocumentBuilder::with_keys(alloc, schema, keys)
+    }
+
+    /// A builder as [`new`](ExecutableDocumentBuilder::new) makes it, for a document whose tables hash by these keys. No clause
+    /// speaks of keys: answers and orders never depend on them.
+    pub fn with_keys(
+        alloc: Global,
+        schema: Option<&'schema Schema>,
+        keys: HashKeys,
+    ) -> ExecutableDocumentBuilder<'schema>
         ensures stands { StandsFor (option_copied schema.entry) [] result }
         ensures sources { sources_of result ≡ [] }
     {
         ExecutableDocumentBuilder {
             schema,
-            state: State::Open(Tables::new(alloc)),
+            state: State::Open(Tables::new(alloc, keys)),
         }
     }
 

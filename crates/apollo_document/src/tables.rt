@@ -22,6 +22,7 @@ use apollo_schema::schema::Schema;
 use graphql_ast::definition::Definition;
 use graphql_ast::document::Document;
 use graphql_ast::operation::{FragmentDefinition, OperationDefinition};
+use graphql_nodes::collections::hash_keys::HashKeys;
 use graphql_nodes::collections::items::Items;
 use graphql_nodes::collections::static_text::StaticText;
 use graphql_nodes::collections::table::Table;
@@ -55,16 +56,16 @@ impl Drop for Tables {
 }
 
 impl Tables {
-    /// Tables of no definition.
-    pub fn new(alloc: Global) -> Tables
+    /// Tables of no definition, which hash by these keys.
+    pub fn new(alloc: Global, keys: HashKeys) -> Tables
         ensures stands { (schema : Option Schema) → Stands schema [] result }
         ensures sources { result.sources ≡ [] }
     {
         Tables {
             alloc,
-            sources: Table::new(alloc),
-            operations: OperationMap::new(alloc),
-            fragments: Table::new(alloc),
+            sources: Table::with_keys(alloc, keys),
+            operations: OperationMap::with_keys(alloc, keys),
+            fragments: Table::with_keys(alloc, keys),
             multiple_anonymous: false,
             errors: Items::new(alloc),
         }

@@ -1,6 +1,6 @@
 //! Where a selection stands: GraphQL specification of October 2021, sections 2.3 to 2.8.
 ghost use Rattle.std.specs.Prelude.{◌≡◌, Some};
-ghost use Rattle.apollo_elaboration.specs.PathTexts.{root_text};
+ghost use Rattle.apollo_elaboration.specs.PathTexts.{root_text, path_text};
 
 use graphql_nodes::collections::items::Items;
 use graphql_nodes::name::Name;
@@ -78,8 +78,10 @@ impl fmt::Display for ExecutableDefinitionName {
     }
 }
 
-/// As `query Q → user → id`. That it is so is shown by tests.
+/// As `query Q → user → id`.
 impl fmt::Display for SelectionPath {
+    ghost output = { λ path. Some (path_text path) };
+
     fn fmt<W: fmt::Write>(&self, f: &mut fmt::Formatter<W>) -> fmt::Result {
         fmt::Display::fmt(&self.root, f)?;
         for key in &self.nested_fields {
