@@ -9,6 +9,8 @@ mod by_calls;
 #[cfg(test)]
 mod documents;
 #[cfg(test)]
+mod hash_keys;
+#[cfg(test)]
 mod operations;
 #[cfg(test)]
 mod refusals;
