@@ -1,8 +1,10 @@
 -- What is answered where nothing is at fault; and that what is asked has no refused text.
-use Rattle.std.proofs.Common.{◌≡◌, ℕ, ◌==◌, ◌&&◌, Bool, true, false, not, List, [], ◌∷◌, ◌++◌, codes, length, sym, ap, subst, ◌∙◌, arith}
+use Rattle.std.proofs.Common.{◌≡◌, ℕ, ◌==◌, ◌&&◌, Bool, true, false, not, List, [], ◌∷◌, ◌++◌, Option, codes, length, sym, ap, subst, ◌∙◌, arith}
 use Rattle.std.proofs.lemmas.Bool.{true≢false}
 use Rattle.std.proofs.lemmas.List.{append-nil}
 use Rattle.graphql_nodes.proofs.Comparisons.{head_same, tail_same}
+use Rattle.graphql_nodes.specs.declared.source.SourceSpan.{SourceSpan}
+use Rattle.apollo_executable.specs.Erasure.{erased_definitions}
 use Rattle.apollo_coordinate.proofs.TextLemmas.{said_in_grammar}
 use Rattle.apollo_coordinate.specs.CoordinateText.{IsCoordinateText}
 use Rattle.apollo_coordinate.specs.declared.coordinates.SchemaCoordinate.{SchemaCoordinate}
@@ -17,8 +19,9 @@ use Rattle.gqltool_run.specs.Commands.{IsAnswerOf, IsPrintOf}
 use Rattle.gqltool_run.specs.CoordCommand.{IsFindingLine, coordinate_line, found_line}
 use Rattle.gqltool_run.specs.FaultLines.{AreFaultLines}
 use Rattle.gqltool_run.specs.SchemaOptions.{AreSchemaWords}
-use Rattle.gqltool_run.specs.Tasks.{Ask, AskNoCoordinate}
-use Rattle.gqltool_run.proofs.FaultLineLemmas.{no-lines, not-false}
+use Rattle.gqltool_run.specs.WalkCommand.{AreWalksText}
+use Rattle.gqltool_run.specs.Tasks.{AreNoCommand, Ask, AskNoCoordinate}
+use Rattle.gqltool_run.proofs.FaultLineLemmas.{both-true, no-lines, not-false}
 
 -- where something is found and nothing is at fault, there are two lines
 found_print : (schema : Schema) (c : SchemaCoordinate) (found : Bool) (line lines text : List ℕ) (fs : List Fault) → IsFindingLine schema c found line → AreFaultLines fs lines → text ≡ coordinate_line c ++ (line ++ lines)
@@ -29,6 +32,15 @@ found_print schema c true line lines text fs finds tells prints none =
     (finds.0, prints ∙ (λ i. coordinate_line c ++ (finds.1.1 i ++ no i)) ∙ ap (λ l. coordinate_line c ++ l) (append-nil (found_line finds.0)))
 found_print schema c false line lines text fs finds tells prints none = absurd (true≢false none)
 
+-- where there are no faults of a schema and of a document, nothing follows a text
+no_fault_lines : {A B : Type 0} (text : List ℕ) (fs : List (Option SourceSpan × A)) (gs : List (Option SourceSpan × B)) (lines more : List ℕ) → (length fs == 0) ≡ true → (length gs == 0) ≡ true
+    → AreFaultLines fs lines → AreFaultLines gs more
+    → text ++ (lines ++ more) ≡ text
+no_fault_lines text fs gs lines more none_first none_then tells tells_more =
+    let first : lines ≡ [] = no-lines fs lines none_first tells in
+    let second : more ≡ [] = no-lines gs more none_then tells_more in
+    (λ i. text ++ (first i ++ second i)) ∙ append-nil text
+
 -- an answer without faults is such as its command prints
 pub faultless_print : (task : Task) (input text : List ℕ) (has_faults : Bool) → IsAnswerOf task input text has_faults → has_faults ≡ false → IsPrintOf task text
 faultless_print (tasks.Schema options) input text has_faults is none =
@@ -36,6 +48,13 @@ faultless_print (tasks.Schema options) input text has_faults is none =
     (write_schema is.schema, is.prints ∙ ap (λ l. definitions_text (write_schema is.schema) ++ l) no ∙ append-nil (definitions_text (write_schema is.schema)))
 faultless_print (tasks.Coord c) input text has_faults is none =
     found_print is.schema c is.is_found is.finding is.lines text is.faults is.finds is.tells is.prints (sym is.any ∙ none)
+faultless_print tasks.Doc input text has_faults is none =
+    let empty = both-true (length is.schema_faults == 0) (length is.faults == 0) (sym is.any ∙ none) in
+    (erased_definitions is.document, is.prints ∙ no_fault_lines (definitions_text (erased_definitions is.document)) is.schema_faults is.faults is.schema_lines is.lines empty.0 empty.1 is.schema_tells is.tells)
+faultless_print tasks.Walk input text has_faults is none =
+    let empty = both-true (length is.schema_faults == 0) (length is.faults == 0) (sym is.any ∙ none) in
+    let print : text ≡ is.walks = is.prints ∙ no_fault_lines is.walks is.schema_faults is.faults is.schema_lines is.lines empty.0 empty.1 is.schema_tells is.tells in
+    (is.document, subst (AreWalksText is.document) (sym print) is.walk)
 
 -- the words of the two commands begin with other letters
 other_letters : ◌≡◌ {A = ℕ} 99 115 → ⊥
@@ -49,3 +68,12 @@ asked_apart words (tasks.Schema options) asked refused =
 asked_apart words (tasks.Coord c) asked refused =
     let same : asked.0 ≡ refused.0 = head_same (tail_same (sym asked.1.0 ∙ refused.1.0)) in
     refused.1.1 (subst IsCoordinateText same (said_in_grammar asked.0 c asked.1.1))
+asked_apart words tasks.Doc asked refused = let same : codes "doc" ∷ [] ≡ codes "coord" ∷ refused.0 ∷ [] = sym asked ∙ refused.1.0 in cc
+asked_apart words tasks.Walk asked refused = let same : codes "walk" ∷ [] ≡ codes "coord" ∷ refused.0 ∷ [] = sym asked ∙ refused.1.0 in cc
+
+-- words that ask for something are a command
+pub asked_command : (words : List (List ℕ)) (task : Task) → Ask words task → AreNoCommand words → ⊥
+asked_command words (tasks.Schema options) asked none = none.no_schema options asked
+asked_command words (tasks.Coord c) asked none = none.no_coord asked.0 asked.1.0
+asked_command words tasks.Doc asked none = none.no_document.no_doc asked
+asked_command words tasks.Walk asked none = none.no_document.no_walk asked

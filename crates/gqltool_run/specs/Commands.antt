@@ -3,30 +3,40 @@ use Rattle.std.specs.Prelude.{◌≡◌, ◌++◌, ℕ, Bool, List, Option}
 use Rattle.std.specs.Io.KnownBytes.{Appends}
 use Rattle.graphql_ast.specs.declared.definition.Definition.{Definition}
 use Rattle.bench_notation.specs.Text.{definitions_text}
+use Rattle.apollo_executable.specs.declared.document.ExecutableDocument.{ExecutableDocument}
 use Rattle.apollo_coordinate.specs.declared.lookup_answers.SchemaCoordinateLookup.{SchemaCoordinateLookup}
 use Rattle.gqltool_run.specs.declared.failure.Failure.{Failure}
 use Rattle.gqltool_run.specs.declared.task.Task.{Task}
 use Rattle.gqltool_run.specs.declared.task.Task.TheVariants as tasks
 use Rattle.gqltool_run.specs.Building.{IsCause, no_options}
 use Rattle.gqltool_run.specs.CoordCommand.{IsCoordAnswer, coordinate_line, found_line}
+use Rattle.gqltool_run.specs.DocCommand.{IsDocAnswer}
+use Rattle.gqltool_run.specs.DocumentBuilding.{IsDocumentCause}
 use Rattle.gqltool_run.specs.SchemaCommand.{IsAnswer}
 use Rattle.gqltool_run.specs.Tasks.{Ask}
+use Rattle.gqltool_run.specs.WalkCommand.{AreWalksText, IsWalkAnswer}
 
 -- the text is the answer to what was asked and an input, with faults or without
 abbrev pub IsAnswerOf : Task → List ℕ → List ℕ → Bool → Type 0
 IsAnswerOf (tasks.Schema options) input text has_faults = IsAnswer options input text has_faults
 IsAnswerOf (tasks.Coord coordinate) input text has_faults = IsCoordAnswer coordinate input text has_faults
+IsAnswerOf tasks.Doc input text has_faults = IsDocAnswer input text has_faults
+IsAnswerOf tasks.Walk input text has_faults = IsWalkAnswer input text has_faults
 
--- the text is such as is answered where nothing is at fault: of `schema` the print of definitions, of `coord` the lines of the
--- coordinate and of something found
+-- the text is such as is answered where nothing is at fault: of `schema` and `doc` the print of definitions, of `coord` the lines
+-- of the coordinate and of something found, of `walk` the walks over a document
 abbrev pub IsPrintOf : Task → List ℕ → Type 0
 IsPrintOf (tasks.Schema options) text = (definitions : List Definition) × (text ≡ definitions_text definitions)
 IsPrintOf (tasks.Coord coordinate) text = (found : SchemaCoordinateLookup) × (text ≡ coordinate_line coordinate ++ found_line found)
+IsPrintOf tasks.Doc text = (definitions : List Definition) × (text ≡ definitions_text definitions)
+IsPrintOf tasks.Walk text = (document : ExecutableDocument) × AreWalksText document text
 
 -- why there is no answer to what was asked and an input
 abbrev pub IsCauseOf : Task → List ℕ → Failure → Type 0
 IsCauseOf (tasks.Schema options) input failure = IsCause options input failure
 IsCauseOf (tasks.Coord coordinate) input failure = IsCause no_options input failure
+IsCauseOf tasks.Doc input failure = IsDocumentCause input failure
+IsCauseOf tasks.Walk input failure = IsDocumentCause input failure
 
 -- the text is the answer to these words and this input
 abbrev pub IsAnswerTo : List (List ℕ) → List ℕ → List ℕ → Bool → Type 0

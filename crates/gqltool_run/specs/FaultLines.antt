@@ -1,7 +1,6 @@
 -- The lines that tell faults.
 use Rattle.std.specs.Prelude.{◌≡◌, ℕ, List, [], ◌∷◌, ◌++◌, Option, None, Some, codes, decimal}
 use Rattle.graphql_nodes.specs.declared.source.SourceSpan.{SourceSpan}
-use Rattle.apollo_meaning.specs.Faults.Collisions.{Fault}
 
 -- the line where a fault stands, or that it stands nowhere
 abbrev pub place_text : Option SourceSpan → List ℕ
@@ -13,6 +12,6 @@ abbrev pub fault_line : Option SourceSpan → List ℕ → List ℕ
 fault_line place said = codes "fault " ++ place_text place ++ codes " " ++ said ++ codes "\n"
 
 -- the lines of faults, in order, each at its place, with something said of it
-abbrev pub AreFaultLines : List Fault → List ℕ → Type 0
+abbrev pub AreFaultLines : {E : Type 0} → List (Option SourceSpan × E) → List ℕ → Type 0
 AreFaultLines [] lines = lines ≡ []
 AreFaultLines (fault ∷ faults) lines = (said : List ℕ) × ((rest : List ℕ) × ((lines ≡ fault_line fault.0 said ++ rest) × AreFaultLines faults rest))

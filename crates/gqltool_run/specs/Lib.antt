@@ -1,8 +1,11 @@
 pub mod Building
 pub mod Commands
 pub mod CoordCommand
+pub mod DocCommand
+pub mod DocumentBuilding
 pub mod FaultLines
 pub mod SchemaCommand
 pub mod SchemaOptions
 pub mod Status
 pub mod Tasks
+pub mod WalkCommand

@@ -13,14 +13,30 @@ use Rattle.gqltool_run.specs.SchemaOptions.{AreSchemaWords}
 abbrev pub AreCoordWords : List (List ℕ) → List ℕ → Type 0
 AreCoordWords words text = words ≡ codes "coord" ∷ text ∷ []
 
+-- these words are the command `doc`, or `walk`
+abbrev pub AreDocWords : List (List ℕ) → Type 0
+AreDocWords words = words ≡ codes "doc" ∷ []
+
+abbrev pub AreWalkWords : List (List ℕ) → Type 0
+AreWalkWords words = words ≡ codes "walk" ∷ []
+
+-- these words are neither
+pub record AreNoDocumentWords (words : List (List ℕ)) : Type 0 where
+  pub no_doc : ¬ AreDocWords words
+  pub no_walk : ¬ AreWalkWords words
+
 -- these words ask for this
 abbrev pub Ask : List (List ℕ) → Task → Type 0
 Ask words (tasks.Schema options) = AreSchemaWords words options
 Ask words (tasks.Coord coordinate) = (text : List ℕ) × (AreCoordWords words text × Says text coordinate)
+Ask words tasks.Doc = AreDocWords words
+Ask words tasks.Walk = AreWalkWords words
 
 -- these words are no command
-abbrev pub AreNoCommand : List (List ℕ) → Type 0
-AreNoCommand words = ((options : SchemaOptions) → ¬ AreSchemaWords words options) × ((text : List ℕ) → ¬ AreCoordWords words text)
+pub record AreNoCommand (words : List (List ℕ)) : Type 0 where
+  pub no_schema : (options : SchemaOptions) → ¬ AreSchemaWords words options
+  pub no_coord : (text : List ℕ) → ¬ AreCoordWords words text
+  pub no_document : AreNoDocumentWords words
 
 -- these words are the command `coord` with a text of no coordinate
 abbrev pub AskNoCoordinate : List (List ℕ) → Type 0

@@ -8,6 +8,7 @@ use crate::answer::Answer;
 use crate::building::build_input;
 use crate::failure::Failure;
 use crate::fault_printing::push_faults;
+use crate::output_line::push_line;
 use crate::schema_options::SchemaOptions;
 use apollo_coordinate::coordinates::SchemaCoordinate;
 use apollo_coordinate::lookup_answers::SchemaCoordinateLookup;
@@ -100,13 +101,4 @@ fn push_finding(
             Ok(false)
         }
     }
-}
-
-/// Adds the line of two texts.
-fn push_line(text: &mut String, first: &str, second: &str) -> Result<(), AllocError>
-    ensures { OnOk result (string_bytes text.new ≡ string_bytes text.old ++ (first.now ++ (second.now ++ codes "\n"))) }
-{
-    text.push_str(first)?;
-    text.push_str(second)?;
-    text.push_str("\n")
 }

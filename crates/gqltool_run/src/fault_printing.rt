@@ -2,12 +2,16 @@
 ghost use Rattle.std.specs.Prelude.{◌≡◌, ℕ, List, ◌++◌, OnOk, string_bytes};
 ghost use Rattle.gqltool_run.specs.FaultLines.{AreFaultLines, fault_line, place_text};
 
-use apollo_meaning::build_error::{BuildError, Fault};
 use graphql_nodes::source::SourceSpan;
 use std::alloc::{AllocError, Global};
+use std::fmt::Display;
 
-/// Adds the lines of faults.
-pub fn push_faults(alloc: Global, text: &mut String, faults: &[Fault]) -> Result<(), AllocError>
+/// Adds the lines of faults, each at its place.
+pub fn push_faults<E: Display>(
+    alloc: Global,
+    text: &mut String,
+    faults: &[(Option<SourceSpan>, E)],
+) -> Result<(), AllocError>
     ensures { OnOk result ((lines : List ℕ) × ((string_bytes text.new ≡ string_bytes text.old ++ lines) × AreFaultLines faults.now lines)) }
 {
     for fault in faults {
@@ -16,11 +20,11 @@ pub fn push_faults(alloc: Global, text: &mut String, faults: &[Fault]) -> Result
     Ok(())
 }
 
-fn push_fault(
+fn push_fault<E: Display>(
     alloc: Global,
     text: &mut String,
     place: Option<SourceSpan>,
-    error: &BuildError,
+    error: &E,
 ) -> Result<(), AllocError>
     ensures { OnOk result ((said : List ℕ) × (string_bytes text.new ≡ string_bytes text.old ++ fault_line place said)) }
 {

@@ -8,11 +8,13 @@ ghost use Rattle.gqltool_run.specs.Tasks.{AreNoCommand, AskNoCoordinate};
 
 use crate::answer::Answer;
 use crate::coord_command::coord_answer;
+use crate::doc_command::doc_answer;
 use crate::failure::Failure;
 use crate::input::read_all;
 use crate::schema_command::schema_answer;
 use crate::status::Status;
 use crate::task::{Task, read_task};
+use crate::walk_command::walk_answer;
 use graphql_nodes::collections::hash_keys::HashKeys;
 use std::alloc::Global;
 use std::io::{self, Read, Write};
@@ -108,7 +110,8 @@ fn answer_words<R: Read>(
 
 /// The answer to what was asked and an input.
 ///
-/// The errors are those of [`build_input`](crate::building::build_input).
+/// The errors are those of [`build_input`](crate::building::build_input), and of `doc` and `walk` those of
+/// [`build_document`](crate::document_building::build_document).
 fn answer_task(alloc: Global, keys: HashKeys, task: &Task, input: &str) -> Result<Answer, Failure>
     ensures read { OnOk result (All IsLine (lines_of input.now)) }
     ensures means { IfOk result (λ answer. IsAnswerOf task.now input.now (string_bytes answer.text) answer.has_faults) }
@@ -117,6 +120,8 @@ fn answer_task(alloc: Global, keys: HashKeys, task: &Task, input: &str) -> Resul
     match task {
         Task::Schema(options) => schema_answer(alloc, keys, *options, input),
         Task::Coord(coordinate) => coord_answer(alloc, keys, coordinate, input),
+        Task::Doc => doc_answer(alloc, keys, input),
+        Task::Walk => walk_answer(alloc, keys, input),
     }
 }
 

@@ -3,7 +3,7 @@ ghost use Rattle.std.specs.Prelude.{◌≡◌, ℕ, List, Err, IfErr, IfOk, Matc
 ghost use Rattle.bench_notation.specs.Line.{texts_of};
 ghost use Rattle.apollo_coordinate.specs.CoordinateText.{IsCoordinateText, Says};
 ghost use Rattle.gqltool_run.specs.SchemaOptions.{AreSchemaWords};
-ghost use Rattle.gqltool_run.specs.Tasks.{AreCoordWords, AreNoCommand, Ask, IsRefusalOf, IsTextRefusal};
+ghost use Rattle.gqltool_run.specs.Tasks.{AreCoordWords, AreNoCommand, AreNoDocumentWords, Ask, IsRefusalOf, IsTextRefusal};
 
 use crate::failure::Failure;
 use crate::schema_options::{SchemaOptions, read_options};
@@ -18,6 +18,10 @@ pub enum Task {
     Schema(SchemaOptions),
     /// `coord` and a text: what its coordinate points to in the schema of the input's documents, and the schema's faults.
     Coord(SchemaCoordinate),
+    /// `doc`: the typed document of the input's executable documents, and the faults of its schema and its own.
+    Doc,
+    /// `walk`: what walks over the operations and fragments of that document give, and the same faults.
+    Walk,
 }
 
 /// What these words ask for.
@@ -29,6 +33,9 @@ pub fn read_task(alloc: Global, words: &[&str]) -> Result<Task, Failure>
     ensures refused { IfErr result (IsRefusalOf (texts_of words.now)) }
     ensures usage { AreNoCommand (texts_of words.now) → result ≡ Err Failure.Usage }
 {
+    if let Some(task) = document_task(words) {
+        return Ok(task);
+    }
     if let Some(options) = schema_options(words) {
         return Ok(Task::Schema(options));
     }
@@ -38,6 +45,17 @@ pub fn read_task(alloc: Global, words: &[&str]) -> Result<Task, Failure>
     match read_coordinate(alloc, text) {
         Ok(coordinate) => Ok(Task::Coord(coordinate)),
         Err(failure) => Err(failure),
+    }
+}
+
+/// The task of `doc` or `walk`, where the words are one of these commands.
+fn document_task(words: &[&str]) -> Option<Task>
+    ensures { MatchOption result (AreNoDocumentWords (texts_of words.now)) (Ask (texts_of words.now)) }
+{
+    match words {
+        ["doc"] => Some(Task::Doc),
+        ["walk"] => Some(Task::Walk),
+        _ => None,
     }
 }
 

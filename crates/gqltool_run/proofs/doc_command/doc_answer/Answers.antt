@@ -1,0 +1,26 @@
+use Rattle.std.proofs.Common.{List, ◌++◌, ap, subst, ◌∙◌, append_assoc}
+use Rattle.apollo_meaning.specs.Faults.Collisions.{Fault}
+use Rattle.apollo_elaboration.specs.Typable.{Fault as DocumentFault}
+use Rattle.bench_notation.specs.Text.{definitions_text}
+use Rattle.gqltool_run.specs.FaultLines.{AreFaultLines}
+use Rattle.gqltool_run.proofs.doc_command.doc_answer.Goals as goal
+
+pub returns-clause-means : goal.returns-clause-means
+returns-clause-means c =
+    let built = c.in_ok-built.built in
+    let schema_lines = c.in_ok-push_faults.ensures.0 in
+    let lines = c.in_ok-push_faults-2.ensures.0 in
+    let print = c.in_ok-text.ensures ∙ ap definitions_text (c.as_slice.ensures ∙ ap (λ d. d.definitions) c.in_ok-to_ast.ensures) in
+    let first = c.in_ok-push_faults.ensures.1.0 ∙ ap (λ l. l ++ schema_lines) print in
+    record {
+      document = built.document;
+      schema_faults = built.schema_faults.items;
+      faults = built.faults.items;
+      means = c.in_ok-built.ensures.means;
+      schema_lines = schema_lines;
+      lines = lines;
+      prints = c.in_ok-push_faults-2.ensures.1.0 ∙ ap (λ l. l ++ lines) first ∙ append_assoc _ schema_lines lines;
+      schema_tells = subst (λ (l : List Fault). AreFaultLines l schema_lines) c.as_slice-2.ensures.value c.in_ok-push_faults.ensures.1.1;
+      tells = subst (λ (l : List DocumentFault). AreFaultLines l lines) c.as_slice-3.ensures.value c.in_ok-push_faults-2.ensures.1.1;
+      any = c.has_faults.ensures;
+    }

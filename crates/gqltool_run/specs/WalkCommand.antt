@@ -1,0 +1,86 @@
+-- What the command `walk` answers.
+use Rattle.std.specs.Prelude.{◌≡◌, ◌&&◌, ◌==◌, ◌++◌, ◌-◌, ◌^◌, ℕ, Bool, true, false, not, List, [], ◌∷◌, length, map, min, codes, decimal}
+use Rattle.std.specs.List.{flat_map}
+use Rattle.graphql_nodes.specs.NameView.{NameView}
+use Rattle.graphql_nodes.specs.NodeView.{NodeView}
+use Rattle.graphql_nodes.specs.OperationTexts.{operation_text}
+use Rattle.apollo_executable.specs.Operations.{all_operations}
+use Rattle.apollo_executable.specs.SelectionParts.{response_key}
+use Rattle.apollo_executable.specs.Walks.WalkView.{AreWalked, TakesAllTurns}
+use Rattle.apollo_executable.specs.declared.document.ExecutableDocument.{ExecutableDocument}
+use Rattle.apollo_executable.specs.declared.operation.Operation.{Operation}
+use Rattle.apollo_executable.specs.declared.operation.Fragment.{Fragment}
+use Rattle.apollo_executable.specs.declared.selection.Field.{Field}
+use Rattle.apollo_executable.specs.declared.selection.SelectionSet.{SelectionSet}
+use Rattle.apollo_meaning.specs.Faults.Collisions.{Fault}
+use Rattle.apollo_elaboration.specs.Typable.{Fault as DocumentFault}
+use Rattle.bench_notation.specs.HeaderWords.{name_word}
+use Rattle.gqltool_run.specs.DocumentBuilding.{IsBuiltDocument}
+use Rattle.gqltool_run.specs.FaultLines.{AreFaultLines}
+
+-- a text of which P holds is added
+abbrev pub IsAdded : (List ℕ → Type 0) → List ℕ → List ℕ → Type 0
+IsAdded P old new = (said : List ℕ) × ((new ≡ old ++ said) × P said)
+
+-- the line of an operation, and that of what stands under this name among the fragments
+abbrev pub operation_line : Operation → List ℕ
+operation_line operation = codes "walk operation " ++ (operation_text operation.operation_type ++ (codes " " ++ (name_word operation.name ++ codes "\n")))
+
+abbrev pub fragment_line : NameView → List ℕ
+fragment_line name = codes "walk fragment " ++ (name.text ++ codes "\n")
+
+-- the line of a field that a walk gives: its response key
+abbrev pub field_line : List ℕ → NodeView Field → List ℕ
+field_line word field = word ++ ((response_key field.value).text ++ codes "\n")
+
+-- the line of a number of turns
+abbrev pub turns_line : List ℕ → ℕ → List ℕ
+turns_line word turns = word ++ (decimal turns ++ codes "\n")
+
+-- the fields of a whole walk over a set, and then its turns, or the greatest number where they are more
+pub record IsWalkText (deep : Bool) (word turns_word : List ℕ) (document : ExecutableDocument) (set : SelectionSet) (text : List ℕ) : Type 0 where
+  pub fields : List (NodeView Field)
+  pub walked : AreWalked deep document set fields
+  pub turns : ℕ
+  pub takes : TakesAllTurns deep document set turns
+  pub says : text ≡ flat_map (field_line word) fields ++ turns_line turns_word (min turns (2 ^ 64 - 1))
+
+-- the walk over root fields, and then the walk over all
+pub record IsSetText (document : ExecutableDocument) (set : SelectionSet) (text : List ℕ) : Type 0 where
+  pub root : List ℕ
+  pub root_says : IsWalkText false (codes "root ") (codes "root-turns ") document set root
+  pub all : List ℕ
+  pub all_says : IsWalkText true (codes "all ") (codes "all-turns ") document set all
+  pub says : text ≡ root ++ all
+
+-- these sets, in order, each below its line
+abbrev pub AreSetsText : ExecutableDocument → List (List ℕ × SelectionSet) → List ℕ → Type 0
+AreSetsText document [] text = text ≡ []
+AreSetsText document (set ∷ sets) text = (said : List ℕ) × (IsSetText document set.1 said × ((rest : List ℕ) × (AreSetsText document sets rest × (text ≡ set.0 ++ (said ++ rest)))))
+
+abbrev pub operation_set : NodeView Operation → List ℕ × SelectionSet
+operation_set operation = (operation_line operation.value, operation.value.selection_set)
+
+abbrev pub fragment_set : NameView × NodeView Fragment → List ℕ × SelectionSet
+fragment_set entry = (fragment_line entry.0, entry.1.value.selection_set)
+
+-- the operations, the anonymous one first, and then the fragments
+abbrev pub AreWalksText : ExecutableDocument → List ℕ → Type 0
+AreWalksText document text =
+    (operations : List ℕ) × (AreSetsText document (map operation_set (all_operations document.operations)) operations
+    × ((fragments : List ℕ) × (AreSetsText document (map fragment_set document.fragments) fragments × (text ≡ operations ++ fragments))))
+
+-- the text is that of the walks over the typed document that the input means, and then of its schema's faults and its own
+pub record IsWalkAnswer (input text : List ℕ) (has_faults : Bool) : Type 0 where
+  pub document : ExecutableDocument
+  pub schema_faults : List Fault
+  pub faults : List DocumentFault
+  pub means : IsBuiltDocument input document schema_faults faults
+  pub walks : List ℕ
+  pub walk : AreWalksText document walks
+  pub schema_lines : List ℕ
+  pub lines : List ℕ
+  pub prints : text ≡ walks ++ (schema_lines ++ lines)
+  pub schema_tells : AreFaultLines schema_faults schema_lines
+  pub tells : AreFaultLines faults lines
+  pub any : has_faults ≡ not ((length schema_faults == 0) && (length faults == 0))
