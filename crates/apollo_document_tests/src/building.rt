@@ -1,0 +1,90 @@
+//! What documents build, and what the write-out of that builds again.
+
+use crate::telling::tell_document;
+use apollo_document::{BuilderError, ExecutableDocumentBuilder, Faults};
+use apollo_elaboration_tests::inputs::{Account, told};
+use apollo_elaboration_tests::telling::tell_faults;
+use apollo_executable::ExecutableDocument;
+use apollo_schema::schema::Schema;
+use graphql_ast::document::Document;
+use std::alloc::{AllocError, Global};
+use std::process::Abort;
+use std::test::Fail;
+
+/// What documents build, one after the other.
+pub fn build(
+    alloc: Global,
+    schema: Option<&Schema>,
+    documents: &[Document],
+    type_system_definitions_are_errors: bool,
+) -> Result<(ExecutableDocument, Faults), BuilderError> {
+    let mut builder = ExecutableDocumentBuilder::new(alloc, schema);
+    for document in documents {
+        // After a refusal the build is refused.
+        let _ = builder.add_ast_document(document, type_system_definitions_are_errors);
+    }
+    builder.build()
+}
+
+/// What documents build, and what that builds again.
+#[derive(Drop)]
+pub struct Built {
+    /// Without a schema that of the input is passed over, and definitions of the type system are no faults.
+    pub has_schema: bool,
+}
+
+/// Adds whether the write-out of a document builds an equal one, and the faults of that build.
+fn tell_again(
+    alloc: Global,
+    text: &mut String,
+    schema: Option<&Schema>,
+    document: &ExecutableDocument,
+) -> Result<(), AllocError> {
+    let written = document.to_ast(alloc)?;
+    match build(alloc, schema, &[written], true) {
+        Ok(again) => {
+            let is_equal = again.0 == *document;
+            write!(text, "again: {is_equal}\n")?;
+            tell_faults(alloc, text, again.1.as_slice())
+        }
+        Err(error) => write!(text, "{error}\n"),
+    }
+}
+
+fn tell_built(
+    alloc: Global,
+    text: &mut String,
+    schema: Option<&Schema>,
+    built: &(ExecutableDocument, Faults),
+) -> Result<(), AllocError> {
+    tell_document(alloc, text, &built.0, built.1.as_slice())?;
+    tell_again(alloc, text, schema, &built.0)
+}
+
+impl Account for Built {
+    fn tell(
+        &self,
+        alloc: Global,
+        schema: &Schema,
+        documents: &[Document],
+        text: &mut String,
+    ) -> Result<(), AllocError> {
+        let schema = if self.has_schema { Some(schema) } else { None };
+        match build(alloc, schema, documents, self.has_schema) {
+            Ok(built) => tell_built(alloc, text, schema, &built),
+            Err(error) => write!(text, "{error}\n"),
+        }
+    }
+}
+
+/// Expects this to be told of an input.
+pub fn expect<A: Account>(
+    rt: &(impl Abort + AllocGlobal),
+    account: &A,
+    input: &str,
+    expected: &str,
+) -> Result<(), Fail> {
+    let text = told(rt.alloc(), account, input)?;
+    assert_eq!(rt; text.as_str(), expected);
+    Ok(())
+}

@@ -1,0 +1,106 @@
+//! A typed document that is made by calls alone, beside one that is built.
+
+use crate::building::{build, expect};
+use apollo_elaboration_tests::inputs::Account;
+use apollo_executable::{ExecutableDocument, NewFieldError, Operation, Selection, SelectionSet};
+use apollo_schema::schema::Schema;
+use graphql_ast::directive::DirectiveList;
+use graphql_ast::document::Document;
+use graphql_nodes::collections::items::Items;
+use graphql_nodes::name::Name;
+use graphql_nodes::node::Node;
+use graphql_nodes::operation_type::OperationType;
+use std::alloc::{AllocError, Global};
+use std::test::Fail;
+
+/// Whether documents build the one that is made by calls.
+#[derive(Drop)]
+struct Alike;
+
+/// `{ user { } ...F }`
+fn selected<'schema>(
+    alloc: Global,
+    schema: &'schema Schema,
+) -> Result<SelectionSet, NewFieldError<'schema>> {
+    let mut set = SelectionSet::new(alloc, Name::new_unchecked(alloc, "Query")?);
+    let user = set.new_field(alloc, schema, Name::new_unchecked(alloc, "user")?)?;
+    set.push(Selection::of_field(alloc, user)?)?;
+    let spread = set.new_fragment_spread(alloc, Name::new_unchecked(alloc, "F")?);
+    set.push(Selection::of_fragment_spread(alloc, spread)?)?;
+    Ok(set)
+}
+
+/// The document of one anonymous query of these selections.
+fn document_of(
+    alloc: Global,
+    selection_set: SelectionSet,
+) -> Result<ExecutableDocument, AllocError> {
+    let query = Operation {
+        operation_type: OperationType::Query,
+        name: None,
+        variables: Items::new(alloc),
+        directives: DirectiveList::new(alloc),
+        selection_set,
+    };
+    let mut document = ExecutableDocument::new(alloc);
+    document.operations.anonymous = Some(Node::new(alloc, query)?);
+    Ok(document)
+}
+
+fn made<'schema>(
+    alloc: Global,
+    schema: &'schema Schema,
+) -> Result<ExecutableDocument, NewFieldError<'schema>> {
+    Ok(document_of(alloc, selected(alloc, schema)?)?)
+}
+
+/// Adds whether a document is equal to the one that is made by calls.
+fn tell_alike(
+    alloc: Global,
+    text: &mut String,
+    schema: &Schema,
+    document: &ExecutableDocument,
+) -> Result<(), AllocError> {
+    match made(alloc, schema) {
+        Ok(made) => {
+            let is_equal = made == *document;
+            write!(text, "equal: {is_equal}\n")
+        }
+        Err(_) => text.push_str("not made\n"),
+    }
+}
+
+impl Account for Alike {
+    fn tell(
+        &self,
+        alloc: Global,
+        schema: &Schema,
+        documents: &[Document],
+        text: &mut String,
+    ) -> Result<(), AllocError> {
+        match build(alloc, Some(schema), documents, true) {
+            Ok(built) => tell_alike(alloc, text, schema, &built.0),
+            Err(error) => write!(text, "{error}\n"),
+        }
+    }
+}
+
+#[test]
+fn a_document_by_calls_is_equal_to_the_built_one(rt: HostRuntime) -> Result<(), Fail> {
+    expect(
+        &rt,
+        &Alike,
+        "def object Query\nfield id ID\nfield user User\ndef object User\nfield id ID\n===\noperation query -\nsel 0 field id\nsel 1 field x\nsel 0 field user\nsel 1 field nope\nsel 0 inline Gone\nsel 1 field a\nsel 0 spread F\n",
+        "equal: true\n",
+    )
+}
+
+#[test]
+fn a_document_of_another_field_is_not(rt: HostRuntime) -> Result<(), Fail> {
+    expect(
+        &rt,
+        &Alike,
+        "def object Query\nfield id ID\nfield user User\ndef object User\nfield id ID\n===\noperation query -\nsel 0 field user\nsel 1 field id\nsel 0 spread F\n",
+        "equal: false\n",
+    )
+}

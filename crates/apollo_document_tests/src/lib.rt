@@ -1,0 +1,20 @@
+//! Tests of the builder of documents, of what no clause says: that calls succeed with memory, on worked documents. Most compare
+//! a text that tells all that is looked at.
+#![tactic(auto)]
+
+#[cfg(test)]
+mod building;
+#[cfg(test)]
+mod by_calls;
+#[cfg(test)]
+mod documents;
+#[cfg(test)]
+mod hash_keys;
+#[cfg(test)]
+mod operations;
+#[cfg(test)]
+mod refusals;
+#[cfg(test)]
+mod sources;
+#[cfg(test)]
+mod telling;

@@ -1,0 +1,58 @@
+//! Inputs in the notation: documents of a schema, and behind the division those that are looked at over it.
+
+use apollo_schema::schema::Schema;
+use apollo_schema::schema_builder::SchemaBuilder;
+use bench_notation::reading::{DividedDocuments, read_divided};
+use graphql_ast::document::Document;
+use std::alloc::{AllocError, Global};
+
+/// What is looked at of documents over a schema.
+pub trait Account {
+    /// Adds what is told of them. The error is want of memory.
+    fn tell(
+        &self,
+        alloc: Global,
+        schema: &Schema,
+        documents: &[Document],
+        text: &mut String,
+    ) -> Result<(), AllocError>;
+}
+
+/// Tells of the documents over what a builder builds.
+fn tell_built<A: Account>(
+    alloc: Global,
+    account: &A,
+    builder: SchemaBuilder,
+    documents: &[Document],
+    text: &mut String,
+) -> Result<(), AllocError> {
+    match builder.build() {
+        Ok(schema) => account.tell(alloc, &schema, documents, text),
+        Err(_) => text.push_str("no schema\n"),
+    }
+}
+
+fn tell_read<A: Account>(
+    alloc: Global,
+    account: &A,
+    input: &DividedDocuments,
+    text: &mut String,
+) -> Result<(), AllocError> {
+    let mut builder = Schema::builder(alloc)?;
+    for document in input.schema.as_slice() {
+        // After a refusal no schema is built.
+        let _ = builder.add_ast(document);
+    }
+    tell_built(alloc, account, builder, input.executable.as_slice(), text)
+}
+
+/// What is told of an input.
+/// No clause: it serves tests.
+pub fn told<A: Account>(alloc: Global, account: &A, input: &str) -> Result<String, AllocError> {
+    let mut text = String::new(alloc);
+    match read_divided(alloc, input) {
+        Ok(documents) => tell_read(alloc, account, &documents, &mut text)?,
+        Err(_) => text.push_str("not read\n")?,
+    }
+    Ok(text)
+}
