@@ -1,6 +1,6 @@
 -- Tables under names, looked up by text.
-use Rattle.std.proofs.Common.{◌≡◌, ℕ, Bool, true, false, cond, List, [], ◌∷◌, ◌++◌, Some, None, is_some, IsSome, refl, sym, ap, ◌∙◌}
-use Rattle.std.specs.Map.{lookup, keys_of, set_value}
+use Rattle.std.proofs.Common.{◌≡◌, ℕ, Bool, true, false, cond, List, [], ◌∷◌, ◌++◌, Some, None, is_some, IsSome, unwrap_or, refl, sym, ap, ◌∙◌, true≢false}
+use Rattle.std.specs.Map.{lookup, lookup_key, keys_of, set_value}
 use Rattle.std.specs.Cmp.{on_equiv}
 use Rattle.std.specs.Cmp.Lexicographic.{nat_list_eq_equiv}
 use Rattle.std.proofs.lemmas.Map.{lookup-set_value}
@@ -26,6 +26,26 @@ module _ {V : Type 0} where
       by false p true q rest =
           ap (λ d. cond d (Some e.1) (lookup (by_text n) (insert_entry same_text es k v))) (ap (λ (m : List ℕ). same m e.0.text) (same-true n k.text q) ∙ p) ∙ rest ∙ ap (λ d. cond d (Some v) (lookup (by_text n) es)) q
       by false p false q rest = ap (cond (same n e.0.text) (Some e.1)) (rest ∙ ap (λ d. cond d (Some v) (lookup (by_text n) es)) q)
+
+  -- what stood under a name, put back there, leaves the entries as they were
+  pub put-back : (es : List (NameView × V)) (n : NameView) (v kept : V) → lookup (same_text n) es ≡ Some kept → insert_entry same_text (insert_entry same_text es n v) n kept ≡ es
+  put-back [] n v kept there = absurd (true≢false (sym (ap is_some there)))
+  put-back (e ∷ es) n v kept there = by (same_text n e.0) refl there (put-back es n v kept)
+    where
+      by : (b : Bool) → same_text n e.0 ≡ b → cond b (Some e.1) (lookup (same_text n) es) ≡ Some kept
+          → (lookup (same_text n) es ≡ Some kept → insert_entry same_text (insert_entry same_text es n v) n kept ≡ es)
+          → insert_entry same_text (cond b ((e.0, v) ∷ es) (e ∷ insert_entry same_text es n v)) n kept ≡ e ∷ es
+      by true p h rest = ap (λ c. cond c ((e.0, kept) ∷ es) ((e.0, v) ∷ insert_entry same_text es n kept)) p ∙ ap (λ o. (e.0, unwrap_or o kept) ∷ es) (sym h)
+      by false p h rest = ap (λ c. cond c ((e.0, kept) ∷ insert_entry same_text es n v) (e ∷ insert_entry same_text (insert_entry same_text es n v) n kept)) p ∙ ap (λ l. e ∷ l) (rest h)
+
+  -- a name has a key where it has a value
+  pub key-there : (n : NameView) (es : List (NameView × V)) → is_some (lookup_key (same_text n) es) ≡ is_some (lookup (same_text n) es)
+  key-there n [] = refl
+  key-there n (e ∷ es) = by (same_text n e.0) (key-there n es)
+    where
+      by : (b : Bool) → is_some (lookup_key (same_text n) es) ≡ is_some (lookup (same_text n) es) → is_some (cond b (Some e.0) (lookup_key (same_text n) es)) ≡ is_some (cond b (Some e.1) (lookup (same_text n) es))
+      by true rest = refl
+      by false rest = rest
 
   -- a new name goes last
   pub keys-put : (es : List (NameView × V)) (k : NameView) (v : V) → is_some (lookup (by_text k.text) es) ≡ false → keys_of (insert_entry same_text es k v) ≡ keys_of es ++ k ∷ []

@@ -2,7 +2,7 @@
 ghost use Rattle.graphql_nodes.specs.declared.type_kind.TypeKind.TheVariants as kinds;
 ghost use Rattle.apollo_meaning.specs.Types.Meaning.{enum_of};
 
-use crate::from_ast::folding::{fold_directives, fold_named, table_for};
+use crate::from_ast::folding::{fold_directives, fold_named};
 use crate::from_ast::kind::Kind;
 use crate::views::{BodyView, PartView};
 use apollo_component::directive_list::DirectiveList;
@@ -12,6 +12,7 @@ use apollo_meaning::collision::Collection;
 use apollo_types::enum_type::EnumType;
 use graphql_nodes::collections::hash_keys::HashKeys;
 use graphql_nodes::collections::items::Items;
+use graphql_nodes::collections::table::Table;
 use std::alloc::{AllocError, Global};
 
 impl Kind for EnumType {
@@ -24,7 +25,7 @@ impl Kind for EnumType {
             description: head.description()?,
             name: head.name.clone()?,
             directives: DirectiveList::new(alloc),
-            values: table_for(alloc, keys, head)?,
+            values: Table::with_keys(alloc, keys),
         })
     }
 

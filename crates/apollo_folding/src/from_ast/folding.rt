@@ -1,19 +1,17 @@
 //! Components folded into the collections of a type.
 ghost use Rattle.apollo_folding.specs.Joins.{Lengthens, FindsIn};
-ghost use Rattle.std.specs.Prelude.{◌≡◌, [], ◌∷◌, ◌++◌, map, IfOk, OnOk};
+ghost use Rattle.std.specs.Prelude.{◌≡◌, [], ◌∷◌, ◌++◌, map, OnOk};
 ghost use Rattle.graphql_nodes.specs.Tables.{keys_of};
 ghost use Rattle.apollo_meaning.specs.Types.Components.{component, component_name, distinct_names, distinct_entries};
 ghost use Rattle.apollo_meaning.specs.Faults.TypeFaults.{name_entries, named_entries};
 ghost use Rattle.apollo_meaning.specs.Faults.Collisions.{collision_at, collisions};
 
-use crate::views::{BodyView, PartView};
 use apollo_component::component::{Component, ComponentName};
 use apollo_component::directive_list::DirectiveList;
 use apollo_component::extension::ComponentOrigin;
 use apollo_meaning::build_error::Fault;
 use apollo_meaning::collision::Collection;
 use graphql_ast::directive::Directive;
-use graphql_nodes::collections::hash_keys::HashKeys;
 use graphql_nodes::collections::items::Items;
 use graphql_nodes::collections::key_set::KeySet;
 use graphql_nodes::collections::table::Table;
@@ -21,29 +19,23 @@ use graphql_nodes::name::Name;
 use graphql_nodes::named::Named;
 use graphql_nodes::node::Node;
 use indexmap::IndexMap;
-use std::alloc::{AllocError, Global};
+use std::alloc::AllocError;
 
-/// How many things of this part stand under names.
-fn named_count(part: &PartView<'_>) -> usize {
-    match part.body {
-        BodyView::Scalar | BodyView::Union(_) => 0,
-        BodyView::Object(_, fields) | BodyView::Interface(_, fields) => fields.len(),
-        BodyView::Enum(values) => values.len(),
-        BodyView::InputObject(fields) => fields.len(),
-    }
-}
+/// How many entries a table has room for once it has one.
+const FIRST_ROOM: usize = 9;
 
-/// No entry, with room for what stands under names in this part. The table hashes by these keys. The error is want of
-/// memory.
-pub fn table_for<T>(
-    alloc: Global,
-    keys: HashKeys,
-    part: &PartView<'_>,
-) -> Result<Table<Name, Component<T>>, AllocError>
-    ensures { IfOk result (λ table. table ≡ []) }
+/// Gives an empty table room for so many entries at once, where they are more than it would first have room for. The error
+/// is want of memory.
+fn make_room<T: Drop>(table: &mut Table<Name, Component<T>>, count: usize) -> Result<(), AllocError>
+    ensures { OnOk result (table.new ≡ table.old) }
 {
-    let map = IndexMap::with_capacity_and_hasher(alloc, named_count(part), keys)?;
-    Ok(Table::from_index_map(map))
+    if count <= FIRST_ROOM || !table.is_empty() {
+        return Ok(());
+    }
+    let alloc = *table.as_index_map().allocator();
+    let map = IndexMap::with_capacity_and_hasher(alloc, count, table.hash_keys())?;
+    *table = Table::from_index_map(map);
+    Ok(())
 }
 
 /// Adds directives at the end, in order.
@@ -103,7 +95,25 @@ pub fn fold_names(
     Ok(())
 }
 
-/// Adds a definition under its name, or notes the fault where the name is there.
+/// Notes the fault of a definition whose name is there.
+fn note_collision<T: Named + Drop>(
+    table: &Table<Name, Component<T>>,
+    node: &Node<T>,
+    collection: Collection,
+    type_name: &Name,
+    errors: &mut Items<Fault>,
+) -> Result<(), AllocError>
+    ensures { OnOk result (FindsIn distinct_entries table.now (λ es. collision_at collection type_name.now (keys_of es) (T.name_of node.now.value, node.now.location)) errors.old errors.new) }
+{
+    if let Some((kept, _)) = table.get_key_value(node.name()) {
+        let error = collection.collision(kept, type_name)?;
+        errors.push((node.location(), error))?;
+    }
+    Ok(())
+}
+
+/// Adds a definition under its name, or notes the fault where the name is there. It looks once where the name is new, and
+/// else puts back what stood there.
 fn fold_entry<T: Named + Drop>(
     table: &mut Table<Name, Component<T>>,
     node: &Node<T>,
@@ -115,16 +125,13 @@ fn fold_entry<T: Named + Drop>(
     ensures added { OnOk result (Lengthens distinct_entries table.old ((T.name_of node.now.value, component origin node.now) ∷ []) table.new) }
     ensures faults { OnOk result (FindsIn distinct_entries table.old (λ es. collision_at collection type_name.now (keys_of es) (T.name_of node.now.value, node.now.location)) errors.old errors.new) }
 {
-    match table.get_key_value(node.name()) {
-        Some((kept, _)) => {
-            let error = collection.collision(kept, type_name)?;
-            errors.push((node.location(), error))?;
-        }
-        None => {
-            let name = node.name().clone()?;
-            table.insert(name, Component::with_origin(node.clone()?, origin))?;
-        }
-    }
+    let name = node.name().clone()?;
+    let standing = table.insert(name, Component::with_origin(node.clone()?, origin))?;
+    let Some(kept) = standing else {
+        return Ok(());
+    };
+    table.insert(node.name().clone()?, kept)?;
+    note_collision(table, node, collection, type_name, errors)?;
     Ok(())
 }
 
@@ -140,6 +147,7 @@ pub fn fold_named<T: Named + Drop>(
     ensures added { OnOk result (Lengthens distinct_entries table.old (map (λ n. (T.name_of n.value, component origin n)) nodes.now) table.new) }
     ensures faults { OnOk result (FindsIn distinct_entries table.old (λ es. collisions collection type_name.now (keys_of es) (named_entries T.name_of nodes.now)) errors.old errors.new) }
 {
+    make_room(table, nodes.len())?;
     for node in nodes {
         fold_entry(table, node, origin, collection, type_name, errors)?;
     }

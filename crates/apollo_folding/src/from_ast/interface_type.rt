@@ -2,7 +2,7 @@
 ghost use Rattle.graphql_nodes.specs.declared.type_kind.TypeKind.TheVariants as kinds;
 ghost use Rattle.apollo_meaning.specs.Types.Meaning.{interface_of};
 
-use crate::from_ast::folding::{fold_directives, fold_named, fold_names, table_for};
+use crate::from_ast::folding::{fold_directives, fold_named, fold_names};
 use crate::from_ast::kind::Kind;
 use crate::views::{BodyView, PartView};
 use apollo_component::directive_list::DirectiveList;
@@ -13,6 +13,7 @@ use apollo_types::interface_type::InterfaceType;
 use graphql_nodes::collections::hash_keys::HashKeys;
 use graphql_nodes::collections::items::Items;
 use graphql_nodes::collections::key_set::KeySet;
+use graphql_nodes::collections::table::Table;
 use std::alloc::{AllocError, Global};
 
 impl Kind for InterfaceType {
@@ -26,7 +27,7 @@ impl Kind for InterfaceType {
             name: head.name.clone()?,
             implements_interfaces: KeySet::with_keys(alloc, keys),
             directives: DirectiveList::new(alloc),
-            fields: table_for(alloc, keys, head)?,
+            fields: Table::with_keys(alloc, keys),
         })
     }
 

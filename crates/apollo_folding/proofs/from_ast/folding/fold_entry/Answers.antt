@@ -1,50 +1,79 @@
-use Rattle.std.proofs.Common.{◌≡◌, Some, None, [], ◌∷◌, ◌++◌, sym, ap, ◌∙◌, rules}
+use Rattle.std.proofs.Common.{◌≡◌, Bool, true, false, List, Option, Some, None, is_some, [], ◌∷◌, ◌++◌, refl, sym, ap, ◌∙◌, true≢false, rules}
 use Rattle.std.specs.List.{find}
-use Rattle.std.specs.Map.{lookup_key, keys_of}
-use Rattle.std.specs.Option.{option_map, option_map_or}
+use Rattle.std.specs.Map.{lookup, lookup_key, keys_of}
+use Rattle.std.specs.Option.{option_map_or}
 use Rattle.std.proofs.lemmas.List.{append-nil}
+use Rattle.graphql_nodes.specs.NameView.{NameView}
 use Rattle.graphql_nodes.specs.SameText.{same_text}
 use Rattle.indexmap.specs.IndexMap.{insert_entry}
+use Rattle.apollo_component.specs.declared.component.Component.{Component}
 use Rattle.apollo_meaning.specs.Types.Components.{component, distinct_entries}
 use Rattle.apollo_meaning.specs.Faults.Collisions.{collision}
 use Rattle.apollo_meaning.proofs.Faults.KeptLemmas.{entry-old, entry-put, found-key}
+use Rattle.apollo_folding.proofs.NameTables.{key-there, put-back}
 use Rattle.apollo_folding.proofs.from_ast.folding.fold_entry.Goals as goal
 
-pub returns-in_ok-push-in-Some-clause-added : goal.returns-in_ok-push-in-Some-clause-added
-returns-in_ok-push-in-Some-clause-added g c = λ es was.
-    let n = g.T.Named.name_of c.args.node.now.value in
-    let name : c.name.result.now ≡ n = search rules in
-    let found : lookup_key (same_text n) (distinct_entries es) ≡ Some c.in-Some.kept.now =
-    sym (λ i. lookup_key (same_text (name i)) (was i)) ∙ sym c.get_key_value.ensures.key ∙ ap (option_map (λ e. e.0.now)) c.in-Some.is in
-    was ∙ entry-old es n _ c.in-Some.kept.now found
+module _ {T : Type 0} (es : List (NameView × Component T)) (n : NameView) (v : Component T) where
+  kept : is_some (lookup_key (same_text n) (distinct_entries es)) ≡ true → distinct_entries es ≡ distinct_entries (es ++ (n, v) ∷ [])
+  kept there = by (lookup_key (same_text n) (distinct_entries es)) refl there
+    where
+      by : (o : Option NameView) → lookup_key (same_text n) (distinct_entries es) ≡ o → is_some o ≡ true → distinct_entries es ≡ distinct_entries (es ++ (n, v) ∷ [])
+      by None is t = absurd (true≢false (sym t))
+      by (Some k) is t = entry-old es n v k is
 
-pub returns-in_ok-push-in-Some-clause-faults : goal.returns-in_ok-push-in-Some-clause-faults
-returns-in_ok-push-in-Some-clause-faults g c = λ es was.
-    let n = g.T.Named.name_of c.args.node.now.value in
-    let name : c.name.result.now ≡ n = search rules in
-    let found : find (same_text n) (keys_of es) ≡ Some c.in-Some.kept.now =
-    found-key n es ∙ sym (λ i. lookup_key (same_text (name i)) (was i)) ∙ sym c.get_key_value.ensures.key ∙ ap (option_map (λ e. e.0.now)) c.in-Some.is in
-    c.in_ok-push-in-Some.ensures.ok
-    ∙ (λ i. c.args.errors.now ++ (c.location.ensures i, c.in_ok-error-in-Some.ensures i) ∷ [])
-    ∙ ap (λ o. c.args.errors.now ++ option_map_or (λ kept. (c.args.node.now.location, collision c.args.collection kept c.args.type_name.now) ∷ []) o []) (sym found)
+  none : is_some (lookup_key (same_text n) (distinct_entries es)) ≡ false → lookup_key (same_text n) (distinct_entries es) ≡ None
+  none absent = by (lookup_key (same_text n) (distinct_entries es)) refl absent
+    where
+      by : (o : Option NameView) → lookup_key (same_text n) (distinct_entries es) ≡ o → is_some o ≡ false → lookup_key (same_text n) (distinct_entries es) ≡ None
+      by None is t = is
+      by (Some k) is t = absurd (true≢false t)
 
-pub returns-in_ok-insert-in-None-clause-added : goal.returns-in_ok-insert-in-None-clause-added
-returns-in_ok-insert-in-None-clause-added g c = λ es was.
+pub returns-in_default-clause-added : goal.returns-in_default-clause-added
+returns-in_default-clause-added g c = λ es was.
     let n = g.T.Named.name_of c.args.node.now.value in
-    let name : c.name.result.now ≡ n = search rules in
-    let key : c.in_ok-name-in-None.name ≡ n = search rules in
+    let key : c.in_ok-name.name ≡ n = search rules in
     let value : c.with_origin.result ≡ component c.args.origin c.args.node.now = search rules in
-    let none : lookup_key (same_text n) (distinct_entries es) ≡ None =
-    sym (λ i. lookup_key (same_text (name i)) (was i)) ∙ sym c.get_key_value.ensures.key ∙ ap (option_map (λ e. e.0.now)) c.in-None.is in
-    c.in_ok-insert-in-None.ensures.entries
+    let absent : lookup (same_text n) (distinct_entries es) ≡ None =
+    sym (λ i. lookup (same_text (key i)) (was i)) ∙ sym c.in_ok-standing.ensures.old ∙ c.in_default.is in
+    c.in_ok-standing.ensures.entries
     ∙ (λ i. insert_entry same_text (was i) (key i) (value i))
-    ∙ entry-put es n (component c.args.origin c.args.node.now) none
+    ∙ entry-put es n (component c.args.origin c.args.node.now) (none es n (component c.args.origin c.args.node.now) (key-there n (distinct_entries es) ∙ ap is_some absent))
 
-pub returns-in_ok-insert-in-None-clause-faults : goal.returns-in_ok-insert-in-None-clause-faults
-returns-in_ok-insert-in-None-clause-faults g c = λ es was.
+pub returns-in_default-clause-faults : goal.returns-in_default-clause-faults
+returns-in_default-clause-faults g c = λ es was.
     let n = g.T.Named.name_of c.args.node.now.value in
-    let name : c.name.result.now ≡ n = search rules in
-    let none : find (same_text n) (keys_of es) ≡ None =
-    found-key n es ∙ sym (λ i. lookup_key (same_text (name i)) (was i)) ∙ sym c.get_key_value.ensures.key ∙ ap (option_map (λ e. e.0.now)) c.in-None.is in
+    let key : c.in_ok-name.name ≡ n = search rules in
+    let absent : lookup (same_text n) (distinct_entries es) ≡ None =
+    sym (λ i. lookup (same_text (key i)) (was i)) ∙ sym c.in_ok-standing.ensures.old ∙ c.in_default.is in
+    let nowhere : find (same_text n) (keys_of es) ≡ None =
+    found-key n es ∙ none es n (component c.args.origin c.args.node.now) (key-there n (distinct_entries es) ∙ ap is_some absent) in
     sym (append-nil c.args.errors.now)
-    ∙ ap (λ o. c.args.errors.now ++ option_map_or (λ kept. (c.args.node.now.location, collision c.args.collection kept c.args.type_name.now) ∷ []) o []) (sym none)
+    ∙ ap (λ o. c.args.errors.now ++ option_map_or (λ k. (c.args.node.now.location, collision c.args.collection k c.args.type_name.now) ∷ []) o []) (sym nowhere)
+
+pub returns-clause-added : goal.returns-clause-added
+returns-clause-added g c = λ es was.
+    let n = g.T.Named.name_of c.args.node.now.value in
+    let key : c.in_ok-name.name ≡ n = search rules in
+    let key-2 : c.in_ok-clone-2.field-0 ≡ n = search rules in
+    let there : lookup (same_text n) c.args.table.now ≡ Some c.in-Some.kept =
+    sym (λ i. lookup (same_text (key i)) c.args.table.now) ∙ sym c.in_ok-standing.ensures.old ∙ c.in-Some.is in
+    c.in_ok-insert.ensures.entries
+    ∙ (λ i. insert_entry same_text (c.in_ok-standing.ensures.entries i) (key-2 i) c.in-Some.kept)
+    ∙ (λ i. insert_entry same_text (insert_entry same_text c.args.table.now (key i) c.with_origin.result) n c.in-Some.kept)
+    ∙ put-back c.args.table.now n c.with_origin.result c.in-Some.kept there
+    ∙ was
+    ∙ kept es n (component c.args.origin c.args.node.now) (key-there n (distinct_entries es) ∙ ap (λ l. is_some (lookup (same_text n) l)) (sym was) ∙ ap is_some there)
+
+pub returns-clause-faults : goal.returns-clause-faults
+returns-clause-faults g c = λ es was.
+    let n = g.T.Named.name_of c.args.node.now.value in
+    let key : c.in_ok-name.name ≡ n = search rules in
+    let key-2 : c.in_ok-clone-2.field-0 ≡ n = search rules in
+    let there : lookup (same_text n) c.args.table.now ≡ Some c.in-Some.kept =
+    sym (λ i. lookup (same_text (key i)) c.args.table.now) ∙ sym c.in_ok-standing.ensures.old ∙ c.in-Some.is in
+    let again : c.insert-2.new.self ≡ c.args.table.now =
+    c.in_ok-insert.ensures.entries
+    ∙ (λ i. insert_entry same_text (c.in_ok-standing.ensures.entries i) (key-2 i) c.in-Some.kept)
+    ∙ (λ i. insert_entry same_text (insert_entry same_text c.args.table.now (key i) c.with_origin.result) n c.in-Some.kept)
+    ∙ put-back c.args.table.now n c.with_origin.result c.in-Some.kept there in
+    c.in_ok-note_collision.ensures es (again ∙ was)

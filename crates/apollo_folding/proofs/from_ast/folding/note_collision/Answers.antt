@@ -1,0 +1,28 @@
+use Rattle.std.proofs.Common.{◌≡◌, Some, None, [], ◌∷◌, ◌++◌, sym, ap, ◌∙◌, rules}
+use Rattle.std.specs.List.{find}
+use Rattle.std.specs.Map.{lookup_key, keys_of}
+use Rattle.std.specs.Option.{option_map, option_map_or}
+use Rattle.std.proofs.lemmas.List.{append-nil}
+use Rattle.graphql_nodes.specs.SameText.{same_text}
+use Rattle.apollo_meaning.specs.Faults.Collisions.{collision}
+use Rattle.apollo_meaning.proofs.Faults.KeptLemmas.{found-key}
+use Rattle.apollo_folding.proofs.from_ast.folding.note_collision.Goals as goal
+
+pub returns-in_ok-push : goal.returns-in_ok-push
+returns-in_ok-push g c = λ es was.
+    let n = g.T.Named.name_of c.args.node.now.value in
+    let name : c.name.result.now ≡ n = search rules in
+    let found : find (same_text n) (keys_of es) ≡ Some c.in-Some.kept.now =
+    found-key n es ∙ sym (λ i. lookup_key (same_text (name i)) (was i)) ∙ sym c.get_key_value.ensures.key ∙ ap (option_map (λ e. e.0.now)) c.in-Some.is in
+    c.in_ok-push.ensures.ok
+    ∙ (λ i. c.args.errors.now ++ (c.location.ensures i, c.in_ok-error.ensures i) ∷ [])
+    ∙ ap (λ o. c.args.errors.now ++ option_map_or (λ kept. (c.args.node.now.location, collision c.args.collection kept c.args.type_name.now) ∷ []) o []) (sym found)
+
+pub returns-in_default : goal.returns-in_default
+returns-in_default g c = λ es was.
+    let n = g.T.Named.name_of c.args.node.now.value in
+    let name : c.name.result.now ≡ n = search rules in
+    let none : find (same_text n) (keys_of es) ≡ None =
+    found-key n es ∙ sym (λ i. lookup_key (same_text (name i)) (was i)) ∙ sym c.get_key_value.ensures.key ∙ ap (option_map (λ e. e.0.now)) c.in_default.is in
+    sym (append-nil c.args.errors.now)
+    ∙ ap (λ o. c.args.errors.now ++ option_map_or (λ kept. (c.args.node.now.location, collision c.args.collection kept c.args.type_name.now) ∷ []) o []) (sym none)
