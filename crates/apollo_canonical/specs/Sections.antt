@@ -58,6 +58,10 @@ sections_of p = record {
   roots = joined (λ d. d.roots) (with_origins p);
 }
 
+-- the directives without their origins
+abbrev pub directives_of : Sections → List (NodeView Directive)
+directives_of s = map (λ d. d.1) s.directives
+
 -- the definition has what the components of that make
 abbrev pub HasDefinitionOf : Sections → PartsByOrigin → Type 0
 HasDefinitionOf s p = p.definition ≡ (by_origin (in_sections s)).definition

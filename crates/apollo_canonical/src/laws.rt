@@ -1,5 +1,5 @@
 //! Laws of the write-out, for those who build on what it says.
-ghost use Rattle.std.specs.Prelude.{◌≡◌, ℕ, Bool, List, [], Some, false, true, codes, map, option_map};
+ghost use Rattle.std.specs.Prelude.{◌≡◌, ℕ, Bool, List, [], Some, false, true, codes, option_map};
 ghost use Rattle.apollo_component.specs.WriteOut.{by_origin};
 ghost use Rattle.apollo_component.specs.declared.parts_by_origin.PartsByOrigin.{PartsByOrigin};
 ghost use Rattle.apollo_types.specs.TypeWriteOut.{write_type};
@@ -15,7 +15,7 @@ ghost use Rattle.apollo_schema.specs.MeantSchema.{MeansSchema};
 ghost use Rattle.apollo_schema.specs.SchemaWriteOut.{write_schema};
 ghost use Rattle.apollo_schema.specs.declared.schema.Schema.{Schema};
 ghost use Rattle.graphql_ast.specs.declared.definition.Definition.{Definition};
-ghost use Rattle.apollo_canonical.specs.Sections.{Sections, HasDefinitionOf, HasDistinctIdentities, HasExtensionsOf, HasSameComponents, in_sections, sections_of};
+ghost use Rattle.apollo_canonical.specs.Sections.{Sections, directives_of, HasDefinitionOf, HasDistinctIdentities, HasExtensionsOf, HasSameComponents, in_sections, sections_of};
 ghost use Rattle.apollo_canonical.specs.TypeSections.{HasWhatIsWritten, HasEachNameOnce, type_sections};
 ghost use Rattle.apollo_canonical.specs.WrittenAgain.{IsMeantByList, IsWriteOutOf, written_again};
 
@@ -42,7 +42,7 @@ pub fn written_parts_have_all_components()
 pub fn written_parts_keep_directives_in_order()
     ensures { (s : Sections) (q p : PartsByOrigin) → HasDistinctIdentities q → s.directives ≡ (sections_of q).directives
         → HasDefinitionOf s p → HasExtensionsOf s p
-        → map (λ d. d.1) (sections_of p).directives ≡ map (λ d. d.1) s.directives }
+        → directives_of (sections_of p) ≡ directives_of s }
 {}
 
 /// A type of any kind that has, sort by sort, what another one is written out as, is written out as that one is, whatever

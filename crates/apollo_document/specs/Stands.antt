@@ -66,6 +66,10 @@ pub record Stands (s : Option Schema) (xs : List Added) (t : Tables) : Type 0 wh
   pub repeated : t.multiple_anonymous ≡ is_repeated s xs
   pub faults : t.errors ≡ document_faults s xs
 
+-- tables that stood for some list stand for it with these definitions behind it
+abbrev pub StandsWith : Option Schema → List Added → Tables → Tables → Type 0
+StandsWith s new before after = (xs : List Added) → Stands s xs before → Stands s (xs ++ new) after
+
 abbrev pub StateStands : Option Schema → List Added → State → Type 0
 StateStands s xs (Open tables) = Stands s xs tables
 StateStands s xs Failed = ⊥

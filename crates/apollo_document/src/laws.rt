@@ -16,6 +16,6 @@ use apollo_schema::schema::Schema;
 /// an anonymous one, and nothing otherwise. GraphQL specification of October 2021, sections 2.2 to 2.8.
 pub fn document_again()
     ensures unique { (schema : Option Schema) (xs : List Added) (a b : ExecutableDocument) → IsDocumentOf schema xs a → IsDocumentOf schema xs b → AreOneButSources a b }
-    ensures again { (schema : Option Schema) (xs : List Added) (errors : Bool) (document again : ExecutableDocument) → IsDocumentOf schema xs document → IsBuiltAgain schema errors document again → AreOneButSources again document }
-    ensures faults { (schema : Option Schema) (xs : List Added) (errors : Bool) (document : ExecutableDocument) → IsDocumentOf schema xs document → faults_again schema errors document ≡ ambiguous_again document.operations }
+    ensures again { (s : Option Schema) (xs : List Added) (errors : Bool) (document again : ExecutableDocument) → IsDocumentOf s xs document → IsBuiltAgain s errors document again → AreOneButSources again document }
+    ensures faults { (s : Option Schema) (xs : List Added) (errors : Bool) (document : ExecutableDocument) → IsDocumentOf s xs document → faults_again s errors document ≡ ambiguous_again document.operations }
 {}

@@ -6,7 +6,7 @@ ghost use Rattle.graphql_nodes.specs.Tables.{lookup_key};
 ghost use Rattle.apollo_elaboration.specs.declared.build_error.BuildError.TheVariants as faults;
 ghost use Rattle.apollo_document.specs.KeptDefinitions.{root_in};
 ghost use Rattle.graphql_nodes.specs.OperationTexts.{operation_text};
-ghost use Rattle.apollo_document.specs.DocumentFaults.{ambiguous, ambiguous_if, unless_taken, faults_in_operation, faults_in_named, after_anonymous};
+ghost use Rattle.apollo_document.specs.DocumentFaults.{ambiguous, ambiguous_if, faults_in_operation, faults_of_named, after_anonymous};
 ghost use Rattle.apollo_document.specs.Stands.{operation_over, rooted_operation, put_unless_taken};
 
 use apollo_elaboration::build_error::{BuildError, Fault};
@@ -129,7 +129,7 @@ pub(crate) fn put_named(
     errors: &mut Items<Fault>,
 ) -> Result<(), AllocError>
     ensures named { OnOk result (named.new ≡ put_unless_taken name.now (lookup_key (same_text name.now) named.old) (rooted_operation (option_copied schema.entry) node.now) named.old) }
-    ensures errors { OnOk result (errors.new ≡ errors.old ++ unless_taken faults.OperationNameCollision name.now (lookup_key (same_text name.now) named.old) (faults_in_named (option_copied schema.entry) name.now node.now)) }
+    ensures errors { OnOk result (errors.new ≡ errors.old ++ faults_of_named (option_copied schema.entry) (lookup_key (same_text name.now) named.old) name.now node.now) }
 {
     if let Some((kept, _)) = named.get_key_value(name) {
         let error = BuildError::OperationNameCollision {
