@@ -1,7 +1,7 @@
 -- The components of a type or of the schema's definition, sort by sort, and those that parts under their origins make:
 -- GraphQL specification of October 2021, sections 3.3, 3.4.3 and 3.5 to 3.10.
-use Rattle.std.specs.Prelude.{List, [], ◌∷◌, map}
-use Rattle.std.specs.List.{flat_map}
+use Rattle.std.specs.Prelude.{◌≡◌, List, [], ◌∷◌, map}
+use Rattle.std.specs.List.{IsDistinct, flat_map}
 use Rattle.std.specs.List.Sorted.{IsPermutation}
 use Rattle.graphql_nodes.specs.NameView.{NameView}
 use Rattle.graphql_nodes.specs.NodeView.{NodeView}
@@ -13,7 +13,8 @@ use Rattle.graphql_ast.specs.declared.directive.Directive.{Directive}
 use Rattle.graphql_ast.specs.declared.type_system.EnumValueDefinition.{EnumValueDefinition}
 use Rattle.graphql_ast.specs.declared.type_system.FieldDefinition.{FieldDefinition}
 use Rattle.graphql_ast.specs.declared.type_system.InputValueDefinition.{InputValueDefinition}
-use Rattle.apollo_component.specs.WriteOut.{SourcedPart}
+use Rattle.apollo_component.specs.Extensions.{same_id}
+use Rattle.apollo_component.specs.WriteOut.{SourcedPart, by_origin}
 use Rattle.apollo_component.specs.declared.extension.ComponentOrigin.{ComponentOrigin}
 use Rattle.apollo_component.specs.declared.extension.ComponentOrigin.TheVariants.{Definition, Extension}
 use Rattle.apollo_component.specs.declared.parts_by_origin.PartsByOrigin.{PartsByOrigin}
@@ -56,6 +57,22 @@ sections_of p = record {
   input_fields = joined (λ d. d.input_fields) (with_origins p);
   roots = joined (λ d. d.roots) (with_origins p);
 }
+
+-- the directives without their origins
+abbrev pub directives_of : Sections → List (NodeView Directive)
+directives_of s = map (λ d. d.1) s.directives
+
+-- the definition has what the components of that make
+abbrev pub HasDefinitionOf : Sections → PartsByOrigin → Type 0
+HasDefinitionOf s p = p.definition ≡ (by_origin (in_sections s)).definition
+
+-- the extensions have, in order, what the components of extensions make, whatever identities they have
+abbrev pub HasExtensionsOf : Sections → PartsByOrigin → Type 0
+HasExtensionsOf s p = map (λ e. e.1) p.extensions ≡ map (λ e. e.1) (by_origin (in_sections s)).extensions
+
+-- no two extensions have one identity
+abbrev pub HasDistinctIdentities : PartsByOrigin → Type 0
+HasDistinctIdentities p = IsDistinct same_id (map (λ e. e.0) p.extensions)
 
 -- the same components but for their origins, those of each sort in any order
 pub record HasSameComponents (s t : Sections) : Type 0 where

@@ -1,7 +1,5 @@
 //! Laws of the write-out, for those who build on what it says.
-ghost use Rattle.std.specs.Prelude.{◌≡◌, ℕ, Bool, List, [], Some, false, true, codes, map, option_map};
-ghost use Rattle.std.specs.List.{IsDistinct};
-ghost use Rattle.apollo_component.specs.Extensions.{same_id};
+ghost use Rattle.std.specs.Prelude.{◌≡◌, ℕ, Bool, List, [], Some, false, true, codes, option_map};
 ghost use Rattle.apollo_component.specs.WriteOut.{by_origin};
 ghost use Rattle.apollo_component.specs.declared.parts_by_origin.PartsByOrigin.{PartsByOrigin};
 ghost use Rattle.apollo_types.specs.TypeWriteOut.{write_type};
@@ -17,7 +15,7 @@ ghost use Rattle.apollo_schema.specs.MeantSchema.{MeansSchema};
 ghost use Rattle.apollo_schema.specs.SchemaWriteOut.{write_schema};
 ghost use Rattle.apollo_schema.specs.declared.schema.Schema.{Schema};
 ghost use Rattle.graphql_ast.specs.declared.definition.Definition.{Definition};
-ghost use Rattle.apollo_canonical.specs.Sections.{Sections, HasSameComponents, in_sections, sections_of};
+ghost use Rattle.apollo_canonical.specs.Sections.{Sections, directives_of, HasDefinitionOf, HasDistinctIdentities, HasExtensionsOf, HasSameComponents, in_sections, sections_of};
 ghost use Rattle.apollo_canonical.specs.TypeSections.{HasWhatIsWritten, HasEachNameOnce, type_sections};
 ghost use Rattle.apollo_canonical.specs.WrittenAgain.{IsMeantByList, IsWriteOutOf, written_again};
 
@@ -26,15 +24,15 @@ ghost use Rattle.apollo_canonical.specs.WrittenAgain.{IsMeantByList, IsWriteOutO
 /// get, the components that the parts make are put under those identities as the same parts, in the same order. GraphQL
 /// specification of October 2021, sections 3.3 and 3.4.3.
 pub fn written_parts_are_written_again()
-    ensures { (s : Sections) (p : PartsByOrigin) → map (λ e. e.1) p.extensions ≡ map (λ e. e.1) (by_origin (in_sections s)).extensions
-        → IsDistinct same_id (map (λ e. e.0) p.extensions) → by_origin (in_sections (sections_of p)) ≡ p }
+    ensures { (s : Sections) (p : PartsByOrigin) → HasExtensionsOf s p → HasDistinctIdentities p
+        → by_origin (in_sections (sections_of p)) ≡ p }
 {}
 
 /// No component is lost in what is written out, and none is added: the parts of the definition and of the extensions that
 /// the components of any sections make have, of each sort, the components of that section. GraphQL specification of
 /// October 2021, sections 3.3 and 3.5 to 3.10.
 pub fn written_parts_have_all_components()
-    ensures { (s : Sections) (p : PartsByOrigin) → p.definition ≡ (by_origin (in_sections s)).definition → map (λ e. e.1) p.extensions ≡ map (λ e. e.1) (by_origin (in_sections s)).extensions
+    ensures { (s : Sections) (p : PartsByOrigin) → HasDefinitionOf s p → HasExtensionsOf s p
         → HasSameComponents s (sections_of p) }
 {}
 
@@ -42,9 +40,9 @@ pub fn written_parts_have_all_components()
 /// list do: so written parts have them, the definition's first and then those of each extension. GraphQL specification of
 /// October 2021, sections 2.12, 3.3.2 and 3.4.3.
 pub fn written_parts_keep_directives_in_order()
-    ensures { (s : Sections) (q p : PartsByOrigin) → IsDistinct same_id (map (λ e. e.0) q.extensions) → s.directives ≡ (sections_of q).directives
-        → p.definition ≡ (by_origin (in_sections s)).definition → map (λ e. e.1) p.extensions ≡ map (λ e. e.1) (by_origin (in_sections s)).extensions
-        → map (λ d. d.1) (sections_of p).directives ≡ map (λ d. d.1) s.directives }
+    ensures { (s : Sections) (q p : PartsByOrigin) → HasDistinctIdentities q → s.directives ≡ (sections_of q).directives
+        → HasDefinitionOf s p → HasExtensionsOf s p
+        → directives_of (sections_of p) ≡ directives_of s }
 {}
 
 /// A type of any kind that has, sort by sort, what another one is written out as, is written out as that one is, whatever

@@ -45,9 +45,13 @@ rooted_faults s name n None = (n.location, e.UndefinedRootOperation (operation_t
 abbrev pub faults_in_operation : Option Schema → ExecutableDefinitionName → NodeView OperationDefinition → List Fault
 faults_in_operation s name n = rooted_faults s name n (root_in s n.value.operation_type)
 
+-- a named operation whose name is taken, if it is
+abbrev pub faults_of_named : Option Schema → Option NameView → NameView → NodeView OperationDefinition → List Fault
+faults_of_named s taken name n = unless_taken e.OperationNameCollision name taken (faults_in_operation s (NamedOperation n.value.operation_type name) n)
+
 -- a named operation, after an anonymous one at this place if there is one, and where its name is taken if it is
 abbrev pub named_faults : Option Schema → Option (Option SourceSpan) → Option NameView → NameView → NodeView OperationDefinition → List Fault
-named_faults s anonymous taken name n = ambiguous_if anonymous ++ unless_taken e.OperationNameCollision name taken (faults_in_operation s (NamedOperation n.value.operation_type name) n)
+named_faults s anonymous taken name n = ambiguous_if anonymous ++ faults_of_named s taken name n
 
 -- an anonymous operation after a kept one is at fault, and so is that, once
 abbrev pub after_anonymous : Bool → Option SourceSpan → Option SourceSpan → List Fault

@@ -1,5 +1,5 @@
 -- What a builder holds for a list. The code is proved against this.
-use Rattle.std.specs.Prelude.{◌≡◌, List, ◌∷◌, [], ◌++◌, map, Option, None, Some, option_map, unwrap_or}
+use Rattle.std.specs.Prelude.{◌≡◌, List, ◌∷◌, [], ◌++◌, map, Option, None, Some, option_map, unwrap_or, cond}
 use Rattle.graphql_nodes.specs.NameView.{NameView}
 use Rattle.graphql_nodes.specs.NodeView.{NodeView}
 use Rattle.graphql_ast.specs.declared.operation.OperationDefinition.{OperationDefinition}
@@ -9,7 +9,9 @@ use Rattle.apollo_schema.specs.declared.schema.Schema.{Schema}
 use Rattle.apollo_executable.specs.Erasure.{at_place}
 use Rattle.apollo_executable.specs.declared.operation.Operation.{Operation}
 use Rattle.apollo_executable.specs.declared.operation.Fragment.{Fragment}
+use Rattle.apollo_executable.specs.declared.selection.SelectionSet.{SelectionSet}
 use Rattle.apollo_elaboration.specs.Elaborated.{elaborated}
+use Rattle.apollo_elaboration.specs.Typable.{has_type}
 use Rattle.apollo_document.specs.AddedDefinitions.{Added}
 use Rattle.apollo_document.specs.KeptDefinitions.{root_in, kept_anonymous, kept_named, kept_fragments, is_repeated}
 use Rattle.apollo_document.specs.DocumentFaults.{document_faults}
@@ -17,15 +19,17 @@ use Rattle.apollo_document.specs.declared.tables.Tables.{Tables}
 use Rattle.apollo_document.specs.declared.state.State.{State}
 use Rattle.apollo_document.specs.declared.state.State.TheVariants.{Open, Failed}
 
+-- an operation with this set
+abbrev pub operation_over : OperationDefinition → SelectionSet → Operation
+operation_over o set = record { operation_type = o.operation_type; name = o.name; variables = o.variables; directives = o.directives; selection_set = set }
+
 -- an operation from this root type, typed
 abbrev pub operation_from : Option Schema → NameView → OperationDefinition → Operation
-operation_from s root o = record {
-  operation_type = o.operation_type;
-  name = o.name;
-  variables = o.variables;
-  directives = o.directives;
-  selection_set = elaborated s root o.selection_set;
-}
+operation_from s root o = operation_over o (elaborated s root o.selection_set)
+
+-- an operation, typed, if it has a root type
+abbrev pub rooted_operation : Option Schema → NodeView OperationDefinition → Option (NodeView Operation)
+rooted_operation s n = option_map (λ (root : NameView). at_place (operation_from s root) n) (root_in s n.value.operation_type)
 
 -- an operation that is kept is rooted
 abbrev pub root_or_none : Option Schema → NodeView OperationDefinition → NameView
@@ -39,6 +43,10 @@ fragment_on_type s f = record { name = f.name; directives = f.directives; select
 
 abbrev pub typed_fragment : Option Schema → NodeView FragmentDefinition → NodeView Fragment
 typed_fragment s n = at_place (fragment_on_type s) n
+
+-- a fragment, typed, if its condition is a type
+abbrev pub fragment_if_typed : Option Schema → NodeView FragmentDefinition → Option (NodeView Fragment)
+fragment_if_typed s n = cond (has_type s n.value.type_condition) (Some (typed_fragment s n)) None
 
 -- entries whose values are what f gives
 abbrev pub entries_by : {A B : Type 0} → (A → B) → List (NameView × A) → List (NameView × B)
@@ -57,6 +65,10 @@ pub record Stands (s : Option Schema) (xs : List Added) (t : Tables) : Type 0 wh
   pub fragments : t.fragments ≡ entries_by (typed_fragment s) (kept_fragments s xs)
   pub repeated : t.multiple_anonymous ≡ is_repeated s xs
   pub faults : t.errors ≡ document_faults s xs
+
+-- tables that stood for some list stand for it with these definitions behind it
+abbrev pub StandsWith : Option Schema → List Added → Tables → Tables → Type 0
+StandsWith s new before after = (xs : List Added) → Stands s xs before → Stands s (xs ++ new) after
 
 abbrev pub StateStands : Option Schema → List Added → State → Type 0
 StateStands s xs (Open tables) = Stands s xs tables

@@ -1,11 +1,10 @@
 //! Named fragments taken into a document: GraphQL specification of October 2021, section 2.8.
-ghost use Rattle.std.specs.Prelude.{◌≡◌, ◌++◌, cond, None, Some, IfOk, OnOk};
+ghost use Rattle.std.specs.Prelude.{◌≡◌, ◌++◌, IfOk, OnOk};
 ghost use Rattle.std.specs.Option.{option_copied};
 ghost use Rattle.graphql_nodes.specs.SameText.{same_text};
 ghost use Rattle.graphql_nodes.specs.Tables.{lookup_key};
-ghost use Rattle.apollo_elaboration.specs.Typable as typable;
 ghost use Rattle.apollo_document.specs.DocumentFaults.{faults_in_fragment, fragment_faults};
-ghost use Rattle.apollo_document.specs.Stands.{typed_fragment, put_unless_taken};
+ghost use Rattle.apollo_document.specs.Stands.{fragment_if_typed, put_unless_taken};
 
 use apollo_elaboration::build_error::{BuildError, Fault};
 use apollo_elaboration::elaboration::elaborate_selections;
@@ -41,7 +40,7 @@ fn build_fragment(
     node: &Node<FragmentDefinition>,
     errors: &mut Items<Fault>,
 ) -> Result<Option<Node<Fragment>>, AllocError>
-    ensures built { IfOk result (λ fragment. fragment ≡ cond (typable.has_type (option_copied schema.entry) node.now.value.type_condition) (Some (typed_fragment (option_copied schema.entry) node.now)) None) }
+    ensures built { IfOk result (λ fragment. fragment ≡ fragment_if_typed (option_copied schema.entry) node.now) }
     ensures errors { OnOk result (errors.new ≡ errors.old ++ faults_in_fragment (option_copied schema.entry) node.now) }
 {
     if !has_type(schema, &node.type_condition) {
@@ -71,7 +70,7 @@ pub(crate) fn put_fragment(
     node: &Node<FragmentDefinition>,
     errors: &mut Items<Fault>,
 ) -> Result<(), AllocError>
-    ensures fragments { OnOk result (fragments.new ≡ put_unless_taken node.now.value.name (lookup_key (same_text node.now.value.name) fragments.old) (cond (typable.has_type (option_copied schema.entry) node.now.value.type_condition) (Some (typed_fragment (option_copied schema.entry) node.now)) None) fragments.old) }
+    ensures fragments { OnOk result (fragments.new ≡ put_unless_taken node.now.value.name (lookup_key (same_text node.now.value.name) fragments.old) (fragment_if_typed (option_copied schema.entry) node.now) fragments.old) }
     ensures errors { OnOk result (errors.new ≡ errors.old ++ fragment_faults (option_copied schema.entry) (lookup_key (same_text node.now.value.name) fragments.old) node.now) }
 {
     if let Some((kept, _)) = fragments.get_key_value(&node.name) {

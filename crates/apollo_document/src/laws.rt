@@ -2,11 +2,9 @@
 //!
 //! Each law is a function that does nothing. A proof cites it by a call, and finds its clauses there.
 ghost use Rattle.std.specs.Prelude.{◌≡◌, Bool, List, Option};
-ghost use Rattle.apollo_executable.specs.Erasure.{erased_definitions};
-ghost use Rattle.apollo_document.specs.AddedDefinitions.{Added, added};
-ghost use Rattle.apollo_document.specs.DocumentFaults.{document_faults};
+ghost use Rattle.apollo_document.specs.AddedDefinitions.{Added};
 ghost use Rattle.apollo_document.specs.Documents.{IsDocumentOf};
-ghost use Rattle.apollo_document.specs.WrittenAgain.{ambiguous_again};
+ghost use Rattle.apollo_document.specs.WrittenAgain.{AreOneButSources, IsBuiltAgain, ambiguous_again, faults_again};
 
 use apollo_executable::document::ExecutableDocument;
 use apollo_schema::schema::Schema;
@@ -17,7 +15,7 @@ use apollo_schema::schema::Schema;
 /// document, with every location. What is wrong with the write-out is one ambiguity for each named operation if the document has
 /// an anonymous one, and nothing otherwise. GraphQL specification of October 2021, sections 2.2 to 2.8.
 pub fn document_again()
-    ensures unique { (schema : Option Schema) (xs : List Added) (a b : ExecutableDocument) → IsDocumentOf schema xs a → IsDocumentOf schema xs b → a ≡ record b { sources = a.sources } }
-    ensures again { (schema : Option Schema) (xs : List Added) (errors : Bool) (document again : ExecutableDocument) → IsDocumentOf schema xs document → IsDocumentOf schema (added errors (erased_definitions document)) again → again ≡ record document { sources = again.sources } }
-    ensures faults { (schema : Option Schema) (xs : List Added) (errors : Bool) (document : ExecutableDocument) → IsDocumentOf schema xs document → document_faults schema (added errors (erased_definitions document)) ≡ ambiguous_again document.operations }
+    ensures unique { (schema : Option Schema) (xs : List Added) (a b : ExecutableDocument) → IsDocumentOf schema xs a → IsDocumentOf schema xs b → AreOneButSources a b }
+    ensures again { (s : Option Schema) (xs : List Added) (errors : Bool) (document again : ExecutableDocument) → IsDocumentOf s xs document → IsBuiltAgain s errors document again → AreOneButSources again document }
+    ensures faults { (s : Option Schema) (xs : List Added) (errors : Bool) (document : ExecutableDocument) → IsDocumentOf s xs document → faults_again s errors document ≡ ambiguous_again document.operations }
 {}

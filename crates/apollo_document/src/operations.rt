@@ -1,16 +1,13 @@
 //! Operations taken into a document: GraphQL specification of October 2021, section 2.3.
 ghost use Rattle.std.specs.Prelude.{◌≡◌, ◌++◌, ◌∷◌, [], Option, IfOk, OnOk, option_map};
 ghost use Rattle.std.specs.Option.{option_copied};
-ghost use Rattle.graphql_nodes.specs.NameView.{NameView};
 ghost use Rattle.graphql_nodes.specs.SameText.{same_text};
 ghost use Rattle.graphql_nodes.specs.Tables.{lookup_key};
-ghost use Rattle.apollo_executable.specs.Erasure.{at_place};
 ghost use Rattle.apollo_elaboration.specs.declared.build_error.BuildError.TheVariants as faults;
-ghost use Rattle.apollo_elaboration.specs.declared.selection_path.ExecutableDefinitionName.TheVariants as roots;
 ghost use Rattle.apollo_document.specs.KeptDefinitions.{root_in};
 ghost use Rattle.graphql_nodes.specs.OperationTexts.{operation_text};
-ghost use Rattle.apollo_document.specs.DocumentFaults.{ambiguous, ambiguous_if, unless_taken, faults_in_operation, after_anonymous};
-ghost use Rattle.apollo_document.specs.Stands.{operation_from, put_unless_taken};
+ghost use Rattle.apollo_document.specs.DocumentFaults.{ambiguous, ambiguous_if, faults_in_operation, faults_of_named, after_anonymous};
+ghost use Rattle.apollo_document.specs.Stands.{operation_over, rooted_operation, put_unless_taken};
 
 use apollo_elaboration::build_error::{BuildError, Fault};
 use apollo_elaboration::elaboration::elaborate_selections;
@@ -50,7 +47,7 @@ fn operation_over(
     definition: &OperationDefinition,
     selection_set: SelectionSet,
 ) -> Result<Operation, AllocError>
-    ensures { IfOk result (λ operation. operation ≡ record { operation_type = definition.now.operation_type; name = definition.now.name; variables = definition.now.variables; directives = definition.now.directives; selection_set = selection_set }) }
+    ensures { IfOk result (λ operation. operation ≡ operation_over definition.now selection_set) }
 {
     Ok(Operation {
         operation_type: definition.operation_type,
@@ -105,7 +102,7 @@ pub(crate) fn build_operation(
     name: ExecutableDefinitionName,
     errors: &mut Items<Fault>,
 ) -> Result<Option<Node<Operation>>, AllocError>
-    ensures built { IfOk result (λ operation. operation ≡ option_map (λ (root : NameView). at_place (operation_from (option_copied schema.entry) root) node.now) (root_in (option_copied schema.entry) node.now.value.operation_type)) }
+    ensures built { IfOk result (λ operation. operation ≡ rooted_operation (option_copied schema.entry) node.now) }
     ensures errors { OnOk result (errors.new ≡ errors.old ++ faults_in_operation (option_copied schema.entry) name node.now) }
 {
     let Some(root) = root_type(alloc, schema, node.operation_type)? else {
@@ -131,8 +128,8 @@ pub(crate) fn put_named(
     name: &Name,
     errors: &mut Items<Fault>,
 ) -> Result<(), AllocError>
-    ensures named { OnOk result (named.new ≡ put_unless_taken name.now (lookup_key (same_text name.now) named.old) (option_map (λ (root : NameView). at_place (operation_from (option_copied schema.entry) root) node.now) (root_in (option_copied schema.entry) node.now.value.operation_type)) named.old) }
-    ensures errors { OnOk result (errors.new ≡ errors.old ++ unless_taken faults.OperationNameCollision name.now (lookup_key (same_text name.now) named.old) (faults_in_operation (option_copied schema.entry) (roots.NamedOperation node.now.value.operation_type name.now) node.now)) }
+    ensures named { OnOk result (named.new ≡ put_unless_taken name.now (lookup_key (same_text name.now) named.old) (rooted_operation (option_copied schema.entry) node.now) named.old) }
+    ensures errors { OnOk result (errors.new ≡ errors.old ++ faults_of_named (option_copied schema.entry) (lookup_key (same_text name.now) named.old) name.now node.now) }
 {
     if let Some((kept, _)) = named.get_key_value(name) {
         let error = BuildError::OperationNameCollision {

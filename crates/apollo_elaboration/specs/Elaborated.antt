@@ -38,6 +38,10 @@ typed_spread x = record { fragment_name = x.fragment_name; directives = x.direct
 abbrev pub set_of : NameView → List Selection → SelectionSet
 set_of ty xs = roll-SelectionSet (record { ty = ty; selections = xs })
 
+-- a field with this definition and set
+abbrev pub field_over : ast_field.Field → NodeView FieldDefinition → SelectionSet → Field
+field_over f d set = roll-Field (record { definition = d; alias = f.alias; name = f.name; arguments = f.arguments; directives = f.directives; selection_set = set })
+
 abbrev pub field_of : Option NameView → NameView → List (NodeView Argument) → DirectiveList → (NameView → List Selection) → NodeView FieldDefinition → Field
 field_of alias name arguments directives below d = roll-Field (record {
   definition = d;

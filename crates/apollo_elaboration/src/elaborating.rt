@@ -64,7 +64,7 @@ fn field_over(
     definition: Node<FieldDefinition>,
     selection_set: SelectionSet,
 ) -> Result<Field, AllocError>
-    ensures { IfOk result (λ typed. typed ≡ record { definition = definition; alias = field.now.alias; name = field.now.name; arguments = field.now.arguments; directives = field.now.directives; selection_set = selection_set }) }
+    ensures { IfOk result (λ typed. typed ≡ spec.field_over field.now definition selection_set) }
 {
     Ok(Field {
         definition,

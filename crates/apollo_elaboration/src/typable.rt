@@ -1,6 +1,6 @@
 //! Which selections are typable, and what is wrong with the others: GraphQL specification of October 2021, sections 2.5 to
 //! 2.8.
-ghost use Rattle.std.specs.Prelude.{◌≡◌, ◌++◌, [], false, Option, None, IfOk, OnOk};
+ghost use Rattle.std.specs.Prelude.{◌≡◌, ◌++◌, [], false, Option, None, Some, IfOk, OnOk};
 ghost use Rattle.std.specs.Option.{option_copied};
 ghost use Rattle.graphql_nodes.specs.declared.source.SourceSpan.{SourceSpan};
 ghost use Rattle.apollo_elaboration.specs.SelectionFaults.{found};
@@ -97,8 +97,8 @@ fn typable_in(
     path: &SelectionPath,
     faults: &mut Items<Fault>,
 ) -> Result<Option<Node<FieldDefinition>>, AllocError>
-    ensures typable { IfOk result (λ definition. definition ≡ if_typable (λ d. d) (spec.with_subselections schema.now (is_bare node.now.value.selection_set) (spec.defined_in schema.now ty.now node.now.value.name))) }
-    ensures faults { OnOk result (faults.new ≡ faults.old ++ found (λ _. []) node.now.location path.now (spec.with_subselections schema.now (is_bare node.now.value.selection_set) (spec.defined_in schema.now ty.now node.now.value.name))) }
+    ensures typable { IfOk result (λ definition. definition ≡ if_typable (λ d. d) (spec.typable_field (Some schema.now) ty.now node.now.value.name (is_bare node.now.value.selection_set))) }
+    ensures faults { OnOk result (faults.new ≡ faults.old ++ found (λ _. []) node.now.location path.now (spec.typable_field (Some schema.now) ty.now node.now.value.name (is_bare node.now.value.selection_set))) }
 {
     let Some(definition) = defined_in(schema, ty, &node.name, path, faults)? else {
         return Ok(None);

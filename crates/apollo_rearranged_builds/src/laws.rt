@@ -31,8 +31,8 @@ pub fn documents_one_by_one()
         → MeanEqualSchemas adopts (xs ++ added_each ignores documents) (xs ++ added_joined ignores documents) }
     ensures faults { (adopts ignores : Bool) (xs : List Added) (documents : Documents)
         → faults_of adopts (xs ++ added_each ignores documents) ≡ faults_of adopts (xs ++ added_joined ignores documents) }
-    ensures stands { (b : SchemaBuilder) (start : ℕ) (ignores : Bool) (xs : List Added) (documents : Documents)
-        → StandsFor start (xs ++ added_each ignores documents) b → StandsFor start (xs ++ added_joined ignores documents) b }
+    ensures stands { (b : SchemaBuilder) (n : ℕ) (ignores : Bool) (xs : List Added) (documents : Documents)
+        → StandsFor n (xs ++ added_each ignores documents) b → StandsFor n (xs ++ added_joined ignores documents) b }
 {
     rearranged_types_are_equal();
 }
