@@ -172,7 +172,12 @@ pub fn document_report<C: Clock, E: Write>(
 ) -> Result<String, Failure>
     ensures { IfOk result (λ text. IsDocumentReport command documents.now.schema.items documents.now.executable.items (string_bytes text)) }
 {
-    let (schema, _faults) = built(alloc, HashKeys::FIXED, command.options, documents.schema.as_slice())?;
+    let (schema, _faults) = built(
+        alloc,
+        HashKeys::FIXED,
+        command.options,
+        documents.schema.as_slice(),
+    )?;
     let executable = documents.executable.as_slice();
     let mut text = counts(alloc, &schema, executable)?;
     let mut times = DocumentTimes::new(alloc);

@@ -79,7 +79,8 @@ fn report<C: Clock, R: Read, E: Write>(
         return Err(Failure::Usage);
     };
     let input = read_input(alloc, reader)?;
-    report_on(alloc, clock, command, input.as_str(), errors)
+    let report = report_on(alloc, clock, command, input.as_str(), errors)?;
+    Ok(report)
 }
 
 /// The whole input.

@@ -213,7 +213,13 @@ fn counts(
 {
     let operations = document.operations.len();
     let fragments = document.fragments.len();
-    walk_counts(alloc, operations, fragments, times.root_fields, times.all_fields)
+    walk_counts(
+        alloc,
+        operations,
+        fragments,
+        times.root_fields,
+        times.all_fields,
+    )
 }
 
 /// The report of the command `walk` on documents: what the walks give, and the line of each phase.

@@ -15,7 +15,7 @@ loop-operation-preserved c =
     let given = c.loop-operation.yielded in
     let on = subst (λ (o : Operation). IsCountedOn true document o.selection_set before after) c.deref.ensures c.in_ok-count.ensures in
     subst (λ (sets : List SelectionSet). IsCountOver true document sets after) (turned operation_set given c.in-Some.operation)
-        (over-turn true document (map operation_set (map (λ n. n.now) given)) (operation_set c.in-Some.operation.now) before after c.loop-operation.invariant on)
+    (over-turn true document (map operation_set (map (λ n. n.now) given)) (operation_set c.in-Some.operation.now) before after c.loop-operation.invariant on)
 
 pub loop-fragment-preserved : goal.loop-fragment-preserved
 loop-fragment-preserved c =
@@ -26,4 +26,4 @@ loop-fragment-preserved c =
     let above = map operation_set (all_operations document.operations) in
     let on = subst (λ (f : Fragment). IsCountedOn true document f.selection_set before after) c.deref-in-loop-fragment.ensures c.in_ok-count-2.ensures in
     subst (λ (sets : List SelectionSet). IsCountOver true document sets after) (turned-after above fragment_set given c.in-Some-fragment.fragment)
-        (over-turn true document (above ++ map fragment_set (map (λ n. n.now) given)) (fragment_set c.in-Some-fragment.fragment.now) before after c.loop-fragment.invariant on)
+    (over-turn true document (above ++ map fragment_set (map (λ n. n.now) given)) (fragment_set c.in-Some-fragment.fragment.now) before after c.loop-fragment.invariant on)
