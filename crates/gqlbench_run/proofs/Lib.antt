@@ -1,1 +1,2 @@
 pub mod PhaseLineLemmas
+pub mod WalkCountLemmas

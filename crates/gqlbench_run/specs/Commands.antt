@@ -15,6 +15,8 @@ use Rattle.gqlbench_run.specs.declared.failure.Failure.TheVariants as f
 abbrev pub work_word : Work → List ℕ
 work_word w.Schema = codes "schema"
 work_word w.Lookups = codes "lookups"
+work_word w.Documents = codes "doc"
+work_word w.Walks = codes "walk"
 
 -- the word is this number of times, in decimal: at least one, and of 64 bits; a plus may stand first
 pub record IsRepeat (word : List ℕ) (repeat : ℕ) : Type 0 where

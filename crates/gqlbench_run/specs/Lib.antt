@@ -1,5 +1,7 @@
 pub mod Commands
+pub mod DocumentReports
 pub mod LookupQuestions
 pub mod PhaseLines
 pub mod Reports
 pub mod Summaries
+pub mod WalkReports

@@ -2,7 +2,7 @@
 use Rattle.std.specs.Prelude.{◌≡◌, ℕ, Bool, List, [], ◌∷◌, ◌++◌, Option, codes, count_by, decimal, if◌then◌else◌, length}
 use Rattle.std.specs.Io.KnownBytes.{Appends}
 use Rattle.graphql_ast.specs.declared.document.Document.{Document}
-use Rattle.bench_notation.specs.Documents.{AreDocumentsOf}
+use Rattle.bench_notation.specs.Documents.{AreDividedDocumentsOf, AreDocumentsOf}
 use Rattle.apollo_meaning.specs.Faults.ListFaults.{faults_of}
 use Rattle.apollo_schema.specs.MeantSchema.{MeansSchema}
 use Rattle.apollo_schema.specs.SchemaWriteOut.{write_schema}
@@ -11,6 +11,8 @@ use Rattle.gqltool_run.specs.Building.{list_of}
 use Rattle.gqltool_run.specs.declared.schema_options.SchemaOptions.{SchemaOptions}
 use Rattle.gqlbench_run.specs.Commands.{AreWordsOf}
 use Rattle.gqlbench_run.specs.LookupQuestions.{field_questions, subtype_questions, has_field, has_subtype}
+use Rattle.gqlbench_run.specs.DocumentReports.{IsDocumentReport}
+use Rattle.gqlbench_run.specs.WalkReports.{IsWalkReport}
 use Rattle.gqlbench_run.specs.PhaseLines.{ArePhaseLines}
 use Rattle.gqlbench_run.specs.declared.command.Command.{Command}
 use Rattle.gqlbench_run.specs.declared.command.Work.{Work}
@@ -79,21 +81,29 @@ pub record IsLookupReport (command : Command) (documents : List Document) (text 
   pub timed : ArePhaseLines lookup_phases command.repeat lines
   pub is : text ≡ calls_text (length (field_questions schema.types)) (count_by (has_field schema) (field_questions schema.types)) (length (subtype_questions schema.types)) (count_by (has_subtype schema) (subtype_questions schema.types)) ++ lines
 
--- the text is the report of a command on documents
-abbrev pub IsReportOfWork : Work → Command → List Document → List ℕ → Type 0
-IsReportOfWork w.Schema command documents text = IsSchemaReport command documents text
-IsReportOfWork w.Lookups command documents text = IsLookupReport command documents text
+-- the text is a report on the documents of an input
+abbrev pub IsReportOnDocuments : (List Document → List ℕ → Type 0) → List ℕ → List ℕ → Type 0
+IsReportOnDocuments is_report input text = (documents : List Document) × (AreDocumentsOf input documents × is_report documents text)
 
-abbrev pub IsReportOf : Command → List Document → List ℕ → Type 0
-IsReportOf command documents text = IsReportOfWork command.work command documents text
+-- the text is a report on the documents of an input, those before its division and those behind it
+abbrev pub IsReportOnBoth : (List Document → List Document → List ℕ → Type 0) → List ℕ → List ℕ → Type 0
+IsReportOnBoth is_report input text = (before : List Document) × ((behind : List Document) × (AreDividedDocumentsOf input before behind × is_report before behind text))
+
+-- the text is the report of a command on an input
+abbrev pub IsReportOfWork : Work → Command → List ℕ → List ℕ → Type 0
+IsReportOfWork w.Schema command = IsReportOnDocuments (IsSchemaReport command)
+IsReportOfWork w.Lookups command = IsReportOnDocuments (IsLookupReport command)
+IsReportOfWork w.Documents command = IsReportOnBoth (IsDocumentReport command)
+IsReportOfWork w.Walks command = IsReportOnBoth (IsWalkReport command)
+
+abbrev pub IsReportOf : Command → List ℕ → List ℕ → Type 0
+IsReportOf command = IsReportOfWork command.work command
 
 -- the text is the report that these words ask for on this input
 pub record IsReportTo (words : List (List ℕ)) (input text : List ℕ) : Type 0 where
   pub command : Command
   pub asked : AreWordsOf words command
-  pub documents : List Document
-  pub says : AreDocumentsOf input documents
-  pub reports : IsReportOf command documents text
+  pub reports : IsReportOf command input text
 
 -- there is a report to these words on this input
 abbrev pub HaveReport : List (List ℕ) → List ℕ → Type 0

@@ -12,6 +12,10 @@ pub enum Work {
     Schema,
     /// `lookups`: lookups in a schema that is built once.
     Lookups,
+    /// `doc`: a typed document built over a schema that is built once, written out, and freed.
+    Documents,
+    /// `walk`: walks over a typed document that is built once.
+    Walks,
 }
 
 /// A command of the program, which is what the words after its name say: what is timed, under which options of a build,
@@ -43,6 +47,8 @@ fn read_work(word: &str) -> Option<Work>
     match word {
         "schema" => Some(Work::Schema),
         "lookups" => Some(Work::Lookups),
+        "doc" => Some(Work::Documents),
+        "walk" => Some(Work::Walks),
         _ => None,
     }
 }

@@ -10,7 +10,7 @@ use thiserror::Error;
 #[derive(Debug, Drop, Error)]
 pub enum Failure {
     /// The words are none that the program takes.
-    #[error("usage: gqlbench schema|lookups [--adopt] [--ignore-builtin] REPEAT")]
+    #[error("usage: gqlbench schema|lookups|doc|walk [--adopt] [--ignore-builtin] REPEAT")]
     Usage,
     /// The input is refused, or memory or numbers are wanting, as with `gqltool`.
     #[error(transparent)]

@@ -2,6 +2,7 @@
 #![tactic(auto)]
 
 pub mod command;
+mod document_phases;
 pub mod failure;
 mod lookup_phases;
 mod lookup_questions;
@@ -11,3 +12,4 @@ mod progress;
 pub mod running;
 mod schema_phases;
 pub mod summary;
+mod walk_phases;

@@ -1,16 +1,18 @@
 //! The run of the program.
 ghost use Rattle.std.specs.Prelude.{◌≡◌, All, Err, IfOk, IfSome, OnOk, string_bytes};
 ghost use Rattle.bench_notation.specs.Line.{IsLine, lines_of, texts_of};
-ghost use Rattle.bench_notation.specs.Documents.{AreDocumentsOf};
+ghost use Rattle.bench_notation.specs.Documents.{AreDividedDocumentsOf, AreDocumentsOf};
 ghost use Rattle.gqltool_run.specs.Status.{Writes};
 ghost use Rattle.gqlbench_run.specs.Commands.{AreNoCommand};
 ghost use Rattle.gqlbench_run.specs.Reports.{AppendReport, HaveReport, IsReportOf, IsReportTo};
 
 use crate::command::{Command, Work, read_command};
+use crate::document_phases::document_report;
 use crate::failure::Failure;
 use crate::lookup_phases::lookup_report;
 use crate::schema_phases::schema_report;
-use bench_notation::reading::read;
+use crate::walk_phases::walk_report;
+use bench_notation::reading::{DividedDocuments, read, read_divided};
 use gqltool_run::failure::Failure as InputFailure;
 use gqltool_run::input::read_all;
 use gqltool_run::running::write_out;
@@ -61,15 +63,6 @@ pub fn run<C: Clock, R: Read, O: Write, E: Write>(
     }
 }
 
-/// The documents of the whole input.
-fn read_documents<R: Read>(alloc: Global, reader: &mut R) -> Result<Vec<Document>, InputFailure>
-    ensures read { OnOk result (IfSome (R.remaining reader.old) (λ input. All IsLine (lines_of input))) }
-    ensures said { IfOk result (λ documents. IfSome (R.remaining reader.old) (λ input. AreDocumentsOf input documents.items)) }
-{
-    let input = read_all(alloc, reader)?;
-    Ok(read(alloc, input.as_str())?)
-}
-
 /// The report that the words ask for. Nothing is read where the words are refused.
 fn report<C: Clock, R: Read, E: Write>(
     alloc: Global,
@@ -85,22 +78,61 @@ fn report<C: Clock, R: Read, E: Write>(
     let Some(command) = read_command(words) else {
         return Err(Failure::Usage);
     };
-    let documents = read_documents(alloc, reader)?;
-    report_of(alloc, clock, command, documents.as_slice(), errors)
+    let input = read_input(alloc, reader)?;
+    let report = report_on(alloc, clock, command, input.as_str(), errors)?;
+    Ok(report)
 }
 
-/// The report of a command on documents.
-fn report_of<C: Clock, E: Write>(
+/// The whole input.
+fn read_input<R: Read>(alloc: Global, reader: &mut R) -> Result<String, InputFailure>
+    ensures { IfOk result (λ text. IfSome (R.remaining reader.old) (λ input. string_bytes text ≡ input)) }
+{
+    Ok(read_all(alloc, reader)?)
+}
+
+/// The documents of an input that nothing divides.
+fn read_documents(alloc: Global, input: &str) -> Result<Vec<Document>, InputFailure>
+    ensures read { OnOk result (All IsLine (lines_of input.now)) }
+    ensures said { IfOk result (λ documents. AreDocumentsOf input.now documents.items) }
+{
+    Ok(read(alloc, input)?)
+}
+
+/// The documents of an input that a line divides.
+fn read_both(alloc: Global, input: &str) -> Result<DividedDocuments, InputFailure>
+    ensures read { OnOk result (All IsLine (lines_of input.now)) }
+    ensures said { IfOk result (λ documents. AreDividedDocumentsOf input.now documents.schema.items documents.executable.items) }
+{
+    Ok(read_divided(alloc, input)?)
+}
+
+/// The report of a command on an input.
+fn report_on<C: Clock, E: Write>(
     alloc: Global,
     clock: &C,
     command: Command,
-    documents: &[Document],
+    input: &str,
     errors: &mut E,
 ) -> Result<String, Failure>
-    ensures { IfOk result (λ text. IsReportOf command documents.now (string_bytes text)) }
+    ensures read { OnOk result (All IsLine (lines_of input.now)) }
+    ensures means { IfOk result (λ text. IsReportOf command input.now (string_bytes text)) }
 {
     match command.work {
-        Work::Schema => schema_report(alloc, clock, command, documents, errors),
-        Work::Lookups => lookup_report(alloc, clock, command, documents, errors),
+        Work::Schema => {
+            let documents = read_documents(alloc, input)?;
+            schema_report(alloc, clock, command, documents.as_slice(), errors)
+        }
+        Work::Lookups => {
+            let documents = read_documents(alloc, input)?;
+            lookup_report(alloc, clock, command, documents.as_slice(), errors)
+        }
+        Work::Documents => {
+            let documents = read_both(alloc, input)?;
+            document_report(alloc, clock, command, &documents, errors)
+        }
+        Work::Walks => {
+            let documents = read_both(alloc, input)?;
+            walk_report(alloc, clock, command, &documents, errors)
+        }
     }
 }

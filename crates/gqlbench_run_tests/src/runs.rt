@@ -18,6 +18,26 @@ ext union U
 member Query
 ";
 
+/// Two documents behind a schema: a query whose fragment leads back to itself, a mutation without a root, and a fragment that
+/// nothing spreads.
+const DIVIDED: &str = "def object Query
+field a Int
+field q Query
+===
+operation query -
+sel 0 spread F
+sel 0 field a
+fragment F Query
+sel 0 field q
+sel 1 field a
+sel 1 spread F
+---
+operation mutation M
+fragment G Query
+sel 0 field a
+sel 0 field zz
+";
+
 /// How a run is to end, and what it is to write and to say.
 #[derive(Clone, Copy)]
 struct Outcome<'a> {
@@ -101,6 +121,37 @@ is_subtype     min            7 median            7 mean            7 ns
 }
 
 #[test]
+fn reports_on_both_sides_of_a_division(rt: HostRuntime) {
+    let rows: [(&[&str], &str); 2] = [
+        (
+            &["doc", "2"],
+            "\
+1 operations, 2 fragments, 3 faults
+doc-build      min            7 median            7 mean            7 ns
+doc-to_ast     min            7 median            7 mean            7 ns
+drop           min            7 median            7 mean            7 ns
+",
+        ),
+        (
+            &["walk", "--adopt", "3"],
+            "\
+1 operations, 2 fragments, 4 root fields, 8 fields in all
+root-walks     min            7 median            7 mean            7 ns
+all-walks      min            7 median            7 mean            7 ns
+",
+        ),
+    ];
+    for (words, output) in rows {
+        let outcome = Outcome {
+            status: Status::Done,
+            output,
+            errors: "",
+        };
+        expect(&rt, &SteadyClock::new(7), words, DIVIDED, outcome);
+    }
+}
+
+#[test]
 fn words_that_are_no_command(rt: HostRuntime) {
     let rows: [&[&str]; 9] = [
         &[],
@@ -111,9 +162,9 @@ fn words_that_are_no_command(rt: HostRuntime) {
         &["schema", "18446744073709551616"],
         &["schema", "3", "--adopt"],
         &["lookups", "--adopt", "--adopt", "3"],
-        &["doc", "3"],
+        &["document", "3"],
     ];
-    let usage = "usage: gqlbench schema|lookups [--adopt] [--ignore-builtin] REPEAT\n";
+    let usage = "usage: gqlbench schema|lookups|doc|walk [--adopt] [--ignore-builtin] REPEAT\n";
     for words in rows {
         expect(&rt, &StoppedClock, words, "foo", refused(usage));
     }
@@ -129,6 +180,9 @@ fn inputs_and_clocks_that_cannot_be_read(rt: HostRuntime) {
         "foo",
         refused("line 1: unknown line\n"),
     );
+    let words = &["walk", "1"];
+    expect(&rt, &StoppedClock, words, INPUT, refused("missing ===\n"));
+    let words = &["schema", "1"];
     let stopped = Outcome {
         status: Status::Exhausted,
         output: "",
@@ -136,6 +190,8 @@ fn inputs_and_clocks_that_cannot_be_read(rt: HostRuntime) {
     };
     expect(&rt, &StoppedClock, words, INPUT, stopped);
     expect(&rt, &StoppedClock, &["lookups", "1"], INPUT, stopped);
+    expect(&rt, &StoppedClock, &["doc", "1"], DIVIDED, stopped);
+    expect(&rt, &StoppedClock, &["walk", "1"], DIVIDED, stopped);
 }
 
 #[test]

@@ -1,0 +1,78 @@
+-- What the report of the command `walk` says.
+use Rattle.std.specs.Prelude.{◌≡◌, ◌+◌, ◌-◌, ◌^◌, ℕ, Bool, true, false, List, [], ◌∷◌, ◌++◌, Some, codes, decimal, length, map, min}
+use Rattle.graphql_ast.specs.declared.document.Document.{Document}
+use Rattle.graphql_nodes.specs.NodeView.{NodeView}
+use Rattle.graphql_nodes.specs.Tables.{values_of}
+use Rattle.apollo_schema.specs.declared.schema.Schema.{Schema}
+use Rattle.apollo_schema.specs.MeantSchema.{MeansSchema}
+use Rattle.apollo_executable.specs.declared.document.ExecutableDocument.{ExecutableDocument}
+use Rattle.apollo_executable.specs.declared.operation.Fragment.{Fragment}
+use Rattle.apollo_executable.specs.declared.operation.Operation.{Operation}
+use Rattle.apollo_executable.specs.declared.selection.Field.{Field}
+use Rattle.apollo_executable.specs.declared.selection.SelectionSet.{SelectionSet}
+use Rattle.apollo_executable.specs.Operations.{all_operations}
+use Rattle.apollo_executable.specs.Walks.WalkView.{AreWalked}
+use Rattle.apollo_document.specs.Documents.{IsDocumentOf}
+use Rattle.gqltool_run.specs.Building.{list_of}
+use Rattle.gqltool_run.specs.DocumentBuilding.{executable_list}
+use Rattle.gqlbench_run.specs.declared.command.Command.{Command}
+use Rattle.gqlbench_run.specs.declared.walk_phases.WalkTimes.{WalkTimes}
+use Rattle.gqlbench_run.specs.PhaseLines.{ArePhaseLines}
+
+-- the phases of the command `walk`
+abbrev pub walk_phases : List (List ℕ)
+walk_phases = codes "root-walks" ∷ codes "all-walks" ∷ []
+
+-- the selections of an operation, and of a fragment
+abbrev pub operation_set : NodeView Operation → SelectionSet
+operation_set operation = operation.value.selection_set
+
+abbrev pub fragment_set : NodeView Fragment → SelectionSet
+fragment_set fragment = fragment.value.selection_set
+
+-- the selections of each operation, the anonymous one first, and then of each fragment
+abbrev pub sets_of : ExecutableDocument → List SelectionSet
+sets_of document = map operation_set (all_operations document.operations) ++ map fragment_set (values_of document.fragments)
+
+-- the fields of a whole walk over each of these sets, one after the other
+abbrev pub AreWalkedInTurn : Bool → ExecutableDocument → List SelectionSet → List (NodeView Field) → Type 0
+AreWalkedInTurn deep document [] fields = fields ≡ []
+AreWalkedInTurn deep document (set ∷ sets) fields = (first : List (NodeView Field)) × (AreWalked deep document set first × ((rest : List (NodeView Field)) × (AreWalkedInTurn deep document sets rest × (fields ≡ first ++ rest))))
+
+-- the fields of a whole walk over the set are counted on, up to the greatest number of 64 bits
+abbrev pub IsCountedOn : Bool → ExecutableDocument → SelectionSet → ℕ → ℕ → Type 0
+IsCountedOn deep document set before after = (fields : List (NodeView Field)) × (AreWalked deep document set fields × (after ≡ min (before + length fields) (2 ^ 64 - 1)))
+
+-- so many fields are those of whole walks over these sets, or the greatest number of 64 bits where they are more
+abbrev pub IsCountOver : Bool → ExecutableDocument → List SelectionSet → ℕ → Type 0
+IsCountOver deep document sets count = (fields : List (NodeView Field)) × (AreWalkedInTurn deep document sets fields × (count ≡ min (length fields) (2 ^ 64 - 1)))
+
+-- each walk has so many times, and its fields are counted
+pub record HaveWalked (document : ExecutableDocument) (n : ℕ) (times : WalkTimes) : Type 0 where
+  pub root : length times.root.items ≡ n
+  pub all : length times.all.items ≡ n
+  pub root_fields : IsCountOver false document (sets_of document) times.root_fields
+  pub all_fields : IsCountOver true document (sets_of document) times.all_fields
+
+-- each walk has so many times
+abbrev pub HaveWalkTimes : ℕ → WalkTimes → Type 0
+HaveWalkTimes n times = (length times.root.items ≡ n) × (length times.all.items ≡ n)
+
+-- how much there is of operations and of fragments, and what walks over them give
+abbrev pub walk_counts : ℕ → ℕ → ℕ → ℕ → List ℕ
+walk_counts operations fragments root_fields all_fields = decimal operations ++ (codes " operations, " ++ (decimal fragments ++ (codes " fragments, " ++ (decimal root_fields ++ (codes " root fields, " ++ (decimal all_fields ++ codes " fields in all\n"))))))
+
+-- the text counts the typed document that the documents behind the division mean over the schema of those before it, and what
+-- walks over its operations and fragments give, and has a line for each phase
+pub record IsWalkReport (command : Command) (before behind : List Document) (text : List ℕ) : Type 0 where
+  pub schema : Schema
+  pub means : MeansSchema 0 command.options.adopt (list_of command.options.ignore_built_in before) schema
+  pub document : ExecutableDocument
+  pub built : IsDocumentOf (Some schema) (executable_list behind) document
+  pub root_fields : ℕ
+  pub root : IsCountOver false document (sets_of document) root_fields
+  pub all_fields : ℕ
+  pub all : IsCountOver true document (sets_of document) all_fields
+  pub lines : List ℕ
+  pub timed : ArePhaseLines walk_phases command.repeat lines
+  pub is : text ≡ walk_counts (length (all_operations document.operations)) (length document.fragments) root_fields all_fields ++ lines

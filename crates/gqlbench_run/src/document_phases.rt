@@ -1,0 +1,187 @@
+//! The phases of the command `doc`: a typed document built over a schema that is built once, written out, and freed.
+ghost use Rattle.std.specs.Prelude.{◌≡◌, ◌+◌, ◌++◌, ℕ, List, IfOk, OnOk, length, string_bytes};
+ghost use Rattle.gqlbench_run.specs.DocumentReports.{AreDocumentCounts, IsDocumentReport, document_counts};
+
+use crate::command::Command;
+use crate::failure::Failure;
+use crate::phase::{push_phase, push_time};
+use crate::progress::Progress;
+use apollo_document::Faults;
+use apollo_executable::document::ExecutableDocument;
+use apollo_schema::schema::Schema;
+use bench_notation::reading::DividedDocuments;
+use gqltool_run::building::built;
+use gqltool_run::document_building::built_document;
+use graphql_ast::document::Document;
+use graphql_nodes::collections::hash_keys::HashKeys;
+use std::alloc::{AllocError, Global};
+use std::io::Write;
+use std::time::{Clock, Instant};
+
+/// The times of each phase, one for each repetition.
+struct DocumentTimes {
+    build: Vec<u64>,
+    write_out: Vec<u64>,
+    free: Vec<u64>,
+}
+
+impl Drop for DocumentTimes {
+    fn drop(self) {
+        let Self {
+            build: _,
+            write_out: _,
+            free: _,
+        } = self;
+    }
+}
+
+/// Times a build.
+fn time_build<C: Clock>(
+    alloc: Global,
+    clock: &C,
+    schema: &Schema,
+    documents: &[Document],
+    times: &mut Vec<u64>,
+) -> Result<(ExecutableDocument, Faults), Failure>
+    ensures { OnOk result (length times.new.items ≡ length times.old.items + 1) }
+{
+    let began = Instant::now(clock)?;
+    let built = built_document(alloc, schema, documents)?;
+    push_time(clock, began, times)?;
+    Ok(built)
+}
+
+/// Times a write-out.
+fn time_write_out<C: Clock>(
+    alloc: Global,
+    clock: &C,
+    document: &ExecutableDocument,
+    times: &mut Vec<u64>,
+) -> Result<Document, Failure>
+    ensures { OnOk result (length times.new.items ≡ length times.old.items + 1) }
+{
+    let began = Instant::now(clock)?;
+    let written = document.to_ast(alloc)?;
+    push_time(clock, began, times)?;
+    Ok(written)
+}
+
+/// Times the freeing of a typed document, its faults and its write-out.
+fn time_free<C: Clock>(
+    clock: &C,
+    built: (ExecutableDocument, Faults),
+    written: Document,
+    times: &mut Vec<u64>,
+) -> Result<(), Failure>
+    ensures { OnOk result (length times.new.items ≡ length times.old.items + 1) }
+{
+    let began = Instant::now(clock)?;
+    drop(built);
+    drop(written);
+    push_time(clock, began, times)
+}
+
+impl DocumentTimes {
+    ghost use Rattle.gqlbench_run.specs.DocumentReports.{HaveDocumentTimes, document_phases};
+    ghost use Rattle.gqlbench_run.specs.PhaseLines.{ArePhaseLines};
+
+    fn new(alloc: Global) -> DocumentTimes
+        ensures { HaveDocumentTimes 0 result }
+    {
+        DocumentTimes {
+            build: Vec::new(alloc),
+            write_out: Vec::new(alloc),
+            free: Vec::new(alloc),
+        }
+    }
+
+    /// Takes a time of each phase.
+    fn repetition<C: Clock>(
+        &mut self,
+        alloc: Global,
+        clock: &C,
+        schema: &Schema,
+        documents: &[Document],
+    ) -> Result<(), Failure>
+        ensures { OnOk result ((n : ℕ) → HaveDocumentTimes n self.old → HaveDocumentTimes (n + 1) self.new) }
+    {
+        let built = time_build(alloc, clock, schema, documents, &mut self.build)?;
+        let written = time_write_out(alloc, clock, &built.0, &mut self.write_out)?;
+        time_free(clock, built, written, &mut self.free)
+    }
+
+    /// Takes so many times of each phase, and says on `errors` how far it is.
+    fn take<C: Clock, E: Write>(
+        &mut self,
+        alloc: Global,
+        clock: &C,
+        schema: &Schema,
+        documents: &[Document],
+        repeat: usize,
+        errors: &mut E,
+    ) -> Result<(), Failure>
+        ensures { OnOk result (HaveDocumentTimes 0 self.old → HaveDocumentTimes repeat self.new) }
+    {
+        let mut progress = Progress::new(clock)?;
+        for done in 0..repeat {
+            self.repetition(alloc, clock, schema, documents)?;
+            progress.tell(clock, errors, done + 1, repeat)?;
+        }
+        Ok(())
+    }
+
+    /// Adds the line of each phase.
+    fn push_lines(&mut self, alloc: Global, text: &mut String) -> Result<(), AllocError>
+        ensures { OnOk result ((lines : List ℕ) × ((string_bytes text.new ≡ string_bytes text.old ++ lines) × ((n : ℕ) → HaveDocumentTimes n self.old → ArePhaseLines document_phases n lines))) }
+    {
+        push_phase(alloc, text, "doc-build", &mut self.build)?;
+        push_phase(alloc, text, "doc-to_ast", &mut self.write_out)?;
+        push_phase(alloc, text, "drop", &mut self.free)?;
+        Ok(())
+    }
+}
+
+fn counts_text(
+    alloc: Global,
+    operations: usize,
+    fragments: usize,
+    faults: usize,
+) -> Result<String, AllocError>
+    ensures { IfOk result (λ text. string_bytes text ≡ document_counts operations fragments faults) }
+{
+    format!(in alloc; "{operations} operations, {fragments} fragments, {faults} faults\n")
+}
+
+/// What is built over a schema: how many operations and fragments there are, and how many faults.
+fn counts(alloc: Global, schema: &Schema, documents: &[Document]) -> Result<String, Failure>
+    ensures { IfOk result (λ text. AreDocumentCounts schema.now documents.now (string_bytes text)) }
+{
+    let (document, faults) = built_document(alloc, schema, documents)?;
+    let operations = document.operations.len();
+    let fragments = document.fragments.len();
+    Ok(counts_text(alloc, operations, fragments, faults.as_slice().len())?)
+}
+
+/// The report of the command `doc` on documents: what is built, and the line of each phase.
+pub fn document_report<C: Clock, E: Write>(
+    alloc: Global,
+    clock: &C,
+    command: Command,
+    documents: &DividedDocuments,
+    errors: &mut E,
+) -> Result<String, Failure>
+    ensures { IfOk result (λ text. IsDocumentReport command documents.now.schema.items documents.now.executable.items (string_bytes text)) }
+{
+    let (schema, _faults) = built(
+        alloc,
+        HashKeys::FIXED,
+        command.options,
+        documents.schema.as_slice(),
+    )?;
+    let executable = documents.executable.as_slice();
+    let mut text = counts(alloc, &schema, executable)?;
+    let mut times = DocumentTimes::new(alloc);
+    times.take(alloc, clock, &schema, executable, command.repeat, errors)?;
+    times.push_lines(alloc, &mut text)?;
+    Ok(text)
+}

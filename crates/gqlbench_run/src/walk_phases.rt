@@ -1,0 +1,248 @@
+//! The phases of the command `walk`: walks over each operation and fragment of a typed document that is built once.
+ghost use Rattle.std.specs.Prelude.{◌≡◌, ◌+◌, ◌++◌, ℕ, List, IfOk, OnOk, length, string_bytes, true, false};
+ghost use Rattle.apollo_executable.specs.Operations.{all_operations};
+ghost use Rattle.gqlbench_run.specs.WalkReports.{IsCountedOn, IsCountOver, IsWalkReport, sets_of, walk_counts};
+
+use crate::command::Command;
+use crate::failure::Failure;
+use crate::phase::{push_phase, push_time};
+use crate::progress::Progress;
+use apollo_executable::document::ExecutableDocument;
+use apollo_executable::selection::SelectionSet;
+use bench_notation::reading::DividedDocuments;
+use gqltool_run::building::built;
+use gqltool_run::document_building::built_document;
+use graphql_nodes::collections::hash_keys::HashKeys;
+use std::alloc::{AllocError, Global};
+use std::io::Write;
+use std::time::{Clock, Instant};
+
+/// Counts the root fields that a walk over a set gives on from this number, as far as they can be counted.
+fn count_root_of(
+    alloc: Global,
+    document: &ExecutableDocument,
+    set: &SelectionSet,
+    mut count: u64,
+) -> Result<u64, AllocError>
+    ensures { IfOk result (IsCountedOn false document.now set.now count) }
+{
+    let mut walk = set.root_fields(alloc, document);
+    while let Some(field) = walk.next() {
+        let _field = field?;
+        count = count.saturating_add(1);
+    }
+    Ok(count)
+}
+
+/// Counts all fields that a walk over a set gives on from this number, as far as they can be counted.
+fn count_all_of(
+    alloc: Global,
+    document: &ExecutableDocument,
+    set: &SelectionSet,
+    mut count: u64,
+) -> Result<u64, AllocError>
+    ensures { IfOk result (IsCountedOn true document.now set.now count) }
+{
+    let mut walk = set.all_fields(alloc, document);
+    while let Some(field) = walk.next() {
+        let _field = field?;
+        count = count.saturating_add(1);
+    }
+    Ok(count)
+}
+
+/// How many root fields walks over all operations and fragments give, as far as they can be counted.
+fn count_root(alloc: Global, document: &ExecutableDocument) -> Result<u64, AllocError>
+    ensures { IfOk result (IsCountOver false document.now (sets_of document.now)) }
+{
+    let mut count = 0;
+    for operation in document.operations.iter() {
+        count = count_root_of(alloc, document, &operation.selection_set, count)?;
+    }
+    for fragment in document.fragments.values() {
+        count = count_root_of(alloc, document, &fragment.selection_set, count)?;
+    }
+    Ok(count)
+}
+
+/// How many fields walks over all operations and fragments give, as far as they can be counted.
+fn count_all(alloc: Global, document: &ExecutableDocument) -> Result<u64, AllocError>
+    ensures { IfOk result (IsCountOver true document.now (sets_of document.now)) }
+{
+    let mut count = 0;
+    for operation in document.operations.iter() {
+        count = count_all_of(alloc, document, &operation.selection_set, count)?;
+    }
+    for fragment in document.fragments.values() {
+        count = count_all_of(alloc, document, &fragment.selection_set, count)?;
+    }
+    Ok(count)
+}
+
+/// The times of each phase, one for each repetition, with how many fields the walks give.
+struct WalkTimes {
+    root: Vec<u64>,
+    all: Vec<u64>,
+    root_fields: u64,
+    all_fields: u64,
+}
+
+impl Drop for WalkTimes {
+    fn drop(self) {
+        let Self {
+            root: _,
+            all: _,
+            root_fields: _,
+            all_fields: _,
+        } = self;
+    }
+}
+
+/// Times the walks over root fields.
+fn time_root<C: Clock>(
+    alloc: Global,
+    clock: &C,
+    document: &ExecutableDocument,
+    times: &mut Vec<u64>,
+) -> Result<u64, Failure>
+    ensures times { OnOk result (length times.new.items ≡ length times.old.items + 1) }
+    ensures counted { IfOk result (IsCountOver false document.now (sets_of document.now)) }
+{
+    let began = Instant::now(clock)?;
+    let count = count_root(alloc, document)?;
+    push_time(clock, began, times)?;
+    Ok(count)
+}
+
+/// Times the walks over all fields.
+fn time_all<C: Clock>(
+    alloc: Global,
+    clock: &C,
+    document: &ExecutableDocument,
+    times: &mut Vec<u64>,
+) -> Result<u64, Failure>
+    ensures times { OnOk result (length times.new.items ≡ length times.old.items + 1) }
+    ensures counted { IfOk result (IsCountOver true document.now (sets_of document.now)) }
+{
+    let began = Instant::now(clock)?;
+    let count = count_all(alloc, document)?;
+    push_time(clock, began, times)?;
+    Ok(count)
+}
+
+impl WalkTimes {
+    ghost use Rattle.gqlbench_run.specs.WalkReports.{HaveWalked, HaveWalkTimes, walk_phases};
+    ghost use Rattle.gqlbench_run.specs.PhaseLines.{ArePhaseLines};
+
+    /// The fields are counted once, before a time is taken.
+    fn new(alloc: Global, document: &ExecutableDocument) -> Result<WalkTimes, AllocError>
+        ensures { IfOk result (HaveWalked document.now 0) }
+    {
+        Ok(WalkTimes {
+            root: Vec::new(alloc),
+            all: Vec::new(alloc),
+            root_fields: count_root(alloc, document)?,
+            all_fields: count_all(alloc, document)?,
+        })
+    }
+
+    /// Takes a time of each phase.
+    fn repetition<C: Clock>(
+        &mut self,
+        alloc: Global,
+        clock: &C,
+        document: &ExecutableDocument,
+    ) -> Result<(), Failure>
+        ensures { OnOk result ((n : ℕ) → HaveWalked document.now n self.old → HaveWalked document.now (n + 1) self.new) }
+    {
+        self.root_fields = time_root(alloc, clock, document, &mut self.root)?;
+        self.all_fields = time_all(alloc, clock, document, &mut self.all)?;
+        Ok(())
+    }
+
+    /// Takes so many times of each phase, and says on `errors` how far it is.
+    fn take<C: Clock, E: Write>(
+        &mut self,
+        alloc: Global,
+        clock: &C,
+        document: &ExecutableDocument,
+        repeat: usize,
+        errors: &mut E,
+    ) -> Result<(), Failure>
+        ensures { OnOk result (HaveWalked document.now 0 self.old → HaveWalked document.now repeat self.new) }
+    {
+        let mut progress = Progress::new(clock)?;
+        for done in 0..repeat {
+            self.repetition(alloc, clock, document)?;
+            progress.tell(clock, errors, done + 1, repeat)?;
+        }
+        Ok(())
+    }
+
+    /// Adds the line of each phase.
+    fn push_lines(&mut self, alloc: Global, text: &mut String) -> Result<(), AllocError>
+        ensures { OnOk result ((lines : List ℕ) × ((string_bytes text.new ≡ string_bytes text.old ++ lines) × ((n : ℕ) → HaveWalkTimes n self.old → ArePhaseLines walk_phases n lines))) }
+    {
+        push_phase(alloc, text, "root-walks", &mut self.root)?;
+        push_phase(alloc, text, "all-walks", &mut self.all)?;
+        Ok(())
+    }
+}
+
+fn walk_counts(
+    alloc: Global,
+    operations: usize,
+    fragments: usize,
+    root_fields: u64,
+    all_fields: u64,
+) -> Result<String, AllocError>
+    ensures { IfOk result (λ text. string_bytes text ≡ walk_counts operations fragments root_fields all_fields) }
+{
+    format!(in alloc;
+        "{operations} operations, {fragments} fragments, {root_fields} root fields, {all_fields} fields in all\n"
+    )
+}
+
+/// How much there is in the document, and how many fields the walks give.
+fn counts(
+    alloc: Global,
+    document: &ExecutableDocument,
+    times: &WalkTimes,
+) -> Result<String, AllocError>
+    ensures { IfOk result (λ text. string_bytes text ≡ walk_counts (length (all_operations document.now.operations)) (length document.now.fragments) times.now.root_fields times.now.all_fields) }
+{
+    let operations = document.operations.len();
+    let fragments = document.fragments.len();
+    walk_counts(
+        alloc,
+        operations,
+        fragments,
+        times.root_fields,
+        times.all_fields,
+    )
+}
+
+/// The report of the command `walk` on documents: what the walks give, and the line of each phase.
+pub fn walk_report<C: Clock, E: Write>(
+    alloc: Global,
+    clock: &C,
+    command: Command,
+    documents: &DividedDocuments,
+    errors: &mut E,
+) -> Result<String, Failure>
+    ensures { IfOk result (λ text. IsWalkReport command documents.now.schema.items documents.now.executable.items (string_bytes text)) }
+{
+    let schema_documents = documents.schema.as_slice();
+    let (schema, _schema_faults) = built(
+        alloc,
+        HashKeys::FIXED,
+        command.options,
+        schema_documents,
+    )?;
+    let (document, _faults) = built_document(alloc, &schema, documents.executable.as_slice())?;
+    let mut times = WalkTimes::new(alloc, &document)?;
+    times.take(alloc, clock, &document, command.repeat, errors)?;
+    let mut text = counts(alloc, &document, &times)?;
+    times.push_lines(alloc, &mut text)?;
+    Ok(text)
+}
