@@ -105,6 +105,7 @@ pub(crate) fn elaborate_set(
     ensures path { path.new ≡ path.old }
 {
     let mut kept = Items::new(alloc);
+    kept.reserve_exact(selections.len())?;
     for selection in selections {
         let typed = elaborate_selection(alloc, schema, ty, selection, path, faults)?;
         push_kept(&mut kept, typed)?;

@@ -25,7 +25,7 @@ use std::alloc::{AllocError, Global};
 /// condition is the name of a type; its selections are from that, or without a condition from the same type. A spread always
 /// is. Without a schema every selection is typable, and each field has a definition of its name, whose type is `UNKNOWN`.
 ///
-/// The error is want of memory. The path is then as it was, and the faults are as they were, with some more of these at the end.
+/// The error is want of memory. The path is then as it was; of the faults nothing is said.
 pub fn elaborate_selections(
     alloc: Global,
     schema: Option<&Schema>,
