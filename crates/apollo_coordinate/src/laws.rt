@@ -48,7 +48,7 @@ pub fn equality_of_lookups<'schema>()
     ensures coordinate { ComparesBy ⟦<SchemaCoordinateLookup<'schema> as PartialEq>⟧.eq bare_lookup }
 {}
 
-/// Each clone of a coordinate is the original, with the places of its names.
+/// Each clone of a coordinate is the original, with the places of its names; and so is each clone of a refusal.
 pub fn clones_of_coordinates_are_exact()
     ensures ty { IsExact ⟦<TypeCoordinate as Clone>⟧.is_clone }
     ensures attribute { IsExact ⟦<TypeAttributeCoordinate as Clone>⟧.is_clone }
@@ -56,4 +56,5 @@ pub fn clones_of_coordinates_are_exact()
     ensures directive { IsExact ⟦<DirectiveCoordinate as Clone>⟧.is_clone }
     ensures directive_argument { IsExact ⟦<DirectiveArgumentCoordinate as Clone>⟧.is_clone }
     ensures coordinate { IsExact ⟦<SchemaCoordinate as Clone>⟧.is_clone }
+    ensures parse_error { IsExact ⟦<SchemaCoordinateParseError as Clone>⟧.is_clone }
 {}

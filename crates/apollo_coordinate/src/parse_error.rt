@@ -8,7 +8,7 @@ use std::alloc::AllocError;
 use thiserror::Error;
 
 /// Why a text is not read as a coordinate.
-#[derive(Debug, Drop, Error)]
+#[derive(Debug, Drop, Clone, Error)]
 pub enum SchemaCoordinateParseError {
     /// A mark of the coordinate's form is missing, or stands elsewhere.
     #[error("invalid schema coordinate")]

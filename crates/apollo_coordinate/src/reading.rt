@@ -1,6 +1,9 @@
 //! Coordinates from texts: the Schema Coordinates RFC of GraphQL.
 //!
-//! A text is cut at its marks in place, and only then are its parts made names: that is all the memory that reading takes.
+//! A text is cut at its marks in place, and only then are its parts made names, from the left: a text that is read takes
+//! memory for its names alone. A refusal frees the names made before it. `InvalidName` takes memory for a copy of what it
+//! carries, `InvalidFormat` for none. [`SchemaCoordinate::from_str`] first copies the part that is no name, if it was for such
+//! a part that the form refused the text; it frees that copy, and then copies the text.
 ghost use Rattle.std.specs.Prelude.{◌≡◌, ◌≢◌, ◌++◌, ◌<◌, ℕ, List, IfOk, IfErr, MatchOption, OnOk, codes};
 ghost use Rattle.apollo_coordinate.specs.CoordinateText.{IsCoordinateText, IsAttributeText, IsDirectiveText, Says};
 ghost use Rattle.apollo_coordinate.specs.Refusals.{WhenRefused, Lacks, IsCut, IsPart, IsNoName, IsNoNames, IsNoAttribute, IsNoDirective, IsNoArgument, IsNoPair, IsNoFieldArgument, IsNoDirectiveArgument, IsNoCoordinate, IsLastRefusal, without_at};

@@ -4,6 +4,7 @@ use apollo_coordinate::coordinates::{
     DirectiveArgumentCoordinate, DirectiveCoordinate, FieldArgumentCoordinate, SchemaCoordinate,
     TypeAttributeCoordinate, TypeCoordinate,
 };
+use apollo_coordinate::parse_error::SchemaCoordinateParseError;
 use graphql_nodes::name::Name;
 use likeness::{are_alike, is_copied, is_printed};
 use std::alloc::{AllocError, Global};
@@ -139,4 +140,29 @@ fn coordinates_of_each_form_are_any(rt: HostRuntime) {
         assert!(rt; is_right(alloc, made, of_each_form(alloc, form), *text));
         form = if form < 4 { form + 1 } else { 4 };
     }
+}
+
+/// Whether a text is refused as a type coordinate, and a copy of the refusal prints so.
+fn is_refusal_copied(alloc: Global, input: &str, text: &str) -> bool {
+    match TypeCoordinate::from_str(alloc, input) {
+        Ok(_) => false,
+        Err(error) => is_copy_printed(alloc, &error, text),
+    }
+}
+
+fn is_copy_printed(alloc: Global, error: &SchemaCoordinateParseError, text: &str) -> bool {
+    match error.clone() {
+        Ok(copy) => is_printed(alloc, &copy, text),
+        Err(_) => false,
+    }
+}
+
+#[test]
+fn refusals_are_copied(rt: HostRuntime) {
+    let alloc = rt.alloc();
+    assert!(rt; is_refusal_copied(alloc, "9", "`9` is not a valid GraphQL name"));
+    let format = SchemaCoordinateParseError::InvalidFormat;
+    assert!(rt; is_copy_printed(alloc, &format, "invalid schema coordinate"));
+    let memory = SchemaCoordinateParseError::Memory;
+    assert!(rt; is_copy_printed(alloc, &memory, "out of memory"));
 }
