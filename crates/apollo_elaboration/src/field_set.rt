@@ -78,7 +78,7 @@ impl FieldSet {
             &mut faults,
         )?;
         let set = FieldSet {
-            sources: Table::new(alloc),
+            sources: Table::with_keys(alloc, schema.types.hash_keys()),
             selection_set,
         };
         Ok((set, faults.into_vec()))
