@@ -146,7 +146,7 @@ fn expect_each(
 }
 
 /// Inputs that are built without adoption, each with what it shows.
-const BUILT_PLAINLY: [(&str, &str); 13] = [
+const BUILT_PLAINLY: [(&str, &str); 16] = [
     ("nothing", ""),
     (
         "extensions around their definition, one of them with a name alone",
@@ -188,6 +188,18 @@ const BUILT_PLAINLY: [(&str, &str); 13] = [
     (
         "an implied definition, and schema extensions of which one names a root",
         "def object Query\nfield a Int\next-schema\n@ d\next-schema\nroot mutation M\ndef object M",
+    ),
+    (
+        "an argument, an enum and a union of nothing",
+        "def object Query\nfield f Int\narg a Int\ndef enum E\nvalue A\ndef union U",
+    ),
+    (
+        "an interface of an interface, and a union of a type that is not defined",
+        "def interface Foo\nfield me String\ndef interface Bar\nimplements Foo\nfield me String\ndef object Obj\nimplements Bar\nfield me String\ndef union U\nmember Obj\nmember Gone",
+    ),
+    (
+        "two types without extensions",
+        "def object Query\nfield id ID\nfield user User\ndef object User\nfield id ID",
     ),
     (
         "built-in types that are defined again and extended, and a built-in directive that is replaced",
