@@ -1,5 +1,7 @@
 -- The schemas that rearranged lists mean are equal.
-use Rattle.std.proofs.Common.{◌≡◌, ℕ, Bool, List, ◌∷◌, ◌++◌, Option, Some, None, refl, sym, ap, subst, ◌∙◌}
+use Rattle.std.proofs.Common.{◌≡◌, ℕ, Bool, List, [], ◌∷◌, ◌++◌, length, Option, Some, None, refl, sym, ap, subst, ◌∙◌}
+use Rattle.std.proofs.lemmas.List.{nil_from_length}
+use Rattle.std.proofs.lemmas.List.Sorted.{length_permutation}
 use Rattle.std.specs.List.Sorted.{IsPermutation}
 use Rattle.std.specs.Option.{option_map, unwrap_or}
 use Rattle.graphql_ast.specs.BareTypeSystem.{bare_directive_definition}
@@ -22,7 +24,7 @@ use Rattle.apollo_rearrangement.proofs.Rearranging.{rearranged-refl}
 use Rattle.apollo_rearrangement.proofs.WholeFaults.{faults-rearranged}
 use Rattle.apollo_rearrangement.specs.Documents.{Documents, added_each, added_joined}
 use Rattle.apollo_rearrangement.specs.Rearranged.{AreRearranged, DirectiveDefinitionsOf, SchemaDefinitions, SchemaExtensions, type_meant}
-use Rattle.apollo_rearranged_builds.specs.BuiltAlike.{BuildEqualSchemas, BuildSameFaults, MeanEqualSchemas, StandFor}
+use Rattle.apollo_rearranged_builds.specs.BuiltAlike.{BuildEqualSchemas, BuildFaultlessTogether, BuildSameFaults, MeanEqualSchemas, StandFor}
 use Rattle.apollo_schema.proofs.Stands.SchemaLemmas.{schema_sourced-parts}
 use Rattle.apollo_schema.specs.BuilderStands.{adopts}
 use Rattle.apollo_schema.specs.MeantSchema.{MeansSchema}
@@ -56,6 +58,14 @@ definition-rearranged start other xs ys r = by (first_schema xs) refl
 -- types are equal, as the law of lists says
 abbrev pub TypesAreEqual : Type 0
 TypesAreEqual = (start other : ℕ) (xs ys : List ListItem) (n : List ℕ) → AreRearranged xs ys → type_meant start xs n ≡ type_meant other ys n
+
+pub faultless-rearranged : (xs ys : List Added) → AreRearranged (added_items xs) (added_items ys) → (b c : SchemaBuilder) → StandFor xs ys b c → BuildFaultlessTogether b c
+faultless-rearranged xs ys r b c stand = λ faultless t others g.
+    let none : faults_of (adopts b) xs ≡ [] = faultless stand.start xs stand.first in
+    let same : IsPermutation (faults_of (adopts b) xs) (faults_of (adopts b) ys) = faults-rearranged (adopts b) (added_items xs) (added_items ys) r in
+    let also : faults_of (adopts b) ys ≡ [] = nil_from_length (faults_of (adopts b) ys) (length_permutation (faults_of (adopts b) xs) (faults_of (adopts b) ys) same ∙ ap length none) in
+    let found = (g stand.other ys stand.second).1.0 in
+    found.1 (found.0 ∙ ap (λ a. faults_of a ys) (sym stand.one_setting) ∙ also)
 
 module _ (types_are_equal : TypesAreEqual) where
   pub schemas-rearranged : (adopts : Bool) (xs ys : List Added) → AreRearranged (added_items xs) (added_items ys) → MeanEqualSchemas adopts xs ys

@@ -3,7 +3,7 @@ use Rattle.std.specs.Prelude.{◌≡◌, ℕ, Bool, List}
 use Rattle.std.specs.List.Sorted.{IsPermutation}
 use Rattle.apollo_meaning.specs.Faults.Collisions.{Fault}
 use Rattle.apollo_meaning.specs.Items.ListItems.{Added}
-use Rattle.apollo_schema.specs.Built.{IsFoundIn, IsMeant}
+use Rattle.apollo_schema.specs.Built.{IsFaultless, IsFoundIn, IsMeant}
 use Rattle.apollo_schema.specs.BuilderStands.{StandsFor, adopts}
 use Rattle.apollo_schema.specs.EqualSchemas.{AreEqualSchemas}
 use Rattle.apollo_schema.specs.MeantSchema.{MeansSchema}
@@ -29,3 +29,7 @@ BuildEqualSchemas b c = (s t : Schema) → IsMeant b s → IsMeant c t → AreEq
 -- where they find faults, these are the same, with locations, in some order, and what could be built is equal
 abbrev pub BuildSameFaults : SchemaBuilder → SchemaBuilder → Type 0
 BuildSameFaults b c = (s t : Schema) (faults others : List Fault) → IsFoundIn b s faults → IsFoundIn c t others → IsPermutation faults others × AreEqualSchemas s t
+
+-- where the first is without fault, none are found in the second
+abbrev pub BuildFaultlessTogether : SchemaBuilder → SchemaBuilder → Type 0
+BuildFaultlessTogether b c = IsFaultless b → (t : Schema) (others : List Fault) → IsFoundIn c t others → ⊥

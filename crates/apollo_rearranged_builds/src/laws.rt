@@ -5,7 +5,7 @@ ghost use Rattle.apollo_meaning.specs.Faults.ListFaults.{faults_of};
 ghost use Rattle.apollo_meaning.specs.Items.ListItems.{Added, added_items};
 ghost use Rattle.apollo_rearrangement.specs.Documents.{Documents, added_each, added_joined};
 ghost use Rattle.apollo_rearrangement.specs.Rearranged.{AreRearranged};
-ghost use Rattle.apollo_rearranged_builds.specs.BuiltAlike.{BuildEqualSchemas, BuildSameFaults, MeanEqualSchemas, StandFor};
+ghost use Rattle.apollo_rearranged_builds.specs.BuiltAlike.{BuildEqualSchemas, BuildFaultlessTogether, BuildSameFaults, MeanEqualSchemas, StandFor};
 ghost use Rattle.apollo_schema.specs.BuilderStands.{StandsFor};
 ghost use Rattle.apollo_schema.specs.declared.schema_builder.SchemaBuilder.{SchemaBuilder};
 
@@ -14,12 +14,14 @@ use apollo_rearrangement::laws::rearranged_types_are_equal;
 /// Two lists of the same definitions that keep, for each type name, the order of its definitions and the order of its
 /// extensions, and so for the directive definitions of each name, the schema definitions and the schema extensions, mean
 /// equal schemas, whatever numbers their extensions get; and have the same faults, with their locations, in some order.
-/// So do builders that stand for them. GraphQL specification of October 2021, section 3.
+/// So do builders that stand for them, and where one has no fault, none are found of the other. GraphQL specification of
+/// October 2021, section 3.
 pub fn rearranged()
     ensures schemas { (adopts : Bool) (xs ys : List Added) → AreRearranged (added_items xs) (added_items ys) → MeanEqualSchemas adopts xs ys }
     ensures faults { (adopts : Bool) (xs ys : List Added) → AreRearranged (added_items xs) (added_items ys) → IsPermutation (faults_of adopts xs) (faults_of adopts ys) }
     ensures built { (xs ys : List Added) → AreRearranged (added_items xs) (added_items ys) → (b c : SchemaBuilder) → StandFor xs ys b c → BuildEqualSchemas b c }
     ensures found { (xs ys : List Added) → AreRearranged (added_items xs) (added_items ys) → (b c : SchemaBuilder) → StandFor xs ys b c → BuildSameFaults b c }
+    ensures faultless { (xs ys : List Added) → AreRearranged (added_items xs) (added_items ys) → (b c : SchemaBuilder) → StandFor xs ys b c → BuildFaultlessTogether b c }
 {
     rearranged_types_are_equal();
 }

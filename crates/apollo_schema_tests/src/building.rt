@@ -112,11 +112,17 @@ fn push_written(
     write!(text, "rebuilt equal: {is_rebuilt}\n")
 }
 
-fn push_write_out(alloc: Global, text: &mut String, schema: &Schema) -> Result<(), AllocError> {
-    let written = Document {
+/// The write-out of a schema as one document.
+/// No clause: it serves tests.
+pub fn write_out(alloc: Global, schema: &Schema) -> Result<Document, AllocError> {
+    Ok(Document {
         sources: Table::new(alloc),
         definitions: Items::from_vec(schema.to_ast(alloc)?),
-    };
+    })
+}
+
+fn push_write_out(alloc: Global, text: &mut String, schema: &Schema) -> Result<(), AllocError> {
+    let written = write_out(alloc, schema)?;
     push_written(alloc, text, schema, &written)
 }
 

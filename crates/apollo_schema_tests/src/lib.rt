@@ -29,6 +29,8 @@ mod reading;
 #[cfg(test)]
 mod rearranging;
 #[cfg(test)]
+mod rebuilding;
+#[cfg(test)]
 mod roots;
 #[cfg(test)]
 mod types;

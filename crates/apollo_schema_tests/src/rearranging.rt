@@ -8,6 +8,7 @@ use apollo_schema::schema::Schema;
 use bench_notation::reading::read;
 use graphql_ast::document::Document;
 use std::alloc::{AllocError, Global};
+use std::process::Abort;
 use std::slice;
 use std::test::Fail;
 
@@ -139,4 +140,74 @@ fn extensions_of_one_name_and_two_kinds_do_not_change_places(rt: HostRuntime) ->
         "1:3-3 adding an interface type extension, but `A` is an object type\nequal: false\n1:1-1 adding an object type extension, but `A` is an interface type\nequal: false\n"
     );
     Ok(())
+}
+
+/// Expects this to be told of a document that a text says, and of its definitions in another order.
+fn expect_told(
+    rt: &(impl Abort + AllocGlobal),
+    settings: Settings,
+    input: &str,
+    order: &[usize],
+    account: &str,
+) -> Result<(), Fail> {
+    let text = told(rt.alloc(), settings, input, order)?;
+    assert_eq!(rt; text.as_str(), account, "of {input:?}");
+    Ok(())
+}
+
+#[test]
+fn an_early_extension_and_its_definition_change_places(rt: HostRuntime) -> Result<(), Fail> {
+    let input = "ext object T\nfield a Int\ndef object T\nfield a String";
+    let account =
+        "1:2-2 duplicate definitions for the `a` field of object type `T`\nequal: true\n1:2-2 duplicate definitions for the `a` field of object type `T`\nequal: true\n";
+    expect_told(&rt, PLAIN, input, &[1, 0], account)?;
+    let input = "ext enum T\nvalue A\ndef object T\nfield x Int";
+    let account =
+        "1:1-1 adding an enum type extension, but `T` is an object type\nequal: true\n1:1-1 adding an enum type extension, but `T` is an object type\nequal: true\n";
+    expect_told(&rt, PLAIN, input, &[1, 0], account)
+}
+
+#[test]
+fn early_schema_extensions_go_last_under_adoption(rt: HostRuntime) -> Result<(), Fail> {
+    let input =
+        "ext-schema\nroot query Query\next-schema\nroot subscription S\nschema\nroot mutation Mutation\nroot query AnotherQuery\ndef object Query\ndef object Mutation\ndef object S\ndef object AnotherQuery";
+    let account =
+        "1:2-2 duplicate definitions for the `query` root operation type\nequal: true\n1:2-2 duplicate definitions for the `query` root operation type\nequal: true\n";
+    expect_told(&rt, ADOPTING, input, &[2, 3, 4, 5, 6, 0, 1], account)
+}
+
+#[test]
+fn a_type_with_six_faults_is_defined_first(rt: HostRuntime) -> Result<(), Fail> {
+    let input =
+        "ext object T\nimplements I\nfield a Int\next enum T\nvalue X\ndef object T\nimplements I\nimplements I\nfield a String\nfield a Int\ndef interface T\next object T\nfield a ID\next union U\nmember T";
+    expect_told(&rt, PLAIN, input, &[2, 0, 1, 3, 4, 5], SIX_FAULTS)
+}
+
+/// The faults of a type that an extension comes before, and of an extension of no type; and so for the type's definition first.
+const SIX_FAULTS: &str =
+    "1:8-8 object type `T` implements interface `I` more than once\n1:10-10 duplicate definitions for the `a` field of object type `T`\n1:2-2 object type `T` implements interface `I` more than once\n1:3-3 duplicate definitions for the `a` field of object type `T`\n1:4-4 adding an enum type extension, but `T` is an object type\n1:11-11 the type `T` is defined multiple times in the schema\n1:13-13 duplicate definitions for the `a` field of object type `T`\n1:14-14 type extension for undefined type `U`\nequal: true\n1:8-8 object type `T` implements interface `I` more than once\n1:10-10 duplicate definitions for the `a` field of object type `T`\n1:2-2 object type `T` implements interface `I` more than once\n1:3-3 duplicate definitions for the `a` field of object type `T`\n1:4-4 adding an enum type extension, but `T` is an object type\n1:11-11 the type `T` is defined multiple times in the schema\n1:13-13 duplicate definitions for the `a` field of object type `T`\n1:14-14 type extension for undefined type `U`\nequal: true\n";
+
+/// Extensions of the schema, one with a directive, and then of two types, and no definition.
+const WITH_A_DIRECTIVE: &str =
+    "ext-schema\n@ d\nroot query A\next-schema\nroot query B\next interface B\nfield x Int\next object A\nfield y Int";
+
+#[test]
+fn extensions_with_a_directive_go_behind_those_of_types(rt: HostRuntime) -> Result<(), Fail> {
+    let account =
+        "1:5-5 duplicate definitions for the `query` root operation type\nequal: true\n1:5-5 duplicate definitions for the `query` root operation type\nequal: true\n";
+    expect_told(&rt, ADOPTING, WITH_A_DIRECTIVE, &[2, 3, 0, 1], account)?;
+    let account =
+        "1:6-6 type extension for undefined type `B`\n1:8-8 type extension for undefined type `A`\n1:1-1 schema extension without a schema definition\n1:4-4 schema extension without a schema definition\nequal: true\n1:6-6 type extension for undefined type `B`\n1:8-8 type extension for undefined type `A`\n1:1-1 schema extension without a schema definition\n1:4-4 schema extension without a schema definition\nequal: true\n";
+    expect_told(&rt, PLAIN, WITH_A_DIRECTIVE, &[2, 3, 0, 1], account)
+}
+
+#[test]
+fn adopted_extensions_of_two_kinds_with_directives_do_not_change_places(
+    rt: HostRuntime,
+) -> Result<(), Fail> {
+    let input =
+        "ext object T\n@ dir\next interface T\n@ dir\ndirective dir\nrepeatable\non SCHEMA\non OBJECT";
+    let account =
+        "1:3-3 adding an interface type extension, but `T` is an object type\nequal: false\n1:1-1 adding an object type extension, but `T` is an interface type\nequal: false\n";
+    expect_told(&rt, ADOPTING, input, &[1, 0, 2], account)
 }

@@ -1,0 +1,271 @@
+//! Whether write-outs, built again with adoption, are without fault, build equal schemas and are written out the same.
+
+use crate::building::{ADOPTING, PLAIN, Settings, View, begun, schema_in, show, write_out};
+use apollo_schema::build_failure::BuildFailure;
+use apollo_schema::schema::Schema;
+use bench_notation::printing::print;
+use bench_notation::reading::read;
+use graphql_ast::document::Document;
+use std::alloc::{AllocError, Global};
+use std::process::Abort;
+use std::test::Fail;
+
+/// What is said of a rebuild without fault, of an equal schema with the same write-out.
+const EQUAL: &str = "no fault: true\nequal: true\nsame definitions: true\nsame text: true\n";
+
+fn printed(alloc: Global, document: &Document) -> Result<String, AllocError> {
+    print(alloc, document.definitions.as_slice())
+}
+
+/// A view of the rebuild that compares it with a schema and its write-out.
+#[derive(Drop)]
+struct Rebuild<'a> {
+    alloc: Global,
+    schema: &'a Schema,
+    written: &'a Document,
+    text: &'a mut String,
+}
+
+impl<'a> Rebuild<'a> {
+    fn push_text(&mut self, again: &Document) -> Result<(), AllocError> {
+        let before = printed(self.alloc, self.written)?;
+        let after = printed(self.alloc, again)?;
+        let is_same = before.as_str() == after.as_str();
+        write!(self.text, "same text: {is_same}\n")
+    }
+
+    fn push_write_outs(&mut self, rebuilt: &Schema) -> Result<(), AllocError> {
+        let again = write_out(self.alloc, rebuilt)?;
+        let is_same = again == *self.written;
+        write!(self.text, "same definitions: {is_same}\n")?;
+        self.push_text(&again)
+    }
+}
+
+impl<'a> View for Rebuild<'a> {
+    fn view(&mut self, built: &Result<Schema, BuildFailure>, _next: u64) -> Result<(), AllocError> {
+        let is_faultless = built.is_ok();
+        write!(self.text, "no fault: {is_faultless}\n")?;
+        let Some(rebuilt) = schema_in(built) else {
+            return Ok(());
+        };
+        let is_equal = *rebuilt == *self.schema;
+        write!(self.text, "equal: {is_equal}\n")?;
+        self.push_write_outs(rebuilt)
+    }
+}
+
+/// Adds what is said of the schema that the write-out of a schema builds.
+fn push_rebuild(
+    alloc: Global,
+    text: &mut String,
+    schema: &Schema,
+    written: &Document,
+) -> Result<(), AllocError> {
+    let mut builder = begun(alloc, ADOPTING)?;
+    // After a refusal no schema is built.
+    let _ = builder.add_ast(written);
+    let mut rebuild = Rebuild {
+        alloc,
+        schema,
+        written,
+        text,
+    };
+    show(&mut rebuild, builder)
+}
+
+/// A view of the first build that adds what is said of the rebuild.
+#[derive(Drop)]
+struct First<'a> {
+    alloc: Global,
+    text: &'a mut String,
+}
+
+impl<'a> View for First<'a> {
+    fn view(&mut self, built: &Result<Schema, BuildFailure>, _next: u64) -> Result<(), AllocError> {
+        let Some(schema) = schema_in(built) else {
+            return self.text.push_str("not built\n");
+        };
+        let written = write_out(self.alloc, schema)?;
+        push_rebuild(self.alloc, self.text, schema, &written)
+    }
+}
+
+/// How the first build takes further definitions of built-in types.
+#[derive(Clone, Copy)]
+enum BuiltInTypes {
+    Faulty,
+    Ignored,
+}
+
+/// Adds what is said of the rebuild of a document.
+fn push_document(
+    alloc: Global,
+    text: &mut String,
+    settings: Settings,
+    built_in_types: BuiltInTypes,
+    document: &Document,
+) -> Result<(), AllocError> {
+    let begun = begun(alloc, settings)?;
+    let mut builder = match built_in_types {
+        BuiltInTypes::Faulty => begun,
+        BuiltInTypes::Ignored => begun.ignore_builtin_redefinitions(),
+    };
+    // After a refusal no schema is built.
+    let _ = builder.add_ast(document);
+    show(&mut First { alloc, text }, builder)
+}
+
+/// What is said of the rebuild of the document that a text says.
+fn told(
+    alloc: Global,
+    settings: Settings,
+    built_in_types: BuiltInTypes,
+    input: &str,
+) -> Result<String, Fail> {
+    let documents = read(alloc, input)?;
+    let mut text = String::new(alloc);
+    if let Some(document) = documents.get(0) {
+        push_document(alloc, &mut text, settings, built_in_types, document)?;
+    }
+    Ok(text)
+}
+
+/// Expects each input's write-out to build an equal schema, without fault, with the same write-out.
+fn expect_each(
+    rt: &(impl Abort + AllocGlobal),
+    settings: Settings,
+    built_in_types: BuiltInTypes,
+    inputs: &[(&str, &str)],
+) -> Result<(), Fail> {
+    for (title, input) in inputs {
+        let text = told(rt.alloc(), settings, built_in_types, *input)?;
+        assert_eq!(rt; text.as_str(), EQUAL, "{title:?}");
+    }
+    Ok(())
+}
+
+/// Inputs that are built without adoption, each with what it shows.
+const BUILT_PLAINLY: [(&str, &str); 16] = [
+    ("nothing", ""),
+    (
+        "extensions around their definition, one of them with a name alone",
+        "ext object Query\nfield b Int\ndef object Query\nfield a Int\next object Query\nimplements N",
+    ),
+    (
+        "extensions with directives, names and fields, and a directive with an argument",
+        "ext object Query\nfield withArg String\nfield@ deprecated\narg arg Boolean\ndef object Query\nfield int Int\next object Query\nimplements Inter\ndef interface Inter\nfield string String\next object Query\n@ customDirective\next object Query\nfield string String\ndirective customDirective\non OBJECT",
+    ),
+    (
+        "a field of an early extension that the definition has",
+        "ext object T\nfield a Int\ndef object T\nfield a String",
+    ),
+    (
+        "an early extension of another kind",
+        "ext enum T\nvalue A\ndef object T\nfield x Int",
+    ),
+    (
+        "an extension of a built-in type",
+        "directive d\non SCALAR\next scalar String\n@ d",
+    ),
+    (
+        "a built-in directive that is replaced, and defined again",
+        "directive z\non OBJECT\ndirective deprecated\non OBJECT\ndirective deprecated\non SCALAR",
+    ),
+    (
+        "built-in scalars that are defined again",
+        "def scalar String\ndef scalar Int\ndef scalar Float\ndef scalar Boolean\ndef scalar ID\ndef object Query\nfield foo String",
+    ),
+    ("a schema extension alone", "ext-schema\n@ d"),
+    (
+        "a schema extension of an implied definition",
+        "ext-schema\n@ d\ndef object Query\nfield a Int",
+    ),
+    (
+        "six faults on one type, and an extension of no type",
+        "ext object T\nimplements I\nfield a Int\next enum T\nvalue X\ndef object T\nimplements I\nimplements I\nfield a String\nfield a Int\ndef interface T\next object T\nfield a ID\next union U\nmember T",
+    ),
+    (
+        "an implied definition, and schema extensions of which one names a root",
+        "def object Query\nfield a Int\next-schema\n@ d\next-schema\nroot mutation M\ndef object M",
+    ),
+    (
+        "an argument, an enum and a union of nothing",
+        "def object Query\nfield f Int\narg a Int\ndef enum E\nvalue A\ndef union U",
+    ),
+    (
+        "an interface of an interface, and a union of a type that is not defined",
+        "def interface Foo\nfield me String\ndef interface Bar\nimplements Foo\nfield me String\ndef object Obj\nimplements Bar\nfield me String\ndef union U\nmember Obj\nmember Gone",
+    ),
+    (
+        "two types without extensions",
+        "def object Query\nfield id ID\nfield user User\ndef object User\nfield id ID",
+    ),
+    (
+        "built-in types that are defined again and extended, and a built-in directive that is replaced",
+        "def object __Schema\ndef object String\ndef scalar Int\next object __Type\nfield extra Int\nfield name Int\next object ID\ndirective skip\non FIELD",
+    ),
+];
+
+#[test]
+fn plain_builds_are_rebuilt_equal(rt: HostRuntime) -> Result<(), Fail> {
+    expect_each(&rt, PLAIN, BuiltInTypes::Faulty, &BUILT_PLAINLY)
+}
+
+/// Inputs that are built with adoption, each with what it shows.
+const BUILT_WITH_ADOPTION: [(&str, &str); 7] = [
+    (
+        "extensions of two kinds and one name",
+        "ext object T\n@ dir\next interface T\n@ dir\ndirective dir\nrepeatable\non SCHEMA\non OBJECT",
+    ),
+    (
+        "a schema extension of a definition with the default roots",
+        "directive something\non SCHEMA\next-schema\n@ something\ndef object Query\nfield field Int",
+    ),
+    (
+        "a schema extension that names a root, and a type with the default name of another",
+        "ext-schema\nroot query Query\ndef object Query\nfield viruses [Virus]\ndef object Virus\nfield mutations [Mutation]\ndef object Mutation\nfield something String",
+    ),
+    (
+        "adopted types with default names of roots",
+        "ext object Query\nfield foo String\next object Mutation\nfield bar String",
+    ),
+    (
+        "schema extensions before their definition, which drops a root of theirs",
+        "ext-schema\nroot query Query\next-schema\nroot subscription S\nschema\nroot mutation Mutation\nroot query AnotherQuery\ndef object Query\ndef object Mutation\ndef object S\ndef object AnotherQuery",
+    ),
+    (
+        "extensions alone, of the schema and of two types",
+        "ext-schema\n@ d\nroot query A\next-schema\nroot query B\next interface B\nfield x Int\next object A\nfield y Int",
+    ),
+    (
+        "a schema extension without a root, and no type",
+        "ext-schema\n@ d",
+    ),
+];
+
+#[test]
+fn adopting_builds_are_rebuilt_equal(rt: HostRuntime) -> Result<(), Fail> {
+    expect_each(&rt, ADOPTING, BuiltInTypes::Faulty, &BUILT_WITH_ADOPTION)
+}
+
+#[test]
+fn the_same_without_adoption_is_rebuilt_equal(rt: HostRuntime) -> Result<(), Fail> {
+    expect_each(&rt, PLAIN, BuiltInTypes::Faulty, &BUILT_WITH_ADOPTION)
+}
+
+#[test]
+fn with_ignored_built_in_types_builds_are_rebuilt_equal(rt: HostRuntime) -> Result<(), Fail> {
+    expect_each(&rt, PLAIN, BuiltInTypes::Ignored, &BUILT_PLAINLY)
+}
+
+#[test]
+fn a_schema_definition_without_a_root_is_not_rebuilt_equal(rt: HostRuntime) -> Result<(), Fail> {
+    let input = "schema\n@ d\ndirective d\non SCHEMA\ndef object Query\nfield a Int";
+    let text = told(rt.alloc(), PLAIN, BuiltInTypes::Faulty, input)?;
+    assert_eq!(rt;
+        text.as_str(),
+        "no fault: true\nequal: false\nsame definitions: true\nsame text: true\n"
+    );
+    Ok(())
+}
