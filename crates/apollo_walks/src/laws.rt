@@ -63,5 +63,6 @@ pub fn reachable_names_are_one_list<F>()
 pub fn worked_walks()
     ensures outside { (course worked_fragments no_names worked_start).fields ≡ codes "b" ∷ codes "a" ∷ codes "c" ∷ [] }
     ensures turns_outside { (course worked_fragments no_names worked_start).turns ≡ 13 }
+    ensures selections_outside { selections_in_reach worked_fragments worked_start (codes "F" ∷ codes "G" ∷ []) ≡ 8 }
     ensures inside { (course worked_fragments no_names worked_first).fields ≡ codes "a" ∷ codes "c" ∷ codes "b" ∷ codes "a" ∷ codes "c" ∷ [] }
 {}

@@ -37,21 +37,20 @@ fn a_fragment_that_is_started_is_opened_once_more(rt: HostRuntime) -> Result<(),
     Ok(())
 }
 
-/// Fields below a field and in an inline fragment, and a spread that no fragment answers.
+/// Fields below an aliased field and in an inline fragment, and a spread that no fragment answers.
 fn nested(alloc: Global) -> Result<String, AllocError> {
     let document = ExecutableDocument::new(alloc);
     let user = none(alloc).spread("Gone").field("id");
     let inner = none(alloc).branch("user", user);
     let id = none(alloc).field("id");
-    let field = none(alloc).branch("user", id);
+    let field = none(alloc).aliased_branch("user", "a", id);
     told(alloc, &document, field.inline(inner))
 }
 
 #[test]
 fn a_spread_without_a_fragment_is_passed_over(rt: HostRuntime) -> Result<(), Fail> {
     let text = nested(rt.alloc())?;
-    let expected =
-        "root user user = user user in 5 true\nall user id user id = user id user id in 10 true\n";
+    let expected = "root a user = a user in 5 true\nall a id user id = a id user id in 10 true\n";
     assert_eq!(rt; text.as_str(), expected);
     Ok(())
 }
