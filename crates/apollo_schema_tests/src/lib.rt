@@ -13,6 +13,8 @@ mod by_calls;
 #[cfg(test)]
 mod by_hand;
 #[cfg(test)]
+mod equality;
+#[cfg(test)]
 mod extensions;
 #[cfg(test)]
 mod faults;
