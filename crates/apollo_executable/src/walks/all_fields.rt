@@ -9,6 +9,7 @@ use crate::selection::{Field, SelectionSet};
 use crate::walks::walk::Walk;
 use graphql_nodes::node::Node;
 use std::alloc::{AllocError, Global};
+use std::iter::FusedIterator;
 use std::marker::Model;
 
 /// A walk over all fields that a selection set reaches, through fragments and below fields: each field comes before those
@@ -76,3 +77,5 @@ impl<'doc> Iterator for AllFields<'doc> {
         self.walk.advance()
     }
 }
+
+impl<'doc> FusedIterator for AllFields<'doc> {}

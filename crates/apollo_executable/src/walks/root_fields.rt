@@ -9,6 +9,7 @@ use crate::selection::{Field, SelectionSet};
 use crate::walks::walk::Walk;
 use graphql_nodes::node::Node;
 use std::alloc::{AllocError, Global};
+use std::iter::FusedIterator;
 use std::marker::Model;
 
 /// A walk over the root fields of a selection set: those that stand in it or are reached through fragments, and none below a
@@ -76,3 +77,5 @@ impl<'doc> Iterator for RootFields<'doc> {
         self.walk.advance()
     }
 }
+
+impl<'doc> FusedIterator for RootFields<'doc> {}
