@@ -1,5 +1,6 @@
 pub mod BareDocuments
 pub mod BareSelections
+pub mod EmptyDocument
 pub mod Erasure
 pub mod Listed
 pub mod NewSelections

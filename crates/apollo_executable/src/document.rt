@@ -1,5 +1,5 @@
 //! Executable documents: GraphQL specification of October 2021, section 2.2.
-ghost use Rattle.std.specs.Prelude.{◌≡◌, []};
+ghost use Rattle.std.specs.Prelude.{◌≡◌};
 
 use crate::operation::Fragment;
 use crate::operation_map::OperationMap;
@@ -26,18 +26,18 @@ pub struct ExecutableDocument {
 }
 
 impl ExecutableDocument {
-    ghost use Rattle.apollo_executable.specs.Operations.{no_operations};
+    ghost use Rattle.apollo_executable.specs.EmptyDocument.{empty_document};
 
     /// A document without operations, fragments and sources.
     pub fn new(alloc: Global) -> ExecutableDocument
-        ensures { result ≡ record { sources = []; operations = no_operations; fragments = [] } }
+        ensures { result ≡ empty_document }
     {
         ExecutableDocument::with_keys(alloc, HashKeys::FIXED)
     }
 
     /// The same, whose tables hash by these keys: those of a schema, for a document from strangers.
     pub fn with_keys(alloc: Global, keys: HashKeys) -> ExecutableDocument
-        ensures { result ≡ record { sources = []; operations = no_operations; fragments = [] } }
+        ensures { result ≡ empty_document }
     {
         ExecutableDocument {
             sources: Table::with_keys(alloc, keys),

@@ -27,6 +27,7 @@ impl SelectionSet {
         ensures { IfOk result (λ written. written.items ≡ erased_set self.now) }
     {
         let mut written = Vec::new(alloc);
+        written.reserve_exact(self.selections.len())?;
         for selection in &self.selections {
             written.push(selection.to_ast(alloc)?)?;
         }

@@ -87,6 +87,6 @@ fn the_users_document_is_made_and_written(rt: HostRuntime) -> Result<(), Fail> {
     expect(
         &rt,
         &Document,
-        "query GetUser { id user(id: $me) @first @second { short: name @on ...Picture @on @first @second ... on User @on { id } ... @first @second { id name } } }\nfragment Picture on User { profilePic(size: 50) }\noperation copied: true\nfragment copied: true\ncopied: true\n",
+        "query GetUser { id user(id: $me) @first @second { short: name @on ...Picture @on @first @second ... on User @on { id } ... @first @second { id name } name } }\nfragment Picture on User { profilePic(size: 50) }\noperation copied: true\nfragment copied: true\ncopied: true\n",
     )
 }

@@ -2,11 +2,14 @@
 
 use crate::making::{name, selected, users_document};
 use crate::schemas::{Account, expect};
-use apollo_executable::{ExecutableDocument, Field, NewFieldError, Selection, SelectionSet};
+use apollo_executable::{
+    ExecutableDocument, Field, Fragment, NewFieldError, Selection, SelectionSet,
+};
 use apollo_schema::schema::Schema;
 use apollo_types::extended_type::ExtendedType;
 use bench_notation::type_notation::push_type;
 use graphql_ast::argument::ArgumentByNameError;
+use graphql_ast::directive::DirectiveList;
 use graphql_nodes::name::Name;
 use std::alloc::{AllocError, Global};
 use std::test::Fail;
@@ -41,9 +44,9 @@ fn push_fields(text: &mut String, schema: &Schema, set: &SelectionSet) -> Result
     Ok(())
 }
 
-/// The fields `id`, `name` and `profilePic` of a user, looked up, and one that there isn't.
+/// The fragment `vipCustomer on User { id name profilePic }`, and a field that there isn't.
 #[derive(Drop)]
-struct OfUser;
+struct VipCustomer;
 
 fn add<'schema>(
     alloc: Global,
@@ -56,15 +59,19 @@ fn add<'schema>(
     Ok(())
 }
 
-fn user_set<'schema>(
+fn vip_customer<'schema>(
     alloc: Global,
     schema: &'schema Schema,
-) -> Result<SelectionSet, NewFieldError<'schema>> {
+) -> Result<Fragment, NewFieldError<'schema>> {
     let mut set = SelectionSet::new(alloc, name(alloc, "User")?);
     add(alloc, schema, &mut set, "id")?;
     add(alloc, schema, &mut set, "name")?;
     add(alloc, schema, &mut set, "profilePic")?;
-    Ok(set)
+    Ok(Fragment {
+        name: name(alloc, "vipCustomer")?,
+        directives: DirectiveList::new(alloc),
+        selection_set: set,
+    })
 }
 
 fn push_missing(
@@ -80,12 +87,14 @@ fn push_missing(
     }
 }
 
-impl Account for OfUser {
+impl Account for VipCustomer {
     fn tell(&self, alloc: Global, schema: &Schema, text: &mut String) -> Result<(), AllocError> {
-        match user_set(alloc, schema) {
-            Ok(set) => {
-                push_fields(text, schema, &set)?;
-                push_missing(alloc, schema, &set, text)
+        match vip_customer(alloc, schema) {
+            Ok(fragment) => {
+                push_name(text, &fragment.name)?;
+                text.push_str(" on ")?;
+                push_fields(text, schema, &fragment.selection_set)?;
+                push_missing(alloc, schema, &fragment.selection_set, text)
             }
             Err(_) => text.push_str("not made\n"),
         }
@@ -93,11 +102,11 @@ impl Account for OfUser {
 }
 
 #[test]
-fn fields_know_their_types(rt: HostRuntime) -> Result<(), Fail> {
+fn the_fields_of_vip_customer_know_their_types(rt: HostRuntime) -> Result<(), Fail> {
     expect(
         &rt,
-        &OfUser,
-        "User\nid: ID, a scalar type\nname: String, a scalar type\nprofilePic: URL, a scalar type\nno field nope\n",
+        &VipCustomer,
+        "vipCustomer on User\nid: ID, a scalar type\nname: String, a scalar type\nprofilePic: URL, a scalar type\nno field nope\n",
     )
 }
 
@@ -201,6 +210,6 @@ fn selections_know_what_they_are(rt: HostRuntime) -> Result<(), Fail> {
     expect(
         &rt,
         &Inside,
-        "Query true false false\nof Query\n0 on id id false unknown size false unknown\n2 on user id true given size false unknown\nof User\n1 on short id false unknown size false unknown\n3 on Picture on User\n1 on inline fragment\nof User\n0 on id id false unknown size false unknown\nend\n2 on inline fragment\nof User\n0 on id id false unknown size false unknown\n0 on name id false unknown size false unknown\nend\nend\nend\n",
+        "Query true false false\nof Query\n0 on id id false unknown size false unknown\n2 on user id true given size false unknown\nof User\n1 on short id false unknown size false unknown\n3 on Picture on User\n1 on inline fragment\nof User\n0 on id id false unknown size false unknown\nend\n2 on inline fragment\nof User\n0 on id id false unknown size false unknown\n0 on name id false unknown size false unknown\nend\n0 on name id false unknown size false unknown\nend\nend\n",
     )
 }

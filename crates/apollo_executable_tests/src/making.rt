@@ -134,7 +134,8 @@ fn user<'schema>(
     let field = field.with_arguments(arguments(alloc)?)?;
     let field = field.with_directives(directives(alloc)?)?;
     let below = of_user(alloc, schema, &field.selection_set)?;
-    Ok(field.with_selections(below)?)
+    let name = selected(alloc, schema, &field.selection_set, "name")?;
+    Ok(field.with_selections(below)?.with_selection(name)?)
 }
 
 /// The selections `{ id user(..) .. }` of a query.
