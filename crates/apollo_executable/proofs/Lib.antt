@@ -1,4 +1,5 @@
 pub mod DocumentEquality
+pub mod ErrorEquality
 pub mod Erasing
 mod RequestLemmas
 pub mod SelectionEquality

@@ -1,4 +1,5 @@
 pub mod BareDocuments
+pub mod BareErrors
 pub mod BareSelections
 pub mod EmptyDocument
 pub mod Erasure

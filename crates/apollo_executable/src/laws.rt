@@ -6,11 +6,14 @@
 ghost use Rattle.graphql_nodes.specs.Clones.{IsExact};
 ghost use Rattle.graphql_nodes.specs.Comparing.{ComparesBy};
 ghost use Rattle.apollo_executable.specs.BareSelections.{bare_selection, bare_field, bare_fragment_spread, bare_inline_fragment, bare_selection_set};
+ghost use Rattle.apollo_executable.specs.BareErrors.{bare_new_field_error, bare_request_error};
 ghost use Rattle.apollo_executable.specs.BareDocuments.{bare_operation, bare_fragment, bare_operation_map, bare_document};
 
 use crate::document::ExecutableDocument;
+use crate::new_field_error::NewFieldError;
 use crate::operation::{Fragment, Operation};
 use crate::operation_map::OperationMap;
+use crate::request_error::RequestError;
 use crate::selection::{Field, FragmentSpread, InlineFragment, Selection, SelectionSet};
 
 /// Typed selections are equal exactly where they are one without their locations: definitions of fields and types of sets
@@ -31,6 +34,13 @@ pub fn equality_of_documents()
     ensures fragment { ComparesBy ⟦<Fragment as PartialEq>⟧.eq bare_fragment }
     ensures operation_map { ComparesBy ⟦<OperationMap as PartialEq>⟧.eq bare_operation_map }
     ensures document { ComparesBy ⟦<ExecutableDocument as PartialEq>⟧.eq bare_document }
+{}
+
+/// Errors of requests, and those of new fields, are equal exactly where they are one without the locations of their names, and of
+/// their types.
+pub fn equality_of_errors<'a>()
+    ensures request_error { ComparesBy ⟦<RequestError<'a> as PartialEq>⟧.eq bare_request_error }
+    ensures new_field_error { ComparesBy ⟦<NewFieldError<'a> as PartialEq>⟧.eq bare_new_field_error }
 {}
 
 /// Each clone is the original, with its locations and the sources of a document.
