@@ -14,4 +14,14 @@ pub use crate::document_builder::ExecutableDocumentBuilder;
 pub use apollo_elaboration::build_error::{BuildError, Fault, Faults};
 pub use apollo_elaboration::field_set::FieldSet;
 pub use apollo_elaboration::selection_path::{ExecutableDefinitionName, SelectionPath};
+pub use apollo_executable::document::{ExecutableDocument, FragmentMap};
+pub use apollo_executable::operation::{Fragment, Operation};
+pub use apollo_executable::operation_map::OperationMap;
+pub use apollo_executable::request_error::RequestError;
+pub use apollo_executable::selection::{
+    Field, FragmentSpread, InlineFragment, Selection, SelectionSet,
+};
 pub use apollo_folding::builder_error::BuilderError;
+pub use apollo_schema::schema::Schema;
+pub use graphql_ast::document::Document;
+pub use graphql_nodes::source::{FileId, SourceFile, SourceMap, SourceSpan};

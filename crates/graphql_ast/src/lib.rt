@@ -35,7 +35,8 @@ pub use crate::type_system::{
 pub use crate::value::Value;
 pub use graphql_nodes::collections::items::Items;
 pub use graphql_nodes::directive_location::DirectiveLocation;
-pub use graphql_nodes::name::{Name, NamedType};
+pub use graphql_nodes::name::{InvalidNameError, Name, NameError, NamedType};
 pub use graphql_nodes::node::Node;
 pub use graphql_nodes::node_str::NodeStr;
 pub use graphql_nodes::operation_type::OperationType;
+pub use graphql_nodes::source::{FileId, SourceFile, SourceMap, SourceSpan};

@@ -1,11 +1,13 @@
--- Equality of places and source files.
+-- Equality of places, source files and keys.
 use Rattle.std.proofs.Common.{refl}
 use Rattle.graphql_nodes.specs.declared.source.FileId.{FileId}
 use Rattle.graphql_nodes.specs.declared.source.SourceSpan.{SourceSpan}
 use Rattle.graphql_nodes.specs.declared.source.SourceFile.{SourceFile}
+use Rattle.graphql_nodes.specs.declared.collections.hash_keys.HashKeys.{HashKeys}
 use Rattle.graphql_nodes.specs.contracts.source.FileIdPartialEq.TheImpl as file_id
 use Rattle.graphql_nodes.specs.contracts.source.SourceSpanPartialEq.TheImpl as source_span
 use Rattle.graphql_nodes.specs.contracts.source.SourceFilePartialEq.TheImpl as source_file
+use Rattle.graphql_nodes.specs.contracts.collections.hash_keys.HashKeysPartialEq.TheImpl as keys
 use Rattle.graphql_nodes.proofs.Comparisons.{Compares, of_part, and_then, made, numbers, texts}
 
 pub file_ids : Compares file_id.ghosts.eq (λ (id : FileId). id)
@@ -18,3 +20,7 @@ source_spans = made (λ p. record { file = p.0; start = p.1.0; end = p.1.1 }) (�
 pub source_files : Compares source_file.ghosts.eq (λ (f : SourceFile). f)
 source_files = made (λ p. record { path = p.0; text = p.1 }) (λ f. (f.path, f.text)) (λ _. refl)
     (and_then (of_part (λ (f : SourceFile). f.path) texts) (of_part (λ (f : SourceFile). f.text) texts))
+
+pub hash_keys : Compares keys.ghosts.eq (λ (k : HashKeys). k)
+hash_keys = made (λ p. record { start = p.0; factor = p.1 }) (λ k. (k.start, k.factor)) (λ _. refl)
+    (and_then (of_part (λ (k : HashKeys). k.start) numbers) (of_part (λ (k : HashKeys). k.factor) numbers))

@@ -6,6 +6,7 @@ ghost use Rattle.std.specs.Prelude.{map};
 ghost use Rattle.graphql_nodes.specs.Comparing.{ComparesBy, bare_name, bare_invalid_name, bare_node, entries_by_key, entries_by_text, members_by_key, members_by_text};
 
 use crate::collections::boxed::Boxed;
+use crate::collections::hash_keys::HashKeys;
 use crate::collections::items::Items;
 use crate::collections::key_set::KeySet;
 use crate::collections::shared::Shared;
@@ -48,7 +49,7 @@ pub fn equality_of_names()
     ensures static_text { ComparesBy ⟦<StaticText as PartialEq>⟧.eq (λ t. t) }
 {}
 
-/// Places, source files and kinds are equal exactly where they are one.
+/// Places, source files, kinds and keys are equal exactly where they are one.
 pub fn equality_of_places_and_kinds()
     ensures file_id { ComparesBy ⟦<FileId as PartialEq>⟧.eq (λ id. id) }
     ensures source_span { ComparesBy ⟦<SourceSpan as PartialEq>⟧.eq (λ span. span) }
@@ -56,4 +57,5 @@ pub fn equality_of_places_and_kinds()
     ensures operation_type { ComparesBy ⟦<OperationType as PartialEq>⟧.eq (λ kind. kind) }
     ensures type_kind { ComparesBy ⟦<TypeKind as PartialEq>⟧.eq (λ kind. kind) }
     ensures directive_location { ComparesBy ⟦<DirectiveLocation as PartialEq>⟧.eq (λ location. location) }
+    ensures hash_keys { ComparesBy ⟦<HashKeys as PartialEq>⟧.eq (λ keys. keys) }
 {}

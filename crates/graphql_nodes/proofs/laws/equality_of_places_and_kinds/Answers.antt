@@ -2,7 +2,7 @@ use Rattle.graphql_nodes.specs.contracts.operation_type.OperationType as operati
 use Rattle.graphql_nodes.specs.contracts.type_kind.TypeKind as kind
 use Rattle.graphql_nodes.specs.contracts.directive_location.DirectiveLocation as location
 use Rattle.graphql_nodes.proofs.Comparisons.{kinds}
-use Rattle.graphql_nodes.proofs.PlaceEquality.{file_ids, source_spans, source_files}
+use Rattle.graphql_nodes.proofs.PlaceEquality.{file_ids, source_spans, source_files, hash_keys}
 use Rattle.graphql_nodes.proofs.laws.equality_of_places_and_kinds.Goals as goal
 
 pub returns-clause-file_id : goal.returns-clause-file_id
@@ -22,3 +22,6 @@ returns-clause-type_kind c = (kinds kind.the_type tt).at
 
 pub returns-clause-directive_location : goal.returns-clause-directive_location
 returns-clause-directive_location c = (kinds location.the_type tt).at
+
+pub returns-clause-hash_keys : goal.returns-clause-hash_keys
+returns-clause-hash_keys c = hash_keys.at
