@@ -33,6 +33,8 @@ mod rearranging;
 #[cfg(test)]
 mod rebuilding;
 #[cfg(test)]
+mod rebuilt_by_calls;
+#[cfg(test)]
 mod roots;
 #[cfg(test)]
 mod types;

@@ -11,7 +11,7 @@ use std::process::Abort;
 use std::test::Fail;
 
 /// What is said of a rebuild without fault, of an equal schema with the same write-out.
-const EQUAL: &str = "no fault: true\nequal: true\nsame definitions: true\nsame text: true\n";
+pub const EQUAL: &str = "no fault: true\nequal: true\nsame definitions: true\nsame text: true\n";
 
 fn printed(alloc: Global, document: &Document) -> Result<String, AllocError> {
     print(alloc, document.definitions.as_slice())
@@ -93,7 +93,7 @@ impl<'a> View for First<'a> {
 
 /// How the first build takes further definitions of built-in types.
 #[derive(Clone, Copy)]
-enum BuiltInTypes {
+pub enum BuiltInTypes {
     Faulty,
     Ignored,
 }
@@ -116,6 +116,19 @@ fn push_document(
     show(&mut First { alloc, text }, builder)
 }
 
+/// What is said of the rebuild of a document.
+/// No clause: it serves tests.
+pub fn told_of(
+    alloc: Global,
+    settings: Settings,
+    built_in_types: BuiltInTypes,
+    document: &Document,
+) -> Result<String, AllocError> {
+    let mut text = String::new(alloc);
+    push_document(alloc, &mut text, settings, built_in_types, document)?;
+    Ok(text)
+}
+
 /// What is said of the rebuild of the document that a text says.
 fn told(
     alloc: Global,
@@ -124,11 +137,10 @@ fn told(
     input: &str,
 ) -> Result<String, Fail> {
     let documents = read(alloc, input)?;
-    let mut text = String::new(alloc);
-    if let Some(document) = documents.get(0) {
-        push_document(alloc, &mut text, settings, built_in_types, document)?;
+    match documents.get(0) {
+        Some(document) => Ok(told_of(alloc, settings, built_in_types, document)?),
+        None => Ok(String::new(alloc)),
     }
-    Ok(text)
 }
 
 /// Expects each input's write-out to build an equal schema, without fault, with the same write-out.
@@ -146,14 +158,18 @@ fn expect_each(
 }
 
 /// Inputs that are built without adoption, each with what it shows.
-const BUILT_PLAINLY: [(&str, &str); 16] = [
+const BUILT_PLAINLY: [(&str, &str); 23] = [
     ("nothing", ""),
     (
         "extensions around their definition, one of them with a name alone",
         "ext object Query\nfield b Int\ndef object Query\nfield a Int\next object Query\nimplements N",
     ),
     (
-        "extensions with directives, names and fields, and a directive with an argument",
+        "the extensions behind it, the one with a name alone first",
+        "def object Query\nfield a Int\next object Query\nimplements N\next object Query\nfield b Int",
+    ),
+    (
+        "extensions with directives, names and fields, and a field with a directive and an argument",
         "ext object Query\nfield withArg String\nfield@ deprecated\narg arg Boolean\ndef object Query\nfield int Int\next object Query\nimplements Inter\ndef interface Inter\nfield string String\next object Query\n@ customDirective\next object Query\nfield string String\ndirective customDirective\non OBJECT",
     ),
     (
@@ -197,6 +213,27 @@ const BUILT_PLAINLY: [(&str, &str); 16] = [
         "an interface of an interface, and a union of a type that is not defined",
         "def interface Foo\nfield me String\ndef interface Bar\nimplements Foo\nfield me String\ndef object Obj\nimplements Bar\nfield me String\ndef union U\nmember Obj\nmember Gone",
     ),
+    ("a type of one field", "def object Query\nfield a Int"),
+    (
+        "a type of two fields",
+        "def object Query\nfield a Int\nfield b Int",
+    ),
+    (
+        "a type of three fields",
+        "def object Query\nfield a Int\nfield b Int\nfield c Int",
+    ),
+    (
+        "a type with an extension",
+        "def object T\next object T\nfield a Int",
+    ),
+    (
+        "a type with two extensions",
+        "def object T\next object T\nfield a Int\next object T\nfield b Int",
+    ),
+    (
+        "a field of a scalar type with an argument",
+        "def object Query\ndef object User\nfield id ID\nfield name String\nfield profilePic URL\narg size Int\ndef scalar URL",
+    ),
     (
         "two types without extensions",
         "def object Query\nfield id ID\nfield user User\ndef object User\nfield id ID",
@@ -213,7 +250,7 @@ fn plain_builds_are_rebuilt_equal(rt: HostRuntime) -> Result<(), Fail> {
 }
 
 /// Inputs that are built with adoption, each with what it shows.
-const BUILT_WITH_ADOPTION: [(&str, &str); 7] = [
+const BUILT_WITH_ADOPTION: [(&str, &str); 8] = [
     (
         "extensions of two kinds and one name",
         "ext object T\n@ dir\next interface T\n@ dir\ndirective dir\nrepeatable\non SCHEMA\non OBJECT",
@@ -242,6 +279,7 @@ const BUILT_WITH_ADOPTION: [(&str, &str); 7] = [
         "a schema extension without a root, and no type",
         "ext-schema\n@ d",
     ),
+    ("an extension with nothing in it", "ext object T"),
 ];
 
 #[test]
@@ -257,6 +295,33 @@ fn the_same_without_adoption_is_rebuilt_equal(rt: HostRuntime) -> Result<(), Fai
 #[test]
 fn with_ignored_built_in_types_builds_are_rebuilt_equal(rt: HostRuntime) -> Result<(), Fail> {
     expect_each(&rt, PLAIN, BuiltInTypes::Ignored, &BUILT_PLAINLY)
+}
+
+#[test]
+fn under_both_options_builds_are_rebuilt_equal(rt: HostRuntime) -> Result<(), Fail> {
+    expect_each(&rt, ADOPTING, BuiltInTypes::Ignored, &BUILT_PLAINLY)
+}
+
+/// How many extensions there are of one type.
+const EXTENSIONS: u32 = 2000;
+
+/// A type with extensions that give a field each, and the last of them a directive too, so that it is written out first.
+fn with_many_extensions(alloc: Global) -> Result<String, AllocError> {
+    let mut input = String::new(alloc);
+    input.push_str("def object T\n")?;
+    for number in 1..EXTENSIONS {
+        write!(&mut input, "ext object T\nfield f{number} Int\n")?;
+    }
+    write!(&mut input, "ext object T\n@ d\nfield f{EXTENSIONS} Int\n")?;
+    Ok(input)
+}
+
+#[test]
+fn many_extensions_are_rebuilt_equal(rt: HostRuntime) -> Result<(), Fail> {
+    let input = with_many_extensions(rt.alloc())?;
+    let text = told(rt.alloc(), PLAIN, BuiltInTypes::Faulty, input.as_str())?;
+    assert_eq!(rt; text.as_str(), EQUAL);
+    Ok(())
 }
 
 #[test]

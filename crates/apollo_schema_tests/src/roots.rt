@@ -27,7 +27,12 @@ fn a_schema_definition_without_a_root_is_not_rebuilt(rt: HostRuntime) -> Result<
     let input = "schema\n@ d\ndirective d\non SCHEMA\ndef object Query\nfield a Int";
     let account =
         "d in the definition\na in the definition\ndirective d\non SCHEMA\ndef object Query\nfield a Int\nrebuilt equal: false\ncopied equal: true, true, true\n0 is next\n";
-    expect(&rt, PLAIN, input, account)
+    expect(&rt, PLAIN, input, account)?;
+    // What is written out builds an implied definition in its place.
+    let written = "directive d\non SCHEMA\ndef object Query\nfield a Int";
+    let account =
+        "Query in the definition\nquery is Query, an object type: true\na in the definition\ndirective d\non SCHEMA\ndef object Query\nfield a Int\nrebuilt equal: true\ncopied equal: true, true, true\n0 is next\n";
+    expect(&rt, ADOPTING, written, account)
 }
 
 #[test]

@@ -14,6 +14,7 @@ fn run_on_streams(rt: &HostRuntime) -> io::Result<Status> {
     Ok(run(
         alloc,
         rt,
+        rt,
         words.as_slice(),
         &mut rt.stdin(),
         &mut rt.stdout(),

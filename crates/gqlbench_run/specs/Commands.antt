@@ -3,6 +3,7 @@ use Rattle.std.specs.Prelude.{◌≡◌, ◌<◌, ◌^◌, ℕ, List, [], ◌∷
 use Rattle.std.specs.Str.Parse.{IsNumeral, digits_value, without_leading_plus}
 use Rattle.gqltool_run.specs.SchemaOptions.{AreOptions}
 use Rattle.gqltool_run.specs.Status.{status_of}
+use Rattle.gqltool_run.specs.declared.schema_options.SchemaOptions.{SchemaOptions}
 use Rattle.gqltool_run.specs.declared.status.Status.{Status}
 use Rattle.gqltool_run.specs.declared.status.Status.TheVariants as s
 use Rattle.gqlbench_run.specs.declared.command.Command.{Command}
@@ -10,6 +11,8 @@ use Rattle.gqlbench_run.specs.declared.command.Work.{Work}
 use Rattle.gqlbench_run.specs.declared.command.Work.TheVariants as w
 use Rattle.gqlbench_run.specs.declared.failure.Failure.{Failure}
 use Rattle.gqlbench_run.specs.declared.failure.Failure.TheVariants as f
+use Rattle.gqlbench_run.specs.declared.keys.KeyChoice.{KeyChoice}
+use Rattle.gqlbench_run.specs.declared.keys.KeyChoice.TheVariants as k
 
 -- the word of what is timed
 abbrev pub work_word : Work → List ℕ
@@ -25,12 +28,18 @@ pub record IsRepeat (word : List ℕ) (repeat : ℕ) : Type 0 where
   pub some : 0 < repeat
   pub fits : repeat < 2 ^ 64
 
--- the words of a command: what is timed, the options, and how many times
+-- the words choose keys and options: `--random-keys` stands first, and fixed keys have no word
+abbrev pub AreChoices : KeyChoice → SchemaOptions → List (List ℕ) → Type 0
+AreChoices k.Fixed options words = AreOptions words options
+AreChoices k.Random options [] = ⊥
+AreChoices k.Random options (first ∷ words) = (first ≡ codes "--random-keys") × AreOptions words options
+
+-- the words of a command: what is timed, the keys and options, and how many times
 pub record AreWordsOf (words : List (List ℕ)) (command : Command) : Type 0 where
-  pub options : List (List ℕ)
+  pub choices : List (List ℕ)
   pub repeat : List ℕ
-  pub are : words ≡ work_word command.work ∷ (options ++ repeat ∷ [])
-  pub say : AreOptions options command.options
+  pub are : words ≡ work_word command.work ∷ (choices ++ repeat ∷ [])
+  pub say : AreChoices command.keys command.options choices
   pub times : IsRepeat repeat command.repeat
 
 -- these words are no command
@@ -42,3 +51,4 @@ abbrev pub ending_of : Failure → Status
 ending_of f.Usage = s.Refused
 ending_of (f.Input failure) = status_of failure
 ending_of f.Clock = s.Exhausted
+ending_of f.Randomness = s.Exhausted

@@ -1,8 +1,11 @@
 //! The commands of the program.
 ghost use Rattle.std.specs.Prelude.{MatchOption, ◌≡◌, ◌≢◌, ℕ};
 ghost use Rattle.bench_notation.specs.Line.{texts_of};
-ghost use Rattle.gqlbench_run.specs.Commands.{AreNoCommand, AreWordsOf, IsRepeat, work_word};
+ghost use Rattle.gqltool_run.specs.declared.schema_options.SchemaOptions.{SchemaOptions};
+ghost use Rattle.gqlbench_run.specs.Commands.{AreChoices, AreNoCommand, AreWordsOf, IsRepeat, work_word};
+ghost use Rattle.gqlbench_run.specs.declared.keys.KeyChoice.{KeyChoice};
 
+use crate::keys::KeyChoice;
 use gqltool_run::schema_options::{SchemaOptions, read_options};
 
 /// What is timed.
@@ -18,11 +21,12 @@ pub enum Work {
     Walks,
 }
 
-/// A command of the program, which is what the words after its name say: what is timed, under which options of a build,
-/// and how many times.
+/// A command of the program, which is what the words after its name say: what is timed, under which keys and options of a
+/// build, and how many times.
 #[derive(Debug, Clone, Copy, PartialEq, Eq)]
 pub struct Command {
     pub work: Work,
+    pub keys: KeyChoice,
     pub options: SchemaOptions,
     pub repeat: usize,
 }
@@ -32,10 +36,12 @@ pub fn read_command(words: &[&str]) -> Option<Command>
     ensures { MatchOption result (AreNoCommand (texts_of words.now)) (AreWordsOf (texts_of words.now)) }
 {
     let (work, rest) = words.split_first()?;
-    let (repeat, options) = rest.split_last()?;
+    let (repeat, choices) = rest.split_last()?;
+    let (keys, options) = read_choices(choices)?;
     Some(Command {
         work: read_work(*work)?,
-        options: read_options(options)?,
+        keys,
+        options,
         repeat: read_repeat(*repeat)?,
     })
 }
@@ -50,6 +56,16 @@ fn read_work(word: &str) -> Option<Work>
         "doc" => Some(Work::Documents),
         "walk" => Some(Work::Walks),
         _ => None,
+    }
+}
+
+/// The keys and the options of a build that these words choose. Other words choose none.
+fn read_choices(words: &[&str]) -> Option<(KeyChoice, SchemaOptions)>
+    ensures { MatchOption result ((keys : KeyChoice) (options : SchemaOptions) → ¬ AreChoices keys options (texts_of words.now)) (λ chosen. AreChoices chosen.0 chosen.1 (texts_of words.now)) }
+{
+    match words {
+        ["--random-keys", options @ ..] => Some((KeyChoice::Random, read_options(options)?)),
+        options => Some((KeyChoice::Fixed, read_options(options)?)),
     }
 }
 

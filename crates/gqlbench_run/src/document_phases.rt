@@ -166,18 +166,14 @@ fn counts(alloc: Global, schema: &Schema, documents: &[Document]) -> Result<Stri
 pub fn document_report<C: Clock, E: Write>(
     alloc: Global,
     clock: &C,
+    keys: HashKeys,
     command: Command,
     documents: &DividedDocuments,
     errors: &mut E,
 ) -> Result<String, Failure>
     ensures { IfOk result (λ text. IsDocumentReport command documents.now.schema.items documents.now.executable.items (string_bytes text)) }
 {
-    let (schema, _faults) = built(
-        alloc,
-        HashKeys::FIXED,
-        command.options,
-        documents.schema.as_slice(),
-    )?;
+    let (schema, _faults) = built(alloc, keys, command.options, documents.schema.as_slice())?;
     let executable = documents.executable.as_slice();
     let mut text = counts(alloc, &schema, executable)?;
     let mut times = DocumentTimes::new(alloc);

@@ -10,13 +10,16 @@ use thiserror::Error;
 #[derive(Debug, Drop, Error)]
 pub enum Failure {
     /// The words are none that the program takes.
-    #[error("usage: gqlbench schema|lookups|doc|walk [--adopt] [--ignore-builtin] REPEAT")]
+    #[error("usage: gqlbench schema|lookups|doc|walk [--random-keys] [--adopt] [--ignore-builtin] REPEAT (without --random-keys tables hash by fixed keys)")]
     Usage,
     /// The input is refused, or memory or numbers are wanting, as with `gqltool`.
     #[error(transparent)]
     Input(InputFailure),
     #[error("cannot read the clock")]
     Clock,
+    /// The words ask for random keys, and the system gives none.
+    #[error("cannot draw random keys")]
+    Randomness,
 }
 
 impl From<InputFailure> for Failure {
@@ -64,7 +67,7 @@ impl Failure {
         match self {
             Failure::Usage => Status::Refused,
             Failure::Input(failure) => failure.status(),
-            Failure::Clock => Status::Exhausted,
+            Failure::Clock | Failure::Randomness => Status::Exhausted,
         }
     }
 }

@@ -4,6 +4,7 @@
 pub mod command;
 mod document_phases;
 pub mod failure;
+pub mod keys;
 mod lookup_phases;
 mod lookup_questions;
 mod phase;

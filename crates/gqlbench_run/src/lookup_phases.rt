@@ -172,13 +172,14 @@ fn calls(alloc: Global, questions: &Questions, times: &LookupTimes) -> Result<St
 pub fn lookup_report<C: Clock, E: Write>(
     alloc: Global,
     clock: &C,
+    keys: HashKeys,
     command: Command,
     documents: &[Document],
     errors: &mut E,
 ) -> Result<String, Failure>
     ensures { IfOk result (λ text. IsLookupReport command documents.now (string_bytes text)) }
 {
-    let (schema, _faults) = built(alloc, HashKeys::FIXED, command.options, documents)?;
+    let (schema, _faults) = built(alloc, keys, command.options, documents)?;
     let questions = Questions {
         fields: field_questions(alloc, &schema)?,
         subtypes: subtype_questions(alloc, &schema)?,

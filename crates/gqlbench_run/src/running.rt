@@ -9,6 +9,7 @@ ghost use Rattle.gqlbench_run.specs.Reports.{AppendReport, HaveReport, IsReportO
 use crate::command::{Command, Work, read_command};
 use crate::document_phases::document_report;
 use crate::failure::Failure;
+use crate::keys::chosen_keys;
 use crate::lookup_phases::lookup_report;
 use crate::schema_phases::schema_report;
 use crate::walk_phases::walk_report;
@@ -18,18 +19,22 @@ use gqltool_run::input::read_all;
 use gqltool_run::running::write_out;
 use gqltool_run::status::Status;
 use graphql_ast::document::Document;
+use graphql_nodes::collections::hash_keys::HashKeys;
 use std::alloc::Global;
 use std::io::{Read, Write};
+use std::random::RandomSource;
 use std::time::Clock;
 
 /// Runs the program on the words that follow its name: reads the input once, takes the times, and writes the report.
 ///
 /// The output is written only once all of it is there. What is wrong is said on `errors`, in one line, and so is how far a
 /// long run is; that it cannot be said there changes nothing. A clock that can't be read ends the run as want of memory
-/// does.
-pub fn run<C: Clock, R: Read, O: Write, E: Write>(
+/// does, and so does a source that gives no random keys where the words ask for them. They are drawn once, before anything
+/// is read; without the word nothing is drawn, and tables hash by fixed keys.
+pub fn run<C: Clock, S: RandomSource, R: Read, O: Write, E: Write>(
     alloc: Global,
     clock: &C,
+    source: &S,
     words: &[&str],
     reader: &mut R,
     output: &mut O,
@@ -47,7 +52,7 @@ pub fn run<C: Clock, R: Read, O: Write, E: Write>(
     // Words that are no command are refused before anything is read.
     ensures usage { AreNoCommand (texts_of words.now) → (result ≡ Status.Refused) × (reader.new ≡ reader.old) }
 {
-    let report = match report(alloc, clock, words, reader, errors) {
+    let report = match report(alloc, clock, source, words, reader, errors) {
         Ok(report) => report,
         Err(failure) => {
             let _ = writeln!(errors, "{failure}");
@@ -64,9 +69,10 @@ pub fn run<C: Clock, R: Read, O: Write, E: Write>(
 }
 
 /// The report that the words ask for. Nothing is read where the words are refused.
-fn report<C: Clock, R: Read, E: Write>(
+fn report<C: Clock, S: RandomSource, R: Read, E: Write>(
     alloc: Global,
     clock: &C,
+    source: &S,
     words: &[&str],
     reader: &mut R,
     errors: &mut E,
@@ -78,8 +84,9 @@ fn report<C: Clock, R: Read, E: Write>(
     let Some(command) = read_command(words) else {
         return Err(Failure::Usage);
     };
+    let keys = chosen_keys(source, command.keys)?;
     let input = read_input(alloc, reader)?;
-    let report = report_on(alloc, clock, command, input.as_str(), errors)?;
+    let report = report_on(alloc, clock, keys, command, input.as_str(), errors)?;
     Ok(report)
 }
 
@@ -110,6 +117,7 @@ fn read_both(alloc: Global, input: &str) -> Result<DividedDocuments, InputFailur
 fn report_on<C: Clock, E: Write>(
     alloc: Global,
     clock: &C,
+    keys: HashKeys,
     command: Command,
     input: &str,
     errors: &mut E,
@@ -120,19 +128,19 @@ fn report_on<C: Clock, E: Write>(
     match command.work {
         Work::Schema => {
             let documents = read_documents(alloc, input)?;
-            schema_report(alloc, clock, command, documents.as_slice(), errors)
+            schema_report(alloc, clock, keys, command, documents.as_slice(), errors)
         }
         Work::Lookups => {
             let documents = read_documents(alloc, input)?;
-            lookup_report(alloc, clock, command, documents.as_slice(), errors)
+            lookup_report(alloc, clock, keys, command, documents.as_slice(), errors)
         }
         Work::Documents => {
             let documents = read_both(alloc, input)?;
-            document_report(alloc, clock, command, &documents, errors)
+            document_report(alloc, clock, keys, command, &documents, errors)
         }
         Work::Walks => {
             let documents = read_both(alloc, input)?;
-            walk_report(alloc, clock, command, &documents, errors)
+            walk_report(alloc, clock, keys, command, &documents, errors)
         }
     }
 }

@@ -54,6 +54,7 @@ impl Drop for SchemaTimes {
 fn time_build<C: Clock>(
     alloc: Global,
     clock: &C,
+    keys: HashKeys,
     options: SchemaOptions,
     documents: &[Document],
     times: &mut Vec<u64>,
@@ -61,7 +62,7 @@ fn time_build<C: Clock>(
     ensures { OnOk result (length times.new.items ≡ length times.old.items + 1) }
 {
     let began = Instant::now(clock)?;
-    let built = built(alloc, HashKeys::FIXED, options, documents)?;
+    let built = built(alloc, keys, options, documents)?;
     push_time(clock, began, times)?;
     Ok(built)
 }
@@ -85,6 +86,7 @@ fn time_write_out<C: Clock>(
 fn time_rebuild<C: Clock>(
     alloc: Global,
     clock: &C,
+    keys: HashKeys,
     schema: &Schema,
     written: &Document,
     times: &mut Vec<u64>,
@@ -92,7 +94,7 @@ fn time_rebuild<C: Clock>(
     ensures { OnOk result (length times.new.items ≡ length times.old.items + 1) }
 {
     let began = Instant::now(clock)?;
-    let (again, _faults) = built(alloc, HashKeys::FIXED, REBUILDING, slice::from_ref(written))?;
+    let (again, _faults) = built(alloc, keys, REBUILDING, slice::from_ref(written))?;
     let is_equal = again == *schema;
     push_time(clock, began, times)?;
     Ok(is_equal)
@@ -134,16 +136,17 @@ impl SchemaTimes {
         &mut self,
         alloc: Global,
         clock: &C,
+        keys: HashKeys,
         options: SchemaOptions,
         documents: &[Document],
     ) -> Result<(), Failure>
         ensures { OnOk result ((n : ℕ) → HaveTimes n self.old → HaveTimes (n + 1) self.new) }
     {
-        let built = time_build(alloc, clock, options, documents, &mut self.build)?;
+        let built = time_build(alloc, clock, keys, options, documents, &mut self.build)?;
         let definitions = time_write_out(alloc, clock, &built.0, &mut self.write_out)?;
         let mut written = Document::new(alloc);
         written.definitions = Items::from_vec(definitions);
-        let is_equal = time_rebuild(alloc, clock, &built.0, &written, &mut self.rebuild)?;
+        let is_equal = time_rebuild(alloc, clock, keys, &built.0, &written, &mut self.rebuild)?;
         self.all_equal = self.all_equal && is_equal;
         time_free(clock, built, written, &mut self.free)
     }
@@ -153,6 +156,7 @@ impl SchemaTimes {
         &mut self,
         alloc: Global,
         clock: &C,
+        keys: HashKeys,
         command: Command,
         documents: &[Document],
         errors: &mut E,
@@ -161,7 +165,7 @@ impl SchemaTimes {
     {
         let mut progress = Progress::new(clock)?;
         for done in 0..command.repeat {
-            self.repetition(alloc, clock, command.options, documents)?;
+            self.repetition(alloc, clock, keys, command.options, documents)?;
             progress.tell(clock, errors, done + 1, command.repeat)?;
         }
         Ok(())
@@ -191,10 +195,15 @@ fn counts_text(
 }
 
 /// What is built: how many types the schema has, how many definitions are written out, and how many faults there are.
-fn counts(alloc: Global, options: SchemaOptions, documents: &[Document]) -> Result<String, Failure>
+fn counts(
+    alloc: Global,
+    keys: HashKeys,
+    options: SchemaOptions,
+    documents: &[Document],
+) -> Result<String, Failure>
     ensures { IfOk result (λ text. IsCountsText options documents.now (string_bytes text)) }
 {
-    let (schema, faults) = built(alloc, HashKeys::FIXED, options, documents)?;
+    let (schema, faults) = built(alloc, keys, options, documents)?;
     let written = schema.to_ast(alloc)?;
     let definitions = written.as_slice().len();
     let faults = faults.as_slice().len();
@@ -215,15 +224,16 @@ fn rebuilt_text(is_equal: bool) -> &'static str
 pub fn schema_report<C: Clock, E: Write>(
     alloc: Global,
     clock: &C,
+    keys: HashKeys,
     command: Command,
     documents: &[Document],
     errors: &mut E,
 ) -> Result<String, Failure>
     ensures { IfOk result (λ text. IsSchemaReport command documents.now (string_bytes text)) }
 {
-    let mut text = counts(alloc, command.options, documents)?;
+    let mut text = counts(alloc, keys, command.options, documents)?;
     let mut times = SchemaTimes::new(alloc);
-    times.take(alloc, clock, command, documents, errors)?;
+    times.take(alloc, clock, keys, command, documents, errors)?;
     text.push_str(rebuilt_text(times.all_equal))?;
     times.push_lines(alloc, &mut text)?;
     Ok(text)

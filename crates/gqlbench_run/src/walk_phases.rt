@@ -226,6 +226,7 @@ fn counts(
 pub fn walk_report<C: Clock, E: Write>(
     alloc: Global,
     clock: &C,
+    keys: HashKeys,
     command: Command,
     documents: &DividedDocuments,
     errors: &mut E,
@@ -233,12 +234,7 @@ pub fn walk_report<C: Clock, E: Write>(
     ensures { IfOk result (λ text. IsWalkReport command documents.now.schema.items documents.now.executable.items (string_bytes text)) }
 {
     let schema_documents = documents.schema.as_slice();
-    let (schema, _schema_faults) = built(
-        alloc,
-        HashKeys::FIXED,
-        command.options,
-        schema_documents,
-    )?;
+    let (schema, _schema_faults) = built(alloc, keys, command.options, schema_documents)?;
     let (document, _faults) = built_document(alloc, &schema, documents.executable.as_slice())?;
     let mut times = WalkTimes::new(alloc, &document)?;
     times.take(alloc, clock, &document, command.repeat, errors)?;

@@ -6,4 +6,6 @@ mod clocks;
 #[cfg(test)]
 mod runs;
 #[cfg(test)]
+mod sources;
+#[cfg(test)]
 mod summaries;

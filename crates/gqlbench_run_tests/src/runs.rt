@@ -1,10 +1,12 @@
-//! Runs over clocks whose readings are known.
+//! Runs over clocks whose readings are known, and over sources of random bytes that are.
 
 use crate::clocks::{SteadyClock, StoppedClock};
+use crate::sources::{EmptySource, SteadySource};
 use gqlbench_run::running::run;
 use gqltool_run::status::Status;
 use std::io::{self, Error, ErrorKind, Write};
 use std::process::Abort;
+use std::random::RandomSource;
 use std::time::Clock;
 
 /// An interface, an object type that has it, and an extension of no union. The built-in types have 35 fields.
@@ -47,9 +49,10 @@ struct Outcome<'a> {
 }
 
 /// Expects a run on these words and this input to come to this.
-fn expect<C: Clock>(
+fn expect<C: Clock, S: RandomSource>(
     rt: &(impl Abort + AllocGlobal),
     clock: &C,
+    source: &S,
     words: &[&str],
     input: &str,
     outcome: Outcome<'_>,
@@ -60,6 +63,7 @@ fn expect<C: Clock>(
     let status = run(
         rt.alloc(),
         clock,
+        source,
         words,
         &mut reader,
         &mut output,
@@ -78,11 +82,45 @@ fn refused(errors: &str) -> Outcome<'_> {
     }
 }
 
+/// Expects a run on these words over a source that gives nothing, and one on these further words over one that gives bytes,
+/// to write the same.
+fn expect_both(
+    rt: &(impl Abort + AllocGlobal),
+    words: &[&str],
+    with_random_keys: &[&str],
+    input: &str,
+    output: &str,
+) {
+    let outcome = Outcome {
+        status: Status::Done,
+        output,
+        errors: "",
+    };
+    expect(
+        rt,
+        &SteadyClock::new(7),
+        &EmptySource,
+        words,
+        input,
+        outcome,
+    );
+    let source = SteadySource::new(0x5a);
+    expect(
+        rt,
+        &SteadyClock::new(7),
+        &source,
+        with_random_keys,
+        input,
+        outcome,
+    );
+}
+
 #[test]
 fn reports(rt: HostRuntime) {
-    let rows: [(&[&str], &str); 3] = [
+    let rows: [(&[&str], &[&str], &str); 3] = [
         (
             &["schema", "3"],
+            &["schema", "--random-keys", "3"],
             "\
 15 types, 2 definitions out, 1 faults, equal when rebuilt
 schema-build   min            7 median            7 mean            7 ns
@@ -93,6 +131,7 @@ drop           min            7 median            7 mean            7 ns
         ),
         (
             &["schema", "--adopt", "+1"],
+            &["schema", "--random-keys", "--adopt", "+1"],
             "\
 16 types, 4 definitions out, 0 faults, equal when rebuilt
 schema-build   min            7 median            7 mean            7 ns
@@ -103,6 +142,7 @@ drop           min            7 median            7 mean            7 ns
         ),
         (
             &["lookups", "--ignore-builtin", "2"],
+            &["lookups", "--random-keys", "--ignore-builtin", "2"],
             "\
 38 calls of type_field, 38 found, 39 calls of is_subtype, 2 true
 type_field     min            7 median            7 mean            7 ns
@@ -110,21 +150,17 @@ is_subtype     min            7 median            7 mean            7 ns
 ",
         ),
     ];
-    for (words, output) in rows {
-        let outcome = Outcome {
-            status: Status::Done,
-            output,
-            errors: "",
-        };
-        expect(&rt, &SteadyClock::new(7), words, INPUT, outcome);
+    for (words, with_random_keys, output) in rows {
+        expect_both(&rt, words, with_random_keys, INPUT, output);
     }
 }
 
 #[test]
 fn reports_on_both_sides_of_a_division(rt: HostRuntime) {
-    let rows: [(&[&str], &str); 2] = [
+    let rows: [(&[&str], &[&str], &str); 2] = [
         (
             &["doc", "2"],
+            &["doc", "--random-keys", "2"],
             "\
 1 operations, 2 fragments, 3 faults
 doc-build      min            7 median            7 mean            7 ns
@@ -134,6 +170,7 @@ drop           min            7 median            7 mean            7 ns
         ),
         (
             &["walk", "--adopt", "3"],
+            &["walk", "--random-keys", "--adopt", "3"],
             "\
 1 operations, 2 fragments, 4 root fields, 8 fields in all
 root-walks     min            7 median            7 mean            7 ns
@@ -141,19 +178,14 @@ all-walks      min            7 median            7 mean            7 ns
 ",
         ),
     ];
-    for (words, output) in rows {
-        let outcome = Outcome {
-            status: Status::Done,
-            output,
-            errors: "",
-        };
-        expect(&rt, &SteadyClock::new(7), words, DIVIDED, outcome);
+    for (words, with_random_keys, output) in rows {
+        expect_both(&rt, words, with_random_keys, DIVIDED, output);
     }
 }
 
 #[test]
 fn words_that_are_no_command(rt: HostRuntime) {
-    let rows: [&[&str]; 9] = [
+    let rows: [&[&str]; 12] = [
         &[],
         &["schema"],
         &["schema", "0"],
@@ -161,12 +193,23 @@ fn words_that_are_no_command(rt: HostRuntime) {
         &["schema", "x"],
         &["schema", "18446744073709551616"],
         &["schema", "3", "--adopt"],
+        &["schema", "--random-keys"],
+        &["schema", "--adopt", "--random-keys", "3"],
+        &["walk", "--random-keys", "--random-keys", "3"],
         &["lookups", "--adopt", "--adopt", "3"],
         &["document", "3"],
     ];
-    let usage = "usage: gqlbench schema|lookups|doc|walk [--adopt] [--ignore-builtin] REPEAT\n";
+    let usage =
+        "usage: gqlbench schema|lookups|doc|walk [--random-keys] [--adopt] [--ignore-builtin] REPEAT (without --random-keys tables hash by fixed keys)\n";
     for words in rows {
-        expect(&rt, &StoppedClock, words, "foo", refused(usage));
+        expect(
+            &rt,
+            &StoppedClock,
+            &EmptySource,
+            words,
+            "foo",
+            refused(usage),
+        );
     }
 }
 
@@ -176,22 +219,69 @@ fn inputs_and_clocks_that_cannot_be_read(rt: HostRuntime) {
     expect(
         &rt,
         &StoppedClock,
+        &EmptySource,
         words,
         "foo",
         refused("line 1: unknown line\n"),
     );
     let words = &["walk", "1"];
-    expect(&rt, &StoppedClock, words, INPUT, refused("missing ===\n"));
+    expect(
+        &rt,
+        &StoppedClock,
+        &EmptySource,
+        words,
+        INPUT,
+        refused("missing ===\n"),
+    );
     let words = &["schema", "1"];
     let stopped = Outcome {
         status: Status::Exhausted,
         output: "",
         errors: "cannot read the clock\n",
     };
-    expect(&rt, &StoppedClock, words, INPUT, stopped);
-    expect(&rt, &StoppedClock, &["lookups", "1"], INPUT, stopped);
-    expect(&rt, &StoppedClock, &["doc", "1"], DIVIDED, stopped);
-    expect(&rt, &StoppedClock, &["walk", "1"], DIVIDED, stopped);
+    expect(&rt, &StoppedClock, &EmptySource, words, INPUT, stopped);
+    expect(
+        &rt,
+        &StoppedClock,
+        &EmptySource,
+        &["lookups", "1"],
+        INPUT,
+        stopped,
+    );
+    expect(
+        &rt,
+        &StoppedClock,
+        &EmptySource,
+        &["doc", "1"],
+        DIVIDED,
+        stopped,
+    );
+    expect(
+        &rt,
+        &StoppedClock,
+        &EmptySource,
+        &["walk", "1"],
+        DIVIDED,
+        stopped,
+    );
+}
+
+#[test]
+fn keys_that_cannot_be_drawn(rt: HostRuntime) {
+    let rows: [&[&str]; 4] = [
+        &["schema", "--random-keys", "1"],
+        &["lookups", "--random-keys", "1"],
+        &["doc", "--random-keys", "1"],
+        &["walk", "--random-keys", "1"],
+    ];
+    let not_drawn = Outcome {
+        status: Status::Exhausted,
+        output: "",
+        errors: "cannot draw random keys\n",
+    };
+    for words in rows {
+        expect(&rt, &StoppedClock, &EmptySource, words, "foo", not_drawn);
+    }
 }
 
 #[test]
@@ -206,7 +296,7 @@ is_subtype     min   3000000000 median   3000000000 mean   3000000000 ns
         errors: "1 of 2 repetitions\n2 of 2 repetitions\n",
     };
     let clock = SteadyClock::new(3_000_000_000);
-    expect(&rt, &clock, &["lookups", "2"], "", lookups);
+    expect(&rt, &clock, &EmptySource, &["lookups", "2"], "", lookups);
 }
 
 /// A writer that takes nothing.
@@ -230,6 +320,7 @@ fn writers_that_take_nothing(rt: HostRuntime) {
     let status = run(
         rt.alloc(),
         &SteadyClock::new(7),
+        &EmptySource,
         &["schema", "1"],
         &mut reader,
         &mut FullWriter,

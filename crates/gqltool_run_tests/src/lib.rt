@@ -4,6 +4,8 @@
 #[cfg(test)]
 mod failures;
 #[cfg(test)]
+mod hash_keys;
+#[cfg(test)]
 mod many_extensions;
 #[cfg(test)]
 mod streams;

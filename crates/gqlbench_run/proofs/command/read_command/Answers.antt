@@ -21,11 +21,11 @@ no_command words rest options work repeat first last none = λ command are.
     ap (λ (ws : List (Bor (List ℕ))). last_word [] (texts_of ws)) (first ∙ ap (λ (r : List (Bor (List ℕ))). work ∷ r) last)
     ∙ ap (last_word work.now) (map-append (λ (word : Bor (List ℕ)). word.now) options (repeat ∷ []))
     ∙ last_word-append work.now (texts_of options) repeat.now in
-    let said : last_word [] (texts_of words) ≡ are.repeat = ap (last_word []) are.are ∙ last_word-append (work_word command.work) are.options are.repeat in
+    let said : last_word [] (texts_of words) ≡ are.repeat = ap (last_word []) are.are ∙ last_word-append (work_word command.work) are.choices are.repeat in
     none command.repeat (subst (λ (word : List ℕ). IsRepeat word command.repeat) (sym said ∙ same) are.times)
 
 pub returns-in_err-read_repeat : goal.returns-in_err-read_repeat
 returns-in_err-read_repeat c =
     let words = c.args.words.now in
-    rw c.from_residual-in_err-read_repeat.ensures (no_command words c.in_ok-work.rest.now c.in_ok-repeat.options.now c.in_ok-work.work.now c.in_ok-repeat.repeat.now
+    rw c.from_residual-in_err-read_repeat.ensures (no_command words c.in_ok-work.rest.now c.in_ok-repeat.choices.now c.in_ok-work.work.now c.in_ok-repeat.repeat.now
     c.in_ok-work.ensures.cases.0 c.in_ok-repeat.ensures.cases.0 c.in_err-read_repeat.ensures)
