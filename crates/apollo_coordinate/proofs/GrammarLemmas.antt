@@ -1,10 +1,11 @@
 -- What the marks of a text say of its form, and that a refused text is outside the grammar.
-use Rattle.std.proofs.Common.{◌≡◌, ◌≢◌, ◌<◌, ◌++◌, ℕ, List, [], ◌∷◌, codes, refl, sym, ap, subst, ◌∙◌, inl, inr, arith}
+use Rattle.std.proofs.Common.{◌≡◌, ◌≢◌, ◌<◌, ◌++◌, ℕ, List, [], ◌∷◌, true, false, not, nat_eq, codes, refl, sym, ap, subst, ◌∙◌, inl, inr, arith}
+use Rattle.std.specs.Cmp.Lexicographic.{pointwise}
 use Rattle.std.proofs.lemmas.List.Elements.{All-weaker, All-append, All-cons}
 use Rattle.graphql_nodes.specs.NameSyntax.{IsName, IsNameStart, IsNameContinue}
 use Rattle.graphql_nodes.proofs.Comparisons.{head_same, tail_same}
 use Rattle.apollo_coordinate.specs.CoordinateText.{IsTypeText, IsAttributeText, IsArgumentText, IsFieldArgumentText, IsDirectiveText, IsDirectiveArgumentText, IsCoordinateText}
-use Rattle.apollo_coordinate.specs.Refusals.{Lacks, IsCut, IsNoName, IsNoNames, IsNoAttribute, IsNoDirective, IsNoArgument, IsNoPair, IsNoArgumentOf, IsNoFieldArgument, IsNoDirectiveArgument}
+use Rattle.apollo_coordinate.specs.Refusals.{Lacks, IsCut, IsNoNames, IsNoAttribute, IsNoDirective, IsNoArgument, IsNoPair, IsNoArgumentOf, IsNoFieldArgument, IsNoDirectiveArgument}
 use Rattle.apollo_coordinate.specs.declared.parse_error.SchemaCoordinateParseError.{SchemaCoordinateParseError}
 use Rattle.apollo_coordinate.specs.declared.parse_error.SchemaCoordinateParseError.TheVariants.{InvalidFormat}
 use Rattle.apollo_coordinate.proofs.MarkLemmas.{no_cut, one_cut}
@@ -130,14 +131,11 @@ pub no_names : (ty a : List ℕ) (e : SchemaCoordinateParseError) → IsNoNames 
 no_names ty a e (inl first) name other = first.0 name
 no_names ty a e (inr second) name other = second.1.0 other
 
-pub no_parts : (ty a : List ℕ) (e : SchemaCoordinateParseError) → Lacks 46 ty → IsNoNames ty a e → IsAttributeText (ty ++ (codes "." ++ a)) → ⊥
-no_parts ty a e lacks none form =
-    let same = one_cut 46 ty a form.0 form.1 lacks (name_lacks 46 point form.0 form.3) form.2 in
-    no_names ty a e none (subst IsName (sym same.0) form.3) (subst IsName (sym same.1) form.4)
-
 pub no_attribute : (t : List ℕ) (e : SchemaCoordinateParseError) → IsNoAttribute t e → IsAttributeText t → ⊥
 no_attribute t e (inl none) form = attribute_cut t form none.0
-no_attribute t e (inr parts) form = no_parts parts.0 parts.1 e parts.2.0 parts.3 (subst IsAttributeText parts.2.1 form)
+no_attribute t e (inr parts) form =
+    let same = one_cut 46 parts.0 parts.1 form.0 form.1 parts.2.0 (name_lacks 46 point form.0 form.3) (sym parts.2.1 ∙ form.2) in
+    no_names parts.0 parts.1 e parts.3 (subst IsName (sym same.0) form.3) (subst IsName (sym same.1) form.4)
 
 pub no_directive : (t : List ℕ) (e : SchemaCoordinateParseError) → IsNoDirective t e → IsDirectiveText t → ⊥
 no_directive t e (inl none) form = none.0 form.0 form.1
@@ -149,22 +147,19 @@ no_argument a e (inr found) name =
     found.3.0 (subst IsName (one_cut 58 a (codes ")") found.0 (codes ")") (name_lacks 58 colon a name) found.1 found.2).0 name)
 
 -- of what stands round the first `(`
-pub no_pair : (IsHead : List ℕ → Type 0) (IsNoHead : List ℕ → SchemaCoordinateParseError → Type 0)
-    → ((h : List ℕ) → IsHead h → Lacks 40 h) → ((h : List ℕ) (e : SchemaCoordinateParseError) → IsNoHead h e → IsHead h → ⊥)
-    → (head more : List ℕ) (e : SchemaCoordinateParseError) → Lacks 40 head → IsNoPair IsHead IsNoHead head more e → IsArgumentText IsHead (head ++ (codes "(" ++ more)) → ⊥
-no_pair IsHead IsNoHead lacks refuses head more e none (inl first) form =
-    let same = one_cut 40 head more form.0 (form.1 ++ codes ":)") none (lacks form.0 form.3) form.2 in
-    refuses head e first (subst IsHead (sym same.0) form.3)
-no_pair IsHead IsNoHead lacks refuses head more e none (inr second) form =
-    let same = one_cut 40 head more form.0 (form.1 ++ codes ":)") none (lacks form.0 form.3) form.2 in
-    no_argument form.1 e (subst (λ (m : List ℕ). IsNoArgument m e) same.1 second.1) form.4
+no_pair : (IsHead : List ℕ → Type 0) (IsNoHead : List ℕ → SchemaCoordinateParseError → Type 0) → ((h : List ℕ) (e : SchemaCoordinateParseError) → IsNoHead h e → IsHead h → ⊥)
+    → (head a : List ℕ) (e : SchemaCoordinateParseError) → IsNoPair IsHead IsNoHead head (a ++ codes ":)") e → IsHead head → IsName a → ⊥
+no_pair IsHead IsNoHead refuses head a e (inl first) form name = refuses head e first form
+no_pair IsHead IsNoHead refuses head a e (inr second) form name = no_argument a e second.1 name
 
-pub no_argument_of : (IsHead : List ℕ → Type 0) (IsNoHead : List ℕ → SchemaCoordinateParseError → Type 0)
+no_argument_of : (IsHead : List ℕ → Type 0) (IsNoHead : List ℕ → SchemaCoordinateParseError → Type 0)
     → ((h : List ℕ) → IsHead h → Lacks 40 h) → ((h : List ℕ) (e : SchemaCoordinateParseError) → IsNoHead h e → IsHead h → ⊥)
     → (t : List ℕ) (e : SchemaCoordinateParseError) → IsNoArgumentOf IsHead IsNoHead t e → IsArgumentText IsHead t → ⊥
 no_argument_of IsHead IsNoHead lacks refuses t e (inl none) form = argument_cut IsHead t form none.0
 no_argument_of IsHead IsNoHead lacks refuses t e (inr parts) form =
-    no_pair IsHead IsNoHead lacks refuses parts.0 parts.1 e parts.2.0 parts.3 (subst (IsArgumentText IsHead) parts.2.1 form)
+    let same = one_cut 40 parts.0 parts.1 form.0 (form.1 ++ codes ":)") parts.2.0 (lacks form.0 form.3) (sym parts.2.1 ∙ form.2) in
+    let none = subst (λ (rest : List ℕ). IsNoPair IsHead IsNoHead parts.0 rest e) same.1 parts.3 in
+    no_pair IsHead IsNoHead refuses parts.0 form.1 e none (subst IsHead (sym same.0) form.3) form.4
 
 pub no_field_argument : (t : List ℕ) (e : SchemaCoordinateParseError) → IsNoFieldArgument t e → IsFieldArgumentText t → ⊥
 no_field_argument = no_argument_of IsAttributeText IsNoAttribute attribute_lacks no_attribute
@@ -172,36 +167,15 @@ no_field_argument = no_argument_of IsAttributeText IsNoAttribute attribute_lacks
 pub no_directive_argument : (t : List ℕ) (e : SchemaCoordinateParseError) → IsNoDirectiveArgument t e → IsDirectiveArgumentText t → ⊥
 no_directive_argument = no_argument_of IsDirectiveText IsNoDirective directive_lacks no_directive
 
--- what the form of a text's marks refuses is outside the grammar
-abbrev pub NotAt : List ℕ → Type 0
-NotAt t = (d : List ℕ) → t ≢ codes "@" ++ d
-
-cut_lacks : (mark : ℕ) (t front back : List ℕ) → IsCut mark t front back → Lacks mark t → ⊥
+-- a text that is cut at a mark has it
+pub cut_lacks : (mark : ℕ) (t front back : List ℕ) → IsCut mark t front back → Lacks mark t → ⊥
 cut_lacks mark t front back cut lacks = no_cut mark front back (subst (Lacks mark) cut.1 lacks)
-
-pub outside_directive_argument : (t d head more : List ℕ) (e : SchemaCoordinateParseError) → t ≡ codes "@" ++ d → IsCut 40 t head more → IsNoPair IsDirectiveText IsNoDirective head more e → IsCoordinateText t → ⊥
-outside_directive_argument t d head more e at cut none text =
-    no_pair IsDirectiveText IsNoDirective directive_lacks no_directive head more e cut.0 none
-    (subst IsDirectiveArgumentText cut.1 (only_directive_argument t (d, at) (cut_lacks 40 t head more cut) text))
-
-pub outside_directive : (t d : List ℕ) (e : SchemaCoordinateParseError) → t ≡ codes "@" ++ d → Lacks 40 t → IsNoDirective t e → IsCoordinateText t → ⊥
-outside_directive t d e at lacks none text = no_directive t e none (only_directive t (d, at) lacks text)
-
-pub outside_field_argument : (t head more : List ℕ) (e : SchemaCoordinateParseError) → NotAt t → IsCut 40 t head more → IsNoPair IsAttributeText IsNoAttribute head more e → IsCoordinateText t → ⊥
-outside_field_argument t head more e never cut none text =
-    no_pair IsAttributeText IsNoAttribute attribute_lacks no_attribute head more e cut.0 none
-    (subst IsFieldArgumentText cut.1 (only_field_argument t (λ at. never at.0 at.1) (cut_lacks 40 t head more cut) text))
-
-pub outside_attribute : (t ty a : List ℕ) (e : SchemaCoordinateParseError) → NotAt t → Lacks 40 t → IsCut 46 t ty a → IsNoNames ty a e → IsCoordinateText t → ⊥
-outside_attribute t ty a e never lacks cut none text =
-    no_parts ty a e cut.0 none (subst IsAttributeText cut.1 (only_attribute t (λ at. never at.0 at.1) lacks (cut_lacks 46 t ty a cut) text))
-
-pub outside_type : (t : List ℕ) (e : SchemaCoordinateParseError) → NotAt t → Lacks 40 t → Lacks 46 t → IsNoName t e → IsCoordinateText t → ⊥
-outside_type t e never lacks none refused text = refused.0 (only_type t (λ at. never at.0 at.1) lacks none text)
 
 -- a text without a `:`, or with something else than `)` after the first, is no argument
 pub no_colon : (t : List ℕ) → Lacks 58 t → IsNoArgument t InvalidFormat
 no_colon t lacks = inl (λ a before same. no_cut 58 a (codes ")") (subst (Lacks 58) same lacks), refl)
 
-pub other_end : (t front back : List ℕ) → IsCut 58 t front back → back ≢ codes ")" → IsNoArgument t InvalidFormat
-other_end t front back cut other = inl (λ a before same. other (one_cut 58 front back a (codes ")") cut.0 before (sym cut.1 ∙ same)).1, refl)
+pub other_end : (t front back : List ℕ) → IsCut 58 t front back → true ≡ not (pointwise nat_eq back (codes ")")) → IsNoArgument t InvalidFormat
+other_end t front back cut other =
+    let Differs : List ℕ → Type 0 = λ end. true ≡ not (pointwise nat_eq end (codes ")")) in
+    inl (λ a before same. let differs : true ≡ false = subst Differs (one_cut 58 front back a (codes ")") cut.0 before (sym cut.1 ∙ same)).1 other in cc, refl)

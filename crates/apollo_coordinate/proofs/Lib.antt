@@ -1,5 +1,5 @@
 pub mod GrammarLemmas
 pub mod LookupEquality
 pub mod MarkLemmas
-pub mod PassedErrors
+pub mod RefusalLemmas
 pub mod TextLemmas

@@ -1,5 +1,6 @@
 pub mod BareLookups
 pub mod CoordinateLookups
 pub mod CoordinateText
+pub mod Parts
 pub mod Readings
 pub mod Refusals

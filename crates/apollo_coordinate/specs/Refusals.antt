@@ -1,7 +1,6 @@
 -- Why a text is no coordinate. A text is read from the left: at the marks first, and then part by part.
 use Rattle.std.specs.Prelude.{◌≡◌, ◌≢◌, ◌⊎◌, ◌++◌, ◌==◌, ℕ, List, [], ◌∷◌, None, All, codes, if◌then◌else◌}
 use Rattle.graphql_nodes.specs.NameSyntax.{IsName}
-use Rattle.graphql_nodes.specs.NameView.{NameView}
 use Rattle.graphql_nodes.specs.declared.name.NameError.{NameError}
 use Rattle.graphql_nodes.specs.declared.name.NameError.TheVariants as names
 use Rattle.apollo_coordinate.specs.declared.parse_error.SchemaCoordinateParseError.{SchemaCoordinateParseError}
@@ -25,10 +24,6 @@ Lacks mark t = All (λ b. b ≢ mark) t
 -- the first such mark of the text stands between the two
 abbrev pub IsCut : ℕ → List ℕ → List ℕ → List ℕ → Type 0
 IsCut mark t front back = Lacks mark front × (t ≡ front ++ mark ∷ back)
-
--- the part as a name, at no place
-abbrev pub IsPart : List ℕ → NameView → Type 0
-IsPart part n = (n ≡ record { text = part; location = None }) × IsName part
 
 -- the part is no name, and the error carries it, at no place
 abbrev pub IsNoName : List ℕ → SchemaCoordinateParseError → Type 0

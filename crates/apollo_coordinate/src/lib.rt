@@ -6,8 +6,10 @@ pub mod laws;
 pub mod lookup_answers;
 mod lookups;
 pub mod parse_error;
+mod parts;
 mod printing;
 mod reading;
+mod refusal;
 
 pub use crate::coordinates::{
     DirectiveArgumentCoordinate, DirectiveCoordinate, FieldArgumentCoordinate, SchemaCoordinate,

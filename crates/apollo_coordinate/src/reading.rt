@@ -1,12 +1,12 @@
 //! Coordinates from texts: the Schema Coordinates RFC of GraphQL.
 //!
-//! A text is cut at its marks in place, and only then are its parts made names, from the left: a text that is read takes
-//! memory for its names alone. A refusal frees the names made before it. `InvalidName` takes memory for a copy of what it
-//! carries, `InvalidFormat` for none. [`SchemaCoordinate::from_str`] first copies the part that is no name, if it was for such
-//! a part that the form refused the text; it frees that copy, and then copies the text.
-ghost use Rattle.std.specs.Prelude.{◌≡◌, ◌≢◌, ◌++◌, ◌<◌, ℕ, List, IfOk, IfErr, MatchOption, OnOk, codes};
-ghost use Rattle.apollo_coordinate.specs.CoordinateText.{IsCoordinateText, IsAttributeText, IsDirectiveText, Says};
-ghost use Rattle.apollo_coordinate.specs.Refusals.{WhenRefused, Lacks, IsCut, IsPart, IsNoName, IsNoNames, IsNoAttribute, IsNoDirective, IsNoArgument, IsNoPair, IsNoFieldArgument, IsNoDirectiveArgument, IsNoCoordinate, IsLastRefusal, without_at};
+//! A text is first read into its parts, in place. Only if all of it is of the form are they made names, from the left: a text
+//! that is read takes memory for its names alone. A refused text takes memory for the one text that `InvalidName` carries,
+//! and for `InvalidFormat` none.
+ghost use Rattle.std.specs.Prelude.{◌≡◌, IfOk, IfErr, OnOk};
+ghost use Rattle.apollo_coordinate.specs.CoordinateText.{IsCoordinateText, Says};
+ghost use Rattle.apollo_coordinate.specs.Parts.{attribute_of, field_argument_of, directive_argument_of, coordinate_of};
+ghost use Rattle.apollo_coordinate.specs.Refusals.{WhenRefused, IsNoName, IsNoAttribute, IsNoDirective, IsNoFieldArgument, IsNoDirectiveArgument, IsNoCoordinate};
 ghost use Rattle.apollo_coordinate.specs.declared.coordinates.SchemaCoordinate.TheVariants as any;
 
 use crate::coordinates::{
@@ -14,90 +14,65 @@ use crate::coordinates::{
     TypeAttributeCoordinate, TypeCoordinate,
 };
 use crate::parse_error::SchemaCoordinateParseError;
-use graphql_nodes::collections::text::Text;
-use graphql_nodes::name::{InvalidNameError, Name};
-use std::alloc::Global;
+use crate::parts::{
+    AttributeParts, DirectiveArgumentParts, FieldArgumentParts, Parts, directive_part, name_part,
+};
+use graphql_nodes::name::Name;
+use std::alloc::{AllocError, Global};
 
-/// What stands before and after the first such mark.
-fn cut<'a>(text: &'a str, mark: char) -> Option<(&'a str, &'a str)>
-    requires { mark < 128 }
-    ensures { MatchOption result (Lacks mark text.now) (λ parts. IsCut mark text.now parts.0.now parts.1.now) }
-{
-    text.split_once(mark)
-}
-
-/// What follows the `@` of a text that begins with one.
-fn after_at<'a>(text: &'a str) -> Option<&'a str>
-    ensures { MatchOption result ((rest : List ℕ) → text.now ≢ codes "@" ++ rest) (λ rest. text.now ≡ codes "@" ++ rest.now) }
-{
-    text.strip_prefix("@")
-}
-
-/// The name that a part is.
-fn read_name(alloc: Global, part: &str) -> Result<Name, SchemaCoordinateParseError>
-    ensures name { IfOk result (IsPart part.now) }
-    ensures refused { IfErr result (WhenRefused (IsNoName part.now)) }
-{
-    match Name::new(alloc, part) {
-        Ok(name) => Ok(name),
-        Err(error) => Err(error.into()),
+impl<'a> AttributeParts<'a> {
+    /// The coordinate, with its names at no place.
+    fn into_coordinate(self, alloc: Global) -> Result<TypeAttributeCoordinate, AllocError>
+        ensures { IfOk result (λ c. c ≡ attribute_of self.entry) }
+    {
+        Ok(TypeAttributeCoordinate {
+            ty: Name::new_unchecked(alloc, self.ty)?,
+            attribute: Name::new_unchecked(alloc, self.attribute)?,
+        })
     }
 }
 
-/// The argument of `argument:)`.
-fn read_argument(alloc: Global, text: &str) -> Result<Name, SchemaCoordinateParseError>
-    ensures name { IfOk result (λ n. IsPart n.text n × (text.now ≡ n.text ++ codes ":)")) }
-    ensures refused { IfErr result (WhenRefused (IsNoArgument text.now)) }
-{
-    let Some((argument, rest)) = cut(text, ':') else {
-        return Err(SchemaCoordinateParseError::InvalidFormat);
-    };
-    if rest != ")" {
-        return Err(SchemaCoordinateParseError::InvalidFormat);
+impl<'a> FieldArgumentParts<'a> {
+    /// The coordinate, with its names at no place.
+    fn into_coordinate(self, alloc: Global) -> Result<FieldArgumentCoordinate, AllocError>
+        ensures { IfOk result (λ c. c ≡ field_argument_of self.entry) }
+    {
+        let field = self.field.into_coordinate(alloc)?;
+        Ok(field.with_argument(Name::new_unchecked(alloc, self.argument)?))
     }
-    read_name(alloc, argument)
 }
 
-/// The coordinate of an attribute, from its two parts.
-fn read_attribute(
-    alloc: Global,
-    ty: &str,
-    attribute: &str,
-) -> Result<TypeAttributeCoordinate, SchemaCoordinateParseError>
-    ensures says { IfOk result (λ c. Says (ty.now ++ (codes "." ++ attribute.now)) (any.TypeAttribute c)) }
-    ensures refused { IfErr result (WhenRefused (IsNoNames ty.now attribute.now)) }
-{
-    let ty = read_name(alloc, ty)?;
-    let attribute = read_name(alloc, attribute)?;
-    Ok(TypeAttributeCoordinate { ty, attribute })
+impl<'a> DirectiveArgumentParts<'a> {
+    /// The coordinate, with its names at no place.
+    fn into_coordinate(self, alloc: Global) -> Result<DirectiveArgumentCoordinate, AllocError>
+        ensures { IfOk result (λ c. c ≡ directive_argument_of self.entry) }
+    {
+        Ok(DirectiveArgumentCoordinate {
+            directive: Name::new_unchecked(alloc, self.directive)?,
+            argument: Name::new_unchecked(alloc, self.argument)?,
+        })
+    }
 }
 
-/// The coordinate of an argument of a field, from what stands before and after the `(`.
-fn read_field_argument(
-    alloc: Global,
-    field: &str,
-    argument: &str,
-) -> Result<FieldArgumentCoordinate, SchemaCoordinateParseError>
-    ensures says { IfOk result (λ c. Says (field.now ++ (codes "(" ++ argument.now)) (any.FieldArgument c)) }
-    ensures refused { IfErr result (WhenRefused (IsNoPair IsAttributeText IsNoAttribute field.now argument.now)) }
-{
-    let field = TypeAttributeCoordinate::from_str(alloc, field)?;
-    let argument = read_argument(alloc, argument)?;
-    Ok(field.with_argument(argument))
-}
-
-/// The coordinate of an argument of a directive, from what stands before and after the `(`.
-fn read_directive_argument(
-    alloc: Global,
-    directive: &str,
-    argument: &str,
-) -> Result<DirectiveArgumentCoordinate, SchemaCoordinateParseError>
-    ensures says { IfOk result (λ c. Says (directive.now ++ (codes "(" ++ argument.now)) (any.DirectiveArgument c)) }
-    ensures refused { IfErr result (WhenRefused (IsNoPair IsDirectiveText IsNoDirective directive.now argument.now)) }
-{
-    let directive = DirectiveCoordinate::from_str(alloc, directive)?;
-    let argument = read_argument(alloc, argument)?;
-    Ok(directive.with_argument(argument))
+impl<'a> Parts<'a> {
+    /// The coordinate, with its names at no place.
+    fn into_coordinate(self, alloc: Global) -> Result<SchemaCoordinate, AllocError>
+        ensures { IfOk result (λ c. c ≡ coordinate_of self.entry) }
+    {
+        Ok(match self {
+            Parts::Ty(ty) => TypeCoordinate {
+                ty: Name::new_unchecked(alloc, ty)?,
+            }
+            .into(),
+            Parts::TypeAttribute(parts) => parts.into_coordinate(alloc)?.into(),
+            Parts::FieldArgument(parts) => parts.into_coordinate(alloc)?.into(),
+            Parts::Directive(directive) => DirectiveCoordinate {
+                directive: Name::new_unchecked(alloc, directive)?,
+            }
+            .into(),
+            Parts::DirectiveArgument(parts) => parts.into_coordinate(alloc)?.into(),
+        })
+    }
 }
 
 impl TypeCoordinate {
@@ -109,8 +84,12 @@ impl TypeCoordinate {
         ensures says { IfOk result (λ c. Says text.now (any.Ty c)) }
         ensures refused { IfErr result (WhenRefused (IsNoName text.now)) }
     {
-        let ty = read_name(alloc, text)?;
-        Ok(TypeCoordinate { ty })
+        match name_part(text) {
+            Ok(ty) => Ok(TypeCoordinate {
+                ty: Name::new_unchecked(alloc, ty)?,
+            }),
+            Err(refusal) => Err(refusal.into_error(alloc)),
+        }
     }
 }
 
@@ -128,9 +107,9 @@ impl TypeAttributeCoordinate {
         ensures says { IfOk result (λ c. Says text.now (any.TypeAttribute c)) }
         ensures refused { IfErr result (WhenRefused (IsNoAttribute text.now)) }
     {
-        match cut(text, '.') {
-            Some((ty, attribute)) => read_attribute(alloc, ty, attribute),
-            None => Err(SchemaCoordinateParseError::InvalidFormat),
+        match AttributeParts::read(text) {
+            Ok(attribute) => Ok(attribute.into_coordinate(alloc)?),
+            Err(refusal) => Err(refusal.into_error(alloc)),
         }
     }
 }
@@ -150,9 +129,9 @@ impl FieldArgumentCoordinate {
         ensures says { IfOk result (λ c. Says text.now (any.FieldArgument c)) }
         ensures refused { IfErr result (WhenRefused (IsNoFieldArgument text.now)) }
     {
-        match cut(text, '(') {
-            Some((field, argument)) => read_field_argument(alloc, field, argument),
-            None => Err(SchemaCoordinateParseError::InvalidFormat),
+        match FieldArgumentParts::read(text) {
+            Ok(argument) => Ok(argument.into_coordinate(alloc)?),
+            Err(refusal) => Err(refusal.into_error(alloc)),
         }
     }
 }
@@ -171,11 +150,12 @@ impl DirectiveCoordinate {
         ensures says { IfOk result (λ c. Says text.now (any.Directive c)) }
         ensures refused { IfErr result (WhenRefused (IsNoDirective text.now)) }
     {
-        let Some(name) = after_at(text) else {
-            return Err(SchemaCoordinateParseError::InvalidFormat);
-        };
-        let directive = read_name(alloc, name)?;
-        Ok(DirectiveCoordinate { directive })
+        match directive_part(text) {
+            Ok(directive) => Ok(DirectiveCoordinate {
+                directive: Name::new_unchecked(alloc, directive)?,
+            }),
+            Err(refusal) => Err(refusal.into_error(alloc)),
+        }
     }
 }
 
@@ -194,50 +174,10 @@ impl DirectiveArgumentCoordinate {
         ensures says { IfOk result (λ c. Says text.now (any.DirectiveArgument c)) }
         ensures refused { IfErr result (WhenRefused (IsNoDirectiveArgument text.now)) }
     {
-        match cut(text, '(') {
-            Some((directive, argument)) => read_directive_argument(alloc, directive, argument),
-            None => Err(SchemaCoordinateParseError::InvalidFormat),
+        match DirectiveArgumentParts::read(text) {
+            Ok(argument) => Ok(argument.into_coordinate(alloc)?),
+            Err(refusal) => Err(refusal.into_error(alloc)),
         }
-    }
-}
-
-/// The coordinate that a text says, by the one form that its marks allow.
-fn read_by_marks(alloc: Global, text: &str) -> Result<SchemaCoordinate, SchemaCoordinateParseError>
-    ensures says { IfOk result (Says text.now) }
-    ensures outside { IfErr result (WhenRefused (λ _. IsCoordinateText text.now → ⊥)) }
-{
-    match (after_at(text), cut(text, '(')) {
-        (Some(_), Some((directive, argument))) => {
-            Ok(read_directive_argument(alloc, directive, argument)?.into())
-        }
-        (Some(_), None) => Ok(DirectiveCoordinate::from_str(alloc, text)?.into()),
-        (None, Some((field, argument))) => {
-            Ok(read_field_argument(alloc, field, argument)?.into())
-        }
-        (None, None) => match cut(text, '.') {
-            Some((ty, attribute)) => Ok(read_attribute(alloc, ty, attribute)?.into()),
-            None => Ok(TypeCoordinate::from_str(alloc, text)?.into()),
-        },
-    }
-}
-
-/// The text without the `@` that it may begin with.
-fn without_at<'a>(text: &'a str) -> &'a str
-    ensures { result.now ≡ without_at text.now }
-{
-    after_at(text).unwrap_or(text)
-}
-
-/// Why a text is read by no form: what the last one would read is no name.
-fn last_refusal(alloc: Global, text: &str) -> SchemaCoordinateParseError
-    ensures { WhenRefused (IsLastRefusal text.now) result }
-{
-    match Text::from_str(alloc, without_at(text)) {
-        Ok(name) => SchemaCoordinateParseError::InvalidName(InvalidNameError {
-            name,
-            location: None,
-        }),
-        Err(error) => error.into(),
     }
 }
 
@@ -255,10 +195,9 @@ impl SchemaCoordinate {
         ensures grammar { OnOk result (IsCoordinateText text.now) }
         ensures refused { IfErr result (WhenRefused (IsNoCoordinate text.now)) }
     {
-        match read_by_marks(alloc, text) {
-            Ok(coordinate) => Ok(coordinate),
-            Err(SchemaCoordinateParseError::Memory) => Err(SchemaCoordinateParseError::Memory),
-            Err(_) => Err(last_refusal(alloc, text)),
+        match Parts::read(text) {
+            Ok(parts) => Ok(parts.into_coordinate(alloc)?),
+            Err(refusal) => Err(refusal.into_error(alloc)),
         }
     }
 }

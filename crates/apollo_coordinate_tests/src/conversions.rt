@@ -5,7 +5,7 @@ use apollo_coordinate::coordinates::{
     TypeAttributeCoordinate, TypeCoordinate,
 };
 use apollo_coordinate::parse_error::SchemaCoordinateParseError;
-use graphql_nodes::name::Name;
+use graphql_nodes::name::{Name, NameError};
 use likeness::{are_alike, is_copied, is_printed};
 use std::alloc::{AllocError, Global};
 use std::fmt::Display;
@@ -165,4 +165,33 @@ fn refusals_are_copied(rt: HostRuntime) {
     assert!(rt; is_copy_printed(alloc, &format, "invalid schema coordinate"));
     let memory = SchemaCoordinateParseError::Memory;
     assert!(rt; is_copy_printed(alloc, &memory, "out of memory"));
+}
+
+/// A name, whose errors are those of coordinates.
+fn part(alloc: Global, text: &str) -> Result<Name, SchemaCoordinateParseError> {
+    Ok(Name::new(alloc, text)?)
+}
+
+/// The same, where a name is refused.
+fn refused_part(alloc: Global, text: &str) -> Option<SchemaCoordinateParseError> {
+    match Name::new(alloc, text) {
+        Err(NameError::Invalid(error)) => Some(error.into()),
+        _ => None,
+    }
+}
+
+/// Whether there is such an error, and it prints so.
+fn is_error_printed(alloc: Global, error: Option<SchemaCoordinateParseError>, text: &str) -> bool {
+    match error {
+        Some(error) => is_printed(alloc, &error, text),
+        None => false,
+    }
+}
+
+#[test]
+fn errors_of_names_are_errors_of_coordinates(rt: HostRuntime) {
+    let alloc = rt.alloc();
+    let text = "`9` is not a valid GraphQL name";
+    assert!(rt; is_error_printed(alloc, part(alloc, "9").err(), text));
+    assert!(rt; is_error_printed(alloc, refused_part(alloc, "9"), text));
 }

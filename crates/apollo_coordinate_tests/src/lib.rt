@@ -8,4 +8,6 @@ mod equality;
 #[cfg(test)]
 mod lookups;
 #[cfg(test)]
+mod memory;
+#[cfg(test)]
 mod reading;

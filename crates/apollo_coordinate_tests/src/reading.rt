@@ -22,7 +22,7 @@ fn push_read<T: Display + Drop>(
 
 /// How an input is read.
 #[derive(Clone, Copy)]
-enum Form {
+pub(crate) enum Form {
     Ty,
     Attribute,
     FieldArgument,
@@ -31,7 +31,13 @@ enum Form {
     Any,
 }
 
-fn push_form(alloc: Global, text: &mut String, form: Form, input: &str) -> Result<(), AllocError> {
+/// Adds what an input was read as.
+pub(crate) fn push_form(
+    alloc: Global,
+    text: &mut String,
+    form: Form,
+    input: &str,
+) -> Result<(), AllocError> {
     match form {
         Form::Ty => push_read(text, TypeCoordinate::from_str(alloc, input)),
         Form::Attribute => push_read(text, TypeAttributeCoordinate::from_str(alloc, input)),

@@ -28,7 +28,7 @@ pub struct ExecutableDocument {
 impl ExecutableDocument {
     ghost use Rattle.apollo_executable.specs.EmptyDocument.{empty_document};
 
-    /// A document without operations, fragments and sources.
+    /// A document without operations, fragments and sources, whose tables hash by fixed keys.
     pub fn new(alloc: Global) -> ExecutableDocument
         ensures { result ≡ empty_document }
     {

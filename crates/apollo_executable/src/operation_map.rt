@@ -46,7 +46,7 @@ impl OperationMap {
     ghost use Rattle.apollo_executable.specs.Requests.{requested, IsRefusal};
     ghost use Rattle.apollo_executable.specs.OperationLending.{LendsOperation, LendsNode};
 
-    /// No operation.
+    /// No operation, in a map that hashes by fixed keys.
     pub fn new(alloc: Global) -> OperationMap
         ensures { result ≡ no_operations }
     {
@@ -63,8 +63,8 @@ impl OperationMap {
         }
     }
 
-    /// One operation, under its name if it has one. After want of memory, which an anonymous operation doesn't meet, the error
-    /// is the operation.
+    /// One operation, under its name if it has one, in a map that hashes by fixed keys. After want of memory, which an anonymous
+    /// operation doesn't meet, the error is the operation.
     pub fn from_one(
         alloc: Global,
         operation: Node<Operation>,

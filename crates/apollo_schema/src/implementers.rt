@@ -40,7 +40,7 @@ impl Clone for Implementers {
 }
 
 impl Implementers {
-    /// No name.
+    /// No name, in sets that hash by fixed keys.
     pub fn new(alloc: Global) -> Implementers
         ensures { result ≡ no_implementers }
     {

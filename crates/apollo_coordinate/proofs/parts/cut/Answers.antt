@@ -3,7 +3,7 @@ use Rattle.std.proofs.Common.{◌≡◌, ◌<◌, ℕ, List, Option, None, Some,
 use Rattle.std.specs.List.{position_or_len, before_first, after_first}
 use Rattle.apollo_coordinate.specs.Refusals.{Lacks, IsCut}
 use Rattle.apollo_coordinate.proofs.MarkLemmas.{lacks_all, first_cut}
-use Rattle.apollo_coordinate.proofs.reading.cut.Goals as goal
+use Rattle.apollo_coordinate.proofs.parts.cut.Goals as goal
 
 parts : (mark : ℕ) (t : List ℕ) (r : Option (Bor (List ℕ) × Bor (List ℕ)))
     → MatchOption r (position_or_len (λ b. nat_eq b mark) t ≡ length t) (λ x. (x.0.now ≡ before_first (λ b. nat_eq b mark) t) × (x.1.now ≡ after_first (λ b. nat_eq b mark) t) × (position_or_len (λ b. nat_eq b mark) t < length t))

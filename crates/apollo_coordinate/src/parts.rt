@@ -1,0 +1,208 @@
+//! The parts of a text, cut at its marks and checked in place: nothing here takes memory.
+ghost use Rattle.std.specs.Prelude.{◌≡◌, ◌≢◌, ◌++◌, ◌<◌, ℕ, List, IfOk, IfErr, OnOk, IsOk, MatchOption, codes};
+ghost use Rattle.graphql_nodes.specs.NameSyntax.{IsName};
+ghost use Rattle.apollo_coordinate.specs.CoordinateText.{IsCoordinateText, IsAttributeText, IsDirectiveText, Says};
+ghost use Rattle.apollo_coordinate.specs.Parts.{name_of, attribute_of, field_argument_of, directive_argument_of, coordinate_of, error_of};
+ghost use Rattle.apollo_coordinate.specs.Refusals.{Lacks, IsCut, IsNoName, IsNoNames, IsNoAttribute, IsNoDirective, IsNoArgument, IsNoPair, IsNoFieldArgument, IsNoDirectiveArgument, IsNoCoordinate, without_at};
+ghost use Rattle.apollo_coordinate.specs.declared.coordinates.SchemaCoordinate.TheVariants as any;
+
+use crate::refusal::Refusal;
+use graphql_nodes::name::Name;
+
+/// The parts of `Type.attribute`.
+#[derive(Clone, Copy)]
+pub(crate) struct AttributeParts<'a> {
+    pub ty: &'a str,
+    pub attribute: &'a str,
+}
+
+/// The parts of `Type.field(argument:)`.
+#[derive(Clone, Copy)]
+pub(crate) struct FieldArgumentParts<'a> {
+    pub field: AttributeParts<'a>,
+    pub argument: &'a str,
+}
+
+/// The parts of `@directive(argument:)`.
+#[derive(Clone, Copy)]
+pub(crate) struct DirectiveArgumentParts<'a> {
+    pub directive: &'a str,
+    pub argument: &'a str,
+}
+
+/// The parts of a text of any form.
+#[derive(Clone, Copy)]
+pub(crate) enum Parts<'a> {
+    Ty(&'a str),
+    TypeAttribute(AttributeParts<'a>),
+    FieldArgument(FieldArgumentParts<'a>),
+    Directive(&'a str),
+    DirectiveArgument(DirectiveArgumentParts<'a>),
+}
+
+/// What stands before and after the first such mark.
+fn cut<'a>(text: &'a str, mark: char) -> Option<(&'a str, &'a str)>
+    requires { mark < 128 }
+    ensures { MatchOption result (Lacks mark text.now) (λ parts. IsCut mark text.now parts.0.now parts.1.now) }
+{
+    text.split_once(mark)
+}
+
+/// What follows the `@` of a text that begins with one.
+fn after_at<'a>(text: &'a str) -> Option<&'a str>
+    ensures { MatchOption result ((rest : List ℕ) → text.now ≢ codes "@" ++ rest) (λ rest. text.now ≡ codes "@" ++ rest.now) }
+{
+    text.strip_prefix("@")
+}
+
+/// The text without the `@` that it may begin with.
+fn without_at<'a>(text: &'a str) -> &'a str
+    ensures { result.now ≡ without_at text.now }
+{
+    after_at(text).unwrap_or(text)
+}
+
+/// The part, if it is a name.
+pub(crate) fn name_part<'a>(part: &'a str) -> Result<&'a str, Refusal<'a>>
+    ensures name { IfOk result (λ name. (name.now ≡ part.now) × IsName part.now) }
+    ensures refused { IfErr result (λ refusal. IsNoName part.now (error_of refusal)) }
+{
+    if Name::is_valid_syntax(part) {
+        Ok(part)
+    } else {
+        Err(Refusal::Name(part))
+    }
+}
+
+/// The argument of `argument:)`.
+fn argument_part<'a>(text: &'a str) -> Result<&'a str, Refusal<'a>>
+    ensures name { IfOk result (λ name. (text.now ≡ name.now ++ codes ":)") × IsName name.now) }
+    ensures refused { IfErr result (λ refusal. IsNoArgument text.now (error_of refusal)) }
+{
+    let Some((argument, rest)) = cut(text, ':') else {
+        return Err(Refusal::Format);
+    };
+    if rest != ")" {
+        return Err(Refusal::Format);
+    }
+    name_part(argument)
+}
+
+/// The directive of `@directive`.
+pub(crate) fn directive_part<'a>(text: &'a str) -> Result<&'a str, Refusal<'a>>
+    ensures says { IfOk result (λ name. Says text.now (any.Directive (record { directive = name_of name.now }))) }
+    ensures refused { IfErr result (λ refusal. IsNoDirective text.now (error_of refusal)) }
+{
+    match after_at(text) {
+        Some(directive) => name_part(directive),
+        None => Err(Refusal::Format),
+    }
+}
+
+impl<'a> AttributeParts<'a> {
+    /// The parts that stand before and after the `.`.
+    fn new(ty: &'a str, attribute: &'a str) -> Result<AttributeParts<'a>, Refusal<'a>>
+        ensures says { IfOk result (λ parts. Says (ty.now ++ (codes "." ++ attribute.now)) (any.TypeAttribute (attribute_of parts))) }
+        ensures refused { IfErr result (λ refusal. IsNoNames ty.now attribute.now (error_of refusal)) }
+    {
+        Ok(AttributeParts {
+            ty: name_part(ty)?,
+            attribute: name_part(attribute)?,
+        })
+    }
+
+    /// The parts of a text of this form.
+    pub(crate) fn read(text: &'a str) -> Result<AttributeParts<'a>, Refusal<'a>>
+        ensures says { IfOk result (λ parts. Says text.now (any.TypeAttribute (attribute_of parts))) }
+        ensures refused { IfErr result (λ refusal. IsNoAttribute text.now (error_of refusal)) }
+    {
+        match cut(text, '.') {
+            Some((ty, attribute)) => AttributeParts::new(ty, attribute),
+            None => Err(Refusal::Format),
+        }
+    }
+}
+
+impl<'a> FieldArgumentParts<'a> {
+    /// The parts of what stands before and after the `(`.
+    fn new(field: &'a str, argument: &'a str) -> Result<FieldArgumentParts<'a>, Refusal<'a>>
+        ensures says { IfOk result (λ parts. Says (field.now ++ (codes "(" ++ argument.now)) (any.FieldArgument (field_argument_of parts))) }
+        ensures refused { IfErr result (λ refusal. IsNoPair IsAttributeText IsNoAttribute field.now argument.now (error_of refusal)) }
+    {
+        Ok(FieldArgumentParts {
+            field: AttributeParts::read(field)?,
+            argument: argument_part(argument)?,
+        })
+    }
+
+    /// The parts of a text of this form.
+    pub(crate) fn read(text: &'a str) -> Result<FieldArgumentParts<'a>, Refusal<'a>>
+        ensures says { IfOk result (λ parts. Says text.now (any.FieldArgument (field_argument_of parts))) }
+        ensures refused { IfErr result (λ refusal. IsNoFieldArgument text.now (error_of refusal)) }
+    {
+        match cut(text, '(') {
+            Some((field, argument)) => FieldArgumentParts::new(field, argument),
+            None => Err(Refusal::Format),
+        }
+    }
+}
+
+impl<'a> DirectiveArgumentParts<'a> {
+    /// The parts of what stands before and after the `(`.
+    fn new(directive: &'a str, argument: &'a str) -> Result<DirectiveArgumentParts<'a>, Refusal<'a>>
+        ensures says { IfOk result (λ parts. Says (directive.now ++ (codes "(" ++ argument.now)) (any.DirectiveArgument (directive_argument_of parts))) }
+        ensures refused { IfErr result (λ refusal. IsNoPair IsDirectiveText IsNoDirective directive.now argument.now (error_of refusal)) }
+    {
+        Ok(DirectiveArgumentParts {
+            directive: directive_part(directive)?,
+            argument: argument_part(argument)?,
+        })
+    }
+
+    /// The parts of a text of this form.
+    pub(crate) fn read(text: &'a str) -> Result<DirectiveArgumentParts<'a>, Refusal<'a>>
+        ensures says { IfOk result (λ parts. Says text.now (any.DirectiveArgument (directive_argument_of parts))) }
+        ensures refused { IfErr result (λ refusal. IsNoDirectiveArgument text.now (error_of refusal)) }
+    {
+        match cut(text, '(') {
+            Some((directive, argument)) => DirectiveArgumentParts::new(directive, argument),
+            None => Err(Refusal::Format),
+        }
+    }
+}
+
+impl<'a> Parts<'a> {
+    /// The parts by the one form that the text's marks allow.
+    fn by_marks(text: &'a str) -> Result<Parts<'a>, Refusal<'a>>
+        ensures says { IfOk result (λ parts. Says text.now (coordinate_of parts)) }
+        ensures complete { IsCoordinateText text.now → IsOk result }
+    {
+        Ok(match (after_at(text), cut(text, '(')) {
+            (Some(_), Some((directive, argument))) => {
+                Parts::DirectiveArgument(DirectiveArgumentParts::new(directive, argument)?)
+            }
+            (Some(directive), None) => Parts::Directive(name_part(directive)?),
+            (None, Some((field, argument))) => {
+                Parts::FieldArgument(FieldArgumentParts::new(field, argument)?)
+            }
+            (None, None) => match cut(text, '.') {
+                Some((ty, attribute)) => {
+                    Parts::TypeAttribute(AttributeParts::new(ty, attribute)?)
+                }
+                None => Parts::Ty(name_part(text)?),
+            },
+        })
+    }
+
+    /// The parts of a text of any form. A text of none is refused whole, but for the `@` that it may begin with.
+    pub(crate) fn read(text: &'a str) -> Result<Parts<'a>, Refusal<'a>>
+        ensures says { IfOk result (λ parts. Says text.now (coordinate_of parts)) }
+        ensures grammar { OnOk result (IsCoordinateText text.now) }
+        ensures refused { IfErr result (λ refusal. IsNoCoordinate text.now (error_of refusal)) }
+    {
+        match Parts::by_marks(text) {
+            Ok(parts) => Ok(parts),
+            Err(_) => Err(Refusal::Name(without_at(text))),
+        }
+    }
+}
