@@ -1,6 +1,7 @@
 pub mod DirectiveLemmas
 pub mod HeldLemmas
 pub mod JoiningLemmas
+pub mod KeptNames
 pub mod KindParts
 pub mod NameTables
 pub mod PartNames

@@ -52,7 +52,25 @@ pub fn fold_directives(
     Ok(())
 }
 
-/// Adds a name, or notes the fault where it is there.
+/// Notes the fault of a name that is there.
+fn note_listed(
+    set: &KeySet<ComponentName>,
+    name: &Name,
+    collection: Collection,
+    type_name: &Name,
+    errors: &mut Items<Fault>,
+) -> Result<(), AllocError>
+    ensures { OnOk result (FindsIn distinct_names set.now (λ ks. collision_at collection type_name.now (map (λ k. k.name) ks) (name.now, name.now.location)) errors.old errors.new) }
+{
+    let component = ComponentName::with_origin(name.clone()?, ComponentOrigin::Definition);
+    if let Some(kept) = set.get(&component) {
+        let error = collection.collision(&kept.name, type_name)?;
+        errors.push((name.location(), error))?;
+    }
+    Ok(())
+}
+
+/// Adds a name, or notes the fault where it is there. It looks once where the name is new.
 fn fold_name(
     set: &mut KeySet<ComponentName>,
     name: &Name,
@@ -65,15 +83,11 @@ fn fold_name(
     ensures faults { OnOk result (FindsIn distinct_names set.old (λ ks. collision_at collection type_name.now (map (λ k. k.name) ks) (name.now, name.now.location)) errors.old errors.new) }
 {
     let component = ComponentName::with_origin(name.clone()?, origin);
-    match set.get(&component) {
-        Some(kept) => {
-            let error = collection.collision(&kept.name, type_name)?;
-            errors.push((name.location(), error))?;
-        }
-        None => {
-            set.insert(component)?;
-        }
+    let is_new = set.insert(component)?;
+    if is_new {
+        return Ok(());
     }
+    note_listed(set, name, collection, type_name, errors)?;
     Ok(())
 }
 

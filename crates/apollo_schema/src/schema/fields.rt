@@ -1,7 +1,7 @@
 //! Fields by name, with the meta-fields: GraphQL specification of October 2021, sections 3.6, 3.7, 4.1 and 4.2.
 ghost use Rattle.std.specs.Prelude.{◌≡◌, None, Some, IfOk, IfErr, OnErr};
 ghost use Rattle.std.specs.Option.{option_copied};
-ghost use Rattle.apollo_schema.specs.Lookups.{declared_field, has_typename, is_query_root, meta_field, field_at, IsMissingIn};
+ghost use Rattle.apollo_schema.specs.Lookups.{declared_field, has_typename, is_query_root, meta_field, field_in, field_at, IsMissingIn};
 
 use super::Schema;
 use crate::field_lookup_error::FieldLookupError;
@@ -69,9 +69,26 @@ impl Schema {
         None
     }
 
-    /// The field of this name in the type of this name: the one that an object or interface type declares, or else a
+    /// The field of this name in a type, which has this name: the one that an object or interface type declares, or else a
     /// meta-field. Object, interface and union types have `__typename`, and the type whose name is that of the root of
     /// queries has `__schema` and `__type`, whatever its kind.
+    ///
+    /// Whoever looks up many fields of one type looks the type up once.
+    pub fn field_of<'schema>(
+        &'schema self,
+        type_name: &Name,
+        ty: &'schema ExtendedType,
+        field_name: &Name,
+    ) -> Option<&'schema Component<FieldDefinition>>
+        ensures { option_copied result ≡ field_in self.now type_name.now field_name.now ty.now }
+    {
+        match declared_field(ty, field_name) {
+            Some(field) => Some(field),
+            None => self.meta_field(type_name, ty, field_name),
+        }
+    }
+
+    /// The field of this name in the type of this name, as [`field_of`](Schema::field_of) finds it there.
     ///
     /// `NoSuchType` comes where the schema has no type of the name; `NoSuchField` where it has, with its key and the type.
     pub fn type_field<'schema>(
@@ -86,10 +103,7 @@ impl Schema {
         let Some((key, ty)) = self.types.get_key_value(type_name) else {
             return Err(FieldLookupError::NoSuchType);
         };
-        if let Some(field) = declared_field(ty, field_name) {
-            return Ok(field);
-        }
-        match self.meta_field(type_name, ty, field_name) {
+        match self.field_of(type_name, ty, field_name) {
             Some(field) => Ok(field),
             None => Err(FieldLookupError::NoSuchField(key, ty)),
         }

@@ -1,4 +1,4 @@
-use Rattle.std.proofs.Common.{◌≡◌, Bool, true, false, List, Option, Some, None, is_some, [], ◌∷◌, ◌++◌, refl, sym, ap, ◌∙◌, true≢false, rules}
+use Rattle.std.proofs.Common.{◌≡◌, true, false, List, Option, Some, None, is_some, [], ◌∷◌, ◌++◌, refl, sym, ap, ◌∙◌, true≢false, rules}
 use Rattle.std.specs.List.{find}
 use Rattle.std.specs.Map.{lookup, lookup_key, keys_of}
 use Rattle.std.specs.Option.{option_map_or}

@@ -1,0 +1,31 @@
+use Rattle.std.proofs.Common.{◌≡◌, [], ◌∷◌, ◌++◌, map, sym, ap, ◌∙◌, rules}
+use Rattle.std.specs.List.{find}
+use Rattle.std.specs.Option.{option_map, option_map_or, option_copied}
+use Rattle.std.proofs.lemmas.List.{append-nil}
+use Rattle.graphql_nodes.specs.SameText.{same_text}
+use Rattle.apollo_component.specs.declared.component.ComponentName.{ComponentName}
+use Rattle.apollo_component.specs.declared.extension.ComponentOrigin.TheVariants as origins
+use Rattle.apollo_meaning.specs.Types.Components.{component_name, same_component_name}
+use Rattle.apollo_meaning.specs.Faults.Collisions.{collision}
+use Rattle.apollo_meaning.proofs.Faults.KeptLemmas.{found-name}
+use Rattle.apollo_folding.proofs.from_ast.folding.note_listed.Goals as goal
+use Rattle.apollo_folding.proofs.from_ast.folding.note_listed.Goals.{in-Some+in_ok-error+in_ok-push, in_default}
+
+pub returns : goal.returns
+returns c = λ ks was.
+    let n = c.args.name.now in
+    let x = component_name origins.Definition n in
+    let key : c.with_origin-component.result ≡ x = search rules in
+    let looked : find (same_text n) (map (λ (k : ComponentName). k.name) ks) ≡ option_map (λ (k : ComponentName). k.name) (option_copied c.get.result) =
+    found-name x ks ∙ ap (option_map (λ (k : ComponentName). k.name)) (sym (λ i. find (same_component_name (key i)) (was i)) ∙ sym c.get.ensures) in
+    elim c.match-get.branch [
+      | in-Some+in_ok-error+in_ok-push w ↦
+          w.errors-is
+          ∙ w.in_ok-push.ensures.ok
+          ∙ (λ i. c.args.errors.now ++ (w.location.ensures i, w.in_ok-error.ensures i) ∷ [])
+          ∙ ap (λ o. c.args.errors.now ++ option_map_or (λ kept. (n.location, collision c.args.collection kept c.args.type_name.now) ∷ []) o []) (sym (looked ∙ ap (λ o. option_map (λ (k : ComponentName). k.name) (option_copied o)) w.in-Some.is))
+      | in_default w ↦
+          w.errors-is
+          ∙ sym (append-nil c.args.errors.now)
+          ∙ ap (λ o. c.args.errors.now ++ option_map_or (λ kept. (n.location, collision c.args.collection kept c.args.type_name.now) ∷ []) o []) (sym (looked ∙ ap (λ o. option_map (λ (k : ComponentName). k.name) (option_copied o)) w.in_default.is))
+    ]
