@@ -146,6 +146,21 @@ fn push_lookup(
     }
 }
 
+/// Whether a field is found alike in a type by its name and in the type at hand.
+fn is_found_alike(schema: &Schema, ty: &Name, field: &Name) -> bool {
+    let Some(known) = schema.types.get(ty) else {
+        return true;
+    };
+    match (
+        schema.field_of(ty, known, field),
+        schema.type_field(ty, field),
+    ) {
+        (Some(at_hand), Ok(found)) => at_hand == found,
+        (None, Err(_)) => true,
+        _ => false,
+    }
+}
+
 fn push_lookup_of(
     alloc: Global,
     text: &mut String,
@@ -155,6 +170,9 @@ fn push_lookup_of(
     let (ty, field) = names;
     let ty = Name::new_unchecked(alloc, ty)?;
     let field = Name::new_unchecked(alloc, field)?;
+    if !is_found_alike(schema, &ty, &field) {
+        text.push_str("otherwise at hand: ")?;
+    }
     push_lookup(text, schema, &ty, &field)
 }
 
