@@ -1,7 +1,7 @@
 -- A typed tree, erased and elaborated again, gives itself and no fault. So of typed sets from one type no two are erased to one
 -- list.
-use Rattle.std.proofs.Common.{◌≡◌, ◌∙◌, ap, sym, subst, refl, List, [], ◌∷◌, ◌++◌, map, Option, Some, None, option_map, Ok}
-use Rattle.std.specs.List.{AllByRecursion, filter_map, flat_map, cons_option}
+use Rattle.std.proofs.Common.{◌≡◌, ◌∙◌, ap, sym, subst, refl, List, [], ◌∷◌, ◌++◌, map, Option, Some, option_map, Ok}
+use Rattle.std.specs.List.{AllByRecursion, cons_option}
 use Rattle.graphql_nodes.specs.NameView.{NameView}
 use Rattle.graphql_nodes.specs.NodeView.{NodeView}
 use Rattle.graphql_nodes.specs.declared.source.SourceSpan.{SourceSpan}
@@ -22,7 +22,7 @@ use Rattle.apollo_executable.specs.declared.selection.Field.{Field, roll-Field}
 use Rattle.apollo_executable.specs.declared.selection.InlineFragment.{InlineFragment, roll-InlineFragment}
 use Rattle.apollo_executable.specs.declared.selection.SelectionSet.{SelectionSet, roll-SelectionSet}
 use Rattle.apollo_executable.proofs.Erasing.{set_erases}
-use Rattle.apollo_elaboration.specs.Typable.{Fault, child_of, is_bare, typable_field, typable_fragment, if_typable}
+use Rattle.apollo_elaboration.specs.Typable.{child_of, is_bare, typable_field, if_typable}
 use Rattle.apollo_elaboration.specs.Stripped.{in_place_of, stripped}
 use Rattle.apollo_elaboration.specs.Elaborated.{set_of, field_of, fragment_of, elaborated_selection, elaborated_field, elaborated_fragment, elaborated}
 use Rattle.apollo_elaboration.specs.SelectionFaults.{FS, FN, faults_step, field_faults_step, fragment_faults_step, found, inside, faults_of, faults_of_selection, faults_of_field, faults_of_fragment}

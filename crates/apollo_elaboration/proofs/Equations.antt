@@ -19,7 +19,7 @@ use Rattle.apollo_executable.specs.declared.selection.Field.{Field, roll-Field}
 use Rattle.apollo_executable.specs.declared.selection.InlineFragment.{InlineFragment, roll-InlineFragment}
 use Rattle.apollo_executable.specs.declared.selection.SelectionSet.{SelectionSet}
 use Rattle.apollo_elaboration.specs.Typable.{Fault, Wrong, child_of, is_bare, typable_field, typable_fragment, if_typable}
-use Rattle.apollo_elaboration.specs.SelectionFaults.{FS, FN, faults_step, field_faults_step, fragment_faults_step, faults_below, found, inside, faults_of, faults_of_selection, faults_of_field, faults_of_fragment}
+use Rattle.apollo_elaboration.specs.SelectionFaults.{FS, FN, faults_step, field_faults_step, fragment_faults_step, faults_below, found, inside, faults_of, faults_of_field, faults_of_fragment}
 use Rattle.apollo_elaboration.specs.Elaborated.{TS, TF, TI, selection_step, field_step, fragment_step, typed_below, set_of, field_of, fragment_of, elaborated_selection, elaborated_field, elaborated_fragment, elaborated}
 use Rattle.apollo_elaboration.specs.Within.{faults_within}
 use Rattle.apollo_elaboration.specs.declared.selection_path.SelectionPath.{SelectionPath}

@@ -1,6 +1,6 @@
 -- What elaboration gives, erased, is the untyped list stripped.
 use Rattle.std.proofs.Common.{◌≡◌, ◌∙◌, ap, sym, subst, refl, List, [], ◌∷◌, map, Option, Some, None, option_map, Result, Ok, Err}
-use Rattle.std.specs.List.{filter_map, cons_option}
+use Rattle.std.specs.List.{cons_option}
 use Rattle.graphql_nodes.specs.NameView.{NameView}
 use Rattle.graphql_nodes.specs.NodeView.{NodeView}
 use Rattle.graphql_ast.specs.declared.directive.Argument.{Argument}

@@ -1,8 +1,5 @@
 -- Equality of paths and of the errors of a build.
-use Rattle.std.proofs.Common.{◌≡◌, Bool, ◌&&◌, refl, ap}
-use Rattle.graphql_nodes.specs.NameView.{NameView}
-use Rattle.graphql_nodes.specs.SameText.{same_text}
-use Rattle.graphql_nodes.specs.Comparing.{bare_name}
+use Rattle.std.proofs.Common.{refl, ap}
 use Rattle.graphql_nodes.proofs.Comparisons.{Compares, At, of_part, and_then, made, pairs, names, texts, lists, options}
 use Rattle.graphql_ast.proofs.TypeSystemEquality.{operation_types}
 use Rattle.apollo_elaboration.specs.BareErrors.{bare_root, bare_path, bare_build_error}

@@ -2,5 +2,4 @@ pub mod AgainLemmas
 pub mod Equations
 pub mod ErasureLemmas
 pub mod ErrorEquality
-mod KeyLemmas
 pub mod TypingLemmas

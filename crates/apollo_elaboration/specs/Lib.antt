@@ -1,6 +1,7 @@
 pub mod BareErrors
 pub mod Elaborated
 pub mod FieldSets
+pub mod Parents
 pub mod PathTexts
 pub mod SelectionFaults
 pub mod Stripped

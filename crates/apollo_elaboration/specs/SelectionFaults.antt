@@ -1,17 +1,15 @@
 -- The faults of an untyped list in a type, in order: for each typable selection those of its subselections in its child type,
 -- where the path is longer by the response key of a field; for each other one what is wrong with it. GraphQL specification of
 -- October 2021, sections 2.4 to 2.8.
-use Rattle.std.specs.Prelude.{List, [], ◌∷◌, ◌++◌, Option, None, Result, Ok, Err}
+use Rattle.std.specs.Prelude.{List, [], ◌∷◌, ◌++◌, Option, Result, Ok, Err}
 use Rattle.std.specs.List.{flat_map}
 use Rattle.graphql_nodes.specs.NameView.{NameView}
-use Rattle.graphql_nodes.specs.NodeView.{NodeView}
 use Rattle.graphql_nodes.specs.declared.source.SourceSpan.{SourceSpan}
 use Rattle.graphql_ast.specs.declared.selection.Selection.{Selection}
 use Rattle.graphql_ast.specs.declared.selection.Selection.TheOpen.{Selection-F, Field-F, InlineFragment-F}
 use Rattle.graphql_ast.specs.declared.selection.Selection.TheFolds as folds
 use Rattle.graphql_ast.specs.declared.selection.Field.{Field}
 use Rattle.graphql_ast.specs.declared.selection.InlineFragment.{InlineFragment}
-use Rattle.graphql_ast.specs.declared.type_system.FieldDefinition.{FieldDefinition}
 use Rattle.apollo_schema.specs.declared.schema.Schema.{Schema}
 use Rattle.apollo_executable.specs.SelectionParts.{key_of}
 use Rattle.apollo_elaboration.specs.Typable.{Fault, Wrong, child_of, is_bare, typable_field, typable_fragment}

@@ -1,6 +1,6 @@
 -- Which untyped selections are typable in a type, over a schema value or without a schema, and what is wrong with the others:
 -- GraphQL specification of October 2021, sections 2.4 to 2.8. The leaf types are those of sections 3.5 and 3.9.
-use Rattle.std.specs.Prelude.{◌==◌, Bool, true, false, List, [], ◌∷◌, ◌++◌, length, Option, None, Some, is_some, Result, Ok, Err, codes}
+use Rattle.std.specs.Prelude.{◌==◌, Bool, true, false, List, [], ◌∷◌, length, Option, None, Some, is_some, Result, Ok, Err, codes}
 use Rattle.graphql_nodes.specs.NameView.{NameView}
 use Rattle.graphql_nodes.specs.NodeView.{NodeView}
 use Rattle.graphql_nodes.specs.SameText.{same_text}

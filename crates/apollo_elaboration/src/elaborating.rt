@@ -2,16 +2,18 @@
 //!
 //! Input nodes are borrowed. The path of a field is pushed and popped; its keys are copied for a fault alone. Arguments and
 //! directives are shared with the input.
-ghost use Rattle.std.specs.Prelude.{◌≡◌, ◌++◌, [], IfOk, OnOk};
-ghost use Rattle.std.specs.List.{cons_option};
+ghost use Rattle.std.specs.Prelude.{◌≡◌, ◌++◌, [], IfOk, OnOk, option_map};
+ghost use Rattle.std.specs.List.{cons_option, filter_map};
 ghost use Rattle.std.specs.Option.{option_copied};
 ghost use Rattle.apollo_executable.specs.SelectionParts.{key_of};
 ghost use Rattle.apollo_elaboration.specs.Elaborated as spec;
 ghost use Rattle.apollo_elaboration.specs.Elaborated.{elaborated, elaborated_selection, elaborated_field, elaborated_fragment};
+ghost use Rattle.apollo_elaboration.specs.Stripped.{in_place_of};
 ghost use Rattle.apollo_elaboration.specs.SelectionFaults.{faults_of, faults_of_selection, faults_of_field, faults_of_fragment};
 ghost use Rattle.apollo_elaboration.specs.Within.{faults_within};
 
 use crate::build_error::Fault;
+use crate::parent::Parent;
 use crate::selection_path::SelectionPath;
 use crate::typable::{typable_field, typable_fragment};
 use apollo_executable::selection::{
@@ -90,7 +92,7 @@ fn fragment_over(
     })
 }
 
-/// The typable selections from this type, typed. The faults of the others are noted.
+/// The set of the typable selections from this type, typed. The faults of the others are noted.
 #[cycle(elaborate)]
 pub(crate) fn elaborate_set(
     alloc: Global,
@@ -104,50 +106,67 @@ pub(crate) fn elaborate_set(
     ensures faults { OnOk result (faults.new ≡ faults.old ++ faults_of (option_copied schema.entry) ty.now path.old selections.now) }
     ensures path { path.new ≡ path.old }
 {
-    let mut kept = Items::new(alloc);
-    kept.reserve_exact(selections.len())?;
-    for selection in selections {
-        let typed = elaborate_selection(alloc, schema, ty, selection, path, faults)?;
-        push_kept(&mut kept, typed)?;
+    if selections.is_empty() {
+        return Ok(SelectionSet {
+            ty: ty.clone()?,
+            selections: Items::new(alloc),
+        });
     }
+    let parent = Parent::new(schema, ty);
+    let kept = elaborate_all(alloc, &parent, selections, path, faults)?;
     Ok(SelectionSet {
         ty: ty.clone()?,
         selections: kept,
     })
 }
 
+/// The typable selections from this type, typed. The faults of the others are noted.
+#[cycle(elaborate)]
+fn elaborate_all(
+    alloc: Global,
+    parent: &Parent,
+    selections: &[ast::Selection],
+    path: &mut SelectionPath,
+    faults: &mut Items<Fault>,
+) -> Result<Items<Selection>, AllocError>
+    ensures kept { IfOk result (λ kept. kept ≡ filter_map (elaborated_selection (option_copied parent.now.schema) parent.now.ty.now) selections.now) }
+    ensures faults { OnOk result (faults.new ≡ faults.old ++ faults_of (option_copied parent.now.schema) parent.now.ty.now path.old selections.now) }
+    ensures path { path.new ≡ path.old }
+{
+    let mut kept = Items::new(alloc);
+    kept.reserve_exact(selections.len())?;
+    for selection in selections {
+        let typed = elaborate_selection(alloc, parent, selection, path, faults)?;
+        push_kept(&mut kept, typed)?;
+    }
+    Ok(kept)
+}
+
 /// The selection, typed, if it is typable.
 #[cycle(elaborate)]
 fn elaborate_selection(
     alloc: Global,
-    schema: Option<&Schema>,
-    ty: &NamedType,
+    parent: &Parent,
     selection: &ast::Selection,
     path: &mut SelectionPath,
     faults: &mut Items<Fault>,
 ) -> Result<Option<Selection>, AllocError>
-    ensures typed { IfOk result (λ kept. kept ≡ elaborated_selection (option_copied schema.entry) ty.now selection.now) }
-    ensures faults { OnOk result (faults.new ≡ faults.old ++ faults_of_selection (option_copied schema.entry) ty.now path.old selection.now) }
+    ensures typed { IfOk result (λ kept. kept ≡ elaborated_selection (option_copied parent.now.schema) parent.now.ty.now selection.now) }
+    ensures faults { OnOk result (faults.new ≡ faults.old ++ faults_of_selection (option_copied parent.now.schema) parent.now.ty.now path.old selection.now) }
     ensures path { path.new ≡ path.old }
 {
     match selection {
         ast::Selection::Field(node) => {
-            match elaborate_field(alloc, schema, ty, node, path, faults)? {
-                None => Ok(None),
-                Some(field) => Ok(Some(Selection::Field(node.same_location(alloc, field)?))),
-            }
+            let field = elaborate_field(alloc, parent, node, path, faults)?;
+            Ok(field.map(Selection::Field))
         }
         ast::Selection::FragmentSpread(node) => {
             let spread = typed_spread(node)?;
             Ok(Some(Selection::FragmentSpread(node.same_location(alloc, spread)?)))
         }
         ast::Selection::InlineFragment(node) => {
-            match elaborate_fragment(alloc, schema, ty, node, path, faults)? {
-                None => Ok(None),
-                Some(inline) => Ok(Some(Selection::InlineFragment(node.same_location(
-                    alloc, inline,
-                )?))),
-            }
+            let inline = elaborate_fragment(alloc, parent, node, path, faults)?;
+            Ok(inline.map(Selection::InlineFragment))
         }
     }
 }
@@ -156,18 +175,17 @@ fn elaborate_selection(
 #[cycle(elaborate)]
 fn elaborate_field(
     alloc: Global,
-    schema: Option<&Schema>,
-    ty: &NamedType,
+    parent: &Parent,
     node: &Node<ast::Field>,
     path: &mut SelectionPath,
     faults: &mut Items<Fault>,
-) -> Result<Option<Field>, AllocError>
-    ensures typed { IfOk result (λ kept. kept ≡ elaborated_field (option_copied schema.entry) ty.now node.now.value) }
-    ensures faults { OnOk result (faults.new ≡ faults.old ++ faults_of_field (option_copied schema.entry) ty.now node.now.location path.old node.now.value) }
+) -> Result<Option<Node<Field>>, AllocError>
+    ensures typed { IfOk result (λ kept. kept ≡ option_map (in_place_of node.now) (elaborated_field (option_copied parent.now.schema) parent.now.ty.now node.now.value)) }
+    ensures faults { OnOk result (faults.new ≡ faults.old ++ faults_of_field (option_copied parent.now.schema) parent.now.ty.now node.now.location path.old node.now.value) }
     ensures path { path.new ≡ path.old }
 {
     path.nested_fields.push(response_key(node).clone()?)?;
-    let typed = elaborate_within(alloc, schema, ty, node, path, faults);
+    let typed = elaborate_within(alloc, parent, node, path, faults);
     path.nested_fields.pop();
     let field = typed?;
     Ok(field)
@@ -177,57 +195,57 @@ fn elaborate_field(
 #[cycle(elaborate)]
 fn elaborate_within(
     alloc: Global,
-    schema: Option<&Schema>,
-    ty: &NamedType,
+    parent: &Parent,
     node: &Node<ast::Field>,
     path: &mut SelectionPath,
     faults: &mut Items<Fault>,
-) -> Result<Option<Field>, AllocError>
-    ensures typed { IfOk result (λ kept. kept ≡ elaborated_field (option_copied schema.entry) ty.now node.now.value) }
-    ensures faults { OnOk result (faults.new ≡ faults.old ++ faults_within (option_copied schema.entry) ty.now node.now.location path.old node.now.value) }
+) -> Result<Option<Node<Field>>, AllocError>
+    ensures typed { IfOk result (λ kept. kept ≡ option_map (in_place_of node.now) (elaborated_field (option_copied parent.now.schema) parent.now.ty.now node.now.value)) }
+    ensures faults { OnOk result (faults.new ≡ faults.old ++ faults_within (option_copied parent.now.schema) parent.now.ty.now node.now.location path.old node.now.value) }
     ensures path { path.new ≡ path.old }
 {
-    let Some(definition) = typable_field(alloc, schema, ty, node, path, faults)? else {
+    let Some(definition) = typable_field(alloc, parent, node, path, faults)? else {
         return Ok(None);
     };
     let child = definition.ty.inner_named_type();
     let set = elaborate_set(
         alloc,
-        schema,
+        parent.schema,
         child,
         node.selection_set.as_slice(),
         path,
         faults,
     )?;
     let field = field_over(node, definition, set)?;
-    Ok(Some(field))
+    let typed = node.same_location(alloc, field)?;
+    Ok(Some(typed))
 }
 
 /// The inline fragment, typed, if it is typable.
 #[cycle(elaborate)]
 fn elaborate_fragment(
     alloc: Global,
-    schema: Option<&Schema>,
-    ty: &NamedType,
+    parent: &Parent,
     node: &Node<ast::InlineFragment>,
     path: &mut SelectionPath,
     faults: &mut Items<Fault>,
-) -> Result<Option<InlineFragment>, AllocError>
-    ensures typed { IfOk result (λ kept. kept ≡ elaborated_fragment (option_copied schema.entry) ty.now node.now.value) }
-    ensures faults { OnOk result (faults.new ≡ faults.old ++ faults_of_fragment (option_copied schema.entry) ty.now node.now.location path.old node.now.value) }
+) -> Result<Option<Node<InlineFragment>>, AllocError>
+    ensures typed { IfOk result (λ kept. kept ≡ option_map (in_place_of node.now) (elaborated_fragment (option_copied parent.now.schema) parent.now.ty.now node.now.value)) }
+    ensures faults { OnOk result (faults.new ≡ faults.old ++ faults_of_fragment (option_copied parent.now.schema) parent.now.ty.now node.now.location path.old node.now.value) }
     ensures path { path.new ≡ path.old }
 {
-    let Some(child) = typable_fragment(schema, ty, node, path, faults)? else {
+    let Some(child) = typable_fragment(parent.schema, &*parent.ty, node, path, faults)? else {
         return Ok(None);
     };
     let set = elaborate_set(
         alloc,
-        schema,
+        parent.schema,
         child,
         node.selection_set.as_slice(),
         path,
         faults,
     )?;
     let inline = fragment_over(node, set)?;
-    Ok(Some(inline))
+    let typed = node.same_location(alloc, inline)?;
+    Ok(Some(typed))
 }

@@ -7,6 +7,7 @@ mod elaborating;
 pub mod elaboration;
 pub mod field_set;
 pub mod laws;
+mod parent;
 pub mod selection_path;
 pub mod typable;
 

@@ -8,8 +8,8 @@ ghost use Rattle.apollo_elaboration.specs.Typable as spec;
 ghost use Rattle.apollo_elaboration.specs.Typable.{leaf_at, is_bare, if_typable};
 
 use crate::build_error::{BuildError, Fault};
+use crate::parent::Parent;
 use crate::selection_path::SelectionPath;
-use apollo_schema::field_lookup_error::FieldLookupError;
 use apollo_schema::schema::Schema;
 use apollo_types::extended_type::ExtendedType;
 use graphql_ast::directive::DirectiveList;
@@ -39,27 +39,28 @@ fn unknown_field(alloc: Global, name: &Name) -> Result<Node<FieldDefinition>, Al
 /// The definition that a schema gives for a field. That a type of the schema has none is noted.
 fn defined_in(
     schema: &Schema,
-    ty: &NamedType,
+    parent: &Parent,
     name: &Name,
     path: &SelectionPath,
     faults: &mut Items<Fault>,
 ) -> Result<Option<Node<FieldDefinition>>, AllocError>
-    ensures defined { IfOk result (λ definition. definition ≡ if_typable (λ d. d) (spec.defined_in schema.now ty.now name.now)) }
-    ensures faults { OnOk result (faults.new ≡ faults.old ++ found (λ _. []) None path.now (spec.defined_in schema.now ty.now name.now)) }
+    requires over { option_copied parent.now.schema ≡ Some schema.now }
+    ensures defined { IfOk result (λ definition. definition ≡ if_typable (λ d. d) (spec.defined_in schema.now parent.now.ty.now name.now)) }
+    ensures faults { OnOk result (faults.new ≡ faults.old ++ found (λ _. []) None path.now (spec.defined_in schema.now parent.now.ty.now name.now)) }
 {
-    match schema.type_field(ty, name) {
-        Ok(component) => Ok(Some(component.node.clone()?)),
-        Err(FieldLookupError::NoSuchType) => Ok(None),
-        Err(FieldLookupError::NoSuchField(key, _)) => {
-            let error = BuildError::UndefinedField {
-                type_name: key.clone()?,
-                field_name: name.clone()?,
-                path: path.clone()?,
-            };
-            faults.push((name.location(), error))?;
-            Ok(None)
-        }
+    let Some((key, ty)) = parent.known else {
+        return Ok(None);
+    };
+    if let Some(component) = schema.field_of(parent.ty, ty, name) {
+        return Ok(Some(component.node.clone()?));
     }
+    let error = BuildError::UndefinedField {
+        type_name: key.clone()?,
+        field_name: name.clone()?,
+        path: path.clone()?,
+    };
+    faults.push((name.location(), error))?;
+    Ok(None)
 }
 
 /// The definition, if there may be subselections from its type. If that is a leaf type, this is noted.
@@ -92,15 +93,16 @@ fn unless_leaf(
 /// The definition of a field that is typable over a schema. What is wrong with another is noted.
 fn typable_in(
     schema: &Schema,
-    ty: &NamedType,
+    parent: &Parent,
     node: &Node<ast::Field>,
     path: &SelectionPath,
     faults: &mut Items<Fault>,
 ) -> Result<Option<Node<FieldDefinition>>, AllocError>
-    ensures typable { IfOk result (λ definition. definition ≡ if_typable (λ d. d) (spec.typable_field (Some schema.now) ty.now node.now.value.name (is_bare node.now.value.selection_set))) }
-    ensures faults { OnOk result (faults.new ≡ faults.old ++ found (λ _. []) node.now.location path.now (spec.typable_field (Some schema.now) ty.now node.now.value.name (is_bare node.now.value.selection_set))) }
+    requires over { option_copied parent.now.schema ≡ Some schema.now }
+    ensures typable { IfOk result (λ definition. definition ≡ if_typable (λ d. d) (spec.typable_field (Some schema.now) parent.now.ty.now node.now.value.name (is_bare node.now.value.selection_set))) }
+    ensures faults { OnOk result (faults.new ≡ faults.old ++ found (λ _. []) node.now.location path.now (spec.typable_field (Some schema.now) parent.now.ty.now node.now.value.name (is_bare node.now.value.selection_set))) }
 {
-    let Some(definition) = defined_in(schema, ty, &node.name, path, faults)? else {
+    let Some(definition) = defined_in(schema, parent, &node.name, path, faults)? else {
         return Ok(None);
     };
     if node.selection_set.is_empty() {
@@ -112,18 +114,17 @@ fn typable_in(
 /// The definition of a field that is typable in a type. What is wrong with another is noted. The error is want of memory.
 pub(crate) fn typable_field(
     alloc: Global,
-    schema: Option<&Schema>,
-    ty: &NamedType,
+    parent: &Parent,
     node: &Node<ast::Field>,
     path: &SelectionPath,
     faults: &mut Items<Fault>,
 ) -> Result<Option<Node<FieldDefinition>>, AllocError>
-    ensures typable { IfOk result (λ definition. definition ≡ if_typable (λ d. d) (spec.typable_field (option_copied schema.entry) ty.now node.now.value.name (is_bare node.now.value.selection_set))) }
-    ensures faults { OnOk result (faults.new ≡ faults.old ++ found (λ _. []) node.now.location path.now (spec.typable_field (option_copied schema.entry) ty.now node.now.value.name (is_bare node.now.value.selection_set))) }
+    ensures typable { IfOk result (λ definition. definition ≡ if_typable (λ d. d) (spec.typable_field (option_copied parent.now.schema) parent.now.ty.now node.now.value.name (is_bare node.now.value.selection_set))) }
+    ensures faults { OnOk result (faults.new ≡ faults.old ++ found (λ _. []) node.now.location path.now (spec.typable_field (option_copied parent.now.schema) parent.now.ty.now node.now.value.name (is_bare node.now.value.selection_set))) }
 {
-    match schema {
+    match parent.schema {
         None => Ok(Some(unknown_field(alloc, &node.name)?)),
-        Some(schema) => typable_in(schema, ty, node, path, faults),
+        Some(schema) => typable_in(schema, parent, node, path, faults),
     }
 }
 

@@ -1,20 +1,20 @@
-use Rattle.std.proofs.Common.{rules, arith, ◌≡◌, ◌∙◌, ◌++◌, ◌∷◌, [], ap, sym, List, Option, None, Some}
-use Rattle.std.specs.Option.{option_copied}
+use Rattle.std.proofs.Common.{rules, arith, ◌≡◌, ◌∙◌, ◌++◌, ◌∷◌, [], ap, sym, List, None, Some}
+use Rattle.std.specs.Option.{option_copied, option_map}
 use Rattle.graphql_nodes.specs.NameView.{NameView}
 use Rattle.graphql_ast.specs.TypeReferences.{inner_name}
-use Rattle.graphql_ast.specs.declared.selection.Selection.{Selection}
 use Rattle.apollo_executable.specs.SelectionParts.{key_of}
-use Rattle.apollo_elaboration.specs.Typable.{Fault, child_of, is_bare, typable_field, typable_fragment, if_typable}
-use Rattle.apollo_elaboration.specs.SelectionFaults.{found, inside, faults_of, faults_of_selection, faults_of_fragment}
+use Rattle.apollo_elaboration.specs.Typable.{Fault, child_of, typable_fragment, if_typable}
+use Rattle.apollo_elaboration.specs.SelectionFaults.{found, faults_of, faults_of_selection, faults_of_fragment}
 use Rattle.apollo_elaboration.specs.Elaborated.{elaborated_selection}
+use Rattle.apollo_elaboration.specs.Stripped.{in_place_of}
 use Rattle.apollo_elaboration.specs.Within.{faults_within}
 use Rattle.apollo_elaboration.proofs.Equations.{kept_more, all_more, field_made, field_stands_faults, fragment_made, fragment_falls_faults, fragment_stands_faults, faults-field}
 use Rattle.apollo_elaboration.proofs.elaborating.+elaborate.Goals as goal
 
 pub elaborate_field-returns-clause-faults : goal.elaborate_field-returns-clause-faults
 elaborate_field-returns-clause-faults t c =
-    let s = option_copied c.args.schema in
-    let ty = c.args.ty.now in
+    let s = option_copied c.args.parent.now.schema in
+    let ty = c.args.parent.now.ty.now in
     let path = c.args.path.now in
     let faults = c.args.faults.now in
     let place = c.args.node.now.location in
@@ -26,8 +26,8 @@ elaborate_field-returns-clause-faults t c =
 
 pub elaborate_fragment-returns-in_default-clause-faults : goal.elaborate_fragment-returns-in_default-clause-faults
 elaborate_fragment-returns-in_default-clause-faults t c =
-    let s = option_copied c.args.schema in
-    let ty = c.args.ty.now in
+    let s = option_copied c.args.parent.now.schema in
+    let ty = c.args.parent.now.ty.now in
     let path = c.args.path.now in
     let faults = c.args.faults.now in
     let place = c.args.node.now.location in
@@ -39,18 +39,19 @@ elaborate_fragment-returns-in_default-clause-faults t c =
 
 pub elaborate_fragment-returns-clause-typed : goal.elaborate_fragment-returns-clause-typed
 elaborate_fragment-returns-clause-typed t c =
-    let s = option_copied c.args.schema in
-    let ty = c.args.ty.now in
+    let s = option_copied c.args.parent.now.schema in
+    let ty = c.args.parent.now.ty.now in
     let f = c.args.node.now.value in
     let child = c.in-Some.child.now in
     let some : Some child ≡ if_typable (λ (t : NameView). t) (typable_fragment s ty f.type_condition) =
     sym (ap option_copied c.in-Some.is) ∙ c.in_ok-child.ensures.typable ∙ (λ i. if_typable (λ (t : NameView). t) (typable_fragment s ty (c.deref.ensures i).type_condition)) in
-    fragment_made s ty f c.deref-3.result.now c.as_slice.result.now child c.in_ok-set.set c.in_ok-inline.inline some c.deref-3.ensures (c.as_slice.ensures ∙ (λ i. (c.deref-2.ensures i).selection_set)) c.in_ok-set.ensures.set c.in_ok-inline.ensures
+    ap Some c.in_ok-typed.ensures
+    ∙ ap (option_map (in_place_of c.args.node.now)) (fragment_made s ty f c.deref-3.result.now c.as_slice.result.now child c.in_ok-set.set c.in_ok-inline.inline some c.deref-3.ensures (c.as_slice.ensures ∙ (λ i. (c.deref-2.ensures i).selection_set)) c.in_ok-set.ensures.set c.in_ok-inline.ensures)
 
 pub elaborate_fragment-returns-clause-faults : goal.elaborate_fragment-returns-clause-faults
 elaborate_fragment-returns-clause-faults t c =
-    let s = option_copied c.args.schema in
-    let ty = c.args.ty.now in
+    let s = option_copied c.args.parent.now.schema in
+    let ty = c.args.parent.now.ty.now in
     let path = c.args.path.now in
     let faults = c.args.faults.now in
     let place = c.args.node.now.location in
@@ -63,10 +64,10 @@ elaborate_fragment-returns-clause-faults t c =
     let below : c.as_slice.result.now ≡ f.selection_set = c.as_slice.ensures ∙ (λ i. (c.deref-2.ensures i).selection_set) in
     c.in_ok-set.ensures.faults ∙ (λ i. so_far i ++ faults_of s child path (below i)) ∙ fragment_stands_faults s ty place path f child faults some
 
-pub elaborate_set-loop-selection-preserved : goal.elaborate_set-loop-selection-preserved
-elaborate_set-loop-selection-preserved t c =
-    let s = option_copied c.args.schema in
-    let ty = c.args.ty.now in
+pub elaborate_all-loop-selection-preserved : goal.elaborate_all-loop-selection-preserved
+elaborate_all-loop-selection-preserved t c =
+    let s = option_copied c.args.parent.now.schema in
+    let ty = c.args.parent.now.ty.now in
     let xs = c.args.selections.now in
     let i = c.loop-selection.selection-index in
     let x = c.selection-item.result in
@@ -80,18 +81,19 @@ elaborate_set-loop-selection-preserved t c =
 
 pub elaborate_within-returns-clause-typed : goal.elaborate_within-returns-clause-typed
 elaborate_within-returns-clause-typed t c =
-    let s = option_copied c.args.schema in
-    let ty = c.args.ty.now in
+    let s = option_copied c.args.parent.now.schema in
+    let ty = c.args.parent.now.ty.now in
     let f = c.args.node.now.value in
     let d = c.in-Some.definition in
     let child = c.inner_named_type-child.result.now in
     let is : child ≡ child_of d = c.inner_named_type-child.ensures ∙ (λ i. inner_name (c.deref.ensures i).ty) in
-    field_made s ty f c.deref-3.result.now c.as_slice.result.now d child c.in_ok-set.set c.in_ok-field.field (sym c.in-Some.is ∙ c.in_ok-definition.ensures.typable) c.deref-3.ensures (c.as_slice.ensures ∙ (λ i. (c.deref-2.ensures i).selection_set)) is c.in_ok-set.ensures.set c.in_ok-field.ensures
+    ap Some c.in_ok-typed.ensures
+    ∙ ap (option_map (in_place_of c.args.node.now)) (field_made s ty f c.deref-3.result.now c.as_slice.result.now d child c.in_ok-set.set c.in_ok-field.field (sym c.in-Some.is ∙ c.in_ok-definition.ensures.typable) c.deref-3.ensures (c.as_slice.ensures ∙ (λ i. (c.deref-2.ensures i).selection_set)) is c.in_ok-set.ensures.set c.in_ok-field.ensures)
 
 pub elaborate_within-returns-clause-faults : goal.elaborate_within-returns-clause-faults
 elaborate_within-returns-clause-faults t c =
-    let s = option_copied c.args.schema in
-    let ty = c.args.ty.now in
+    let s = option_copied c.args.parent.now.schema in
+    let ty = c.args.parent.now.ty.now in
     let path = c.args.path.now in
     let faults = c.args.faults.now in
     let place = c.args.node.now.location in

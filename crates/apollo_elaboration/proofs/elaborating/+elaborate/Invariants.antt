@@ -5,9 +5,9 @@ use Rattle.apollo_elaboration.specs.Elaborated.{elaborated_selection}
 use Rattle.apollo_elaboration.specs.SelectionFaults.{faults_of}
 use Rattle.apollo_elaboration.proofs.elaborating.+elaborate.Given as goal
 
-abbrev pub invariant-elaborate_set-loop-selection : goal.invariant-elaborate_set-loop-selection
-invariant-elaborate_set-loop-selection l = record {
-  kept : l.kept ≡ filter_map (elaborated_selection (option_copied l.schema) l.ty) (take l.selection-index l.selections);
-  faults : l.faults ≡ l.fn.faults ++ faults_of (option_copied l.schema) l.ty l.fn.path (take l.selection-index l.selections);
+abbrev pub invariant-elaborate_all-loop-selection : goal.invariant-elaborate_all-loop-selection
+invariant-elaborate_all-loop-selection l = record {
+  kept : l.kept ≡ filter_map (elaborated_selection (option_copied l.parent.schema) l.parent.ty.now) (take l.selection-index l.selections);
+  faults : l.faults ≡ l.fn.faults ++ faults_of (option_copied l.parent.schema) l.parent.ty.now l.fn.path (take l.selection-index l.selections);
   path : l.path ≡ l.fn.path;
 }

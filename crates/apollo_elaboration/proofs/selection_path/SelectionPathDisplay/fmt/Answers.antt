@@ -1,7 +1,7 @@
-use Rattle.std.proofs.Common.{refl, rules, arith, ◌++◌, append_assoc}
+use Rattle.std.proofs.Common.{refl, rules, arith, ◌++◌}
 use Rattle.std.proofs.Output.{has_written_append, has_written_of_eq}
 use Rattle.std.proofs.lemmas.Grind.{common_steps}
-use Rattle.apollo_elaboration.specs.PathTexts.{arrow, root_text, path_text}
+use Rattle.apollo_elaboration.specs.PathTexts.{arrow, root_text}
 use Rattle.apollo_elaboration.proofs.selection_path.SelectionPathDisplay.fmt.Goals as goal
 
 pub loop-key-init : goal.loop-key-init
