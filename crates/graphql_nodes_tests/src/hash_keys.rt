@@ -54,6 +54,16 @@ fn tables_keep_their_keys(rt: HostRuntime) -> Result<(), Fail> {
     Ok(())
 }
 
+#[test]
+fn keys_are_told_by_each_of_their_bytes(rt: HostRuntime) {
+    let none = HashKeys::from_bytes([0; 16]);
+    for place in 0..16 {
+        let mut bytes = [0; 16];
+        bytes[place] = 1;
+        assert!(rt; HashKeys::from_bytes(bytes) != none);
+    }
+}
+
 /// Whether a set of 5 and its copy hash by these keys.
 fn is_set_keyed(alloc: Global, keys: HashKeys) -> Result<bool, AllocError> {
     let mut set = KeySet::with_keys(alloc, keys);
