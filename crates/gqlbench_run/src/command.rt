@@ -1,7 +1,9 @@
 //! The commands of the program.
 ghost use Rattle.std.specs.Prelude.{MatchOption, ◌≡◌, ◌≢◌, ℕ};
 ghost use Rattle.bench_notation.specs.Line.{texts_of};
+ghost use Rattle.gqltool_run.specs.declared.schema_options.SchemaOptions.{SchemaOptions};
 ghost use Rattle.gqlbench_run.specs.Commands.{AreChoices, AreNoCommand, AreWordsOf, IsRepeat, work_word};
+ghost use Rattle.gqlbench_run.specs.declared.keys.KeyChoice.{KeyChoice};
 
 use crate::keys::KeyChoice;
 use gqltool_run::schema_options::{SchemaOptions, read_options};

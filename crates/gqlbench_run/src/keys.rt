@@ -1,5 +1,7 @@
 //! The keys that the tables of a run hash by.
 ghost use Rattle.std.specs.Prelude.{◌≡◌, IfErr, OnErr};
+ghost use Rattle.gqlbench_run.specs.declared.failure.Failure.TheVariants as Failure;
+ghost use Rattle.gqlbench_run.specs.declared.keys.KeyChoice.TheVariants as KeyChoice;
 
 use crate::failure::Failure;
 use graphql_nodes::collections::hash_keys::HashKeys;
