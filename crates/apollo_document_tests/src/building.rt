@@ -12,6 +12,7 @@ use std::process::Abort;
 use std::test::Fail;
 
 /// What documents build, one after the other.
+/// No clause: it serves tests.
 pub fn build(
     alloc: Global,
     schema: Option<&Schema>,
@@ -78,6 +79,7 @@ impl Account for Built {
 }
 
 /// Expects this to be told of an input.
+/// No clause: it serves tests.
 pub fn expect<A: Account>(
     rt: &(impl Abort + AllocGlobal),
     account: &A,

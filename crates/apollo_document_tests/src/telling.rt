@@ -25,6 +25,7 @@ fn tell_fragment(text: &mut String, fragment: &Fragment) -> Result<(), AllocErro
 }
 
 /// Adds a document and its faults.
+/// No clause: it serves tests.
 pub fn tell_document(
     alloc: Global,
     text: &mut String,

@@ -43,6 +43,11 @@ defined_as name key None = Err (undefined name key)
 abbrev pub defined_in : Schema → NameView → NameView → Result (NodeView FieldDefinition) Wrong
 defined_in s ty name = defined_as name (lookup_key (same_text ty) s.types) (field_at s ty name)
 
+-- the definition of a field in a type: the one that the schema gives; any field has one without a schema
+abbrev pub definition_in : Option Schema → NameView → NameView → Result (NodeView FieldDefinition) Wrong
+definition_in None ty name = Ok (unknown_field name)
+definition_in (Some s) ty name = defined_in s ty name
+
 -- what is wrong with subselections from a type: it is a scalar or an enum. Types of the other kinds, and those that the
 -- schema lacks, may have some
 abbrev pub leaf_fault : NameView → Option ExtendedType → Option Wrong

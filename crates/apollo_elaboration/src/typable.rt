@@ -36,18 +36,20 @@ fn unknown_field(alloc: Global, name: &Name) -> Result<Node<FieldDefinition>, Al
     Node::new(alloc, definition)
 }
 
-/// The definition that a schema gives for a field. That a type of the schema has none is noted.
-fn defined_in(
-    schema: &Schema,
+/// The definition of a field of this name in a type. That a type of the schema has none is noted.
+fn definition_in(
+    alloc: Global,
     parent: &Parent,
     name: &Name,
     path: &SelectionPath,
     faults: &mut Items<Fault>,
 ) -> Result<Option<Node<FieldDefinition>>, AllocError>
-    requires over { option_copied parent.now.schema ≡ Some schema.now }
-    ensures defined { IfOk result (λ definition. definition ≡ if_typable (λ d. d) (spec.defined_in schema.now parent.now.ty.now name.now)) }
-    ensures faults { OnOk result (faults.new ≡ faults.old ++ found (λ _. []) None path.now (spec.defined_in schema.now parent.now.ty.now name.now)) }
+    ensures defined { IfOk result (λ definition. definition ≡ if_typable (λ d. d) (spec.definition_in (option_copied parent.now.schema) parent.now.ty.now name.now)) }
+    ensures faults { OnOk result (faults.new ≡ faults.old ++ found (λ _. []) None path.now (spec.definition_in (option_copied parent.now.schema) parent.now.ty.now name.now)) }
 {
+    let Some(schema) = parent.schema else {
+        return Ok(Some(unknown_field(alloc, name)?));
+    };
     let Some((key, ty)) = parent.known else {
         return Ok(None);
     };
@@ -90,27 +92,6 @@ fn unless_leaf(
     Ok(None)
 }
 
-/// The definition of a field that is typable over a schema. What is wrong with another is noted.
-fn typable_in(
-    schema: &Schema,
-    parent: &Parent,
-    node: &Node<ast::Field>,
-    path: &SelectionPath,
-    faults: &mut Items<Fault>,
-) -> Result<Option<Node<FieldDefinition>>, AllocError>
-    requires over { option_copied parent.now.schema ≡ Some schema.now }
-    ensures typable { IfOk result (λ definition. definition ≡ if_typable (λ d. d) (spec.typable_field (Some schema.now) parent.now.ty.now node.now.value.name (is_bare node.now.value.selection_set))) }
-    ensures faults { OnOk result (faults.new ≡ faults.old ++ found (λ _. []) node.now.location path.now (spec.typable_field (Some schema.now) parent.now.ty.now node.now.value.name (is_bare node.now.value.selection_set))) }
-{
-    let Some(definition) = defined_in(schema, parent, &node.name, path, faults)? else {
-        return Ok(None);
-    };
-    if node.selection_set.is_empty() {
-        return Ok(Some(definition));
-    }
-    unless_leaf(schema, definition, node.location(), path, faults)
-}
-
 /// The definition of a field that is typable in a type. What is wrong with another is noted. The error is want of memory.
 pub(crate) fn typable_field(
     alloc: Global,
@@ -122,10 +103,16 @@ pub(crate) fn typable_field(
     ensures typable { IfOk result (λ definition. definition ≡ if_typable (λ d. d) (spec.typable_field (option_copied parent.now.schema) parent.now.ty.now node.now.value.name (is_bare node.now.value.selection_set))) }
     ensures faults { OnOk result (faults.new ≡ faults.old ++ found (λ _. []) node.now.location path.now (spec.typable_field (option_copied parent.now.schema) parent.now.ty.now node.now.value.name (is_bare node.now.value.selection_set))) }
 {
-    match parent.schema {
-        None => Ok(Some(unknown_field(alloc, &node.name)?)),
-        Some(schema) => typable_in(schema, parent, node, path, faults),
+    let Some(definition) = definition_in(alloc, parent, &node.name, path, faults)? else {
+        return Ok(None);
+    };
+    let Some(schema) = parent.schema else {
+        return Ok(Some(definition));
+    };
+    if node.selection_set.is_empty() {
+        return Ok(Some(definition));
     }
+    unless_leaf(schema, definition, node.location(), path, faults)
 }
 
 /// Whether a schema has a type of this name. Without a schema each name has one.

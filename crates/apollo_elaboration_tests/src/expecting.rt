@@ -5,6 +5,7 @@ use std::process::Abort;
 use std::test::Fail;
 
 /// Expects this to be told of an input.
+/// No clause: it serves tests.
 pub fn expect<A: Account>(
     rt: &(impl Abort + AllocGlobal),
     account: &A,

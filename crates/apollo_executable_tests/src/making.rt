@@ -14,6 +14,8 @@ use graphql_nodes::node::Node;
 use graphql_nodes::operation_type::OperationType;
 use std::alloc::{AllocError, Global};
 
+/// A name of this text.
+/// No clause: it serves tests.
 pub fn name(alloc: Global, text: &str) -> Result<Name, AllocError> {
     Name::new_unchecked(alloc, text)
 }
@@ -46,6 +48,7 @@ fn arguments(alloc: Global) -> Result<Vec<Node<Argument>>, AllocError> {
 }
 
 /// The field of this name, in this set.
+/// No clause: it serves tests.
 pub fn field<'schema>(
     alloc: Global,
     schema: &'schema Schema,
@@ -57,6 +60,7 @@ pub fn field<'schema>(
 }
 
 /// The selection of the field of this name, in this set.
+/// No clause: it serves tests.
 pub fn selected<'schema>(
     alloc: Global,
     schema: &'schema Schema,
@@ -153,6 +157,7 @@ fn root<'schema>(
 }
 
 /// An operation with these selections.
+/// No clause: it serves tests.
 pub fn operation(
     alloc: Global,
     operation_type: OperationType,
@@ -213,6 +218,7 @@ fn add_fragment<'schema>(
 }
 
 /// The document of the query `GetUser` and of the fragment `Picture`.
+/// No clause: it serves tests.
 pub fn users_document<'schema>(
     alloc: Global,
     schema: &'schema Schema,
