@@ -8,6 +8,7 @@ ghost use Rattle.std.specs.Hash as fed;
 ghost use Rattle.std.specs.Fmt.{debug_str};
 ghost use Rattle.std.proofs.Common.{rules};
 
+use crate::collections::boxed::Boxed;
 use crate::source::SourceSpan;
 use std::alloc::{AllocError, Global};
 use std::fmt;
@@ -15,20 +16,31 @@ use std::hash::{Hash, Hasher};
 use std::marker::Model;
 use std::rc::RcStr;
 
-/// A text, and the place where it stands. Copies share the text.
-///
-/// Texts are equal and hashed without their places.
-pub struct NodeStr {
+/// A shared text, and the place where this copy of it stands.
+struct Placed {
     shared: RcStr,
     place: Option<SourceSpan>,
 }
 
-impl Drop for NodeStr {
+impl Drop for Placed {
     fn drop(self) {
         let Self {
             shared: _,
             place: _,
         } = self;
+    }
+}
+
+/// A text, and the place where it stands. Copies share the text.
+///
+/// Texts are equal and hashed without their places. A text is one pointer wide, since most definitions have none.
+pub struct NodeStr {
+    placed: Boxed<Placed>,
+}
+
+impl Drop for NodeStr {
+    fn drop(self) {
+        let Self { placed: _ } = self;
     }
 }
 
@@ -40,7 +52,7 @@ impl Model for NodeStr {
 
     ghost coded = { name_view_code };
 
-    ghost view = { λ n. record { text = rc_str_bytes n.shared; location = n.place } };
+    ghost view = { λ n. record { text = rc_str_bytes n.placed.shared; location = n.placed.place } };
 }
 
 impl NodeStr {
@@ -48,9 +60,12 @@ impl NodeStr {
     pub fn new(alloc: Global, text: &str) -> Result<NodeStr, AllocError>
         ensures { IfOk result (λ n. n ≡ record { text = text.now; location = None }) }
     {
-        Ok(NodeStr {
+        let placed = Placed {
             shared: RcStr::from_str(alloc, text)?,
             place: None,
+        };
+        Ok(NodeStr {
+            placed: Boxed::new(alloc, placed)?,
         })
     }
 
@@ -58,7 +73,7 @@ impl NodeStr {
     pub fn with_location(mut self, location: SourceSpan) -> NodeStr
         ensures { result ≡ record self { location = Some location } }
     {
-        self.place = Some(location);
+        self.placed.place = Some(location);
         self
     }
 
@@ -66,14 +81,14 @@ impl NodeStr {
     pub fn as_str(&self) -> &str
         ensures { result.now ≡ self.now.text }
     {
-        self.shared.as_str()
+        self.placed.shared.as_str()
     }
 
     /// The place where the text stands, if it is known.
     pub fn location(&self) -> Option<SourceSpan>
         ensures { result ≡ self.now.location }
     {
-        self.place
+        self.placed.place
     }
 }
 
@@ -81,9 +96,12 @@ impl Clone for NodeStr {
     ghost is_clone = { λ a b. b ≡ a };
 
     fn clone(&self) -> Result<NodeStr, AllocError> {
+        let placed = Placed {
+            shared: self.placed.shared.clone()?,
+            place: self.placed.place,
+        };
         Ok(NodeStr {
-            shared: self.shared.clone()?,
-            place: self.place,
+            placed: self.placed.same_allocator(placed)?,
         })
     }
 }
@@ -94,7 +112,7 @@ impl PartialEq for NodeStr {
     ghost laws = { on_per (λ x. x.text) (Cmp.partial_equiv_from_equiv nat_list_eq_equiv) };
 
     fn eq(&self, other: &NodeStr) -> bool {
-        self.shared == other.shared
+        self.placed.shared == other.placed.shared
     }
 }
 
@@ -108,7 +126,7 @@ impl Hash for NodeStr {
     ghost respects_eq = { Prim.search (hashing, rules) };
 
     fn hash<H: Hasher>(&self, state: &mut H) {
-        self.shared.hash(state)
+        self.placed.shared.hash(state)
     }
 }
 

@@ -26,12 +26,15 @@ impl HashKeys {
         factor: 0x9e37_79b9_7f4a_7c15,
     };
 
-    /// The keys that these bytes are. Where names come from strangers, the bytes are random ones of the system.
-    pub fn from_bytes(bytes: [u8; 16]) -> HashKeys {
-        let words = u128::from_le_bytes(bytes);
+    /// The keys that these bytes are, eight for each of the two words, the lowest first. Where names come from strangers,
+    /// the bytes are random ones of the system.
+    pub fn from_bytes(bytes: [u8; 16]) -> HashKeys
+        ensures start { result.start ≡ folding.read_u64 bytes 0 }
+        ensures factor { result.factor ≡ folding.read_u64 bytes 8 }
+    {
         HashKeys {
-            start: (words & 0xFFFF_FFFF_FFFF_FFFF) as u64,
-            factor: (words >> 64) as u64,
+            start: read_u64(&bytes, 0),
+            factor: read_u64(&bytes, 8),
         }
     }
 }
