@@ -12,6 +12,7 @@ ghost use Rattle.gqltool_run.specs.declared.status.Status.{Status};
 ghost use Rattle.gqltool_run.specs.declared.status.Status.TheVariants as Status;
 
 use crate::failure::Failure;
+use crate::leaving::leave;
 use crate::schema_options::SchemaOptions;
 use apollo_component::extension::ExtensionSource;
 use apollo_folding::builder_error::BuilderError;
@@ -39,7 +40,9 @@ pub fn build_input(
     ensures causes { IfErr result (IsCause options input.now) }
 {
     let documents = read(alloc, input)?;
-    built(alloc, keys, options, documents.as_slice())
+    let built = built(alloc, keys, options, documents.as_slice())?;
+    leave(documents);
+    Ok(built)
 }
 
 /// The builder, with adoption if it had it or `adopt` is set.

@@ -1,5 +1,5 @@
 //! The command `coord`.
-ghost use Rattle.std.specs.Prelude.{◌≡◌, ℕ, ◌++◌, All, List, IfOk, IfErr, OnOk, codes, string_bytes};
+ghost use Rattle.std.specs.Prelude.{◌≡◌, ℕ, ◌++◌, All, List, IfOk, IfErr, OnOk, string_bytes};
 ghost use Rattle.bench_notation.specs.Line.{IsLine, lines_of};
 ghost use Rattle.gqltool_run.specs.Building.{IsCause, no_options};
 ghost use Rattle.gqltool_run.specs.CoordCommand.{IsCoordAnswer, IsFindingLine, coordinate_line, form_word, found_word};
@@ -8,6 +8,7 @@ use crate::answer::Answer;
 use crate::building::build_input;
 use crate::failure::Failure;
 use crate::fault_printing::push_faults;
+use crate::leaving::leave;
 use crate::output_line::push_line;
 use crate::schema_options::SchemaOptions;
 use apollo_coordinate::coordinates::SchemaCoordinate;
@@ -35,6 +36,7 @@ pub fn coord_answer(
     push_coordinate(alloc, &mut text, coordinate)?;
     let is_found = push_finding(alloc, &mut text, coordinate, &schema)?;
     push_faults(alloc, &mut text, faults.as_slice())?;
+    leave(schema);
     Ok(Answer {
         text,
         has_faults: !(is_found && faults.is_empty()),

@@ -8,6 +8,7 @@ use crate::answer::Answer;
 use crate::document_building::build_document;
 use crate::failure::Failure;
 use crate::fault_printing::push_faults;
+use crate::leaving::leave;
 use bench_notation::printing::print;
 use graphql_nodes::collections::hash_keys::HashKeys;
 use std::alloc::Global;
@@ -22,11 +23,15 @@ pub fn doc_answer(alloc: Global, keys: HashKeys, input: &str) -> Result<Answer, 
     ensures causes { IfErr result (IsDocumentCause input.now) }
 {
     let built = build_document(alloc, keys, input)?;
-    let mut text = print(alloc, built.document.to_ast(alloc)?.definitions.as_slice())?;
+    let written = built.document.to_ast(alloc)?;
+    let mut text = print(alloc, written.definitions.as_slice())?;
     push_faults(alloc, &mut text, built.schema_faults.as_slice())?;
     push_faults(alloc, &mut text, built.faults.as_slice())?;
-    Ok(Answer {
+    let answer = Answer {
         text,
         has_faults: built.has_faults(),
-    })
+    };
+    leave(written);
+    leave(built);
+    Ok(answer)
 }

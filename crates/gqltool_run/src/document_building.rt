@@ -7,6 +7,7 @@ ghost use Rattle.gqltool_run.specs.DocumentBuilding.{IsBuiltDocument, IsDocument
 
 use crate::building::built;
 use crate::failure::Failure;
+use crate::leaving::leave;
 use crate::schema_options::SchemaOptions;
 use apollo_document::{ExecutableDocumentBuilder, Faults as DocumentFaults};
 use apollo_executable::document::ExecutableDocument;
@@ -63,6 +64,8 @@ pub fn build_document(alloc: Global, keys: HashKeys, input: &str) -> Result<Buil
         documents.schema.as_slice(),
     )?;
     let (document, faults) = built_document(alloc, &schema, documents.executable.as_slice())?;
+    leave(documents);
+    leave(schema);
     Ok(BuiltDocument {
         document,
         schema_faults,

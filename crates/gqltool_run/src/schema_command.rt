@@ -10,6 +10,7 @@ use crate::answer::Answer;
 use crate::building::build_input;
 use crate::failure::Failure;
 use crate::fault_printing::push_faults;
+use crate::leaving::leave;
 use crate::schema_options::SchemaOptions;
 use bench_notation::printing::print;
 use graphql_nodes::collections::hash_keys::HashKeys;
@@ -30,8 +31,11 @@ pub fn schema_answer(
     ensures causes { IfErr result (IsCause options input.now) }
 {
     let (schema, faults) = build_input(alloc, keys, options, input)?;
-    let mut text = print(alloc, schema.to_ast(alloc)?.as_slice())?;
+    let written = schema.to_ast(alloc)?;
+    let mut text = print(alloc, written.as_slice())?;
     push_faults(alloc, &mut text, faults.as_slice())?;
+    leave(written);
+    leave(schema);
     Ok(Answer {
         text,
         has_faults: !faults.is_empty(),

@@ -10,6 +10,7 @@ use crate::answer::Answer;
 use crate::document_building::build_document;
 use crate::failure::Failure;
 use crate::fault_printing::push_faults;
+use crate::leaving::leave;
 use crate::output_line::push_line;
 use apollo_executable::document::ExecutableDocument;
 use apollo_executable::operation::Operation;
@@ -31,10 +32,12 @@ pub fn walk_answer(alloc: Global, keys: HashKeys, input: &str) -> Result<Answer,
     push_walks(alloc, &mut text, &built.document)?;
     push_faults(alloc, &mut text, built.schema_faults.as_slice())?;
     push_faults(alloc, &mut text, built.faults.as_slice())?;
-    Ok(Answer {
+    let answer = Answer {
         text,
         has_faults: built.has_faults(),
-    })
+    };
+    leave(built);
+    Ok(answer)
 }
 
 /// Adds the walks of all operations and fragments.

@@ -10,7 +10,7 @@ returns-clause-means c =
     let built = c.in_ok-built.built in
     let schema_lines = c.in_ok-push_faults.ensures.0 in
     let lines = c.in_ok-push_faults-2.ensures.0 in
-    let print = c.in_ok-text.ensures ∙ ap definitions_text (c.as_slice.ensures ∙ ap (λ d. d.definitions) c.in_ok-to_ast.ensures) in
+    let print = c.in_ok-text.ensures ∙ ap definitions_text (c.as_slice.ensures ∙ ap (λ d. d.definitions) c.in_ok-written.ensures) in
     let first = c.in_ok-push_faults.ensures.1.0 ∙ ap (λ l. l ++ schema_lines) print in
     record {
       document = built.document;

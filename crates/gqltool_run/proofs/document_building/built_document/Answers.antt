@@ -1,17 +1,13 @@
-use Rattle.std.proofs.Common.{◌≡◌, ℕ, ◌+◌, ◌<◌, true, get_or, take, List, [], ◌∷◌, ◌++◌, Option, Some, length, sym, ap, subst, ◌∙◌, arith}
+use Rattle.std.proofs.Common.{◌≡◌, ℕ, ◌+◌, ◌<◌, true, get_or, take, List, [], ◌∷◌, ◌++◌, Some, length, sym, ap, subst, ◌∙◌, arith}
 use Rattle.std.proofs.lemmas.List.{append-nil, map-append, take_more, take_all}
 use Rattle.std.proofs.lemmas.List.Sums.{fold_more}
 use Rattle.std.proofs.lemmas.Grind.{flat_map-append}
 use Rattle.graphql_nodes.specs.Sources.{merged}
 use Rattle.graphql_ast.specs.declared.document.Document.{Document}
-use Rattle.apollo_schema.specs.declared.schema.Schema.{Schema}
 use Rattle.apollo_document.specs.AddedDefinitions.{Added, added}
 use Rattle.apollo_document.specs.BuilderStands.{StandsFor}
 use Rattle.apollo_document.specs.DocumentFaults.{document_faults}
 use Rattle.apollo_document.specs.Documents.{IsDocumentOf}
-use Rattle.apollo_document.specs.Stands.{StateStands, StateFailed}
-use Rattle.apollo_document.specs.declared.state.State.{State}
-use Rattle.apollo_document.specs.declared.state.State.TheVariants.{Open, Failed}
 use Rattle.gqltool_run.specs.Building.{all_definitions}
 use Rattle.gqltool_run.specs.DocumentBuilding.{all_sources, executable_list, with_sources}
 use Rattle.gqltool_run.proofs.document_building.built_document.Goals as goal
@@ -29,11 +25,6 @@ module _ (ds : List Document) (i : ℕ) (d : Document) (lt : i < length ds) (is 
 
   sources-turn : all_sources (take (i + 1) ds) ≡ merged (all_sources (take i ds)) d.sources
   sources-turn = fold_more with_sources [] ds i d lt ∙ ap (with_sources (all_sources (take i ds))) (sym is)
-
--- a builder that stands for a list was not refused
-stands-unrefused : (s : Option Schema) (xs : List Added) (state : State) → StateStands s xs state → StateFailed state → ⊥
-stands-unrefused s xs (Open tables) stands failed = failed
-stands-unrefused s xs Failed stands failed = stands
 
 pub loop-document-preserved : goal.loop-document-preserved
 loop-document-preserved c =

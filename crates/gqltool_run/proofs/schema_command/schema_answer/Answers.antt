@@ -19,7 +19,7 @@ returns-clause-means c =
       faults = c.in_ok-schema.faults.items;
       means = c.in_ok-schema.ensures.means;
       lines = lines;
-      prints = c.in_ok-push_faults.ensures.1.0 ∙ ap (λ l. l ++ lines) (c.in_ok-text.ensures ∙ ap definitions_text (c.as_slice.ensures.value ∙ c.in_ok-to_ast.ensures));
+      prints = c.in_ok-push_faults.ensures.1.0 ∙ ap (λ l. l ++ lines) (c.in_ok-text.ensures ∙ ap definitions_text (c.as_slice.ensures.value ∙ c.in_ok-written.ensures));
       tells = subst (λ (l : List Fault). AreFaultLines l lines) faults c.in_ok-push_faults.ensures.1.1;
       any = ap not (c.is_empty.ensures ∙ ap (λ (n : ℕ). n == 0) len ∙ ap (λ (l : List Fault). length l == 0) faults);
     }
@@ -31,7 +31,7 @@ returns-clause-printed c = λ none.
     let empty : (length c.as_slice-2.result.now == 0) ≡ true = ap (λ (n : ℕ). n == 0) (sym len) ∙ sym c.is_empty.ensures ∙ not-false c.is_empty.result none in (
       write_schema c.in_ok-schema.schema,
       c.in_ok-push_faults.ensures.1.0
-          ∙ (λ i. (c.in_ok-text.ensures ∙ ap definitions_text (c.as_slice.ensures.value ∙ c.in_ok-to_ast.ensures)) i
+          ∙ (λ i. (c.in_ok-text.ensures ∙ ap definitions_text (c.as_slice.ensures.value ∙ c.in_ok-written.ensures)) i
           ++ no-lines c.as_slice-2.result.now lines empty c.in_ok-push_faults.ensures.1.1 i)
           ∙ append-nil (definitions_text (write_schema c.in_ok-schema.schema)),
     )
