@@ -1,5 +1,6 @@
 -- Groups with distinct keys: what is found of each key, and the order in which the keys appear again.
 use Rattle.std.proofs.Common.{◌≡◌, Bool, true, false, cond, not, ◌||◌, ◌&&◌, List, [], ◌∷◌, ◌++◌, map, filter, refl, sym, ap, ◌∙◌, true≢false}
+use Rattle.std.proofs.lemmas.Bool.{and_parts}
 use Rattle.std.proofs.lemmas.List.{map-append}
 use Rattle.std.proofs.lemmas.List.Elements.{filter-append}
 use Rattle.std.proofs.lemmas.List.Folds.{list_any-append}
@@ -128,11 +129,6 @@ module _ {X : Type 0} (same : X → X → Bool) (laws : IsEquivalence same) wher
             or-false true = refl
             or-false false = refl
 
-    both-true : (a b : Bool) → (a && b) ≡ true → (a ≡ true) × (b ≡ true)
-    both-true true true e = (refl, refl)
-    both-true true false e = absurd (true≢false (sym e))
-    both-true false b e = absurd (true≢false (sym e))
-
     -- groups in the order of these marks show their keys in that order
     pub first-shown_again : (marks : List (G → List (Unit {0}))) (gs : List G) → IsDistinct same (map key gs) → in_order (map marked marks) gs ≡ true
         → first_of_each same (flat_map (λ m. shown key m gs) marks) ≡ map key gs
@@ -141,7 +137,7 @@ module _ {X : Type 0} (same : X → X → Bool) (laws : IsEquivalence same) wher
     first-shown_again (m ∷ marks) gs d h =
         let new : (X → Bool) = new_to_these same (shown key m gs) in
         let left : List G = filter (λ g. not (marked m g)) gs in
-        let both : (leads (map (marked m) gs) ≡ true) × (in_order (map marked marks) left ≡ true) = both-true (leads (map (marked m) gs)) (in_order (map marked marks) left) h in
+        let both : (leads (map (marked m) gs) ≡ true) × (in_order (map marked marks) left ≡ true) = and_parts (leads (map (marked m) gs)) (in_order (map marked marks) left) h in
         first_of_each-append same laws (shown key m gs) (flat_map (λ m. shown key m gs) marks)
         ∙ (λ i. first-shown m gs d i ++ first_of_each-filter same laws new (new_to-same same laws (shown key m gs)) (flat_map (λ m. shown key m gs) marks) i)
         ∙ ap (λ l. map key (filter (marked m) gs) ++ first_of_each same l) (filter-flat_map new (λ m. shown key m gs) marks ∙ (λ i. flat_map (λ n. shown-others m n gs d i) marks))

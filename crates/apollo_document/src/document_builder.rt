@@ -1,5 +1,5 @@
 //! The builder of executable documents: documents of syntax go in, in any number, and a typed document comes out.
-ghost use Rattle.std.specs.Prelude.{◌≡◌, ◌↔◌, List, [], ◌++◌, Option, Err, OnOk, OnErr, IfOk, IfErr};
+ghost use Rattle.std.specs.Prelude.{◌≡◌, ◌↔◌, List, [], ◌++◌, Option, Err, OnOk, OnErr, IfOk};
 ghost use Rattle.std.specs.Option.{option_copied};
 ghost use Rattle.graphql_nodes.specs.Sources.{merged};
 ghost use Rattle.apollo_document.specs.AddedDefinitions.{Added, added};
@@ -20,9 +20,9 @@ use std::alloc::Global;
 /// 2.8. Documents of syntax go in, in any number.
 ///
 /// Of operations the first of each name is kept that has a root type in the schema, and an anonymous one if it is the first of
-/// all that have; of fragments the first of each name whose condition is a type of the schema. Their selections are kept where
+/// all that have one; of fragments the first of each name whose condition is a type of the schema. Their selections are kept where
 /// they are typable, as [`elaborate_selections`](apollo_elaboration::elaboration::elaborate_selections) says. All else is at
-/// fault, but for definitions of the type system where these are none.
+/// fault, unless it is a definition of the type system and these are not.
 ///
 /// After want of memory the builder holds nothing, and each later call answers `Failed`.
 pub struct ExecutableDocumentBuilder<'schema> {

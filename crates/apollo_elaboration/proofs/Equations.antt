@@ -18,7 +18,7 @@ use Rattle.apollo_executable.specs.declared.selection.Selection.{Selection}
 use Rattle.apollo_executable.specs.declared.selection.Field.{Field, roll-Field}
 use Rattle.apollo_executable.specs.declared.selection.InlineFragment.{InlineFragment, roll-InlineFragment}
 use Rattle.apollo_executable.specs.declared.selection.SelectionSet.{SelectionSet}
-use Rattle.apollo_elaboration.specs.Typable.{Fault, Wrong, child_of, is_bare, typable_field, typable_fragment, if_typable}
+use Rattle.apollo_elaboration.specs.Typable.{Fault, Wrong, child_of, field_judged, is_bare, typable_field, typable_fragment, if_typable}
 use Rattle.apollo_elaboration.specs.SelectionFaults.{FS, FN, faults_step, field_faults_step, fragment_faults_step, faults_below, found, inside, faults_of, faults_of_field, faults_of_fragment}
 use Rattle.apollo_elaboration.specs.Elaborated.{TS, TF, TI, selection_step, field_step, fragment_step, typed_below, set_of, field_of, fragment_of, elaborated_selection, elaborated_field, elaborated_fragment, elaborated}
 use Rattle.apollo_elaboration.specs.Within.{faults_within}
@@ -79,30 +79,16 @@ pub is_ok : {A E : Type 0} (r : Result A E) (a : A) → Some a ≡ if_typable (�
 is_ok {A} (Ok b) a h = ap Ok (sym (ap (λ (o : Option A). unwrap_or o b) h))
 is_ok (Err wrong) a h = cc
 
-pub none_typable : {A B E : Type 0} (f : A → B) (r : Result A E) → None ≡ if_typable (λ x. x) r → if_typable f r ≡ None
-none_typable f (Ok b) h = cc
-none_typable f (Err wrong) h = refl
-
 pub none_found : {A : Type 0} (below : A → List Fault) (place : Option SourceSpan) (path : SelectionPath) (r : Result A Wrong) → None ≡ if_typable (λ x. x) r → found (λ _. []) place path r ≡ found below place path r
 none_found below place path (Ok b) h = cc
 none_found below place path (Err wrong) h = refl
 
-abbrev field_judged : Option Schema → NameView → ast_field.Field → Result (NodeView FieldDefinition) Wrong
-field_judged s ty f = typable_field s ty f.name (is_bare f.selection_set)
-
 abbrev fragment_judged : Option Schema → NameView → ast_inline.InlineFragment → Result NameView Wrong
 fragment_judged s ty f = typable_fragment s ty f.type_condition
-
-pub field_falls : (s : Option Schema) (ty : NameView) (f : ast_field.Field) → None ≡ if_typable (λ d. d) (field_judged s ty f) → elaborated_field s ty f ≡ None
-field_falls s ty f h = elaborated-field s ty f ∙ none_typable (field_of f.alias f.name f.arguments f.directives (typed_in s f.selection_set)) (field_judged s ty f) h
 
 pub field_stands : (s : Option Schema) (ty : NameView) (f : ast_field.Field) (d : NodeView FieldDefinition) → Some d ≡ if_typable (λ d. d) (field_judged s ty f)
     → elaborated_field s ty f ≡ Some (field_of f.alias f.name f.arguments f.directives (typed_in s f.selection_set) d)
 field_stands s ty f d h = elaborated-field s ty f ∙ ap (if_typable (field_of f.alias f.name f.arguments f.directives (typed_in s f.selection_set))) (is_ok (field_judged s ty f) d h)
-
-pub field_falls_faults : (s : Option Schema) (ty : NameView) (place : Option SourceSpan) (path : SelectionPath) (f : ast_field.Field) → None ≡ if_typable (λ d. d) (field_judged s ty f)
-    → found (λ _. []) place path (field_judged s ty f) ≡ faults_within s ty place path f
-field_falls_faults s ty place path f h = none_found (λ d. faults_of s (child_of d) path f.selection_set) place path (field_judged s ty f) h
 
 pub field_stands_faults : (s : Option Schema) (ty : NameView) (place : Option SourceSpan) (path : SelectionPath) (f : ast_field.Field) (d : NodeView FieldDefinition) (before : List Fault) → Some d ≡ if_typable (λ d. d) (field_judged s ty f)
     → (before ++ found (λ _. []) place path (field_judged s ty f)) ++ faults_of s (child_of d) path f.selection_set ≡ before ++ faults_within s ty place path f
@@ -111,9 +97,6 @@ field_stands_faults s ty place path f d before h =
     (λ i. (before ++ found (λ _. []) place path (r i)) ++ faults_of s (child_of d) path f.selection_set)
     ∙ ap (λ l. l ++ faults_of s (child_of d) path f.selection_set) (append-nil before)
     ∙ (λ i. before ++ found (λ (d : NodeView FieldDefinition). faults_of s (child_of d) path f.selection_set) place path (sym r i))
-
-pub fragment_falls : (s : Option Schema) (ty : NameView) (f : ast_inline.InlineFragment) → None ≡ if_typable (λ t. t) (fragment_judged s ty f) → elaborated_fragment s ty f ≡ None
-fragment_falls s ty f h = elaborated-fragment s ty f ∙ none_typable (fragment_of f.type_condition f.directives (typed_in s f.selection_set)) (fragment_judged s ty f) h
 
 pub fragment_stands : (s : Option Schema) (ty : NameView) (f : ast_inline.InlineFragment) (t : NameView) → Some t ≡ if_typable (λ t. t) (fragment_judged s ty f)
     → elaborated_fragment s ty f ≡ Some (fragment_of f.type_condition f.directives (typed_in s f.selection_set) t)

@@ -2,7 +2,6 @@
 //!
 //! Each law is a function that does nothing. A proof cites it by a call, and finds its clauses there.
 ghost use Rattle.std.specs.Prelude.{◌≡◌, [], Option};
-ghost use Rattle.graphql_nodes.specs.Clones.{IsExact};
 ghost use Rattle.graphql_nodes.specs.Comparing.{ComparesBy};
 ghost use Rattle.graphql_nodes.specs.NameView.{NameView};
 ghost use Rattle.apollo_executable.specs.Erasure.{erased_set};

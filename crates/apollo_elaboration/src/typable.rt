@@ -5,7 +5,7 @@ ghost use Rattle.std.specs.Option.{option_copied};
 ghost use Rattle.graphql_nodes.specs.declared.source.SourceSpan.{SourceSpan};
 ghost use Rattle.apollo_elaboration.specs.SelectionFaults.{found};
 ghost use Rattle.apollo_elaboration.specs.Typable as spec;
-ghost use Rattle.apollo_elaboration.specs.Typable.{leaf_at, is_bare, if_typable};
+ghost use Rattle.apollo_elaboration.specs.Typable.{leaf_at, field_judged, if_typable};
 
 use crate::build_error::{BuildError, Fault};
 use crate::parent::Parent;
@@ -100,8 +100,8 @@ pub(crate) fn typable_field(
     path: &SelectionPath,
     faults: &mut Items<Fault>,
 ) -> Result<Option<Node<FieldDefinition>>, AllocError>
-    ensures typable { IfOk result (λ definition. definition ≡ if_typable (λ d. d) (spec.typable_field (option_copied parent.now.schema) parent.now.ty.now node.now.value.name (is_bare node.now.value.selection_set))) }
-    ensures faults { OnOk result (faults.new ≡ faults.old ++ found (λ _. []) node.now.location path.now (spec.typable_field (option_copied parent.now.schema) parent.now.ty.now node.now.value.name (is_bare node.now.value.selection_set))) }
+    ensures typable { IfOk result (λ definition. definition ≡ if_typable (λ d. d) (field_judged (option_copied parent.now.schema) parent.now.ty.now node.now.value)) }
+    ensures faults { OnOk result (faults.new ≡ faults.old ++ found (λ _. []) node.now.location path.now (field_judged (option_copied parent.now.schema) parent.now.ty.now node.now.value)) }
 {
     let Some(definition) = definition_in(alloc, parent, &node.name, path, faults)? else {
         return Ok(None);

@@ -1,5 +1,5 @@
 -- Equality of the errors of requests and of new fields.
-use Rattle.std.proofs.Common.{refl, ap, Option, Some}
+use Rattle.std.proofs.Common.{refl, ap, Some}
 use Rattle.graphql_nodes.proofs.Comparisons.{Compares, At, names}
 use Rattle.graphql_nodes.specs.NameView.{NameView}
 use Rattle.apollo_schema.proofs.LookupEquality.{field_lookup_errors}

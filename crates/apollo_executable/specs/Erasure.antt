@@ -1,4 +1,4 @@
--- The untyped trees of typed ones: the definitions of fields and the types of sets are left away, and the condition of a
+-- The untyped trees of typed ones: the definitions of fields and the types of sets are left out, and the condition of a
 -- fragment is the type of its set. All else stays, locations too. GraphQL specification of October 2021, sections 2.2 to 2.8.
 use Rattle.std.specs.Prelude.{List, [], ◌++◌, map}
 use Rattle.graphql_nodes.specs.NodeView.{NodeView}

@@ -1,5 +1,5 @@
 //! The operations of a document: GraphQL specification of October 2021, sections 2.3 and 6.1.
-ghost use Rattle.std.specs.Prelude.{◌≡◌, ◌==◌, [], None, Some, length, IfOk, IfErr, OnOk, OnErr, IsSome, option_map};
+ghost use Rattle.std.specs.Prelude.{◌≡◌, ◌==◌, None, Some, length, IfOk, IfErr, OnOk, OnErr, IsSome, option_map};
 ghost use Rattle.std.specs.Borrow.{sem};
 ghost use Rattle.std.specs.Option.{option_copied, option_copied_mut};
 ghost use Rattle.apollo_executable.specs.Requests.{request_error};

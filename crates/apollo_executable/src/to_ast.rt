@@ -1,6 +1,6 @@
 //! Typed documents as syntax: GraphQL specification of October 2021, sections 2.2 to 2.8.
 //!
-//! The definitions of fields and the types of sets are left away, but the condition of a named fragment is the type of its
+//! The definitions of fields and the types of sets are left out, but the condition of a named fragment is the type of its
 //! set. All else stays, with every location.
 ghost use Rattle.std.specs.Prelude.{◌≡◌, IfOk};
 ghost use Rattle.graphql_ast.specs.declared.definition.Definition.TheVariants as definitions;

@@ -1,3 +1,4 @@
+pub mod CompletionLemmas
 pub mod DirectiveLemmas
 pub mod HeldLemmas
 pub mod JoiningLemmas

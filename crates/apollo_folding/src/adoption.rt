@@ -2,7 +2,6 @@
 //! schema that is implied. GraphQL specification of October 2021, sections 3.3.1 and 3.4.3.
 ghost use Rattle.std.specs.Prelude.{◌≡◌, ◌==◌, ◌&&◌, if◌then◌else◌, [], ◌++◌, length, map, not, IfOk, OnOk};
 ghost use Rattle.std.specs.List.{flat_map, list_any};
-ghost use Rattle.std.specs.Option.{unwrap_or};
 ghost use Rattle.graphql_nodes.specs.Tables.{values_of};
 ghost use Rattle.apollo_meaning.specs.Items.ListItems.{schema_item, Defined, item_of, items_of, extended_parts};
 ghost use Rattle.apollo_meaning.specs.Items.Parts.{schema_extension_part, roots_in};
@@ -10,11 +9,9 @@ ghost use Rattle.apollo_meaning.specs.Completion.Adoption.{adopted_part, adopted
 ghost use Rattle.apollo_meaning.specs.Completion.ImpliedSchema.{schema_for};
 ghost use Rattle.apollo_folding.specs.Views.{part_seen};
 ghost use Rattle.apollo_folding.specs.HeldRoots.{held_root, held_roots};
-ghost use Rattle.apollo_meaning.specs.Schema.Definition.{no_schema};
 
 use crate::views::{ItemView, PartView};
 use apollo_types::extended_type::ExtendedType;
-use apollo_types::schema_definition::SchemaDefinition;
 use graphql_ast::definition::Definition;
 use graphql_ast::definition_parts::DefinitionParts;
 use graphql_ast::directive::DirectiveList;
@@ -146,17 +143,4 @@ pub fn implied_definition(
         root_operations,
     };
     Ok(Some(Node::new(alloc, definition)?))
-}
-
-/// The definition of a schema, or the one of a schema that has none.
-pub fn definition_or_none(
-    alloc: Global,
-    definition: Option<Node<SchemaDefinition>>,
-) -> Result<Node<SchemaDefinition>, AllocError>
-    ensures { IfOk result (λ node. node ≡ unwrap_or definition no_schema) }
-{
-    match definition {
-        Some(node) => Ok(node),
-        None => Node::new(alloc, SchemaDefinition::new(alloc)),
-    }
 }

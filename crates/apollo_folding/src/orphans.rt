@@ -1,5 +1,5 @@
 //! Extensions without a definition.
-ghost use Rattle.std.specs.Prelude.{◌≡◌, ◌+◌, [], ◌∷◌, ◌++◌, map, OnOk, Some};
+ghost use Rattle.std.specs.Prelude.{◌≡◌, ◌+◌, [], ◌∷◌, ◌++◌, map, OnOk};
 ghost use Rattle.std.specs.List.{flat_map};
 ghost use Rattle.graphql_nodes.specs.Tables.{values_of};
 ghost use Rattle.apollo_meaning.specs.Items.ListItems.{extended_parts};

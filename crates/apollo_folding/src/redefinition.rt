@@ -1,6 +1,6 @@
 //! The faults of further definitions of a name.
 ghost use Rattle.apollo_folding.specs.Joins.{ForFirst};
-ghost use Rattle.std.specs.Prelude.{◌≡◌, List, ◌++◌, OnOk, IfOk};
+ghost use Rattle.std.specs.Prelude.{◌≡◌, ◌++◌, OnOk, IfOk};
 ghost use Rattle.apollo_folding.specs.Views.{part_seen};
 ghost use Rattle.apollo_meaning.specs.Faults.TypeFaults.{redefinition, built_in_redefinition, further_definition};
 

@@ -1,7 +1,5 @@
 //! Laws of the definitions, for those who build on them; and what `==` answers at the errors of a build.
-ghost use Rattle.std.specs.Prelude.{◌≡◌, ◌≤◌, ◌+◌, ℕ, Bool, List, [], ◌∷◌, ◌++◌, None, Some, true, false, length, codes, map, filter, filter_map, option_map, All};
-ghost use Rattle.std.specs.List.{range_with_len};
-ghost use Rattle.std.specs.Option.{option_map_or};
+ghost use Rattle.std.specs.Prelude.{◌≡◌, ◌≤◌, ◌+◌, ℕ, Bool, List, [], ◌∷◌, ◌++◌, None, Some, true, false, length, codes, map, filter_map, option_map, All};
 ghost use Rattle.std.specs.Cmp.{IsEquivalence};
 ghost use Rattle.apollo_meaning.specs.Items.Parts.{TypePart, SchemaPart, kind_of, key_of, Root, roots_in};
 ghost use Rattle.apollo_meaning.specs.Items.ListItems.{ListItem, Added, added, added_items};

@@ -1,6 +1,7 @@
 -- What the elements of a list add one after another, where each adds what it does by those of its own subject alone, is
 -- what is added subject by subject, in another order.
 use Rattle.std.proofs.Common.{◌≡◌, Bool, true, false, cond, not, ◌||◌, List, [], ◌∷◌, ◌++◌, map, filter, refl, sym, ap, subst, ◌∙◌, append_assoc, true≢false}
+use Rattle.std.proofs.lemmas.Bool.{or_right}
 use Rattle.std.specs.List.{AllByRecursion, list_any}
 use Rattle.std.specs.List.Sorted.{IsPermutation}
 use Rattle.std.proofs.lemmas.List.{append-nil}
@@ -129,15 +130,11 @@ module _ {K X Y : Type 0} (same : K → K → Bool) (laws : IsTest same) (subjec
             by true e = rw (gone j e xs, gone j e ys) (IsPermutation-refl [])
             by false e = rw (stay j e xs, stay j e ys) (each j)
 
-    or-true : (b c : Bool) → c ≡ true → (b || c) ≡ true
-    or-true true c e = refl
-    or-true false c e = e
-
     present : (xs : List X) → AllByRecursion (IsAmong (map subject xs)) xs
     present [] = tt
     present (x ∷ xs) = (
       ap (λ b. b || list_any (λ k. about k x) (map subject xs)) (laws.itself (subject x)),
-      each-weaken (IsAmong (map subject xs)) (IsAmong (map subject (x ∷ xs))) (λ y h. or-true (about (subject x) y) (list_any (λ k. about k y) (map subject xs)) h) xs (present xs),
+      each-weaken (IsAmong (map subject xs)) (IsAmong (map subject (x ∷ xs))) (λ y h. or_right (about (subject x) y) (list_any (λ k. about k y) (map subject xs)) h) xs (present xs),
     )
 
     pub by_subject : (xs ys : List X) → IsPermutation xs ys → ((k : K) → IsPermutation (all_of (filter (about k) xs)) (all_of (filter (about k) ys))) → IsPermutation (all_of xs) (all_of ys)

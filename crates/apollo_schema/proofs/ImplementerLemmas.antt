@@ -1,10 +1,11 @@
 -- What `implementers_map` makes of types, one after another.
-use Rattle.std.proofs.Common.{◌≡◌, ℕ, Bool, true, false, cond, not, ◌||◌, ◌&&◌, List, [], ◌∷◌, ◌++◌, Some, None, map, filter, refl, sym, ap, ◌∙◌, append_assoc, true≢false}
+use Rattle.std.proofs.Common.{◌≡◌, ℕ, Bool, true, false, cond, not, ◌||◌, ◌&&◌, List, [], ◌∷◌, ◌++◌, Some, None, map, filter, refl, sym, ap, ◌∙◌, append_assoc}
 use Rattle.std.specs.Prelude.{unwrap_or}
 use Rattle.std.specs.List.{list_any, flat_map}
 use Rattle.std.specs.Map.{lookup, keys_of, set_value}
 use Rattle.std.specs.Cmp.{IsEquivalence, on_equiv}
 use Rattle.std.specs.Cmp.Lexicographic.{nat_list_eq_equiv}
+use Rattle.std.proofs.lemmas.Bool.{or_parts}
 use Rattle.std.proofs.lemmas.List.{append-nil, map-append}
 use Rattle.std.proofs.lemmas.List.Elements.{filter-append}
 use Rattle.std.proofs.lemmas.List.Folds.{list_any-append}
@@ -25,11 +26,6 @@ use Rattle.apollo_schema.specs.Lookups.{Types, interfaces_of, is_listed, declare
 use Rattle.apollo_schema.specs.Implementers.{names_declared, implementers_of, implementers_map}
 use Rattle.apollo_schema.specs.Noted.{no_implementers, with_name, noted, noted_under}
 use Rattle.apollo_schema.specs.declared.implementers.Implementers.{Implementers}
-
--- neither of two tests passes
-pub neither : (a b : Bool) → (a || b) ≡ false → (a ≡ false) × (b ≡ false)
-neither true b h = absurd (true≢false h)
-neither false b h = (refl, h)
 
 pub names_equiv : IsEquivalence same_text
 names_equiv = on_equiv (λ (n : NameView). n.text) nat_list_eq_equiv
@@ -58,7 +54,7 @@ listed-push i (d ∷ cs) c = by (same_text i d.name) (listed-push i cs c)
 pub none-declares : (kind : ExtendedType → Bool) (types : Types) (i : NameView) → list_any (same_text i) (flat_map (λ e. names_declared e.1) types) ≡ false → filter (λ e. kind e.1 && declares i e.1) types ≡ []
 none-declares kind [] i none = refl
 none-declares kind (e ∷ types) i none =
-    let parts = neither (list_any (same_text i) (names_declared e.1)) (list_any (same_text i) (flat_map (λ e. names_declared e.1) types)) (sym (list_any-append (same_text i) (names_declared e.1) (flat_map (λ e. names_declared e.1) types)) ∙ none) in
+    let parts = or_parts (list_any (same_text i) (names_declared e.1)) (list_any (same_text i) (flat_map (λ e. names_declared e.1) types)) (sym (list_any-append (same_text i) (names_declared e.1) (flat_map (λ e. names_declared e.1) types)) ∙ none) in
     by (kind e.1) (sym (listed-names i (interfaces_of e.1)) ∙ parts.0) (none-declares kind types i parts.1)
   where
     by : (b : Bool) → declares i e.1 ≡ false → filter (λ e. kind e.1 && declares i e.1) types ≡ [] → cond (b && declares i e.1) (e ∷ filter (λ e. kind e.1 && declares i e.1) types) (filter (λ e. kind e.1 && declares i e.1) types) ≡ []
@@ -144,7 +140,7 @@ module _ (types : Types) (k : NameView) where
   value-none o cs i none = by o (none-declares is_object types i parts.0) (none-declares is_interface types i parts.0) (sym (listed-names i cs) ∙ parts.1)
     where
       parts : (list_any (same_text i) (raw types) ≡ false) × (list_any (same_text i) (names_of cs) ≡ false)
-      parts = neither (list_any (same_text i) (raw types)) (list_any (same_text i) (names_of cs)) (sym (list_any-append (same_text i) (raw types) (names_of cs)) ∙ none)
+      parts = or_parts (list_any (same_text i) (raw types)) (list_any (same_text i) (names_of cs)) (sym (list_any-append (same_text i) (raw types) (names_of cs)) ∙ none)
 
       at : Types → Types → Bool → Bool → Implementers
       at = λ os is b c. record {

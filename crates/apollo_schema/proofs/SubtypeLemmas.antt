@@ -1,5 +1,6 @@
 -- A type is a subtype of an interface where it is among the interface's implementers.
 use Rattle.std.proofs.Common.{◌≡◌, Bool, true, false, cond, ◌||◌, ◌&&◌, List, [], ◌∷◌, Option, Some, None, is_some, filter, refl, sym, ap, ◌∙◌, true≢false}
+use Rattle.std.proofs.lemmas.Bool.{or_parts}
 use Rattle.std.specs.List.{list_any, flat_map}
 use Rattle.std.specs.Map.{lookup, keys_of}
 use Rattle.std.specs.Option.{option_map_or}
@@ -18,13 +19,13 @@ use Rattle.apollo_types.specs.declared.extended_type.ExtendedType.TheVariants.{S
 use Rattle.apollo_schema.specs.Lookups.{Types, type_at, interface_node, declares, interfaces_of, is_subtype, is_subtype_of}
 use Rattle.apollo_schema.specs.Implementers.{names_declared, implementers_of, is_among, is_implementer}
 use Rattle.apollo_component.proofs.Tabled.{lookup-tabled}
-use Rattle.apollo_schema.proofs.ImplementerLemmas.{names_equiv, neither, listed-names}
+use Rattle.apollo_schema.proofs.ImplementerLemmas.{names_equiv, listed-names}
 
 -- where no type declares an interface, the type of a name doesn't
 undeclared : (types : Types) (test : NameView → Bool) (i : NameView) → list_any (same_text i) (flat_map (λ e. names_declared e.1) types) ≡ false → option_map_or (declares i) (lookup test types) false ≡ false
 undeclared [] test i none = refl
 undeclared (e ∷ types) test i none =
-    let parts = neither (list_any (same_text i) (names_declared e.1)) (list_any (same_text i) (flat_map (λ e. names_declared e.1) types)) (sym (list_any-append (same_text i) (names_declared e.1) (flat_map (λ e. names_declared e.1) types)) ∙ none) in
+    let parts = or_parts (list_any (same_text i) (names_declared e.1)) (list_any (same_text i) (flat_map (λ e. names_declared e.1) types)) (sym (list_any-append (same_text i) (names_declared e.1) (flat_map (λ e. names_declared e.1) types)) ∙ none) in
     by (test e.0) (sym (listed-names i (interfaces_of e.1)) ∙ parts.0) (undeclared types test i parts.1)
   where
     by : (b : Bool) → declares i e.1 ≡ false → option_map_or (declares i) (lookup test types) false ≡ false → option_map_or (declares i) (cond b (Some e.1) (lookup test types)) false ≡ false

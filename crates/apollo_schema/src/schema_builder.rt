@@ -156,9 +156,9 @@ impl SchemaBuilder {
     /// each object type with the default name of an operation is that operation's root, and the extensions are folded in
     /// after those roots; with adoption an extension that names a root takes the place of the default ones.
     ///
-    /// `Faults`, with what could be built, comes exactly where what was added has faults: they stand in the order of
-    /// discovery, extensions without a definition after all others, those of types before those of the schema. `Memory`
-    /// is want of memory; `ExtensionIds` comes only where the extensions folded pass the largest number, and a schema, with
+    /// `Faults`, with what could be built, comes exactly where what was added has faults: first those that are found as
+    /// definitions are added, in that order; then extensions of types without a definition; then what is found at an implied
+    /// definition of the schema, and extensions of the schema without one. `Memory` is want of memory; `ExtensionIds` comes only where the extensions folded pass the largest number, and a schema, with
     /// faults or without, only where they don't; `Failed` comes exactly after a refusal.
     pub fn build(self) -> Result<Schema, BuildFailure>
         ensures built { IfOk result (IsMeant self) }

@@ -6,7 +6,6 @@ ghost use Rattle.graphql_ast.specs.Definitions.{location_of};
 ghost use Rattle.graphql_ast.specs.DefinitionTexts.{definition_text};
 ghost use Rattle.apollo_component.specs.Extensions.{next_number};
 ghost use Rattle.apollo_meaning.specs.declared.build_error.BuildError.TheVariants as faults;
-ghost use Rattle.apollo_component.specs.declared.extension.ComponentOrigin.TheVariants as origins;
 ghost use Rattle.apollo_meaning.specs.Items.Parts.{schema_definition_part, schema_extension_part};
 ghost use Rattle.apollo_meaning.specs.Items.ListItems.{Extended, SchemaDefined, SchemaExtended, added, added_item, added_items, item_of};
 ghost use Rattle.apollo_built_in.specs.BuiltInTable.{built_in_definitions};
@@ -43,7 +42,6 @@ use graphql_nodes::collections::table::Table;
 use graphql_nodes::name::Name;
 use graphql_nodes::node::Node;
 use graphql_nodes::source::{SourceMap, merge_sources};
-use graphql_nodes::type_kind::TypeKind;
 use std::alloc::{AllocError, Global};
 use std::mem;
 

@@ -1,5 +1,5 @@
 //! The line of a phase.
-ghost use Rattle.std.specs.Prelude.{◌≡◌, ◌++◌, OnOk, decimal, string_bytes};
+ghost use Rattle.std.specs.Prelude.{◌≡◌, ◌++◌, OnOk, string_bytes};
 ghost use Rattle.gqlbench_run.specs.PhaseLines.{name_column, number_column, phase_line, spaces};
 
 use crate::summary::Summary;

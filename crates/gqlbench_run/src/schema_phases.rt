@@ -1,8 +1,6 @@
 //! The phases of the command `schema`: a schema built, written out, built again from that, and freed.
 ghost use Rattle.std.specs.Prelude.{◌≡◌, ◌+◌, ◌++◌, ℕ, List, IfOk, OnOk, length, string_bytes};
 ghost use Rattle.graphql_ast.specs.declared.definition.Definition.{Definition};
-ghost use Rattle.apollo_schema.specs.MeantSchema.{MeansSchema};
-ghost use Rattle.gqltool_run.specs.Building.{list_of};
 ghost use Rattle.gqlbench_run.specs.Reports.{IsCountsText, IsSchemaReport, counts_text, rebuilt_text};
 
 use crate::command::Command;

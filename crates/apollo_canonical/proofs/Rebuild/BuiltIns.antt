@@ -10,7 +10,7 @@ use Rattle.graphql_nodes.proofs.Texts.{same-true}
 use Rattle.apollo_built_in.specs.BuiltInTable.{built_in_definitions}
 use Rattle.apollo_component.specs.FirstOfEach.{first_of_each}
 use Rattle.apollo_component.proofs.Tabled.{first_of_each-distinct}
-use Rattle.apollo_meaning.specs.Items.ListItems.{ListItem, Defined, Extended, SchemaDefined, SchemaExtended, Other, added, added_items, defined_part, extended_part, defined_schema, extended_schema}
+use Rattle.apollo_meaning.specs.Items.ListItems.{ListItem, Defined, Extended, SchemaDefined, SchemaExtended, Other, added, added_items, defined_part, extended_part, defined_schema}
 use Rattle.apollo_meaning.specs.Items.Named.{named, first}
 use Rattle.apollo_meaning.specs.Items.Parts.{TypePart, key_of}
 use Rattle.apollo_canonical.proofs.Rebuild.About.{Name, about}
@@ -27,10 +27,6 @@ no-extensions = refl
 pub no-schema_definitions : filter_map defined_schema built_ins ≡ []
 unfolding built_in_definitions
 no-schema_definitions = refl
-
-pub no-schema_extensions : filter_map extended_schema built_ins ≡ []
-unfolding built_in_definitions
-no-schema_extensions = refl
 
 -- names that computing shows to differ
 distinct-names : (ns : List NameView) → first_of_each same_text ns ≡ ns → IsDistinct same_text ns

@@ -31,9 +31,6 @@ use Rattle.apollo_canonical.proofs.Rebuild.Tables.{each-entry, each-found, looku
 abbrev pub built_in_directives : Directives
 built_in_directives = directive_definitions built_ins
 
-abbrev name_of : NodeView DirectiveDefinition → NameView
-name_of d = d.value.name
-
 abbrev names_of : Directives → List NameView
 names_of ds = map (λ d. d.value.name) ds
 

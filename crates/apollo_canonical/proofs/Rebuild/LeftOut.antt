@@ -1,5 +1,6 @@
 -- A schema definition that is left out: its roots are those that no schema definition would have to name.
 use Rattle.std.proofs.Common.{◌≡◌, ℕ, Bool, true, false, cond, not, ◌&&◌, List, [], ◌∷◌, ◌++◌, None, Option, Some, is_none, map, length, option_map, refl, sym, ap, ◌∙◌, ◌==◌, true≢false, arith}
+use Rattle.std.proofs.lemmas.Bool.{and_parts}
 use Rattle.std.proofs.lemmas.Bool.Decides.{nat_tests}
 use Rattle.std.specs.List.{list_all}
 use Rattle.std.specs.Option.{option_eq}
@@ -78,10 +79,6 @@ no-identities false true false = refl
 no-identities false false true = refl
 no-identities false false false = refl
 
-both-true : (a b : Bool) → (a && b) ≡ true → (a ≡ true) × (b ≡ true)
-both-true true b h = (refl, h)
-both-true false b h = absurd (true≢false (sym h))
-
 -- the text of a root that equals an implied one
 implied-text : (a b : Option (List ℕ)) → option_eq (pointwise nat_eq) a b ≡ true → a ≡ b
 implied-text None None h = refl
@@ -115,12 +112,12 @@ pub record IsLeftOut (d : SchemaDefinition) (types : List (NameView × ExtendedT
 pub left-out : (d : SchemaDefinition) (types : List (NameView × ExtendedType)) → is_implied types d ≡ true → IsLeftOut d types
 left-out d types h =
     let counted : Bool = length (identities (origins_in (schema_components d))) == 0 in
-    let a = both-true ((is_none d.description && (length d.directives.0 == 0)) && counted) (list_all (has_implied_root types d) operation_types) h in
-    let b = both-true (is_none d.description && (length d.directives.0 == 0)) counted a.0 in
-    let c = both-true (is_none d.description) (length d.directives.0 == 0) b.0 in
-    let q = both-true (has_implied_root types d Query) (has_implied_root types d Mutation && (has_implied_root types d Subscription && true)) a.1 in
-    let m = both-true (has_implied_root types d Mutation) (has_implied_root types d Subscription && true) q.1 in
-    let s = both-true (has_implied_root types d Subscription) true m.1 in
+    let a = and_parts ((is_none d.description && (length d.directives.0 == 0)) && counted) (list_all (has_implied_root types d) operation_types) h in
+    let b = and_parts (is_none d.description && (length d.directives.0 == 0)) counted a.0 in
+    let c = and_parts (is_none d.description) (length d.directives.0 == 0) b.0 in
+    let q = and_parts (has_implied_root types d Query) (has_implied_root types d Mutation && (has_implied_root types d Subscription && true)) a.1 in
+    let m = and_parts (has_implied_root types d Mutation) (has_implied_root types d Subscription && true) q.1 in
+    let s = and_parts (has_implied_root types d Subscription) true m.1 in
     record {
       description = is-none d.description c.0;
       directives = is-empty d.directives.0 c.1;

@@ -1,6 +1,6 @@
 -- The schema definition that written parts mean again, under any distinct numbers of the extensions.
 use Rattle.std.proofs.Common.{◌≡◌, Bool, true, false, cond, List, [], ◌∷◌, ◌++◌, None, Option, Some, map, filter, find, flat_map, length, option_map, slice_get, refl, sym, ap, ◌∙◌, arith}
-use Rattle.std.proofs.lemmas.List.{append-nil}
+use Rattle.std.proofs.lemmas.List.{append-nil, nil_from_length}
 use Rattle.std.proofs.lemmas.List.Elements.{All-from_recursion, filter-append, recursion_from_All}
 use Rattle.std.proofs.lemmas.List.Sorted.{All-permutation, length_permutation}
 use Rattle.std.proofs.lemmas.Simd.{map-map}
@@ -116,11 +116,7 @@ alone-permuted {X} x ys p = by ys (length_permutation (x ∷ []) ys p) (recursio
     by (z ∷ w ∷ zs) h a = absurd (omega (arith, h))
 
 pub none-permuted : {X : Type 0} (ys : List X) → IsPermutation [] ys → ys ≡ []
-none-permuted {X} ys p = by ys (length_permutation [] ys p)
-  where
-    by : (zs : List X) → length zs ≡ 0 → zs ≡ []
-    by [] h = refl
-    by (z ∷ zs) h = absurd (omega (arith, h))
+none-permuted ys p = nil_from_length ys (length_permutation [] ys p)
 
 pub find-first : {X : Type 0} (q : X → Bool) (xs : List X) → find q xs ≡ slice_get (filter q xs) 0
 find-first q [] = refl

@@ -1,5 +1,5 @@
 -- What a type is written out as is without fault: its components differ, and its extensions have its name and kind.
-use Rattle.std.proofs.Common.{◌≡◌, Bool, true, false, cond, ◌||◌, List, [], ◌∷◌, ◌++◌, Some, map, map-id, filter, flat_map, refl, sym, ap, subst, ◌∙◌, append_assoc}
+use Rattle.std.proofs.Common.{◌≡◌, Bool, false, cond, ◌||◌, List, [], ◌∷◌, ◌++◌, Some, map, map-id, filter, flat_map, refl, sym, ap, subst, ◌∙◌, append_assoc}
 use Rattle.std.proofs.lemmas.List.{append-nil, map-append}
 use Rattle.std.proofs.lemmas.List.Concat.{flat_map-append}
 use Rattle.std.specs.Cmp.{IsEquivalence}
@@ -7,8 +7,6 @@ use Rattle.std.specs.List.{AllByRecursion, IsDistinct, list_any}
 use Rattle.std.specs.Option.{option_map_or}
 use Rattle.graphql_nodes.specs.NameView.{NameView}
 use Rattle.graphql_nodes.specs.SameText.{same, same_text}
-use Rattle.graphql_nodes.specs.declared.type_kind.TypeKind.{TypeKind}
-use Rattle.graphql_nodes.specs.declared.type_kind.TypeKind.TheVariants as kinds
 use Rattle.graphql_nodes.proofs.Texts.{same-is}
 use Rattle.apollo_component.specs.EachAfter.{each_after}
 use Rattle.apollo_component.proofs.Lists.Each.{each-append}
@@ -23,6 +21,7 @@ use Rattle.apollo_meaning.specs.declared.collision.Collection.{Collection}
 use Rattle.apollo_meaning.specs.declared.collision.Collection.TheVariants as c
 use Rattle.apollo_meaning.proofs.Faults.KeptLemmas.{name_laws}
 use Rattle.apollo_meaning.proofs.Items.ItemLemmas.{parts-extended}
+use Rattle.apollo_folding.proofs.JoiningLemmas.{same_kind-refl}
 use Rattle.apollo_canonical.proofs.Kept.{find-none}
 
 -- an element of a list of which no two are the same is the same as none before it
@@ -86,9 +85,6 @@ pub record HaveEachNameOnce (ps : List TypePart) : Type 0 where
   pub input_fields : IsDistinct same_text (flat_map input_fields_in ps)
 
 module _ (ps : List TypePart) (ty : NameView) where
-  NewAfter : (TypePart → List NameView) → List NameView → Type 0
-  NewAfter sort names = IsDistinct same_text (flat_map sort ps ++ names)
-
   names-none : (co : Collection) (sort : TypePart → List NameView) (ns : List NameView) → IsDistinct same_text (flat_map sort ps ++ ns) → collisions co ty (flat_map sort ps) (name_entries ns) ≡ []
   names-none co sort ns d = collisions-none co ty (flat_map sort ps) (name_entries ns) (subst (λ l. IsDistinct same_text (flat_map sort ps ++ l)) (sym (map-id ns) ∙ entry-names (λ n. n) (λ n. (n, n.location)) (λ n. refl) ns) d)
 
@@ -114,14 +110,6 @@ parts-none ps p rest h =
   where
     front : (sort : TypePart → List NameView) → IsDistinct same_text (flat_map sort (ps ++ p ∷ rest)) → IsDistinct same_text (flat_map sort ps ++ sort p)
     front sort d = distinct-front same_text (flat_map sort ps ++ sort p) (flat_map sort rest) (subst (IsDistinct same_text) (flat_map-append sort ps (p ∷ rest) ∙ sym (append_assoc (flat_map sort ps) (sort p) (flat_map sort rest))) d)
-
-same_kind-refl : (k : TypeKind) → same_kind k k ≡ true
-same_kind-refl kinds.Scalar = refl
-same_kind-refl kinds.Object = refl
-same_kind-refl kinds.Interface = refl
-same_kind-refl kinds.Union = refl
-same_kind-refl kinds.Enum = refl
-same_kind-refl kinds.InputObject = refl
 
 -- an extension has the name and the kind of a definition
 abbrev pub Fits : TypePart → TypePart → Type 0

@@ -35,6 +35,7 @@ use Rattle.apollo_meaning.specs.Schema.Whole.{whole}
 use Rattle.apollo_meaning.specs.Types.Meaning.{AreTypesOf}
 use Rattle.apollo_meaning.proofs.Items.ItemLemmas.{first-append}
 use Rattle.apollo_meaning.proofs.Order.FoldingLemmas.{type_kind-from}
+use Rattle.apollo_meaning.proofs.Order.PlaceLemmas.{or-none}
 use Rattle.apollo_canonical.specs.WrittenAgain.{with_built_ins}
 use Rattle.apollo_canonical.proofs.Kept.{both-empty}
 use Rattle.apollo_canonical.proofs.Rebuild.About.{Name, about, extensions-about, first-about}
@@ -183,10 +184,6 @@ module _ (adopts : Bool) (more : List Added) (handed : AllByRecursion IsAddedByH
       same_first : first xs n ≡ first W n
       same_first = first-append W (implied_schema adopts W) n ∙ ap (λ l. option_or (first W n) l) (nothing (first_schema W)) ∙ or-none (first W n)
         where
-          or-none : (o : Option TypePart) → option_or o None ≡ o
-          or-none None = refl
-          or-none (Some d) = refl
-
           for : (b : Bool) (rs is : List Root) → first (schema_for b rs is) n ≡ None
           for true [] is = refl
           for true (r ∷ rs) is = refl

@@ -31,10 +31,6 @@ pub OnOk-when : {T E : Type 0} (A : Type 0) (r : Result T E) → is_ok r ≡ tru
 OnOk-when A (Ok x) is a = a
 OnOk-when A (Err e) is a = absurd (cc)
 
-pub empty-by-length : {A : Type 0} (xs : List A) → length xs ≡ 0 → xs ≡ []
-empty-by-length [] is = refl
-empty-by-length (x ∷ xs) is = absurd (omega (arith, is))
-
 pub cons-by-length : {A : Type 0} (xs : List A) → (nat_eq (length xs) 0) ≡ false → (x : A) × (ys : List A) × (xs ≡ x ∷ ys)
 cons-by-length [] is = absurd (cc)
 cons-by-length (x ∷ xs) is = (x, xs, refl)

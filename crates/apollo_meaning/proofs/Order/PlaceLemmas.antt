@@ -113,7 +113,7 @@ under f = map (λ e. (f.key e.1, e))
 abbrev own_place : {P : Type 0} → Family P → ℕ → Option P → List ℕ → Option (Placed P)
 own_place f i o n = option_map_or (λ d. cond (same n (f.key d)) (Some (i, d)) None) o None
 
-or-none : {X : Type 0} (o : Option X) → option_or o None ≡ o
+pub or-none : {X : Type 0} (o : Option X) → option_or o None ≡ o
 or-none None = refl
 or-none (Some e) = refl
 

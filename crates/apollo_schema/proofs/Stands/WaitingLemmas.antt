@@ -1,5 +1,5 @@
 -- The names and the waiting extensions of a list with one more item.
-use Rattle.std.proofs.Common.{◌≡◌, ℕ, Bool, true, false, cond, List, [], ◌∷◌, ◌++◌, map, Option, Some, None, is_some, refl, sym, ap, ◌∙◌}
+use Rattle.std.proofs.Common.{◌≡◌, ℕ, Bool, true, false, cond, List, [], ◌∷◌, ◌++◌, map, Some, None, is_some, refl, sym, ap, ◌∙◌}
 use Rattle.std.specs.Option.{option_or}
 use Rattle.std.specs.Cmp.{IsEquivalence, on_equiv}
 use Rattle.std.specs.Cmp.Lexicographic.{nat_list_eq_equiv}
@@ -13,14 +13,11 @@ use Rattle.apollo_meaning.specs.Items.Named.{definitions, first, extensions_of}
 use Rattle.apollo_meaning.specs.Types.Meaning.{type_names}
 use Rattle.apollo_meaning.specs.Completion.Adoption.{orphans_of}
 use Rattle.graphql_nodes.proofs.Texts.{same-true, same-is}
+use Rattle.apollo_meaning.proofs.Order.PlaceLemmas.{or-none}
 use Rattle.apollo_meaning.proofs.Items.ItemLemmas.{definitions-push_definition, definitions-push_undefined, first-push_definition, first-push_undefined, extensions_of-push_extension, extensions_of-push_unextended}
 
 by_key : IsEquivalence (same_key {V = TypePart} same)
 by_key = on_equiv (λ e. e.0) nat_list_eq_equiv
-
-or-none : {X : Type 0} (o : Option X) → option_or o None ≡ o
-or-none None = refl
-or-none (Some x) = refl
 
 module _ (xs : List ListItem) (p : TypePart) where
   pub type_names-new : is_some (first xs (key_of p)) ≡ false → type_names (xs ++ Defined p ∷ []) ≡ type_names xs ++ p.name ∷ []

@@ -70,7 +70,7 @@ impl Schema {
     }
 
     /// The field of this name in a type at hand, of which this is the name: as [`type_field`](Schema::type_field) finds it
-    /// where the schema has the type under the name. Whoever looks up many fields of one type so looks the type up once.
+    /// where the schema has the type under the name. So whoever looks up many fields of one type looks that type up once.
     pub fn field_of<'schema>(
         &'schema self,
         type_name: &Name,

@@ -1,11 +1,13 @@
 //! The end of a list: what it leaves to adopt, to imply and to refuse, and the schema.
 ghost use Rattle.std.specs.Prelude.{◌≡◌, ◌≢◌, ℕ, ◌+◌, ◌≤◌, List, [], ◌++◌, Err, OnOk, IfOk, IfErr};
+ghost use Rattle.std.specs.Option.{unwrap_or};
 ghost use Rattle.apollo_component.specs.Extensions.{next_number, source_at};
 ghost use Rattle.apollo_meaning.specs.Items.ListItems.{schema_item, ListItem};
 ghost use Rattle.apollo_meaning.specs.Completion.Adoption.{with_adopted};
 ghost use Rattle.apollo_meaning.specs.Completion.ImpliedSchema.{implied_schema, completed};
 ghost use Rattle.apollo_schema.specs.MeantSchema.{MeansSchema, IsPartOf};
 ghost use Rattle.apollo_schema.specs.Takes.{Becomes, SpentOn, ForLists, ForCompleted};
+ghost use Rattle.apollo_meaning.specs.Schema.Definition.{no_schema};
 ghost use Rattle.apollo_meaning.specs.Schema.Whole.{folds};
 ghost use Rattle.apollo_meaning.specs.Faults.ListFaults.{faults_of};
 ghost use Rattle.apollo_schema.specs.BuildAnswers.{IfFaults, failure_of, HasBuilt, WasRefused};
@@ -17,12 +19,13 @@ use crate::build_failure::{BuildFailure, WithErrors};
 use crate::schema::Schema;
 use crate::tables::Tables;
 use apollo_component::extension::ExtensionSource;
-use apollo_folding::adoption::{adopted_definitions, definition_or_none, implied_definition};
+use apollo_folding::adoption::{adopted_definitions, implied_definition};
 use apollo_folding::builder_error::BuilderError;
 use apollo_folding::orphans::{note_orphans, note_schema_orphans};
+use apollo_types::schema_definition::SchemaDefinition;
 use graphql_ast::type_system as ast;
 use graphql_nodes::node::Node;
-use std::alloc::AllocError;
+use std::alloc::{AllocError, Global};
 
 impl Tables {
     /// Takes an empty definition for each name that is extended only, where such names are adopted.
@@ -83,6 +86,19 @@ impl Tables {
         self.adopt(adopts)?;
         self.end(adopts)?;
         Ok(())
+    }
+}
+
+/// The definition of a schema, or the one of a schema that has none.
+fn definition_or_none(
+    alloc: Global,
+    definition: Option<Node<SchemaDefinition>>,
+) -> Result<Node<SchemaDefinition>, AllocError>
+    ensures { IfOk result (λ node. node ≡ unwrap_or definition no_schema) }
+{
+    match definition {
+        Some(node) => Ok(node),
+        None => Node::new(alloc, SchemaDefinition::new(alloc)),
     }
 }
 

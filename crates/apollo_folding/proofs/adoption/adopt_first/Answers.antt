@@ -4,7 +4,7 @@ use Rattle.std.proofs.lemmas.List.{map-append}
 use Rattle.apollo_meaning.specs.Items.ListItems.{Extended, Defined, item_of, items_of, extended_part}
 use Rattle.apollo_meaning.specs.Completion.Adoption.{adopted_part}
 use Rattle.apollo_folding.specs.Views.{part_seen, item_seen}
-use Rattle.apollo_folding.proofs.RootLemmas.{adopted-first, adopted-none}
+use Rattle.apollo_folding.proofs.CompletionLemmas.{adopted-first, adopted-none}
 use Rattle.apollo_folding.proofs.ViewLemmas.{unextended}
 use Rattle.apollo_folding.proofs.adoption.adopt_first.Goals as goal
 

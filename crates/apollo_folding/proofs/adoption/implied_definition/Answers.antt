@@ -3,7 +3,7 @@ use Rattle.apollo_meaning.specs.Items.Parts.{SchemaPart, schema_definition_part}
 use Rattle.apollo_meaning.specs.Items.ListItems.{SchemaDefined}
 use Rattle.apollo_meaning.specs.Completion.ImpliedSchema.{schema_of_roots}
 use Rattle.apollo_folding.specs.HeldRoots.{held_roots}
-use Rattle.apollo_folding.proofs.RootLemmas.{implied-adopting, implied-some}
+use Rattle.apollo_folding.proofs.CompletionLemmas.{implied-adopting, implied-some}
 use Rattle.apollo_folding.proofs.adoption.implied_definition.Goals.{else-not-adopts-via-then-not-adopts+else-is_empty, else-not-adopts-via-else-not-adopts}
 use Rattle.apollo_folding.proofs.adoption.implied_definition.Goals as goal
 

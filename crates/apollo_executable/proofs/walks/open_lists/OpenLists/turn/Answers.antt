@@ -1,10 +1,11 @@
 use Rattle.std.proofs.Common.{◌≡◌, [], ◌∷◌, ◌++◌, sym, ap, ◌∙◌, arith}
+use Rattle.std.proofs.lemmas.List.{nil_from_length}
 use Rattle.std.proofs.lemmas.Bool.{eqb-true}
 use Rattle.apollo_executable.specs.Walks.Left.{waiting_lists, names_opened}
 use Rattle.apollo_executable.specs.Walks.Plain.{below_of}
 use Rattle.apollo_executable.specs.declared.selection.InlineFragment.{InlineFragment}
 use Rattle.apollo_executable.proofs.Walking.TurnLemmas.{turn-end, turn-close, turn-leaf, turn-field, turn-inline}
-use Rattle.apollo_executable.proofs.Walking.WalkLemmas.{waiting-push, waiting-empty, OnOk-when, empty-by-length, cons-by-length}
+use Rattle.apollo_executable.proofs.Walking.WalkLemmas.{waiting-push, waiting-empty, OnOk-when, cons-by-length}
 use Rattle.apollo_executable.proofs.walks.open_lists.OpenLists.turn.Goals.{in-None-pop, in-Some-pop, then-is_empty, else-is_empty}
 use Rattle.apollo_executable.proofs.walks.open_lists.OpenLists.turn.Goals as goal
 
@@ -12,10 +13,10 @@ pub returns-after-pop-clause-turn : goal.returns-after-pop-clause-turn
 returns-after-pop-clause-turn c =
     let v = c.args.self.now in
     let names = names_opened v in
-    let current : v.current.now ≡ [] = empty-by-length v.current.now c.in-None.ensures.cases in
+    let current : v.current.now ≡ [] = nil_from_length v.current.now c.in-None.ensures.cases in
     elim c.match-pop.branch [
       | in-None-pop w ↦
-          let stack : v.waiting.items ≡ [] = empty-by-length v.waiting.items (omega (arith, v.waiting.ok.0, w.in-None-pop.ensures.cases.0)) in
+          let stack : v.waiting.items ≡ [] = nil_from_length v.waiting.items (omega (arith, v.waiting.ok.0, w.in-None-pop.ensures.cases.0)) in
           let lists : waiting_lists v.waiting.items ≡ [] = ap waiting_lists stack ∙ waiting-empty in
           rw (w.self-is, c.requires, current, lists) (turn-end v.deep v.document.now names)
       | in-Some-pop w ↦
@@ -33,7 +34,7 @@ returns-then-is_ok-clause-turn c =
     let below = c.below-below.ensures ∙ ap (below_of v.deep) c.deref.ensures in
     elim c.if-is_empty.branch [
       | then-is_empty w ↦
-          let empty = sym below ∙ empty-by-length c.below-below.result.now (eqb-true _ _ (sym w.if-is_empty.ensures)) in
+          let empty = sym below ∙ nil_from_length c.below-below.result.now (eqb-true _ _ (sym w.if-is_empty.ensures)) in
           (rw (w.self-is, c.requires, first, c.in-Field.is) (turn-leaf v.deep v.document.now names n c.in-Some.rest.now (waiting_lists v.waiting.items) empty), rw (w.self-is) c.requires)
       | else-is_empty w ↦
           let r = w.open.new.self in
