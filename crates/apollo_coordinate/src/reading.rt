@@ -118,8 +118,8 @@ impl FieldArgumentCoordinate {
     /// The coordinate that a text `Type.field(argument:)` says, with its names at no place.
     ///
     /// A text without a `(` is refused with [`InvalidFormat`](SchemaCoordinateParseError::InvalidFormat). What stands before
-    /// the first one is read as a [`TypeAttributeCoordinate`], with its refusals; then what stands after it, where
-    /// anything but `)` alone after the first `:` is `InvalidFormat`, and an argument that is no name is
+    /// the first one is read as a [`TypeAttributeCoordinate`], with its refusals; then what stands after it, where no `:`, or
+    /// anything but `)` alone after the first one, is `InvalidFormat`, and an argument that is no name is
     /// [`InvalidName`](SchemaCoordinateParseError::InvalidName). [`Memory`](SchemaCoordinateParseError::Memory) is want of
     /// memory.
     pub fn from_str(
@@ -163,8 +163,8 @@ impl DirectiveArgumentCoordinate {
     /// The coordinate that a text `@directive(argument:)` says, with its names at no place.
     ///
     /// A text without a `(` is refused with [`InvalidFormat`](SchemaCoordinateParseError::InvalidFormat). What stands before
-    /// the first one is read as a [`DirectiveCoordinate`], with its refusals; then what stands after it, where anything but
-    /// `)` alone after the first `:` is `InvalidFormat`, and an argument that is no name is
+    /// the first one is read as a [`DirectiveCoordinate`], with its refusals; then what stands after it, where no `:`, or
+    /// anything but `)` alone after the first one, is `InvalidFormat`, and an argument that is no name is
     /// [`InvalidName`](SchemaCoordinateParseError::InvalidName). [`Memory`](SchemaCoordinateParseError::Memory) is want of
     /// memory.
     pub fn from_str(

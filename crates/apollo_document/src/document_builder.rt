@@ -22,7 +22,8 @@ use std::alloc::Global;
 /// Of operations the first of each name is kept that has a root type in the schema, and an anonymous one if it is the first of
 /// all that have one; of fragments the first of each name whose condition is a type of the schema. Their selections are kept where
 /// they are typable, as [`elaborate_selections`](apollo_elaboration::elaboration::elaborate_selections) says. All else is at
-/// fault, unless it is a definition of the type system and these are not.
+/// fault, but for fields of a type that the schema lacks, and for definitions of the type system where these are not. So is a
+/// kept anonymous operation that isn't the only one.
 ///
 /// After want of memory the builder holds nothing, and each later call answers `Failed`.
 pub struct ExecutableDocumentBuilder<'schema> {

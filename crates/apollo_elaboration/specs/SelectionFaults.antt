@@ -1,6 +1,6 @@
 -- The faults of an untyped list in a type, in order: for each typable selection those of its subselections in its child type,
--- where the path is longer by the response key of a field; for each other one what is wrong with it. GraphQL specification of
--- October 2021, sections 2.4 to 2.8.
+-- for each other one what is wrong with it; of a field, the path of both is longer by its response key. GraphQL specification
+-- of October 2021, sections 2.4 to 2.8.
 use Rattle.std.specs.Prelude.{List, [], ◌∷◌, ◌++◌, Option, Result, Ok, Err}
 use Rattle.std.specs.List.{flat_map}
 use Rattle.graphql_nodes.specs.NameView.{NameView}

@@ -31,7 +31,7 @@ Wrong = Option SourceSpan → SelectionPath → List Fault
 abbrev pub unknown_field : NameView → NodeView FieldDefinition
 unknown_field name = plain_node (record { description = None; name = name; arguments = []; ty = Named (plain_name (codes "UNKNOWN")); directives = record { 0 = [] } })
 
--- a field that isn't defined is at fault where its type is, with the name that the schema has the type under
+-- a field that isn't defined is at fault, at its name, if the schema has its type; the fault has the name that the schema has that under
 abbrev pub undefined : NameView → Option NameView → Wrong
 undefined name (Some key) place path = (name.location, e.UndefinedField key name path) ∷ []
 undefined name None place path = []

@@ -6,8 +6,8 @@ use graphql_nodes::name::{Name, NamedType};
 use graphql_nodes::source::SourceSpan;
 use thiserror::Error;
 
-/// What is wrong with a definition or a selection that a build of an executable document doesn't use: GraphQL specification
-/// of October 2021, sections 2.2 to 2.8. The name of a kept definition, and that of a type that lacks a field, stand where the
+/// What is wrong with a definition or a selection that a build of an executable document doesn't use, or with an anonymous
+/// operation that it keeps beside others: GraphQL specification of October 2021, sections 2.2 to 2.8. The name of a kept definition, and that of a type that lacks a field, stand where the
 /// definition or type does.
 #[derive(Debug, Drop, Clone, PartialEq, Eq, Error)]
 pub enum BuildError {

@@ -1,6 +1,6 @@
 //! Untyped selections made into typed ones: GraphQL specification of October 2021, sections 2.4 to 2.8.
 //!
-//! Input nodes are borrowed. The path of a field is pushed and popped; its keys are copied for a fault alone. Arguments and
+//! Input nodes are borrowed. The key of a field is pushed and popped; the whole path is copied for a fault alone. Arguments and
 //! directives are shared with the input.
 ghost use Rattle.std.specs.Prelude.{◌≡◌, ◌++◌, [], IfOk, OnOk, option_map};
 ghost use Rattle.std.specs.List.{cons_option, filter_map};

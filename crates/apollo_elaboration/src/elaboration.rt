@@ -1,5 +1,5 @@
 //! Untyped selections made into typed ones: GraphQL specification of October 2021, sections 2.4 to 2.8.
-ghost use Rattle.std.specs.Prelude.{◌≡◌, ◌++◌, IfOk, OnOk};
+ghost use Rattle.std.specs.Prelude.{◌≡◌, ◌++◌, IfOk, OnErr, OnOk};
 ghost use Rattle.std.specs.Option.{option_copied};
 ghost use Rattle.apollo_executable.specs.Erasure.{erased_set};
 ghost use Rattle.apollo_elaboration.specs.SelectionFaults.{faults_of};
@@ -25,7 +25,7 @@ use std::alloc::{AllocError, Global};
 /// condition is the name of a type; its selections are from that, or without a condition from the same type. A spread always
 /// is. Without a schema every selection is typable, and each field has a definition of its name, whose type is `UNKNOWN`.
 ///
-/// The error is want of memory. The path is then as it was; of the faults nothing is said.
+/// The error is want of memory. The path and the faults are then as they were.
 pub fn elaborate_selections(
     alloc: Global,
     schema: Option<&Schema>,
@@ -37,8 +37,11 @@ pub fn elaborate_selections(
     ensures kept { IfOk result (λ set. erased_set set ≡ stripped (option_copied schema.entry) ty.now selections.now) }
     ensures typed { IfOk result (IsTypedSet (option_copied schema.entry) ty.now) }
     ensures faults { OnOk result (faults.new ≡ faults.old ++ faults_of (option_copied schema.entry) ty.now path.old selections.now) }
+    ensures unchanged { OnErr result (faults.new ≡ faults.old) }
     ensures path { path.new ≡ path.old }
 {
-    let set = elaborate_set(alloc, schema, ty, selections, path, faults)?;
+    let mut found = Items::new(alloc);
+    let set = elaborate_set(alloc, schema, ty, selections, path, &mut found)?;
+    faults.append(&mut found)?;
     Ok(set)
 }

@@ -36,8 +36,9 @@ pub fn equality_of_documents()
     ensures document { ComparesBy ⟦<ExecutableDocument as PartialEq>⟧.eq bare_document }
 {}
 
-/// Errors of requests, and those of new fields, are equal exactly where they are one without the locations of their names, and of
-/// their types.
+/// Errors of requests are equal exactly where they are of one sort and their names have one text. Those of new fields are where
+/// their sorts and texts are the same, and their types are equal as `==` of types says: without locations and origins, and what
+/// stands under names in any order.
 pub fn equality_of_errors<'a>()
     ensures request_error { ComparesBy ⟦<RequestError<'a> as PartialEq>⟧.eq bare_request_error }
     ensures new_field_error { ComparesBy ⟦<NewFieldError<'a> as PartialEq>⟧.eq bare_new_field_error }

@@ -15,7 +15,7 @@ use std::alloc::Global;
 
 /// The anonymous operation of a document, if there is one, and its named operations under their names, in order.
 ///
-/// Maps are equal where they have equal operations, in any order.
+/// Maps are equal where their anonymous operations are, and those under each name, in any order.
 #[derive(Debug, PartialEq, Eq, Clone)]
 pub struct OperationMap {
     pub anonymous: Option<Node<Operation>>,

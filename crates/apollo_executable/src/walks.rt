@@ -3,7 +3,8 @@
 //!
 //! A walk opens each fragment at the first spread of its name, and passes over spreads of names that are opened or that no
 //! fragment has: so it ends on documents whose fragments lead to one another, and gives each field that is reached as often
-//! as it stands there.
+//! as it stands there. It looks at no directive (`@skip`, `@include`) and no type condition, and merges no fields: of section
+//! 6.3.2 it keeps the order, and that each fragment is visited once.
 
 pub mod all_fields;
 mod calls;

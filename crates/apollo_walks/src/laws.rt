@@ -25,7 +25,7 @@ pub fn walks_have_one_order<F>()
         → Order fragments before s fs x → Order fragments before s gs y → (fs ≡ gs) × (x ≡ y) }
 {}
 
-/// Fields in the order of walks are those of a whole walk.
+/// Fields in the order of walks, from no opened name, are those of a whole walk.
 pub fn fields_in_order_are_a_walk<F>()
     ensures { (fragments : Fragments F) (opened : Names) (s : Selections F) (fields : List F)
         → Order fragments no_names s fields opened → IsWalk fragments s fields }

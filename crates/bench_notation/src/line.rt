@@ -80,7 +80,7 @@ pub enum Line {
 
 /// Reads a line. Its names get this place.
 ///
-/// `words` is where its words are put, and what was there is gone.
+/// `words` is room for its words: what it holds afterwards is not said.
 pub fn read_line<'a>(
     names: &mut Names,
     words: &mut Vec<&'a str>,

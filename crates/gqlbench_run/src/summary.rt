@@ -1,5 +1,6 @@
 //! What a list of times comes to.
 ghost use Rattle.std.specs.Prelude.{◌≡◌, ◌≤◌, ◌*◌, ◌/◌, ◌^◌, ◌-◌, [], MatchOption, length, sum};
+ghost use Rattle.std.specs.List.Sorted.{IsNonDecreasing, IsPermutation};
 ghost use Rattle.gqlbench_run.specs.Summaries.{IsSummary};
 
 /// The least, the median and the mean of a list of times.
@@ -14,7 +15,8 @@ pub struct Summary {
 
 /// The summary of these times, which are put in ascending order. An empty list has none.
 pub fn summarize(times: &mut [u64]) -> Option<Summary>
-    ensures { MatchOption result (times.old ≡ []) (IsSummary times.old) }
+    ensures summary { MatchOption result (times.old ≡ []) (IsSummary times.old) }
+    ensures sorted { IsPermutation times.old times.new × IsNonDecreasing times.new }
 {
     times.sort_unstable();
     let median = *times.get(times.len() / 2)?;

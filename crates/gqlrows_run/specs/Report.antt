@@ -5,6 +5,8 @@ use Rattle.std.specs.Io.KnownBytes.{Appends}
 use Rattle.graphql_nodes.specs.SameText.{same}
 use Rattle.bench_notation.specs.Line.{lines_of}
 use Rattle.gqltool_run.specs.Status.{exit_code}
+use Rattle.gqltool_run.specs.declared.input.InputError.{InputError}
+use Rattle.gqltool_run.specs.declared.input.InputError.TheVariants as i
 use Rattle.gqltool_run.specs.declared.status.Status.{Status}
 use Rattle.gqltool_run.specs.declared.status.Status.TheVariants as s
 use Rattle.gqlrows_run.specs.declared.refusal.ReadError.{ReadError}
@@ -53,12 +55,21 @@ pub record IsReportOn (lines : List (List ℕ)) (text : List ℕ) (differing : �
   pub tells : text ≡ report_text runs
   pub counts : differing ≡ count_by differs runs
 
+-- there is a report on the rows of this file
+abbrev pub HaveReport : List ℕ → Type 0
+HaveReport input = (text : List ℕ) × ((differing : ℕ) × IsReportOn (lines_of input) text differing)
+
 -- a report that rows differ is put at the end of the output, and a count where none does
 abbrev pub TellsDifferences : List ℕ → Option (List ℕ) → Option (List ℕ) → Type 0
 TellsDifferences input old new = (text : List ℕ) × ((differing : ℕ) × (IsReportOn (lines_of input) text differing × ((0 < differing) × Appends old new text)))
 
 abbrev pub TellsNone : List ℕ → Option (List ℕ) → Option (List ℕ) → Type 0
 TellsNone input old new = AllAgree (rows_of (lines_of input)) × Appends old new (count_text (length (rows_of (lines_of input))) 0)
+
+-- why rows are not read whose file could not be had
+abbrev pub error_of_input : InputError → ReadError
+error_of_input i.CannotRead = e.CannotRead
+error_of_input i.Memory = e.Memory
 
 -- how a run ends whose rows are not read
 abbrev pub ending_of : ReadError → Status

@@ -4,16 +4,18 @@ use Rattle.gqltool_run.specs.declared.status.Status.{Status}
 use Rattle.gqltool_run.specs.declared.status.Status.TheVariants as s
 use Rattle.gqltool_run.specs.Commands.{IsAnswerTo}
 use Rattle.gqltool_run.specs.Status.{exit_code}
+use Rattle.gqltool_run.specs.Tasks.{AreNoCommand}
 use Rattle.gqlrows_run.specs.Rows.{RowView}
 
--- this status and output may come of a run with these words and this input: the output is the answer to them, or there is
--- none
-abbrev pub IsOutcome : List (List ℕ) → List ℕ → Status → List ℕ → Type 0
-IsOutcome words input s.Done output = IsAnswerTo words input output false
-IsOutcome words input s.Faults output = IsAnswerTo words input output true
-IsOutcome words input s.Refused output = output ≡ []
-IsOutcome words input s.Exhausted output = output ≡ []
-IsOutcome words input s.NotWritten output = (text : List ℕ) × ((has_faults : Bool) × IsAnswerTo words input text has_faults)
+-- this status, output and standard error may come of a run with these words and this input: the output is the answer to them,
+-- and nothing is said beside it; or there is none
+abbrev pub IsOutcome : List (List ℕ) → List ℕ → Status → List ℕ → List ℕ → Type 0
+IsOutcome words input s.Done output errors = IsAnswerTo words input output false × (errors ≡ [])
+IsOutcome words input s.Faults output errors = IsAnswerTo words input output true × (errors ≡ [])
+IsOutcome words input s.Refused output errors = output ≡ []
+-- words that are no command are refused
+IsOutcome words input s.Exhausted output errors = (output ≡ []) × ¬ AreNoCommand words
+IsOutcome words input s.NotWritten output errors = (text : List ℕ) × ((has_faults : Bool) × IsAnswerTo words input text has_faults)
 
 -- a row, and what came of its run
 pub record Ran : Type 0 where
@@ -24,7 +26,7 @@ pub record Ran : Type 0 where
 
 -- what came may come of a run
 abbrev pub IsRun : Ran → Type 0
-IsRun ran = IsOutcome ran.row.words ran.row.input ran.status ran.output
+IsRun ran = IsOutcome ran.row.words ran.row.input ran.status ran.output ran.errors
 
 -- these are runs of these rows, one of each, in order
 pub record AreRunsOf (rows : List RowView) (runs : List Ran) : Type 0 where

@@ -25,7 +25,7 @@ impl Drop for Outcome {
 
 /// Runs the program in memory, with these words and this input.
 pub fn outcome_of(alloc: Global, words: &[&str], input: &str) -> Outcome
-    ensures { IsOutcome (map (λ word. word.now) words.now) input.now result.status result.output.items }
+    ensures { IsOutcome (map (λ word. word.now) words.now) input.now result.status result.output.items result.errors.items }
 {
     let mut reader = input.as_bytes();
     let mut output = Vec::new(alloc);

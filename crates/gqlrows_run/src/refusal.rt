@@ -7,7 +7,8 @@ use thiserror::Error;
 /// Why a line says nothing where it stands. Of several reasons the one that stands first here is given.
 #[derive(Debug, Clone, Copy, PartialEq, Eq, Error)]
 pub enum Reason {
-    /// The line begins with no mark, or something other than a space stands behind its mark.
+    /// The line begins with no mark; something other than a space stands right behind its mark, which isn't `#`; or anything
+    /// stands behind `\`.
     #[error("unknown line")]
     UnknownLine,
     /// The line belongs to a row, and there is no title above it.
@@ -52,6 +53,11 @@ impl From<AllocError> for ReadError {
 }
 
 impl From<InputError> for ReadError {
+    ghost use Rattle.std.specs.Prelude.{◌≡◌};
+    ghost use Rattle.gqlrows_run.specs.Report.{error_of_input};
+
+    ghost from_gives = { λ error made. made ≡ error_of_input error };
+
     fn from(error: InputError) -> ReadError {
         match error {
             InputError::CannotRead => ReadError::CannotRead,

@@ -4,7 +4,7 @@ ghost use Rattle.std.specs.Io.KnownBytes.{Appends};
 ghost use Rattle.gqltool_run.specs.Status.{Writes};
 ghost use Rattle.bench_notation.specs.Line.{lines_of};
 ghost use Rattle.gqlrows_run.specs.FileLines.{refused_of};
-ghost use Rattle.gqlrows_run.specs.Report.{IsReportOn, TellsDifferences, TellsNone, ending_of};
+ghost use Rattle.gqlrows_run.specs.Report.{HaveReport, IsReportOn, TellsDifferences, TellsNone, ending_of};
 
 use crate::reading::read_rows;
 use crate::refusal::ReadError;
@@ -27,9 +27,11 @@ pub fn run_rows<R: Read, O: Write, E: Write>(
 ) -> Status
     ensures refused { result ≡ Status.Refused → output.new ≡ output.old }
     ensures exhausted { result ≡ Status.Exhausted → output.new ≡ output.old }
+    ensures quiet { Writes result → errors.new ≡ errors.old }
     ensures says { Writes result → IfSome (R.remaining reader.old) (λ input. refused_of (lines_of input) ≡ None) }
     ensures agree { result ≡ Status.Done → IfSome (R.remaining reader.old) (λ input. TellsNone input (O.contents output.old) (O.contents output.new)) }
     ensures differ { result ≡ Status.Faults → IfSome (R.remaining reader.old) (λ input. TellsDifferences input (O.contents output.old) (O.contents output.new)) }
+    ensures not_written { result ≡ Status.NotWritten → IfSome (R.remaining reader.old) HaveReport }
 {
     let report = match answer(alloc, reader) {
         Ok(report) => report,

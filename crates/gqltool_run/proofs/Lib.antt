@@ -1,3 +1,4 @@
 pub mod AnswerLemmas
 pub mod FaultLineLemmas
+pub mod SourceLemmas
 pub mod WalkTextLemmas

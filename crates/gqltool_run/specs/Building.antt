@@ -1,6 +1,7 @@
 -- What the commands build.
-use Rattle.std.specs.Prelude.{◌≡◌, ℕ, Bool, false, List, ◌++◌}
-use Rattle.std.specs.List.{flat_map}
+use Rattle.std.specs.Prelude.{◌≡◌, ℕ, Bool, false, List, [], ◌++◌}
+use Rattle.std.specs.List.{flat_map, fold}
+use Rattle.graphql_nodes.specs.Sources.{Files, merged}
 use Rattle.graphql_ast.specs.declared.definition.Definition.{Definition}
 use Rattle.graphql_ast.specs.declared.document.Document.{Document}
 use Rattle.apollo_schema.specs.declared.schema.Schema.{Schema}
@@ -24,6 +25,13 @@ no_options = record { adopt = false; ignore_built_in = false }
 abbrev pub all_definitions : List Document → List Definition
 all_definitions documents = flat_map (λ (document : Document). document.definitions) documents
 
+-- the source files of all documents
+abbrev pub with_sources : Files → Document → Files
+with_sources files document = merged files document.sources
+
+abbrev pub all_sources : List Document → Files
+all_sources documents = fold with_sources [] documents
+
 -- the list that is built: the built-in definitions, and then those of the documents, added under this setting of whether
 -- redefinitions of built-in types are ignored
 unfoldable pub list_of : Bool → List Document → List Added
@@ -34,6 +42,7 @@ pub record IsBuilt (options : SchemaOptions) (input : List ℕ) (schema : Schema
   pub documents : List Document
   pub says : AreDocumentsOf input documents
   pub means : MeansSchema 0 options.adopt (list_of options.ignore_built_in documents) schema
+  pub sources : schema.sources ≡ all_sources documents
   pub are : faults ≡ faults_of options.adopt (list_of options.ignore_built_in documents)
 
 -- why nothing is built of an input with these options: a line says nothing where it stands, or the extensions spend the

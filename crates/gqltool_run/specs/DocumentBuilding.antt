@@ -1,7 +1,5 @@
 -- What the commands on executable documents build.
-use Rattle.std.specs.Prelude.{◌≡◌, ℕ, false, true, List, [], Some}
-use Rattle.std.specs.List.{fold}
-use Rattle.graphql_nodes.specs.Sources.{Files, merged}
+use Rattle.std.specs.Prelude.{◌≡◌, ℕ, false, true, List, Some}
 use Rattle.graphql_ast.specs.declared.document.Document.{Document}
 use Rattle.apollo_schema.specs.declared.schema.Schema.{Schema}
 use Rattle.apollo_meaning.specs.Order.SpentIds.{SpendsIds}
@@ -18,18 +16,11 @@ use Rattle.bench_notation.specs.Documents.{AreDividedDocumentsOf, IsDividedReadE
 use Rattle.bench_notation.specs.declared.refusal.ReadError.TheVariants as reading
 use Rattle.gqltool_run.specs.declared.failure.Failure.{Failure}
 use Rattle.gqltool_run.specs.declared.failure.Failure.TheVariants as failures
-use Rattle.gqltool_run.specs.Building.{all_definitions, list_of}
+use Rattle.gqltool_run.specs.Building.{all_definitions, all_sources, list_of}
 
 -- the list that the typed document is built of, in which definitions of the type system are at fault
 abbrev pub executable_list : List Document → List Added
 executable_list documents = added true (all_definitions documents)
-
--- the source files of all documents
-abbrev pub with_sources : Files → Document → Files
-with_sources files document = merged files document.sources
-
-abbrev pub all_sources : List Document → Files
-all_sources documents = fold with_sources [] documents
 
 -- the typed document that the input means, the faults of its schema, which has no options, and those of the document
 pub record IsBuiltDocument (input : List ℕ) (document : ExecutableDocument) (schema_faults : List Fault) (faults : List DocumentFault) : Type 0 where

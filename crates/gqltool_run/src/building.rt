@@ -2,11 +2,11 @@
 ghost use Rattle.std.specs.Prelude.{◌≡◌, ℕ, All, List, [], true, Err, IfOk, IfErr, OnOk, if◌then◌else◌};
 ghost use Rattle.bench_notation.specs.Line.{IsLine, lines_of};
 ghost use Rattle.apollo_meaning.specs.Items.ListItems.{Added};
-ghost use Rattle.apollo_schema.specs.BuilderStands.{StandsFor, adopts, ignores};
+ghost use Rattle.apollo_schema.specs.BuilderStands.{StandsFor, adopts, ignores, sources_of};
 ghost use Rattle.apollo_meaning.specs.Order.SpentIds.{SpendsIds};
 ghost use Rattle.apollo_meaning.specs.Faults.ListFaults.{faults_of};
 ghost use Rattle.apollo_schema.specs.MeantSchema.{MeansSchema};
-ghost use Rattle.gqltool_run.specs.Building.{IsBuilt, IsCause, list_of};
+ghost use Rattle.gqltool_run.specs.Building.{IsBuilt, IsCause, all_sources, list_of};
 ghost use Rattle.gqltool_run.specs.Status.{status_of};
 ghost use Rattle.gqltool_run.specs.declared.status.Status.{Status};
 ghost use Rattle.gqltool_run.specs.declared.status.Status.TheVariants as Status;
@@ -50,6 +50,7 @@ fn with_adoption(builder: SchemaBuilder, adopt: bool) -> SchemaBuilder
     ensures stands { (start : ℕ) (xs : List Added) → StandsFor start xs builder → StandsFor start xs result }
     ensures adopts { adopts result ≡ (if adopt then true else adopts builder) }
     ensures ignores { ignores result ≡ ignores builder }
+    ensures sources { sources_of result ≡ sources_of builder }
 {
     if adopt {
         return builder.adopt_orphan_extensions();
@@ -62,6 +63,7 @@ fn with_ignoring(builder: SchemaBuilder, ignore: bool) -> SchemaBuilder
     ensures stands { (start : ℕ) (xs : List Added) → StandsFor start xs builder → StandsFor start xs result }
     ensures adopts { adopts result ≡ adopts builder }
     ensures ignores { ignores result ≡ (if ignore then true else ignores builder) }
+    ensures sources { sources_of result ≡ sources_of builder }
 {
     if ignore {
         return builder.ignore_builtin_redefinitions();
@@ -74,6 +76,7 @@ fn begun(alloc: Global, keys: HashKeys, options: SchemaOptions) -> Result<Schema
     ensures stands { IfOk result (StandsFor 0 (list_of options.ignore_built_in [])) }
     ensures adopts { IfOk result (λ builder. adopts builder ≡ options.adopt) }
     ensures ignores { IfOk result (λ builder. ignores builder ≡ options.ignore_built_in) }
+    ensures sources { IfOk result (λ builder. sources_of builder ≡ []) }
 {
     let bare = SchemaBuilder::with_keys(alloc, ExtensionSource::new(), keys)?;
     let builder = with_adoption(bare, options.adopt);
@@ -92,6 +95,7 @@ pub fn built(
     ensures exhausted { IfErr result (λ failure. status_of failure ≡ Status.Exhausted) }
     ensures spent { result ≡ Err Failure.ExtensionIds → SpendsIds 0 options.adopt (list_of options.ignore_built_in documents.now) }
     ensures means { IfOk result (λ built. MeansSchema 0 options.adopt (list_of options.ignore_built_in documents.now) built.0) }
+    ensures sources { IfOk result (λ built. built.0.sources ≡ all_sources documents.now) }
     ensures faults { IfOk result (λ built. built.1.items ≡ faults_of options.adopt (list_of options.ignore_built_in documents.now)) }
 {
     let mut builder = begun(alloc, keys, options)?;

@@ -3,7 +3,8 @@ ghost use Rattle.std.specs.Prelude.{◌≡◌, ◌==◌, ◌&&◌, not, length, 
 ghost use Rattle.bench_notation.specs.Line.{IsLine, lines_of};
 ghost use Rattle.apollo_document.specs.DocumentFaults.{document_faults};
 ghost use Rattle.apollo_document.specs.Documents.{IsDocumentOf};
-ghost use Rattle.gqltool_run.specs.DocumentBuilding.{IsBuiltDocument, IsDocumentCause, all_sources, executable_list};
+ghost use Rattle.gqltool_run.specs.Building.{all_sources};
+ghost use Rattle.gqltool_run.specs.DocumentBuilding.{IsBuiltDocument, IsDocumentCause, executable_list};
 
 use crate::building::built;
 use crate::failure::Failure;

@@ -21,8 +21,8 @@ use std::io::{self, Read, Write};
 
 /// Runs the program on the words that follow its name.
 ///
-/// The output is written only once all of it is there. What is wrong is said on `errors`, in one line; that it
-/// cannot be said there changes nothing. Tables hash by fixed keys: for an input from strangers, take [`run_with_keys`].
+/// The output is written only once all of it is there. What is wrong is said on `errors`, in one line, or in more where the text
+/// of `coord` has line feeds; that it cannot be said there changes nothing. Tables hash by fixed keys: for an input from strangers, take [`run_with_keys`].
 ///
 /// What was built of the input is left in memory, since a program ends after its run, which is faster by a third. A process
 /// that goes on takes the libraries' calls, which free what they make.

@@ -17,7 +17,7 @@ GivesFirst old (Some (Ok field)) new = (old.coming ≡ field.now ∷ new.coming)
 -- after the error nothing comes
 GivesFirst old (Some (Err error)) new = (old.ended ≡ false) × (new.coming ≡ []) × (new.ended ≡ true)
 
--- after the end nothing changes any more, and each item takes a turn
+-- after the end nothing changes any more, and each item takes a turn or more
 abbrev pub TakesTurns : WalkView → Option Item → WalkView → Type 0
 TakesTurns old None new = old.ended ≡ true → new ≡ old
 TakesTurns old (Some item) new = old.taken < new.taken
@@ -37,6 +37,6 @@ pub record IsNext (deep : Bool) (old : WalkView) (item : Option Item) (new : Wal
   -- where it wasn't over before
   pub over : IfNone item (old.ended ≡ false → IsOver deep new)
 
--- a field each, and the error that may come in place of one
+-- a field each, and the error, which may come after them all
 abbrev pub most_items : WalkView → ℕ
 most_items walk = cond walk.ended 0 (suc (length walk.coming))

@@ -15,7 +15,7 @@ pub record WalkView : Type 0 where
   pub start : SelectionSet
   -- the fields that are still to come
   pub coming : List (NodeView Field)
-  -- the names of the fragments that are opened
+  -- the names of the fragments that are opened: said where a walk begins and where it is over
   pub opened : List (List ℕ)
   -- the end came, or the error
   pub ended : Bool

@@ -9,6 +9,6 @@ returns-in_ok-push_line-in-Some c =
       phase_line c.args.name.now summary,
       (
         c.in_ok-push_line-in-Some.ensures,
-        inr (summary, (subst (λ (times : List ℕ). IsSummary times summary) c.as_mut_slice.ensures.value c.in-Some.ensures, refl)),
+        inr (summary, (subst (λ (times : List ℕ). IsSummary times summary) c.as_mut_slice.ensures.value c.in-Some.ensures.summary, refl)),
       ),
     )

@@ -3,6 +3,8 @@ use Rattle.std.proofs.Common.{◌≡◌, ℕ, Bool, true, false, List, [], ◌++
 use Rattle.gqltool_run.specs.declared.status.Status.{Status}
 use Rattle.gqltool_run.specs.declared.status.Status.TheVariants as s
 use Rattle.gqltool_run.specs.Commands.{IsAnswerTo}
+use Rattle.gqltool_run.specs.Status.{Writes}
+use Rattle.gqltool_run.specs.Tasks.{AreNoCommand}
 use Rattle.gqlrows_run.specs.Runs.{IsOutcome}
 use Rattle.gqlrows_run.proofs.outcome.outcome_of.Goals as goal
 
@@ -10,27 +12,32 @@ use Rattle.gqlrows_run.proofs.outcome.outcome_of.Goals as goal
 all_written : (old output text : List ℕ) → old ≡ [] → output ≡ old ++ text → text ≡ output
 all_written old output text none wrote = sym (wrote ∙ ap (λ o. o ++ text) none)
 
-is_outcome : (words : List (List ℕ)) (input : List ℕ) (status : Status) (old output : List ℕ) → old ≡ []
+is_outcome : (words : List (List ℕ)) (input : List ℕ) (status : Status) (old output errors : List ℕ) → old ≡ []
+    → (Writes status → errors ≡ [])
+    → (AreNoCommand words → status ≡ s.Refused)
     → (status ≡ s.Refused → output ≡ old)
     → (status ≡ s.Exhausted → output ≡ old)
     → (status ≡ s.Done → (text : List ℕ) × (IsAnswerTo words input text false × (output ≡ old ++ text)))
     → (status ≡ s.Faults → (text : List ℕ) × (IsAnswerTo words input text true × (output ≡ old ++ text)))
     → (status ≡ s.NotWritten → (text : List ℕ) × ((has_faults : Bool) × IsAnswerTo words input text has_faults))
-    → IsOutcome words input status output
-is_outcome words input s.Done old output none refused exhausted means faults not_written =
-    let is = means refl in subst (λ (o : List ℕ). IsAnswerTo words input o false) (all_written old output is.0 none is.1.1) is.1.0
-is_outcome words input s.Faults old output none refused exhausted means faults not_written =
-    let is = faults refl in subst (λ (o : List ℕ). IsAnswerTo words input o true) (all_written old output is.0 none is.1.1) is.1.0
-is_outcome words input s.Refused old output none refused exhausted means faults not_written = refused refl ∙ none
-is_outcome words input s.Exhausted old output none refused exhausted means faults not_written = exhausted refl ∙ none
-is_outcome words input s.NotWritten old output none refused exhausted means faults not_written = not_written refl
+    → IsOutcome words input status output errors
+is_outcome words input s.Done old output errors none quiet usage refused exhausted means faults not_written =
+    let is = means refl in (subst (λ (o : List ℕ). IsAnswerTo words input o false) (all_written old output is.0 none is.1.1) is.1.0, quiet tt)
+is_outcome words input s.Faults old output errors none quiet usage refused exhausted means faults not_written =
+    let is = faults refl in (subst (λ (o : List ℕ). IsAnswerTo words input o true) (all_written old output is.0 none is.1.1) is.1.0, quiet tt)
+is_outcome words input s.Refused old output errors none quiet usage refused exhausted means faults not_written = refused refl ∙ none
+is_outcome words input s.Exhausted old output errors none quiet usage refused exhausted means faults not_written =
+    (exhausted refl ∙ none, λ no_command. let other : s.Exhausted ≡ s.Refused = usage no_command in cc)
+is_outcome words input s.NotWritten old output errors none quiet usage refused exhausted means faults not_written = not_written refl
 
 pub returns : goal.returns
 returns c =
     let words : List (List ℕ) = map (λ word. word.now) c.args.words.now in
     let ran = c.run-status in
-    subst (λ (input : List ℕ). IsOutcome words input ran.result ran.new.output.items) c.as_bytes-reader.ensures.value
-    (is_outcome words c.as_bytes-reader.result.now ran.result c.new-output.result.items ran.new.output.items c.new-output.ensures.items
+    subst (λ (input : List ℕ). IsOutcome words input ran.result ran.new.output.items ran.new.errors.items) c.as_bytes-reader.ensures.value
+    (is_outcome words c.as_bytes-reader.result.now ran.result c.new-output.result.items ran.new.output.items ran.new.errors.items c.new-output.ensures.items
+    (λ writes. ap (λ (v : Vec ℕ Global). v.items) (ran.ensures.quiet writes) ∙ c.new-errors.ensures.items)
+    (λ no_command. (ran.ensures.usage no_command).0)
     (λ e. ap (λ (v : Vec ℕ Global). v.items) (ran.ensures.refused e))
     (λ e. ap (λ (v : Vec ℕ Global). v.items) (ran.ensures.exhausted e))
     ran.ensures.means

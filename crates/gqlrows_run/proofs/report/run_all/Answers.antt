@@ -19,9 +19,9 @@ loop-row-preserved c =
     let was = c.loop-row.invariant in
     let ran : Ran = record { row = row_view row; status = came.status; output = came.output.items; errors = came.errors.items } in
     let words = ap (map (λ word. word.now)) c.as_slice.ensures.value in
-    let may_come : IsOutcome ran.row.words ran.row.input came.status came.output.items =
-    subst (λ (input : List ℕ). IsOutcome ran.row.words input came.status came.output.items) c.as_str.ensures.value
-    (subst (λ (words : List (List ℕ)). IsOutcome words c.as_str.result.now came.status came.output.items) words c.outcome_of-came.ensures) in
+    let may_come : IsOutcome ran.row.words ran.row.input came.status came.output.items came.errors.items =
+    subst (λ (input : List ℕ). IsOutcome ran.row.words input came.status came.output.items came.errors.items) c.as_str.ensures.value
+    (subst (λ (words : List (List ℕ)). IsOutcome words c.as_str.result.now came.status came.output.items came.errors.items) words c.outcome_of-came.ensures) in
     let more : count_by differs (was.runs ++ ran ∷ []) ≡ count_by differs was.runs + cond (differs ran) 1 0 = one_more_count was.runs ran in
     let counted : c.if-differs.differing ≡ c.loop-row.differing + cond (differs ran) 1 0 =
     elim c.if-differs.branch as (λ _. c.if-differs.differing ≡ c.loop-row.differing + cond (differs ran) 1 0) [

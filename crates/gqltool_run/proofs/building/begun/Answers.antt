@@ -31,3 +31,6 @@ returns-clause-ignores c =
     c.with_ignoring.ensures.ignores
     ∙ ap (cond c.args.options.ignore_built_in true) (c.with_adoption-builder.ensures.ignores ∙ c.in_ok-bare.ensures.settings.1)
     ∙ set c.args.options.ignore_built_in
+
+pub returns-clause-sources : goal.returns-clause-sources
+returns-clause-sources c = c.with_ignoring.ensures.sources ∙ c.with_adoption-builder.ensures.sources ∙ c.in_ok-bare.ensures.sources

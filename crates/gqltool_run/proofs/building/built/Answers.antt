@@ -1,6 +1,7 @@
 use Rattle.std.proofs.Common.{◌≡◌, ℕ, ◌+◌, ◌<◌, Bool, false, get_or, take, drop, Err, List, [], ◌∷◌, ◌++◌, length, sym, ap, subst, ◌∙◌, append_assoc, arith}
 use Rattle.std.proofs.lemmas.List.{append-nil, map-append, take_more, take-append-drop, take_all}
 use Rattle.std.proofs.lemmas.Grind.{flat_map-append}
+use Rattle.graphql_nodes.specs.Sources.{merged}
 use Rattle.graphql_ast.specs.declared.document.Document.{Document}
 use Rattle.apollo_built_in.specs.BuiltInTable.{built_in_definitions}
 use Rattle.apollo_meaning.specs.Items.ListItems.{Added, added}
@@ -11,7 +12,8 @@ use Rattle.apollo_meaning.specs.Order.SpentIds.{SpendsIdsSoFar, SpendsIds}
 use Rattle.apollo_meaning.specs.Faults.ListFaults.{faults_of}
 use Rattle.apollo_schema.specs.MeantSchema.{MeansSchema}
 use Rattle.apollo_meaning.proofs.Order.LongerLemmas.{spends-longer}
-use Rattle.gqltool_run.specs.Building.{all_definitions, list_of}
+use Rattle.gqltool_run.specs.Building.{all_definitions, all_sources, list_of}
+use Rattle.gqltool_run.proofs.SourceLemmas.{sources-turn}
 use Rattle.gqltool_run.proofs.building.built.Goals as goal
 
 -- the list with the definitions of more documents
@@ -30,7 +32,7 @@ list-turn b ds i d lt is =
     ∙ ap (λ l. list_of b (take i ds) ++ added b l) (append-nil d.definitions)
 
 pub loop-document-init : goal.loop-document-init
-loop-document-init c = record { stands = c.in_ok-builder.ensures.stands; adopts = c.in_ok-builder.ensures.adopts; ignores = c.in_ok-builder.ensures.ignores }
+loop-document-init c = record { stands = c.in_ok-builder.ensures.stands; adopts = c.in_ok-builder.ensures.adopts; ignores = c.in_ok-builder.ensures.ignores; sources = c.in_ok-builder.ensures.sources }
 
 pub loop-document-preserved : goal.loop-document-preserved
 loop-document-preserved c =
@@ -45,6 +47,7 @@ loop-document-preserved c =
           (c.in-Ok.ensures.stands 0 (list_of b (take i ds)) before.stands));
       adopts = c.in-Ok.ensures.settings.0 ∙ before.adopts;
       ignores = c.in-Ok.ensures.settings.1 ∙ before.ignores;
+      sources = c.in-Ok.ensures.sources ∙ ap (λ files. merged files d.sources) before.sources ∙ sym (sources-turn ds i d (omega arith) c.document-item.is);
     }
 
 pub returns-in-Ok-build-clause-means : goal.returns-in-Ok-build-clause-means
@@ -56,6 +59,9 @@ returns-in-Ok-build-clause-means c =
     subst (λ (l : List Document). MeansSchema 0 c.args.options.adopt (list_of b l) c.in-Ok-build.schema) (take_all i ds (omega arith))
     (subst (λ (s : Bool). MeansSchema 0 s (list_of b (take i ds)) c.in-Ok-build.schema) before.adopts
     (c.in-Ok-build.ensures.built 0 (list_of b (take i ds)) before.stands))
+
+pub returns-in-Ok-build-clause-sources : goal.returns-in-Ok-build-clause-sources
+returns-in-Ok-build-clause-sources c = c.in-Ok-build.ensures.sources ∙ c.loop-document.invariant.sources ∙ ap all_sources (take_all c.loop-document.document-index c.args.documents.now (omega arith))
 
 pub returns-in-Ok-build-clause-faults : goal.returns-in-Ok-build-clause-faults
 returns-in-Ok-build-clause-faults c =
@@ -76,6 +82,16 @@ returns-in-Err-Faults-clause-means c =
     let all = (rw c.in-Err-Faults.field-0-is at c.in-Err-Faults.ensures.faults) 0 (list_of b (take i ds)) before.stands in
     rw c.in-Err-Faults.field-0-is (subst (λ (l : List Document). MeansSchema 0 c.args.options.adopt (list_of b l) c.in-Err-Faults.built.partial) (take_all i ds (omega arith))
     (subst (λ (s : Bool). MeansSchema 0 s (list_of b (take i ds)) c.in-Err-Faults.built.partial) before.adopts all.0))
+
+pub returns-in-Err-Faults-clause-sources : goal.returns-in-Err-Faults-clause-sources
+returns-in-Err-Faults-clause-sources c =
+    let b = c.args.options.ignore_built_in in
+    let ds = c.args.documents.now in
+    let i = c.loop-document.document-index in
+    let before = c.loop-document.invariant in
+    let all = (rw c.in-Err-Faults.field-0-is at c.in-Err-Faults.ensures.faults) 0 (list_of b (take i ds)) before.stands in
+    let whole : c.in-Err-Faults.built.partial.sources ≡ all_sources ds = all.1.1 ∙ before.sources ∙ ap all_sources (take_all i ds (omega arith)) in
+    rw c.in-Err-Faults.field-0-is whole
 
 pub returns-in-Err-Faults-clause-faults : goal.returns-in-Err-Faults-clause-faults
 returns-in-Err-Faults-clause-faults c =

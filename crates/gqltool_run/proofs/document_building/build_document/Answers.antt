@@ -7,7 +7,8 @@ use Rattle.apollo_document.specs.DocumentFaults.{document_faults}
 use Rattle.apollo_document.specs.Documents.{IsDocumentOf}
 use Rattle.gqltool_run.specs.declared.schema_options.SchemaOptions.{SchemaOptions}
 use Rattle.gqltool_run.specs.Building.{list_of}
-use Rattle.gqltool_run.specs.DocumentBuilding.{all_sources, executable_list}
+use Rattle.gqltool_run.specs.Building.{all_sources}
+use Rattle.gqltool_run.specs.DocumentBuilding.{executable_list}
 use Rattle.gqltool_run.proofs.document_building.build_document.Goals as goal
 
 pub returns-clause-means : goal.returns-clause-means

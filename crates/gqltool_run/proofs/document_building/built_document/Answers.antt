@@ -1,6 +1,5 @@
 use Rattle.std.proofs.Common.{◌≡◌, ℕ, ◌+◌, ◌<◌, true, get_or, take, List, [], ◌∷◌, ◌++◌, Some, length, sym, ap, subst, ◌∙◌, arith}
 use Rattle.std.proofs.lemmas.List.{append-nil, map-append, take_more, take_all}
-use Rattle.std.proofs.lemmas.List.Sums.{fold_more}
 use Rattle.std.proofs.lemmas.Grind.{flat_map-append}
 use Rattle.graphql_nodes.specs.Sources.{merged}
 use Rattle.graphql_ast.specs.declared.document.Document.{Document}
@@ -8,8 +7,9 @@ use Rattle.apollo_document.specs.AddedDefinitions.{Added, added}
 use Rattle.apollo_document.specs.BuilderStands.{StandsFor}
 use Rattle.apollo_document.specs.DocumentFaults.{document_faults}
 use Rattle.apollo_document.specs.Documents.{IsDocumentOf}
-use Rattle.gqltool_run.specs.Building.{all_definitions}
-use Rattle.gqltool_run.specs.DocumentBuilding.{all_sources, executable_list, with_sources}
+use Rattle.gqltool_run.specs.Building.{all_definitions, all_sources}
+use Rattle.gqltool_run.specs.DocumentBuilding.{executable_list}
+use Rattle.gqltool_run.proofs.SourceLemmas.{sources-turn}
 use Rattle.gqltool_run.proofs.document_building.built_document.Goals as goal
 
 -- one document more
@@ -22,9 +22,6 @@ module _ (ds : List Document) (i : ℕ) (d : Document) (lt : i < length ds) (is 
 
   list-turn : executable_list (take (i + 1) ds) ≡ executable_list (take i ds) ++ added true d.definitions
   list-turn = ap (added true) definitions-turn ∙ map-append (λ x. (true, x)) (all_definitions (take i ds)) d.definitions
-
-  sources-turn : all_sources (take (i + 1) ds) ≡ merged (all_sources (take i ds)) d.sources
-  sources-turn = fold_more with_sources [] ds i d lt ∙ ap (with_sources (all_sources (take i ds))) (sym is)
 
 pub loop-document-preserved : goal.loop-document-preserved
 loop-document-preserved c =

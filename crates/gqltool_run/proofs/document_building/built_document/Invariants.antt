@@ -1,6 +1,7 @@
 use Rattle.std.proofs.Common.{◌≡◌, Some, take}
 use Rattle.apollo_document.specs.BuilderStands.{StandsFor, sources_of}
-use Rattle.gqltool_run.specs.DocumentBuilding.{all_sources, executable_list}
+use Rattle.gqltool_run.specs.Building.{all_sources}
+use Rattle.gqltool_run.specs.DocumentBuilding.{executable_list}
 use Rattle.gqltool_run.proofs.document_building.built_document.Given as goal
 
 abbrev pub invariant-loop-document : goal.invariant-loop-document
