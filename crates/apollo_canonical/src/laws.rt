@@ -83,15 +83,16 @@ pub fn canonical()
     ensures means { (schema : Schema) → IsMeantByList schema → (ignores : Bool) (again : ℕ) → ∥ ((rebuilt : Schema) × MeansSchema again true (written_again ignores schema) rebuilt) ∥₁ }
 {}
 
-/// To write out twice is to write out once: what a schema's write-out is written out as, read with adoption after the
-/// built-in definitions, is that write-out. GraphQL specification of October 2021, sections 3 and 3.3.
+/// To write out twice is to write out once: what the write-out of a schema of a list as [`canonical`] takes it is written out
+/// as, read with adoption after the built-in definitions, is that write-out. GraphQL specification of October 2021, sections 3
+/// and 3.3.
 pub fn written_twice_is_written_once()
     ensures { (schema : Schema) → IsMeantByList schema → (ignores : Bool) (again : ℕ) (twice : List Definition) → IsWriteOutOf again true (written_again ignores schema) twice
         → twice ≡ write_schema schema }
 {}
 
-/// Schemas of lists that have equal write-outs are equal, whatever the lists are and the settings of both options. GraphQL
-/// specification of October 2021, sections 3 and 3.3.
+/// Schemas of lists as [`canonical`] takes them are equal where their write-outs are, under whatever settings of both options.
+/// GraphQL specification of October 2021, sections 3 and 3.3.
 pub fn equal_write_outs_have_equal_schemas()
     ensures { (schema other : Schema) → IsMeantByList schema → IsMeantByList other → write_schema schema ≡ write_schema other → AreEqualSchemas schema other }
 {}

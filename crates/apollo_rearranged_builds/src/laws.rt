@@ -14,8 +14,8 @@ use apollo_rearrangement::laws::rearranged_types_are_equal;
 /// Two lists of the same definitions that keep, for each type name, the order of its definitions and the order of its
 /// extensions, and so for the directive definitions of each name, the schema definitions and the schema extensions, mean
 /// equal schemas, whatever numbers their extensions get; and have the same faults, with their locations, in some order.
-/// So do builders that stand for them, and where one has no fault, none are found of the other. GraphQL specification of
-/// October 2021, section 3.
+/// So do builders that stand for them and both adopt or both don't, and where one has no fault, none are found of the other.
+/// GraphQL specification of October 2021, section 3.
 pub fn rearranged()
     ensures schemas { (adopts : Bool) (xs ys : List Added) → AreRearranged (added_items xs) (added_items ys) → MeanEqualSchemas adopts xs ys }
     ensures faults { (adopts : Bool) (xs ys : List Added) → AreRearranged (added_items xs) (added_items ys) → IsPermutation (faults_of adopts xs) (faults_of adopts ys) }

@@ -73,8 +73,8 @@ impl Schema {
     /// each type, in order, as its definition and its extensions (section 3).
     ///
     /// The schema definition is left out where it would be implied, or has no root of its own, as
-    /// [`SchemaDefinition::to_ast`] says; its extensions are always there. Built-in definitions are left out, but not their
-    /// extensions. The error is want of memory.
+    /// [`SchemaDefinition::to_ast`] says; its extensions are always there. Built-in definitions of types and directives are left
+    /// out, but not the extensions of those types. The error is want of memory.
     pub fn to_ast(&self, alloc: Global) -> Result<Vec<Definition>, AllocError>
         ensures { IfOk result (λ written. written.items ≡ write_schema self.now) }
     {

@@ -24,11 +24,12 @@ use std::alloc::{AllocError, Global};
 /// definitions and extensions in any order.
 ///
 /// The built-in definitions stand before the first document. The first definition of a type's name stays, and each later
-/// one is at fault; the first that is added of a directive's name takes the place of a built-in one. The first definition
-/// of the schema stays, too. An extension before its definition waits for it.
+/// one is at fault, unless redefinitions of built-in types are ignored. Of a directive's name the first definition counts that
+/// isn't built-in, which takes the place of a built-in one. The first definition of the schema stays, too. An extension before
+/// its definition waits for it.
 ///
 /// After a refusal the builder holds nothing more than its source, which then stands where it stood before the refused
-/// call, and each later call answers `Failed`.
+/// call, and each later `add_ast` or `build` answers `Failed`.
 pub struct SchemaBuilder {
     first_number: u64,
     state: State,
@@ -102,7 +103,8 @@ impl SchemaBuilder {
     }
 
     /// The builder, which adopts at `build` what is extended only: each type that has extensions and no definition is
-    /// taken as defined, empty, at its first extension, and the schema likewise.
+    /// taken as defined, empty, at its first extension; and the schema is taken as defined, at no place, with the default roots
+    /// unless an extension names a root.
     pub fn adopt_orphan_extensions(self) -> SchemaBuilder
         ensures { result ≡ record self { adopt_orphan_extensions = true } }
     {
@@ -148,9 +150,9 @@ impl SchemaBuilder {
         Ok(())
     }
 
-    /// The schema of what was added: each name's type is its first definition with its extensions folded in, wherever
-    /// they stand, and the types stand in the order of first definition, those that are adopted last. A directive's name
-    /// means the first definition of it that was added, or else the built-in one.
+    /// The schema of what was added: each name's type is its first definition with the extensions of its kind folded in,
+    /// wherever they stand, and the types stand in the order of first definition, those that are adopted last. A directive's
+    /// name means the first definition of it that isn't built-in (in file number 0), or else the last one.
     ///
     /// The schema's definition is the first one that was added with all schema extensions folded in. Where there is none,
     /// each object type with the default name of an operation is that operation's root, and the extensions are folded in
@@ -158,8 +160,9 @@ impl SchemaBuilder {
     ///
     /// `Faults`, with what could be built, comes exactly where what was added has faults: first those that are found as
     /// definitions are added, in that order; then extensions of types without a definition; then what is found at an implied
-    /// definition of the schema, and extensions of the schema without one. `Memory` is want of memory; `ExtensionIds` comes only where the extensions folded pass the largest number, and a schema, with
-    /// faults or without, only where they don't; `Failed` comes exactly after a refusal.
+    /// definition of the schema, and extensions of the schema without one. `Memory` is want of memory; `ExtensionIds` comes only
+    /// where the extensions folded pass the largest number, and a schema, with faults or without, only where they don't; `Failed`
+    /// comes exactly after a refusal.
     pub fn build(self) -> Result<Schema, BuildFailure>
         ensures built { IfOk result (IsMeant self) }
         ensures faultless { OnOk result (IsFaultless self) }
