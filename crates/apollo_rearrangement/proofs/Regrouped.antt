@@ -84,6 +84,18 @@ module _ {P : Type 0} (f : Family P) (n : List ℕ) (by_kind : Finding P) (k : S
     Extends : (p : P) → f.defined x ≡ None → f.extended x ≡ Some p → about x ≡ has p → ((xs : List ListItem) → has p ≡ true → found_at xs x ≡ at_extension by_kind (defined_of xs) (extended_of xs) p) → Plays x
     Neither : f.defined x ≡ None → f.extended x ≡ None → about x ≡ false → Plays x
 
+  -- of those that a choice takes, one more item adds its own, if it has the key
+  module _ (xs : List ListItem) (x : ListItem) where
+    taken : (which : ListItem → Option P) (o : Option P) → which x ≡ o → filter has (filter_map which (xs ++ x ∷ [])) ≡ filter has (filter_map which xs) ++ filter has (cons_option o [])
+    taken which o e =
+        ap (filter has) (filter_map-append which xs (x ∷ []) ∙ ap (λ o. filter_map which xs ++ cons_option o []) e) ∙ filter-append has (filter_map which xs) (cons_option o [])
+
+    pub taken-none : (which : ListItem → Option P) → which x ≡ None → filter has (filter_map which (xs ++ x ∷ [])) ≡ filter has (filter_map which xs)
+    taken-none which e = taken which None e ∙ append-nil (filter has (filter_map which xs))
+
+    pub taken-some : (which : ListItem → Option P) (p : P) (b : Bool) → which x ≡ Some p → has p ≡ b → filter has (filter_map which (xs ++ x ∷ [])) ≡ filter has (filter_map which xs) ++ cond b (p ∷ []) []
+    taken-some which p b e own = taken which (Some p) e ∙ ap (λ b. filter has (filter_map which xs) ++ cond b (p ∷ []) []) own
+
   -- what is found at those of the subject is grouped
   abbrev IsGrouped : List ListItem → Type 0
   IsGrouped xs = IsPermutation (found (filter about xs)) (grouped by_kind (defined_of xs) (extended_of xs))
@@ -91,16 +103,6 @@ module _ {P : Type 0} (f : Family P) (n : List ℕ) (by_kind : Finding P) (k : S
   module _ (xs : List ListItem) (x : ListItem) (so_far : IsGrouped xs) where
     abbrev more : List ListItem
     more = xs ++ x ∷ []
-
-    taken : (which : ListItem → Option P) (o : Option P) → which x ≡ o → filter has (filter_map which more) ≡ filter has (filter_map which xs) ++ filter has (cons_option o [])
-    taken which o e =
-        ap (filter has) (filter_map-append which xs (x ∷ []) ∙ ap (λ o. filter_map which xs ++ cons_option o []) e) ∙ filter-append has (filter_map which xs) (cons_option o [])
-
-    taken-none : (which : ListItem → Option P) → which x ≡ None → filter has (filter_map which more) ≡ filter has (filter_map which xs)
-    taken-none which e = taken which None e ∙ append-nil (filter has (filter_map which xs))
-
-    taken-some : (which : ListItem → Option P) (p : P) (b : Bool) → which x ≡ Some p → has p ≡ b → filter has (filter_map which more) ≡ filter has (filter_map which xs) ++ cond b (p ∷ []) []
-    taken-some which p b e own = taken which (Some p) e ∙ ap (λ b. filter has (filter_map which xs) ++ cond b (p ∷ []) []) own
 
     kept : about x ≡ true → found (filter about more) ≡ found (filter about xs) ++ found_at xs x
     kept e =
@@ -117,20 +119,20 @@ module _ {P : Type 0} (f : Family P) (n : List ℕ) (by_kind : Finding P) (k : S
     longer l at e = rw (kept e, at) (IsPermutation-append_left l (found (filter about xs)) (grouped by_kind (defined_of xs) (extended_of xs)) so_far)
 
     pub grouped-more : Plays x → IsGrouped more
-    grouped-more (Neither d e a) = unchanged a (taken-none f.defined d) (taken-none f.extended e)
+    grouped-more (Neither d e a) = unchanged a (taken-none xs x f.defined d) (taken-none xs x f.extended e)
     grouped-more (Defines p d e a at) = by (has p) refl
       where
         by : (b : Bool) → has p ≡ b → IsGrouped more
-        by false own = unchanged (a ∙ own) (taken-some f.defined p false d own ∙ append-nil (defined_of xs)) (taken-none f.extended e)
+        by false own = unchanged (a ∙ own) (taken-some xs x f.defined p false d own ∙ append-nil (defined_of xs)) (taken-none xs x f.extended e)
         by true own =
-            rw (taken-some f.defined p true d own, taken-none f.extended e, grouped-definition by_kind (defined_of xs) (extended_of xs) p)
+            rw (taken-some xs x f.defined p true d own, taken-none xs x f.extended e, grouped-definition by_kind (defined_of xs) (extended_of xs) p)
             (longer (at_definition by_kind (defined_of xs) (extended_of xs) p) (at xs own) (a ∙ own))
     grouped-more (Extends p d e a at) = by (has p) refl
       where
         by : (b : Bool) → has p ≡ b → IsGrouped more
-        by false own = unchanged (a ∙ own) (taken-none f.defined d) (taken-some f.extended p false e own ∙ append-nil (extended_of xs))
+        by false own = unchanged (a ∙ own) (taken-none xs x f.defined d) (taken-some xs x f.extended p false e own ∙ append-nil (extended_of xs))
         by true own =
-            rw (taken-none f.defined d, taken-some f.extended p true e own)
+            rw (taken-none xs x f.defined d, taken-some xs x f.extended p true e own)
             (IsPermutation-trans _ _ _ (longer (at_extension by_kind (defined_of xs) (extended_of xs) p) (at xs own) (a ∙ own)) (grouped-extension by_kind (defined_of xs) (extended_of xs) p))
 
   pub regrouped : ((x : ListItem) → Plays x) → (xs : List ListItem) → IsGrouped xs
@@ -162,7 +164,7 @@ at-joined : {P : Type 0} (by_kind : Finding P) (ds es : List P) (e : P) → opti
 at-joined by_kind [] es e = refl
 at-joined by_kind (d ∷ ds) es e = refl
 
-plays-type : (n : List ℕ) (x : ListItem) → Plays types n finding_types (TypeNamed n) x
+pub plays-type : (n : List ℕ) (x : ListItem) → Plays types n finding_types (TypeNamed n) x
 plays-type n (Defined p) = Defines p refl refl refl (λ xs own.
     ap (λ (m : List ℕ). option_map_or (λ d. further_definition d p) (first xs m) (type_begun_faults p (extensions_of xs m))) (sym (same-true n (key_of p) own))
     ∙ ap (λ o. option_map_or (λ d. further_definition d p) o (type_begun_faults p (extensions_of xs n))) (first-is xs n)
@@ -179,7 +181,7 @@ plays-type n (Other d) = Neither refl refl (by (directive_part (Other d)))
     by None = refl
     by (Some m) = refl
 
-plays-schema : (x : ListItem) → Plays schemas [] finding_schemas TheSchema x
+pub plays-schema : (x : ListItem) → Plays schemas [] finding_schemas TheSchema x
 plays-schema (Defined p) = Neither refl refl refl
 plays-schema (Extended p) = Neither refl refl refl
 plays-schema (SchemaDefined s) = Defines s refl refl refl (λ xs own.

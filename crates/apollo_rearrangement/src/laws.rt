@@ -1,13 +1,18 @@
-//! Laws of lists of definitions that are rearranged, for those who build on what such a list means.
-ghost use Rattle.std.specs.Prelude.{◌≡◌, ◌++◌, ◌∷◌, ℕ, Bool, List, true, false};
+//! Laws of lists of definitions that are rearranged, and of the faults of a list name by name, for those who build on what
+//! such a list means.
+ghost use Rattle.std.specs.Prelude.{◌≡◌, ◌++◌, ◌∷◌, [], ℕ, Bool, List, None, Some, true, false, filter};
 ghost use Rattle.std.specs.List.Sorted.{IsPermutation};
 ghost use Rattle.apollo_meaning.specs.Completion.ImpliedSchema.{completed};
 ghost use Rattle.apollo_meaning.specs.Directives.{directive_definitions, directive_of};
-ghost use Rattle.apollo_meaning.specs.Faults.ListFaults.{faults_of};
+ghost use Rattle.apollo_meaning.specs.Faults.ListFaults.{faults_of, found_of_schema, found_of_type};
 ghost use Rattle.apollo_meaning.specs.Items.ListItems.{Added, ListItem, added_items};
 ghost use Rattle.apollo_meaning.specs.Items.Named.{first_schema, schema_extensions};
+ghost use Rattle.apollo_meaning.specs.Items.Parts.{SchemaPart, TypePart, key_of};
+ghost use Rattle.apollo_meaning.specs.Order.Places.{Placed, first_place, schemas, types};
+ghost use Rattle.apollo_meaning.specs.Schema.Whole.{whole};
 ghost use Rattle.apollo_rearrangement.specs.Documents.{Documents, added_each, added_joined};
 ghost use Rattle.apollo_rearrangement.specs.Rearranged.{AreRearranged, Group, is_in, type_meant};
+ghost use Rattle.apollo_rearrangement.specs.Reported.{is_collision_of, is_repeated_root};
 
 use apollo_meaning::laws::folded_extensions;
 
@@ -60,6 +65,25 @@ pub fn rearranged_schema_parts_are_the_same()
 /// section 3.
 pub fn rearranged_faults_are_the_same()
     ensures { (adopts : Bool) (xs ys : List Added) → AreRearranged (added_items xs) (added_items ys) → IsPermutation (faults_of adopts xs) (faults_of adopts ys) }
+{}
+
+/// Those faults of a list that say that a type of this name is given a component a second time are those of the components
+/// that are dropped from the type, from the name's first definition and from the extensions that are folded into it: each as
+/// often, and in the same order. Of a name without a definition there are none. GraphQL specification of October 2021,
+/// sections 3.4.3 and 3.6 to 3.10.
+pub fn reported_collisions_are_the_dropped_components()
+    ensures dropped { (adopts : Bool) (xs : List Added) (d : Placed TypePart) → first_place types (whole adopts xs) (key_of d.1) ≡ Some d
+        → filter (λ f. is_collision_of (key_of d.1) f.1) (faults_of adopts xs) ≡ found_of_type (whole adopts xs) d.1 }
+    ensures none { (adopts : Bool) (xs : List Added) (n : List ℕ) → first_place types (whole adopts xs) n ≡ None → filter (λ f. is_collision_of n f.1) (faults_of adopts xs) ≡ [] }
+{}
+
+/// Those faults of a list that say that the schema is given a root a second time are those of the roots that are dropped from
+/// the schema, from its first definition and from its extensions: each as often, and in the same order. Without a definition
+/// of the schema there are none. GraphQL specification of October 2021, sections 3.3.1 and 3.3.2.
+pub fn reported_repeated_roots_are_the_dropped_roots()
+    ensures dropped { (adopts : Bool) (xs : List Added) (s : Placed SchemaPart) → first_place schemas (whole adopts xs) [] ≡ Some s
+        → filter (λ f. is_repeated_root f.1) (faults_of adopts xs) ≡ found_of_schema (whole adopts xs) s.1 }
+    ensures none { (adopts : Bool) (xs : List Added) → first_place schemas (whole adopts xs) [] ≡ None → filter (λ f. is_repeated_root f.1) (faults_of adopts xs) ≡ [] }
 {}
 
 /// Documents that are added one by one add what one document of all their definitions adds.
