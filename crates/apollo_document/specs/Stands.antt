@@ -78,3 +78,8 @@ StateStands s xs Failed = ⊥
 abbrev pub StateFailed : State → Type 0
 StateFailed (Open tables) = ⊥
 StateFailed Failed = Unit {0}
+
+-- what holds of each builder over this schema: its tables are those of some list; or a call was refused
+abbrev pub HasStood : Option Schema → State → Type 0
+HasStood s (Open tables) = (xs : List Added) × Stands s xs tables
+HasStood s Failed = Unit {0}

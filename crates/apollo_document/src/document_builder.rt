@@ -5,6 +5,7 @@ ghost use Rattle.graphql_nodes.specs.Sources.{merged};
 ghost use Rattle.apollo_document.specs.AddedDefinitions.{Added, added};
 ghost use Rattle.apollo_document.specs.DocumentFaults.{document_faults};
 ghost use Rattle.apollo_document.specs.Documents.{IsDocumentOf};
+ghost use Rattle.apollo_document.specs.Stands.{HasStood};
 
 use crate::state::State;
 use crate::tables::Tables;
@@ -14,7 +15,7 @@ use apollo_folding::builder_error::BuilderError;
 use apollo_schema::schema::Schema;
 use graphql_ast::document::Document;
 use graphql_nodes::collections::hash_keys::HashKeys;
-use std::alloc::Global;
+use std::alloc::{AllocError, Global};
 
 /// A builder of an executable document, over a schema or without one: GraphQL specification of October 2021, sections 2.2 to
 /// 2.8. Documents of syntax go in, in any number.
@@ -29,6 +30,7 @@ use std::alloc::Global;
 pub struct ExecutableDocumentBuilder<'schema> {
     schema: Option<&'schema Schema>,
     state: State,
+    ghost standing: { ∥ HasStood (option_copied schema) state ∥₁ },
 }
 
 impl<'schema> Drop for ExecutableDocumentBuilder<'schema> {
@@ -97,14 +99,13 @@ impl<'schema> ExecutableDocumentBuilder<'schema> {
         let State::Open(tables) = &mut self.state else {
             return Err(BuilderError::Failed);
         };
-        if tables
-            .take_document(schema, document, type_system_definitions_are_errors)
-            .is_err()
-        {
-            self.state = State::Failed;
-            return Err(BuilderError::Memory);
+        match tables.take_document(schema, document, type_system_definitions_are_errors) {
+            Ok(()) => Ok(()),
+            Err(AllocError) => {
+                self.state = State::Failed;
+                Err(BuilderError::Memory)
+            }
         }
-        Ok(())
     }
 
     /// The document of what was added, and what is wrong with it, in the order of the definitions. It takes no memory: `Failed`

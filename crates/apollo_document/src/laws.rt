@@ -1,11 +1,14 @@
 //! Laws of documents, for those who build on them.
 //!
 //! Each law is a function that does nothing. A proof cites it by a call, and finds its clauses there.
-ghost use Rattle.std.specs.Prelude.{◌≡◌, Bool, List, Option};
+ghost use Rattle.std.specs.Prelude.{◌≡◌, ◌⊎◌, Bool, List, Option};
+ghost use Rattle.std.specs.Option.{option_copied};
 ghost use Rattle.apollo_document.specs.AddedDefinitions.{Added};
+ghost use Rattle.apollo_document.specs.BuilderStands.{StandsFor, HasFailed};
 ghost use Rattle.apollo_document.specs.Documents.{IsDocumentOf};
 ghost use Rattle.apollo_document.specs.WrittenAgain.{AreOneButSources, IsBuiltAgain, ambiguous_again, faults_again};
 
+use crate::document_builder::ExecutableDocumentBuilder;
 use apollo_executable::document::ExecutableDocument;
 use apollo_schema::schema::Schema;
 
@@ -18,4 +21,9 @@ pub fn document_again()
     ensures unique { (schema : Option Schema) (xs : List Added) (a b : ExecutableDocument) → IsDocumentOf schema xs a → IsDocumentOf schema xs b → AreOneButSources a b }
     ensures again { (s : Option Schema) (xs : List Added) (errors : Bool) (document again : ExecutableDocument) → IsDocumentOf s xs document → IsBuiltAgain s errors document again → AreOneButSources again document }
     ensures faults { (s : Option Schema) (xs : List Added) (errors : Bool) (document : ExecutableDocument) → IsDocumentOf s xs document → faults_again s errors document ≡ ambiguous_again document.operations }
+{}
+
+/// Every builder stands for some list over its schema, or a call was refused.
+pub fn every_builder_stands_for_a_list_or_has_failed(builder: &ExecutableDocumentBuilder<'_>)
+    ensures { ∥ ((xs : List Added) × StandsFor (option_copied builder.now.schema) xs builder.now) ⊎ HasFailed builder.now ∥₁ }
 {}
