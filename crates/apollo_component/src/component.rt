@@ -126,7 +126,8 @@ impl<T: Drop> Clone for Component<T> {
     }
 }
 
-/// A name that a type lists, as an interface or a union member, and the definition or extension that it comes from.
+/// A name that a type lists, as an interface or a union member, or that a schema has as a root, and the definition or extension
+/// that it comes from.
 ///
 /// Component names are equal and hashed by their texts: origins and places are left out.
 #[derive(Debug)]

@@ -1,4 +1,4 @@
-//! The directives of a type, in order: GraphQL specification of October 2021, section 2.12.
+//! The directives of a type or of the schema's definition, in order: GraphQL specification of October 2021, section 2.12.
 ghost use Rattle.std.specs.Prelude.{◌≡◌, ◌<◌, ◌^◌, [], ◌∷◌, ◌++◌, length, filter, find, IfOk, OnOk, OnErr, ⊤};
 ghost use Rattle.std.specs.Borrow.{sem};
 ghost use Rattle.std.specs.List.{list_any};
@@ -19,7 +19,7 @@ use std::ops::{Deref, DerefMut};
 use std::slice::{Iter, IterMut};
 use std::vec::IntoIter;
 
-/// The directives applied to a type, in order. One directive may stand there more than once.
+/// The directives applied to a type or to the schema's definition, in order. One directive may stand there more than once.
 #[derive(Debug, PartialEq, Eq, Hash, Clone)]
 pub struct DirectiveList(pub Items<Component<Directive>>);
 

@@ -15,7 +15,8 @@ use graphql_nodes::type_kind::TypeKind;
 use indexmap::map::Values;
 use std::alloc::{AllocError, Global};
 
-/// The parts of a definition, and those of each of its extensions, by first appearance.
+/// The parts of a definition, and those of each of its extensions, by first appearance. After a call that wanted memory nothing
+/// is said of them: drop them.
 pub struct PartsByOrigin {
     definition: DefinitionParts,
     extensions: ExtensionParts,
@@ -100,7 +101,7 @@ impl PartsByOrigin {
     }
 
     /// Adds a type of this kind as syntax at the end: its definition, at this place, then its extensions, each at its own.
-    /// The error is want of memory.
+    /// The error is want of memory, after which nothing is said of `written`.
     pub fn write_type(
         self,
         alloc: Global,

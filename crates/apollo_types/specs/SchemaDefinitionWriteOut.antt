@@ -47,7 +47,7 @@ has_implied_root types s op = option_eq (pointwise nat_eq) (option_map (λ n. n.
 abbrev pub is_implied : List (NameView × ExtendedType) → SchemaDefinition → Bool
 is_implied types s = is_none s.description && (length s.directives.0 == 0) && (length (identities (origins_in (schema_components s))) == 0) && list_all (has_implied_root types s) operation_types
 
--- the definition is written: it has a root, and says more than is implied
+-- the definition is written: it has a root of its own, and says more than is implied
 abbrev pub is_written : List (NameView × ExtendedType) → SchemaDefinition → Bool
 is_written types s = has_own_root s && not (is_implied types s)
 

@@ -1,4 +1,4 @@
--- A type as one of each kind, and what its kind allows: GraphQL specification of October 2021, sections 3.4.1 and 3.4.2.
+-- A type as one of each kind, and what its kind allows: GraphQL specification of October 2021, sections 3.4 and 3.4.2.
 use Rattle.std.specs.Prelude.{Option, None, Some, is_some, Bool, not, ◌||◌}
 use Rattle.apollo_types.specs.declared.scalar_type.ScalarType.{ScalarType}
 use Rattle.apollo_types.specs.declared.object_type.ObjectType.{ObjectType}

@@ -303,7 +303,8 @@ impl ExtendedType {
         Ok(written)
     }
 
-    /// Adds the type as syntax at the end, as [`to_ast`](ExtendedType::to_ast) answers it. The error is want of memory.
+    /// Adds the type as syntax at the end, as [`to_ast`](ExtendedType::to_ast) answers it. The error is want of memory, after
+    /// which nothing is said of `written`.
     pub fn write_to(&self, alloc: Global, written: &mut Vec<Definition>) -> Result<(), AllocError>
         ensures { OnOk result (written.new.items ≡ written.old.items ++ write_type self.now) }
     {

@@ -33,8 +33,8 @@ pub(crate) const OPERATION_TYPES: [OperationType; 3] = [
     OperationType::Subscription,
 ];
 
-/// The definition of a schema, and its extensions (section 3.3): the root of each operation type, which is the name of an
-/// object type. Equality ignores places and origins.
+/// The definition of a schema, and its extensions (section 3.3): the root of each operation type, which is to be the name of
+/// an object type, and may be any name. Equality ignores places and origins.
 #[derive(Debug, PartialEq, Eq)]
 pub struct SchemaDefinition {
     pub description: Option<NodeStr>,

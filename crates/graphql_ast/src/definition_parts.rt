@@ -35,7 +35,7 @@ pub enum DefinitionPart {
     Root(Node<(OperationType, NamedType)>),
 }
 
-/// The parts of a definition or extension. Those that its kind does not have are none.
+/// The parts of a definition or extension. Those of a sort that its kind does not have are left out of it.
 pub struct DefinitionParts {
     pub directives: DirectiveList,
     /// The interfaces of an object or interface type, or the members of a union.

@@ -1,4 +1,4 @@
-//! Shared texts: descriptions of definitions, GraphQL specification of October 2021, section 2.9.4 and 3.
+//! Shared texts: descriptions of definitions, GraphQL specification of October 2021, sections 2.9.4 and 3.2.
 ghost use Rattle.std.specs.Prelude.{◌≡◌, IfOk, None, Some, nat_eq};
 ghost use Rattle.std.specs.Cmp.{on_equiv, on_per};
 ghost use Rattle.std.specs.Cmp.Rules.{hashing};

@@ -16,7 +16,8 @@ impl FileId {
     pub const BUILT_IN: FileId = FileId(0);
 }
 
-/// A place in a source file: from the byte `start` up to, and without, the byte `end`.
+/// A place in a source file: from the byte `start` up to, and without, the byte `end`. (The bench notation puts the number of
+/// a line in both.)
 #[derive(Clone, Copy, Debug, PartialEq, Eq, Hash)]
 pub struct SourceSpan {
     pub file: FileId,

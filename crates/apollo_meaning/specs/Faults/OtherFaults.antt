@@ -1,5 +1,5 @@
 -- What is wrong with definitions that are of no type and not of the schema: GraphQL specification of October 2021,
--- sections 2.2 and 3.13.
+-- sections 2.2, 3, 3.3 and 3.13.
 use Rattle.std.specs.Prelude.{List, [], ◌∷◌, ◌&&◌}
 use Rattle.std.specs.Option.{option_map_or}
 use Rattle.std.specs.List.{find}

@@ -1,5 +1,5 @@
--- What is wrong with the definitions and extensions of one type: GraphQL specification of October 2021, section 3.4.3,
--- and the type validation of sections 3.6 to 3.10.
+-- What is wrong with the definitions and extensions of one type: GraphQL specification of October 2021, sections 3.3 and
+-- 3.4.3, and the type validation of sections 3.5 to 3.10.
 use Rattle.std.specs.Prelude.{List, [], ◌∷◌, ◌++◌, map, if◌then◌else◌, codes}
 use Rattle.std.specs.List.{flat_map}
 use Rattle.graphql_nodes.specs.NameView.{NameView}

@@ -2,8 +2,9 @@
 //!
 //! Whoever knows the keys can make names that all get one hash, and a table of such names takes a time that grows with
 //! their square. So a table of names from strangers is given keys that nobody can foretell. The hasher is std's
-//! `FoldHasher` with both of its numbers taken from the keys: each step multiplies two words of the text, each joined
-//! with a secret one, so without the keys no two texts can be chosen that collide under many of them.
+//! `FoldHasher` with both of its numbers taken from the keys: each step multiplies two words (of a text of at most eight
+//! bytes, the text and its length), each joined with a secret one, so without the keys no two texts can be chosen that
+//! collide under many of them.
 ghost use Rattle.std.specs.Prelude.{◌≡◌, ◌+◌, ◌≤◌, length};
 ghost use Rattle.std.specs.Hash.FoldHasher as folding;
 ghost use Rattle.graphql_nodes.specs.KeyedHash as keyed;
@@ -11,8 +12,8 @@ ghost use Rattle.graphql_nodes.specs.KeyedHash as keyed;
 use std::fmt;
 use std::hash::{BuildHasher, Hasher};
 
-/// What a table or set hashes by, and keeps through clones. Answers and orders never depend on it, and contracts see
-/// nothing of it.
+/// What a table or set hashes by, and keeps through clones. Answers and orders never depend on it, and what contracts see of
+/// a table or set leaves it out.
 #[derive(Clone, Copy, PartialEq, Eq)]
 pub struct HashKeys {
     start: u64,
