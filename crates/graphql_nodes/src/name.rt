@@ -37,9 +37,19 @@ pub struct InvalidNameError {
 #[derive(Debug, Drop, Error)]
 pub enum NameError {
     #[error(transparent)]
-    Invalid(#[from] InvalidNameError),
+    Invalid(InvalidNameError),
     #[error("out of memory")]
     Memory,
+}
+
+impl From<InvalidNameError> for NameError {
+    ghost use Rattle.graphql_nodes.specs.declared.name.NameError.TheVariants.{Invalid};
+
+    ghost from_gives = { λ refusal error. error ≡ Invalid refusal };
+
+    fn from(refusal: InvalidNameError) -> NameError {
+        NameError::Invalid(refusal)
+    }
 }
 
 impl From<AllocError> for NameError {
