@@ -1,9 +1,9 @@
 //! The run of the program.
-ghost use Rattle.std.specs.Prelude.{All, ◌≡◌, ◌⊎◌, Err, false, true, IfErr, IfOk, IfSome, IsErr, OnOk, string_bytes};
+ghost use Rattle.std.specs.Prelude.{All, ◌≡◌, ◌⊎◌, false, true, IfErr, IfOk, IfSome, OnOk, string_bytes};
 ghost use Rattle.std.specs.Io.KnownBytes.{Appends};
 ghost use Rattle.bench_notation.specs.Line.{IsLine, lines_of, texts_of};
-ghost use Rattle.gqltool_run.specs.Commands.{AppendAnswer, AppendPrint, HaveAnswer, IsAnswerOf, IsAnswerTo, IsCauseOf, IsPrintTo};
-ghost use Rattle.gqltool_run.specs.Status.{Writes};
+ghost use Rattle.gqltool_run.specs.Commands.{AppendAnswer, AppendAnswerOf, AppendPrint, AreRefused, HasAnswer, HaveAnswer, IsAnswerOf, IsCauseOf, IsRefusedInput};
+ghost use Rattle.gqltool_run.specs.Status.{Writes, status_of};
 ghost use Rattle.gqltool_run.specs.Tasks.{AreNoCommand, AskNoCoordinate};
 
 use crate::answer::Answer;
@@ -75,12 +75,69 @@ pub fn run_with_keys<R: Read, O: Write, E: Write>(
     ensures usage { AreNoCommand (texts_of words.now) → (result ≡ Status.Refused) × (reader.new ≡ reader.old) }
     ensures no_coordinate { AskNoCoordinate (texts_of words.now) → ((result ≡ Status.Refused) ⊎ (result ≡ Status.Exhausted)) × (reader.new ≡ reader.old) }
 {
-    let answer = match answer_words(alloc, keys, words, reader) {
+    let task = match read_task(alloc, words) {
+        Ok(task) => task,
+        Err(failure) => return end_without_answer(failure, errors),
+    };
+    match read_all(alloc, reader) {
+        Ok(input) => run_task(alloc, keys, &task, input.as_str(), output, errors),
+        Err(error) => end_without_answer(Failure::from(error), errors),
+    }
+}
+
+/// The same, for an input that is at hand as a text, which nothing but its own lines can refuse. Tables hash by fixed keys.
+pub fn run_on_text<O: Write, E: Write>(
+    alloc: Global,
+    words: &[&str],
+    input: &str,
+    output: &mut O,
+    errors: &mut E,
+) -> Status
+    ensures refused { result ≡ Status.Refused → (output.new ≡ output.old) × AreRefused (texts_of words.now) input.now }
+    ensures exhausted { result ≡ Status.Exhausted → output.new ≡ output.old }
+    ensures quiet { Writes result → errors.new ≡ errors.old }
+
+    // What is appended to the output.
+    ensures means { result ≡ Status.Done → AppendAnswer (texts_of words.now) false (O.contents output.old) (O.contents output.new) input.now }
+    ensures faults { result ≡ Status.Faults → AppendAnswer (texts_of words.now) true (O.contents output.old) (O.contents output.new) input.now }
+    ensures not_written { result ≡ Status.NotWritten → HaveAnswer (texts_of words.now) input.now }
+
+    ensures usage { AreNoCommand (texts_of words.now) → result ≡ Status.Refused }
+{
+    match read_task(alloc, words) {
+        Ok(task) => run_task(alloc, HashKeys::FIXED, &task, input, output, errors),
+        Err(failure) => end_without_answer(failure, errors),
+    }
+}
+
+/// Says why there is nothing to write.
+fn end_without_answer<E: Write>(failure: Failure, errors: &mut E) -> Status
+    ensures { result ≡ status_of failure }
+{
+    let _ = writeln!(errors, "{failure}");
+    failure.status()
+}
+
+/// Writes the answer to what was asked and an input.
+fn run_task<O: Write, E: Write>(
+    alloc: Global,
+    keys: HashKeys,
+    task: &Task,
+    input: &str,
+    output: &mut O,
+    errors: &mut E,
+) -> Status
+    ensures refused { result ≡ Status.Refused → (output.new ≡ output.old) × IsRefusedInput task.now input.now }
+    ensures exhausted { result ≡ Status.Exhausted → output.new ≡ output.old }
+    ensures quiet { Writes result → errors.new ≡ errors.old }
+    ensures read { Writes result → All IsLine (lines_of input.now) }
+    ensures means { result ≡ Status.Done → AppendAnswerOf task.now false (O.contents output.old) (O.contents output.new) input.now }
+    ensures faults { result ≡ Status.Faults → AppendAnswerOf task.now true (O.contents output.old) (O.contents output.new) input.now }
+    ensures not_written { result ≡ Status.NotWritten → HasAnswer task.now input.now }
+{
+    let answer = match answer_task(alloc, keys, task, input) {
         Ok(answer) => answer,
-        Err(failure) => {
-            let _ = writeln!(errors, "{failure}");
-            return failure.status();
-        }
+        Err(failure) => return end_without_answer(failure, errors),
     };
     match write_out(output, answer.text.as_str()) {
         Ok(()) if answer.has_faults => Status::Faults,
@@ -90,25 +147,6 @@ pub fn run_with_keys<R: Read, O: Write, E: Write>(
             Status::NotWritten
         }
     }
-}
-
-/// The answer to the words and the input. Nothing is read where the words are refused.
-fn answer_words<R: Read>(
-    alloc: Global,
-    keys: HashKeys,
-    words: &[&str],
-    reader: &mut R,
-) -> Result<Answer, Failure>
-    ensures read { OnOk result (IfSome (R.remaining reader.old) (λ input. All IsLine (lines_of input))) }
-    ensures means { IfOk result (λ answer. IfSome (R.remaining reader.old) (λ input. IsAnswerTo (texts_of words.now) input (string_bytes answer.text) answer.has_faults)) }
-    ensures printed { IfOk result (λ answer. answer.has_faults ≡ false → IsPrintTo (texts_of words.now) (string_bytes answer.text)) }
-    ensures usage { AreNoCommand (texts_of words.now) → (result ≡ Err Failure.Usage) × (reader.new ≡ reader.old) }
-    ensures no_coordinate { AskNoCoordinate (texts_of words.now) → IsErr result × (reader.new ≡ reader.old) }
-{
-    let task = read_task(alloc, words)?;
-    let input = read_all(alloc, reader)?;
-    let answer = answer_task(alloc, keys, &task, input.as_str())?;
-    Ok(answer)
 }
 
 /// The answer to what was asked and an input.
