@@ -1,6 +1,6 @@
 //! Laws of lists of definitions that are rearranged, and of the faults of a list name by name, for those who build on what
 //! such a list means.
-ghost use Rattle.std.specs.Prelude.{◌≡◌, ◌++◌, ◌∷◌, [], ℕ, Bool, List, None, Some, true, false, filter};
+ghost use Rattle.std.specs.Prelude.{◌≡◌, ◌++◌, ◌∷◌, [], ℕ, Bool, List, None, Some, true, false};
 ghost use Rattle.std.specs.List.Sorted.{IsPermutation};
 ghost use Rattle.apollo_meaning.specs.Completion.ImpliedSchema.{completed};
 ghost use Rattle.apollo_meaning.specs.Directives.{directive_definitions, directive_of};
@@ -12,7 +12,7 @@ ghost use Rattle.apollo_meaning.specs.Order.Places.{Placed, first_place, schemas
 ghost use Rattle.apollo_meaning.specs.Schema.Whole.{whole};
 ghost use Rattle.apollo_rearrangement.specs.Documents.{Documents, added_each, added_joined};
 ghost use Rattle.apollo_rearrangement.specs.Rearranged.{AreRearranged, Group, is_in, type_meant};
-ghost use Rattle.apollo_rearrangement.specs.Reported.{is_collision_of, is_repeated_root};
+ghost use Rattle.apollo_rearrangement.specs.Reported.{reported_collisions, reported_repeated_roots};
 
 use apollo_meaning::laws::folded_extensions;
 
@@ -73,8 +73,8 @@ pub fn rearranged_faults_are_the_same()
 /// sections 3.4.3 and 3.6 to 3.10.
 pub fn reported_collisions_are_the_dropped_components()
     ensures dropped { (adopts : Bool) (xs : List Added) (d : Placed TypePart) → first_place types (whole adopts xs) (key_of d.1) ≡ Some d
-        → filter (λ f. is_collision_of (key_of d.1) f.1) (faults_of adopts xs) ≡ found_of_type (whole adopts xs) d.1 }
-    ensures none { (adopts : Bool) (xs : List Added) (n : List ℕ) → first_place types (whole adopts xs) n ≡ None → filter (λ f. is_collision_of n f.1) (faults_of adopts xs) ≡ [] }
+        → reported_collisions adopts xs (key_of d.1) ≡ found_of_type (whole adopts xs) d.1 }
+    ensures none { (adopts : Bool) (xs : List Added) (n : List ℕ) → first_place types (whole adopts xs) n ≡ None → reported_collisions adopts xs n ≡ [] }
 {}
 
 /// Those faults of a list that say that the schema is given a root a second time are those of the roots that are dropped from
@@ -82,8 +82,8 @@ pub fn reported_collisions_are_the_dropped_components()
 /// of the schema there are none. GraphQL specification of October 2021, sections 3.3.1 and 3.3.2.
 pub fn reported_repeated_roots_are_the_dropped_roots()
     ensures dropped { (adopts : Bool) (xs : List Added) (s : Placed SchemaPart) → first_place schemas (whole adopts xs) [] ≡ Some s
-        → filter (λ f. is_repeated_root f.1) (faults_of adopts xs) ≡ found_of_schema (whole adopts xs) s.1 }
-    ensures none { (adopts : Bool) (xs : List Added) → first_place schemas (whole adopts xs) [] ≡ None → filter (λ f. is_repeated_root f.1) (faults_of adopts xs) ≡ [] }
+        → reported_repeated_roots adopts xs ≡ found_of_schema (whole adopts xs) s.1 }
+    ensures none { (adopts : Bool) (xs : List Added) → first_place schemas (whole adopts xs) [] ≡ None → reported_repeated_roots adopts xs ≡ [] }
 {}
 
 /// Documents that are added one by one add what one document of all their definitions adds.
