@@ -85,7 +85,8 @@ pub fn run_with_keys<R: Read, O: Write, E: Write>(
     }
 }
 
-/// The same, for an input that is at hand as a text, which nothing but its own lines can refuse. Tables hash by fixed keys.
+/// The same as [`run`], over an input that is at hand as a text: what it refuses is the words or lines of the input, and
+/// nothing else.
 pub fn run_on_text<O: Write, E: Write>(
     alloc: Global,
     words: &[&str],
@@ -110,7 +111,7 @@ pub fn run_on_text<O: Write, E: Write>(
     }
 }
 
-/// Says why there is nothing to write.
+/// Says why there is nothing to write, and ends so.
 fn end_without_answer<E: Write>(failure: Failure, errors: &mut E) -> Status
     ensures { result ≡ status_of failure }
 {
