@@ -1,6 +1,6 @@
-use Rattle.std.proofs.Common.{◌≡◌, ℕ, false, true, All, List, string_bytes, refl, subst, ◌∙◌}
+use Rattle.std.proofs.Common.{◌≡◌, false, true, string_bytes, refl, subst, ◌∙◌}
 use Rattle.std.proofs.lemmas.Option.{IfSome_then}
-use Rattle.bench_notation.specs.Line.{IsLine, lines_of, texts_of}
+use Rattle.bench_notation.specs.Line.{texts_of}
 use Rattle.gqltool_run.specs.Commands.{AppendAnswer, AppendAnswerOf, HasAnswer, HaveAnswer}
 use Rattle.gqltool_run.proofs.AnswerLemmas.{asked_apart, faultless_print}
 use Rattle.gqltool_run.proofs.running.run_with_keys.Goals as goal
