@@ -54,6 +54,7 @@ fn told<A: Account>(alloc: Global, account: &A) -> Result<String, Fail> {
 }
 
 /// Expects this to be told over the users' schema.
+/// No clause: it serves tests.
 pub fn expect<A: Account>(
     rt: &(impl Abort + AllocGlobal),
     account: &A,

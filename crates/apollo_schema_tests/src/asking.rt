@@ -50,6 +50,7 @@ fn answer<Q: Question>(alloc: Global, question: &Q, input: &str) -> Result<Strin
 }
 
 /// Expects this answer of the schema that a text builds.
+/// No clause: it serves tests.
 pub fn expect<Q: Question>(
     rt: &(impl Abort + AllocGlobal),
     question: &Q,

@@ -14,6 +14,7 @@ use graphql_nodes::operation_type::OperationType;
 use std::alloc::{AllocError, Global};
 
 /// A name of this text.
+/// No clause: it serves tests.
 pub fn name(alloc: Global, text: &str) -> Result<Name, AllocError> {
     Name::new_unchecked(alloc, text)
 }
@@ -31,6 +32,7 @@ fn definition(alloc: Global, text: &str) -> Result<Node<FieldDefinition>, AllocE
 }
 
 /// A field of this name.
+/// No clause: it serves tests.
 pub fn field(alloc: Global, text: &str) -> Result<Field, AllocError> {
     Field::new(alloc, name(alloc, text)?, definition(alloc, text)?)
 }
@@ -92,6 +94,7 @@ fn inline(alloc: Global, inner: Selected) -> Result<Selection, AllocError> {
 }
 
 /// No selection.
+/// No clause: it serves tests.
 pub fn none(alloc: Global) -> Selected {
     Selected {
         alloc,
@@ -101,6 +104,7 @@ pub fn none(alloc: Global) -> Selected {
 
 impl Selected {
     /// The set of the selections.
+    /// No clause: it serves tests.
     pub fn into_set(self) -> Result<SelectionSet, AllocError> {
         self.set
     }
@@ -113,36 +117,42 @@ impl Selected {
     }
 
     /// A field without selections comes after them.
+    /// No clause: it serves tests.
     pub fn field(self, text: &str) -> Selected {
         let selection = leaf(self.alloc, text);
         self.and(selection)
     }
 
     /// A field with an alias.
+    /// No clause: it serves tests.
     pub fn aliased(self, text: &str, alias: &str) -> Selected {
         let selection = aliased(self.alloc, text, alias);
         self.and(selection)
     }
 
     /// A field with these selections.
+    /// No clause: it serves tests.
     pub fn branch(self, text: &str, below: Selected) -> Selected {
         let selection = branch(self.alloc, text, below);
         self.and(selection)
     }
 
     /// A field with an alias and these selections.
+    /// No clause: it serves tests.
     pub fn aliased_branch(self, text: &str, alias: &str, below: Selected) -> Selected {
         let selection = aliased_branch(self.alloc, text, alias, below);
         self.and(selection)
     }
 
     /// A spread of this name.
+    /// No clause: it serves tests.
     pub fn spread(self, text: &str) -> Selected {
         let selection = spread(self.alloc, text);
         self.and(selection)
     }
 
     /// An inline fragment with these selections.
+    /// No clause: it serves tests.
     pub fn inline(self, inner: Selected) -> Selected {
         let selection = inline(self.alloc, inner);
         self.and(selection)
@@ -159,6 +169,7 @@ fn fragment(alloc: Global, text: &str, set: Selected) -> Result<Node<Fragment>, 
 }
 
 /// Puts a fragment of its own name under this key.
+/// No clause: it serves tests.
 pub fn insert_under(
     alloc: Global,
     document: &mut ExecutableDocument,
@@ -174,6 +185,7 @@ pub fn insert_under(
 }
 
 /// Puts a fragment under its name.
+/// No clause: it serves tests.
 pub fn insert(
     alloc: Global,
     document: &mut ExecutableDocument,
@@ -184,6 +196,7 @@ pub fn insert(
 }
 
 /// An anonymous operation with these selections.
+/// No clause: it serves tests.
 pub fn operation(
     alloc: Global,
     operation_type: OperationType,

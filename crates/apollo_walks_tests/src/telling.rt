@@ -60,6 +60,7 @@ fn push_all(
 }
 
 /// Adds what both walks over a set give.
+/// No clause: it serves tests.
 pub fn push_walks(
     alloc: Global,
     text: &mut String,
@@ -73,6 +74,7 @@ pub fn push_walks(
 }
 
 /// Adds what walks over each fragment's own set give.
+/// No clause: it serves tests.
 pub fn push_fragments(
     alloc: Global,
     text: &mut String,

@@ -37,6 +37,7 @@ impl Drop for Names {
 
 impl Names {
     /// Room for about this many names, none of which is at hand yet. The error is want of memory.
+    /// No clause: which names are at hand changes no answer.
     pub fn new(alloc: Global, count: usize) -> Result<Names, AllocError> {
         let count = count.min(MOST_NAMES);
         let mut places = Vec::with_capacity(alloc, count)?;
@@ -45,6 +46,7 @@ impl Names {
     }
 
     /// The allocator of the names.
+    /// No clause: an allocator has no state.
     pub fn alloc(&self) -> Global {
         *self.places.allocator()
     }

@@ -15,6 +15,7 @@ pub struct Progress {
 
 impl Progress {
     /// Nothing is told yet. The error is a clock that can't be read.
+    /// No clause: what a clock answers is seen by no contract.
     pub fn new<C: Clock>(clock: &C) -> Result<Progress, Failure> {
         Ok(Progress {
             told: Instant::now(clock)?,
@@ -23,6 +24,7 @@ impl Progress {
 
     /// Says on `errors` how many repetitions of all are done, where two seconds went by since the last word. That it cannot
     /// be said there changes nothing. The error is a clock that can't be read.
+    /// No clause: what a clock answers, and so whether something is said, is seen by no contract.
     pub fn tell<C: Clock, E: Write>(
         &mut self,
         clock: &C,

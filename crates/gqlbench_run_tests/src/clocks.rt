@@ -12,6 +12,8 @@ pub struct SteadyClock {
 }
 
 impl SteadyClock {
+    /// A clock that goes on by this much at each reading.
+    /// No clause: it serves tests.
     pub fn new(step: u64) -> SteadyClock {
         SteadyClock {
             now: Cell::new(0),

@@ -10,6 +10,8 @@ pub struct SteadySource {
 }
 
 impl SteadySource {
+    /// A source that gives this byte.
+    /// No clause: it serves tests.
     pub fn new(byte: u8) -> SteadySource {
         SteadySource { byte }
     }

@@ -98,12 +98,15 @@ pub fn run_on_text<O: Write, E: Write>(
     ensures exhausted { result ≡ Status.Exhausted → output.new ≡ output.old }
     ensures quiet { Writes result → errors.new ≡ errors.old }
 
-    // What is appended to the output.
+    // What was read, and what is appended to the output.
+    ensures read { Writes result → All IsLine (lines_of input.now) }
     ensures means { result ≡ Status.Done → AppendAnswer (texts_of words.now) false (O.contents output.old) (O.contents output.new) input.now }
     ensures faults { result ≡ Status.Faults → AppendAnswer (texts_of words.now) true (O.contents output.old) (O.contents output.new) input.now }
     ensures not_written { result ≡ Status.NotWritten → HaveAnswer (texts_of words.now) input.now }
 
+    // Words that are no command are refused, and so is a text of no coordinate, but for want of memory.
     ensures usage { AreNoCommand (texts_of words.now) → result ≡ Status.Refused }
+    ensures no_coordinate { AskNoCoordinate (texts_of words.now) → (result ≡ Status.Refused) ⊎ (result ≡ Status.Exhausted) }
 {
     match read_task(alloc, words) {
         Ok(task) => run_task(alloc, HashKeys::FIXED, &task, input, output, errors),

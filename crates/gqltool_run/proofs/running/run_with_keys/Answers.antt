@@ -8,26 +8,22 @@ use Rattle.gqltool_run.proofs.AnswerLemmas.{asked_apart, faultless_print}
 use Rattle.gqltool_run.proofs.running.run_with_keys.Goals as goal
 
 -- what is appended for the task that these words ask for is their answer to what was read
-answer_to_read : (words : List (List ℕ)) (task : Task) (has_faults : Bool) (old new read : Option (List ℕ)) (text : List ℕ) → Ask words task
-    → IfSome read (λ input. text ≡ input) → AppendAnswerOf task has_faults old new text
+answer_to_read : (words : List (List ℕ)) (task : Task) (has_faults : Bool) (old new read : Option (List ℕ)) (given text : List ℕ) → Ask words task
+    → given ≡ text → IfSome read (λ input. text ≡ input) → AppendAnswerOf task has_faults old new given
     → IfSome read (AppendAnswer words has_faults old new)
-answer_to_read words task has_faults old new read text asked is_read appends =
+answer_to_read words task has_faults old new read given text asked same is_read appends =
     IfSome_then read {P = λ input. text ≡ input} {Q = AppendAnswer words has_faults old new} is_read
-    (λ input is. let given = subst (AppendAnswerOf task has_faults old new) is appends in (given.0, ((task, (asked, given.1.0)), given.1.1)))
+    (λ input is. let there = subst (AppendAnswerOf task has_faults old new) (same ∙ is) appends in (there.0, ((task, (asked, there.1.0)), there.1.1)))
 
 pub returns-in-Ok-read_all-clause-means : goal.returns-in-Ok-read_all-clause-means
 returns-in-Ok-read_all-clause-means g c = λ done.
-    let old = g.O.Write.contents c.args.output.now in
-    let new = g.O.Write.contents c.run_task.new.output in
-    answer_to_read (texts_of c.args.words.now) c.in-Ok.task false old new (g.R.Read.remaining c.args.reader.now) (string_bytes c.in-Ok-read_all.input) c.in-Ok.ensures.asked c.in-Ok-read_all.ensures
-    (subst (AppendAnswerOf c.in-Ok.task false old new) c.as_str.ensures.value (c.run_task.ensures.means done))
+    answer_to_read (texts_of c.args.words.now) c.in-Ok.task false (g.O.Write.contents c.args.output.now) (g.O.Write.contents c.run_task.new.output) (g.R.Read.remaining c.args.reader.now) c.as_str.result.now (string_bytes c.in-Ok-read_all.input)
+    c.in-Ok.ensures.asked c.as_str.ensures.value c.in-Ok-read_all.ensures (c.run_task.ensures.means done)
 
 pub returns-in-Ok-read_all-clause-faults : goal.returns-in-Ok-read_all-clause-faults
 returns-in-Ok-read_all-clause-faults g c = λ done.
-    let old = g.O.Write.contents c.args.output.now in
-    let new = g.O.Write.contents c.run_task.new.output in
-    answer_to_read (texts_of c.args.words.now) c.in-Ok.task true old new (g.R.Read.remaining c.args.reader.now) (string_bytes c.in-Ok-read_all.input) c.in-Ok.ensures.asked c.in-Ok-read_all.ensures
-    (subst (AppendAnswerOf c.in-Ok.task true old new) c.as_str.ensures.value (c.run_task.ensures.faults done))
+    answer_to_read (texts_of c.args.words.now) c.in-Ok.task true (g.O.Write.contents c.args.output.now) (g.O.Write.contents c.run_task.new.output) (g.R.Read.remaining c.args.reader.now) c.as_str.result.now (string_bytes c.in-Ok-read_all.input)
+    c.in-Ok.ensures.asked c.as_str.ensures.value c.in-Ok-read_all.ensures (c.run_task.ensures.faults done)
 
 pub returns-in-Ok-read_all-clause-done : goal.returns-in-Ok-read_all-clause-done
 returns-in-Ok-read_all-clause-done g c = λ done.
