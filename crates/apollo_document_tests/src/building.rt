@@ -1,15 +1,12 @@
 //! What documents build, and what the write-out of that builds again.
 
-use crate::telling::tell_document;
+use crate::inputs::Account;
+use crate::telling::{tell_document, tell_faults};
 use apollo_document::{BuilderError, ExecutableDocumentBuilder, Faults};
-use apollo_elaboration_tests::inputs::{Account, told};
-use apollo_elaboration_tests::telling::tell_faults;
 use apollo_executable::ExecutableDocument;
 use apollo_schema::schema::Schema;
 use graphql_ast::document::Document;
 use std::alloc::{AllocError, Global};
-use std::process::Abort;
-use std::test::Fail;
 
 /// What documents build, one after the other.
 /// No clause: it serves tests.
@@ -76,17 +73,4 @@ impl Account for Built {
             Err(error) => write!(text, "{error}\n"),
         }
     }
-}
-
-/// Expects this to be told of an input.
-/// No clause: it serves tests.
-pub fn expect<A: Account>(
-    rt: &(impl Abort + AllocGlobal),
-    account: &A,
-    input: &str,
-    expected: &str,
-) -> Result<(), Fail> {
-    let text = told(rt.alloc(), account, input)?;
-    assert_eq!(rt; text.as_str(), expected);
-    Ok(())
 }

@@ -1,7 +1,8 @@
 //! A typed document that is made by calls alone, beside one that is built.
 
-use crate::building::{build, expect};
-use apollo_elaboration_tests::inputs::Account;
+use crate::building::build;
+use crate::expecting::expect;
+use crate::inputs::Account;
 use apollo_executable::{ExecutableDocument, NewFieldError, Operation, Selection, SelectionSet};
 use apollo_schema::schema::Schema;
 use graphql_ast::directive::DirectiveList;

@@ -1,6 +1,7 @@
 //! Documents over schemas and without one, their faults, and what their write-out builds again.
 
-use crate::building::{Built, expect};
+use crate::building::Built;
+use crate::expecting::expect;
 use std::test::Fail;
 
 const OVER: Built = Built { has_schema: true };

@@ -1,5 +1,5 @@
-//! Tests of the builder of documents, of what no clause says: that calls succeed with memory, on worked documents. Most compare
-//! a text that tells all that is looked at.
+//! Tests of elaboration and of the builder of documents, of what no clause says: that calls succeed with memory, on worked
+//! documents, and the texts of faults and paths. Most compare a text that tells all that is looked at.
 #![tactic(auto)]
 
 #[cfg(test)]
@@ -9,11 +9,21 @@ mod by_calls;
 #[cfg(test)]
 mod documents;
 #[cfg(test)]
+mod errors;
+#[cfg(test)]
+mod expecting;
+#[cfg(test)]
+mod field_sets;
+#[cfg(test)]
 mod hash_keys;
+#[cfg(test)]
+mod inputs;
 #[cfg(test)]
 mod operations;
 #[cfg(test)]
 mod refusals;
+#[cfg(test)]
+mod selections;
 #[cfg(test)]
 mod sources;
 #[cfg(test)]

@@ -1,7 +1,8 @@
 //! Operations of built documents, by request.
 
-use crate::building::{build, expect};
-use apollo_elaboration_tests::inputs::Account;
+use crate::building::build;
+use crate::expecting::expect;
+use crate::inputs::Account;
 use apollo_executable::{Operation, OperationMap};
 use apollo_schema::schema::Schema;
 use graphql_ast::document::Document;

@@ -1,8 +1,8 @@
 //! What a builder answers after want of memory. Under `rt try --test --fail-alloc N` the Nth request for memory is refused;
 //! the test passes at each N.
 
+use crate::inputs::{Account, told};
 use apollo_document::{BuilderError, ExecutableDocumentBuilder};
-use apollo_elaboration_tests::inputs::{Account, told};
 use apollo_schema::schema::Schema;
 use graphql_ast::document::Document;
 use std::alloc::{AllocError, Global};

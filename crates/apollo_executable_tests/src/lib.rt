@@ -1,5 +1,5 @@
-//! Tests of typed documents, of what no clause says: that calls succeed with memory, and the texts of errors. Most compare
-//! a text that tells all that is looked at.
+//! Tests of typed documents and of walks over them, of what no clause says: that calls succeed with memory, and the texts
+//! of errors. Most compare a text that tells all that is looked at.
 #![tactic(auto)]
 
 #[cfg(test)]
@@ -12,5 +12,7 @@ mod making;
 mod operation_maps;
 #[cfg(test)]
 mod schemas;
+#[cfg(test)]
+mod walks;
 #[cfg(test)]
 mod written;

@@ -12,7 +12,8 @@ use graphql_nodes::collections::key_set::KeySet;
 use graphql_nodes::collections::table::Table;
 use graphql_nodes::name::Name;
 use graphql_nodes::operation_type::OperationType;
-use graphql_nodes::source::{SourceMap, SourceSpan};
+use graphql_nodes::source::SourceMap;
+use likeness::push_place;
 use std::alloc::AllocError;
 
 /// Adds a component's name and where it comes from: the definition, or an extension by its number and line.
@@ -123,19 +124,6 @@ pub fn push_schema(text: &mut String, schema: &Schema) -> Result<(), AllocError>
         push_root(text, schema, operation_type)?;
     }
     push_types(text, schema)
-}
-
-/// Adds a place: the number of its file, and from where to where it goes.
-/// No clause: it serves tests.
-pub fn push_place(text: &mut String, place: Option<SourceSpan>) -> Result<(), AllocError> {
-    match place {
-        Some(span) => {
-            let SourceSpan { file, start, end } = span;
-            let number = file.0;
-            write!(text, "{number}:{start}-{end} ")
-        }
-        None => text.push_str("nowhere "),
-    }
 }
 
 /// Adds faults, each with its place.

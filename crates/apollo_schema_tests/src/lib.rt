@@ -1,5 +1,5 @@
-//! Tests of schemas and their builder and of the notation, of what the proofs don't show: that calls succeed with memory,
-//! and the texts of faults. Most compare a text that tells all that is looked at.
+//! Tests of schemas and their builder, of what the proofs don't show: that calls succeed with memory, and the texts of
+//! faults. Most compare a text that tells all that is looked at.
 #![tactic(auto)]
 
 #[cfg(test)]
@@ -26,8 +26,6 @@ mod lookups;
 mod no_documents;
 #[cfg(test)]
 mod parts;
-#[cfg(test)]
-mod reading;
 #[cfg(test)]
 mod rearranging;
 #[cfg(test)]

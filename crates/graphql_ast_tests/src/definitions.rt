@@ -1,5 +1,6 @@
 //! Definitions of all kinds: their texts and copies.
 
+use crate::samples::PLACE;
 use graphql_ast::{
     Definition, DirectiveDefinition, EnumTypeDefinition, EnumTypeExtension, FragmentDefinition,
     InputObjectTypeDefinition, InputObjectTypeExtension, InterfaceTypeDefinition,
@@ -7,15 +8,9 @@ use graphql_ast::{
     ScalarTypeDefinition, ScalarTypeExtension, SchemaDefinition, SchemaExtension,
     UnionTypeDefinition, UnionTypeExtension,
 };
-use graphql_nodes::{FileId, Name, Node, OperationType, SourceSpan};
+use graphql_nodes::{Name, Node, OperationType};
 use likeness::{is_copied, is_copied_so};
 use std::alloc::Global;
-
-pub const PLACE: SourceSpan = SourceSpan {
-    file: FileId(3),
-    start: 14,
-    end: 17,
-};
 
 /// Whether this is how the definition is described, and it is at the place.
 fn is_described(definition: &Definition, text: &str) -> bool {

@@ -1,6 +1,6 @@
 //! Documents and their sources.
 
-use crate::definitions::PLACE;
+use crate::samples::PLACE;
 use graphql_ast::{Definition, Document, SchemaDefinition};
 use graphql_nodes::{FileId, Items, Node, Shared, SourceFile, SourceMap, SourceSpan, Table, Text};
 use likeness::{are_equal, is_copied_so};

@@ -1,8 +1,9 @@
-//! What tests ask of values: whether they are made, equal, copied and printed. The functions own what is made, so that a
-//! test need not. None has a clause, since no proof goes by what a test sees.
+//! What tests ask of values: whether they are made, equal, copied and printed, and where they stand. The functions own what is
+//! made, so that a test need not. None has a clause, since no proof goes by what a test sees.
 #![tactic(auto)]
 
 use graphql_nodes::node::Node;
+use graphql_nodes::source::SourceSpan;
 use std::alloc::{AllocError, Global};
 use std::fmt::Display;
 use std::hash::{DefaultHasher, Hash, Hasher};
@@ -113,5 +114,18 @@ pub fn is_printed<T: Display>(alloc: Global, value: &T, text: &str) -> bool {
     match value.to_string(alloc) {
         Ok(printed) => printed.as_str() == text,
         Err(_) => false,
+    }
+}
+
+/// Adds a place: the number of its file, and from where to where it goes.
+/// No clause: it serves tests.
+pub fn push_place(text: &mut String, place: Option<SourceSpan>) -> Result<(), AllocError> {
+    match place {
+        Some(span) => {
+            let SourceSpan { file, start, end } = span;
+            let number = file.0;
+            write!(text, "{number}:{start}-{end} ")
+        }
+        None => text.push_str("nowhere "),
     }
 }

@@ -1,7 +1,7 @@
 //! Walks over worked documents: what they give, in which order, and in how many turns.
 
-use crate::making::{Selected, insert, insert_under, none, operation};
-use crate::telling::{push_fragments, push_walks};
+use crate::walks::making::{Selected, insert, insert_under, none, operation};
+use crate::walks::telling::{push_fragments, push_walks};
 use apollo_executable::ExecutableDocument;
 use graphql_nodes::operation_type::OperationType;
 use std::alloc::{AllocError, Global};

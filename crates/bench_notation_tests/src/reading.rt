@@ -1,6 +1,5 @@
 //! What is read from lines: extensions as they stand, before a schema is built of them, and the places of nodes.
 
-use crate::accounts::push_place;
 use bench_notation::printing::print;
 use bench_notation::reading::{read, read_divided};
 use bench_notation::refusal::{ReadError, Reason, RefusedLine};
@@ -8,6 +7,7 @@ use graphql_ast::definition::Definition;
 use graphql_ast::document::Document;
 use graphql_ast::type_system::{InputObjectTypeDefinition, SchemaDefinition};
 use graphql_nodes::node::Node;
+use likeness::push_place;
 use std::alloc::{AllocError, Global};
 use std::test::Fail;
 

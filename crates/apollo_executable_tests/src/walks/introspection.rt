@@ -1,6 +1,6 @@
 //! Whether operations ask for the schema alone.
 
-use crate::making::{Selected, insert, none, operation};
+use crate::walks::making::{Selected, insert, none, operation};
 use apollo_executable::ExecutableDocument;
 use graphql_nodes::operation_type::OperationType;
 use std::alloc::{AllocError, Global};

@@ -1,6 +1,6 @@
 //! Walks over more selections than could ever be counted.
 
-use crate::making::{field, name};
+use crate::walks::making::{field, name};
 use apollo_executable::{
     AllFields, ExecutableDocument, InlineFragment, Operation, Selection, SelectionSet,
 };
