@@ -44,7 +44,7 @@ same_origin-equiv = record { refl = itself; symm = both-ways; congr = alike }
     alike (Extension a) (Extension b) (Extension c) e = same_id-equiv.congr a b c e
 
 -- whether an origin is the definition or among these identities
-abbrev is_among : List ExtensionId → ComponentOrigin → Bool
+abbrev pub is_among : List ExtensionId → ComponentOrigin → Bool
 is_among ids Definition = true
 is_among ids (Extension e) = list_any (same_id e) ids
 
@@ -57,7 +57,7 @@ is_among-more ids (Extension d) (Extension e) h = ap (λ c. same_id e d || c) h 
     or-true true = refl
     or-true false = refl
 
-each-among : (cs : List SourcedPart) → AllByRecursion (λ c. is_among (ids_in cs) c.0 ≡ true) cs
+pub each-among : {A : Type 0} (cs : List (ComponentOrigin × A)) → AllByRecursion (λ c. is_among (ids_in cs) c.0 ≡ true) cs
 each-among [] = tt
 each-among (c ∷ cs) = (here c.0, each-weaken (λ d. is_among (ids_in cs) d.0 ≡ true) (λ d. is_among (ids_in (c ∷ cs)) d.0 ≡ true) (λ d h. is_among-more (ids_in cs) c.0 d.0 h) cs (each-among cs))
   where

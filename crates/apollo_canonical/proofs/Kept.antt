@@ -2,6 +2,7 @@
 use Rattle.std.proofs.Common.{◌≡◌, Bool, true, false, cond, ◌&&◌, ◌||◌, List, [], ◌∷◌, ◌++◌, None, Some, map, filter, find, refl, ap, ◌∙◌, arith, true≢false}
 use Rattle.std.proofs.lemmas.List.Elements.{filter-append}
 use Rattle.std.specs.List.{AllByRecursion, flat_map, list_any}
+use Rattle.std.specs.Option.{IfSome}
 
 pub filter-map : {X Y : Type 0} (p : Y → Bool) (f : X → Y) (xs : List X) → filter p (map f xs) ≡ map f (filter (λ x. p (f x)) xs)
 filter-map p f [] = refl
@@ -24,6 +25,10 @@ each-of P all (x ∷ xs) = (all x, each-of P all xs)
 pub each-both : {X : Type 0} (P Q R : X → Type 0) → ((x : X) → P x → Q x → R x) → (xs : List X) → AllByRecursion P xs → AllByRecursion Q xs → AllByRecursion R xs
 each-both P Q R both [] p q = tt
 each-both P Q R both (x ∷ xs) p q = (both x p.0 q.0, each-both P Q R both xs p.1 q.1)
+
+pub each-map : {X Y : Type 0} (P : Y → Type 0) (f : X → Y) (xs : List X) → AllByRecursion (λ x. P (f x)) xs → AllByRecursion P (map f xs)
+each-map P f [] a = tt
+each-map P f (x ∷ xs) a = (a.0, each-map P f xs a.1)
 
 pub each-from_map : {X Y : Type 0} (P : Y → Type 0) (f : X → Y) (xs : List X) → AllByRecursion P (map f xs) → AllByRecursion (λ x. P (f x)) xs
 each-from_map P f [] a = tt
@@ -54,6 +59,15 @@ find-none p (x ∷ xs) h = by (p x) h (find-none p xs)
     by : (b : Bool) → (b || list_any p xs) ≡ false → (list_any p xs ≡ false → find p xs ≡ None) → cond b (Some x) (find p xs) ≡ None
     by true h rest = absurd (true≢false h)
     by false h rest = rest h
+
+-- what holds of all holds of what is found
+pub if-found : {X : Type 0} (P : X → Type 0) (p : X → Bool) (xs : List X) → AllByRecursion P xs → IfSome (find p xs) P
+if-found P p [] a = tt
+if-found P p (x ∷ xs) a = by (p x) (if-found P p xs a.1)
+  where
+    by : (b : Bool) → IfSome (find p xs) P → IfSome (cond b (Some x) (find p xs)) P
+    by true rest = a.0
+    by false rest = rest
 
 -- lists that are empty when joined
 pub both-empty : {X : Type 0} (xs ys : List X) → xs ++ ys ≡ [] → (xs ≡ []) × (ys ≡ [])

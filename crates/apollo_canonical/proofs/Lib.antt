@@ -1,6 +1,7 @@
 pub mod ComponentsKept
 pub mod DirectivesInOrder
 pub mod FirstAppearance
+pub mod Groups
 pub mod Kept
 pub mod NamesOnce
 pub mod Partition

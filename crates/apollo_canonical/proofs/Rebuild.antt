@@ -26,3 +26,7 @@ pub mod Canonical
 pub mod RootFaults
 pub mod Faultless
 pub mod Existence
+pub mod FoldedOnce
+pub mod OriginsOfParts
+pub mod WrittenFew
+pub mod FoldsNoMore

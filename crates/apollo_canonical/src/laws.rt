@@ -1,14 +1,16 @@
 //! Laws of the write-out, for those who build on what it says.
-ghost use Rattle.std.specs.Prelude.{◌≡◌, ℕ, Bool, List, [], Some, false, true, codes, option_map};
+ghost use Rattle.std.specs.Prelude.{◌≡◌, ◌≤◌, ℕ, Bool, List, [], Some, false, true, codes, length, option_map};
 ghost use Rattle.apollo_component.specs.WriteOut.{by_origin};
 ghost use Rattle.apollo_component.specs.declared.parts_by_origin.PartsByOrigin.{PartsByOrigin};
 ghost use Rattle.apollo_types.specs.TypeWriteOut.{write_type};
 ghost use Rattle.apollo_types.specs.declared.extended_type.ExtendedType.{ExtendedType};
 ghost use Rattle.apollo_meaning.specs.Faults.ListFaults.{faults_of};
-ghost use Rattle.apollo_meaning.specs.Items.ListItems.{ListItem, added};
+ghost use Rattle.apollo_meaning.specs.Items.ListItems.{ListItem, Added, added};
 ghost use Rattle.apollo_meaning.specs.Order.Places.{folding_order};
+ghost use Rattle.apollo_meaning.specs.Order.SpentIds.{SpendsIds};
+ghost use Rattle.apollo_meaning.specs.Rows.FaultRows.{faulty_list};
 ghost use Rattle.apollo_meaning.specs.Rows.TypeRows.{written_around};
-ghost use Rattle.apollo_meaning.specs.Schema.Whole.{whole};
+ghost use Rattle.apollo_meaning.specs.Schema.Whole.{folds, whole};
 ghost use Rattle.apollo_meaning.specs.Types.Meaning.{type_of};
 ghost use Rattle.apollo_schema.specs.EqualSchemas.{AreEqualSchemas};
 ghost use Rattle.apollo_schema.specs.MeantSchema.{MeansSchema};
@@ -95,4 +97,24 @@ pub fn written_twice_is_written_once()
 /// GraphQL specification of October 2021, sections 3 and 3.3.
 pub fn equal_write_outs_have_equal_schemas()
     ensures { (schema other : Schema) → IsMeantByList schema → IsMeantByList other → write_schema schema ≡ write_schema other → AreEqualSchemas schema other }
+{}
+
+/// A schema's write-out folds no more extensions than the list that the schema is of. It holds for every list of added
+/// definitions, with any setting of adoption and of ignored redefinitions, and the schema that it means, whole or what could
+/// be built of a list with faults; the write-out is added as one document after the built-in definitions, with adoption. So
+/// where the numbers from some one on don't suffice for the write-out, they don't for the list. GraphQL specification of
+/// October 2021, sections 3.3.2 and 3.4.3.
+pub fn a_write_out_folds_no_more()
+    ensures folds { (start : ℕ) (adopts ignores : Bool) (xs : List Added) (schema : Schema) → MeansSchema start adopts xs schema
+        → folds true (written_again ignores schema) ≤ folds adopts xs }
+    ensures spends { (start again : ℕ) (adopts ignores : Bool) (xs : List Added) (schema : Schema) → MeansSchema start adopts xs schema
+        → SpendsIds again true (written_again ignores schema) → SpendsIds again adopts xs }
+{}
+
+/// A write-out may fold fewer extensions than its list: the worked list with faults folds two, whose components are all dropped,
+/// and the type that it means is written out as a definition alone, computed. GraphQL specification of October 2021, section
+/// 3.4.3.
+pub fn worked_extensions_are_not_written()
+    ensures folds { folds false (added false faulty_list) ≡ 2 }
+    ensures writes { option_map (λ t. length (write_type t)) (type_of 0 (folding_order (whole false (added false faulty_list))) (whole false (added false faulty_list)) (codes "T")) ≡ Some 1 }
 {}

@@ -1,5 +1,5 @@
 -- Every schema's write-out means an equal schema, with the same write-out.
-use Rattle.std.proofs.Common.{◌≡◌, ℕ, Bool, true, false, cond, List, [], ◌++◌, drop, flat_map, option_map, sym, ap, subst, ◌∙◌, filter_map}
+use Rattle.std.proofs.Common.{◌≡◌, ℕ, Bool, true, false, cond, List, [], ◌++◌, drop, filter, flat_map, option_map, sym, ap, subst, ◌∙◌, filter_map}
 use Rattle.std.proofs.lemmas.List.{append-nil}
 use Rattle.std.proofs.lemmas.List.Elements.{filter_map-append, recursion_from_All}
 use Rattle.std.specs.List.{AllByRecursion}
@@ -15,7 +15,7 @@ use Rattle.apollo_types.specs.SchemaDefinitionWriteOut.{write_schema_definition}
 use Rattle.apollo_types.specs.declared.extended_type.ExtendedType.{ExtendedType}
 use Rattle.apollo_types.specs.declared.schema_definition.SchemaDefinition.{SchemaDefinition}
 use Rattle.apollo_meaning.specs.Completion.ImpliedSchema.{completed, implied_schema}
-use Rattle.apollo_meaning.specs.Directives.{directive_definitions, directive_part}
+use Rattle.apollo_meaning.specs.Directives.{directive_definitions, directive_part, is_handed_in}
 use Rattle.apollo_meaning.specs.Faults.ListFaults.{faults_in, faults_of}
 use Rattle.apollo_meaning.specs.Items.ListItems.{Added, ListItem, added, added_items, defined_schema}
 use Rattle.apollo_meaning.specs.Order.Places.{folding_order}
@@ -32,10 +32,19 @@ use Rattle.apollo_canonical.proofs.Rebuild.Held.{document_items, document_items-
 use Rattle.apollo_canonical.proofs.Rebuild.Meant.{IsAddedByHand, items-split}
 use Rattle.apollo_canonical.proofs.Rebuild.OneType.{IsAgain}
 use Rattle.apollo_canonical.proofs.Rebuild.SchemaMeant.{NamesRoot, schema_node}
-use Rattle.apollo_canonical.proofs.Rebuild.SchemaWritten.{directives-listed, list-directives, schema_items}
+use Rattle.apollo_canonical.proofs.Rebuild.SchemaWritten.{directives-listed, list-directives, written_list}
 use Rattle.apollo_canonical.proofs.Rebuild.Tables.{tables-same}
 use Rattle.apollo_canonical.proofs.Rebuild.TypesAgain.{equal_types, same_written}
 use Rattle.apollo_canonical.proofs.Rebuild.Whole.{Y, Z, ends, others, quiet, implied-directives, quiet-implied, same-schema, with-adopted}
+
+-- the items of a list with a schema's write-out
+pub items-listed : (c : Bool) (schema : Schema)
+    → added_items (written_again c schema) ≡ written_list c schema.schema_definition.value schema.schema_definition.location schema.types (filter is_handed_in (values_of schema.directive_definitions)) (values_of schema.types)
+items-listed c schema =
+    items-split true (added c (write_schema schema))
+    ∙ ap (λ l. built_ins ++ l) (document_items-append c (write_held_schema_definition schema ++ write_directives (values_of schema.directive_definitions)) (flat_map write_held_type (values_of schema.types))
+    ∙ (λ i. (document_items-append c (write_held_schema_definition schema) (write_directives (values_of schema.directive_definitions))
+    ∙ ap (λ l. document_items c (write_held_schema_definition schema) ++ l) (directives-listed c (values_of schema.directive_definitions))) i ++ items-types c (values_of schema.types) i))
 
 module _ (start : ℕ) (adopts c : Bool) (more : List Added) (schema : Schema) (within : IsUnmarkedAndRooted more) (means : MeansSchema start adopts (with_built_ins more) schema) where
   pub handed : AllByRecursion IsAddedByHand more
@@ -56,13 +65,8 @@ module _ (start : ℕ) (adopts c : Bool) (more : List Added) (schema : Schema) (
   -- the items of the list with the write-out
   pub listed : added_items (written_again c schema) ≡ written_items
   listed =
-      items-split true (added c (write_schema schema))
-      ∙ ap (λ l. built_ins ++ l) (document_items-append c (write_held_schema_definition schema ++ write_directives (values_of schema.directive_definitions)) (flat_map write_held_type (values_of schema.types))
-      ∙ (λ i. (document_items-append c (write_held_schema_definition schema) (write_directives (values_of schema.directive_definitions))
-      ∙ (λ j. definition_items j ++ directives-listed c (values_of schema.directive_definitions) j)) i ++ items-types c (values_of schema.types) i))
-    where
-      definition_items : document_items c (write_held_schema_definition schema) ≡ schema_items c (schema_node start xs).value (schema_node start xs).location schema.types
-      definition_items = ap (λ (n : NodeView SchemaDefinition). document_items c (write_schema_definition n.value n.location schema.types)) means.definition
+      items-listed c schema
+      ∙ ap (λ (n : NodeView SchemaDefinition). written_list c n.value n.location schema.types (filter is_handed_in (values_of schema.directive_definitions)) (values_of schema.types)) means.definition
 
   pub all-listed : whole true (written_again c schema) ≡ all_items
   all-listed =

@@ -12,20 +12,21 @@ use Rattle.graphql_ast.specs.declared.definition_parts.DefinitionParts.{Definiti
 use Rattle.apollo_built_in.specs.BuiltInTable.{built_in_definitions}
 use Rattle.apollo_component.specs.Extensions.{place_of}
 use Rattle.apollo_component.specs.declared.extension.ExtensionId.{ExtensionId}
+use Rattle.apollo_component.proofs.Lists.Each.{each-append}
 use Rattle.apollo_types.specs.SchemaDefinitionWriteOut.{is_written, write_schema_definition}
 use Rattle.apollo_types.specs.TypeWriteOut.{type_location}
 use Rattle.apollo_types.specs.declared.extended_type.ExtendedType.{ExtendedType}
 use Rattle.apollo_types.specs.declared.schema_definition.SchemaDefinition.{SchemaDefinition}
 use Rattle.apollo_meaning.specs.Directives.{Directives, directive_definitions, directive_part, is_handed_in}
-use Rattle.apollo_meaning.specs.Items.ListItems.{Defined, Extended, ListItem, Other, SchemaDefined, SchemaExtended, defined_schema, extended_schema}
+use Rattle.apollo_meaning.specs.Items.ListItems.{Defined, Extended, ListItem, Other, SchemaDefined, SchemaExtended, defined_schema, extended_part, extended_schema}
 use Rattle.apollo_meaning.specs.Items.Named.{first_schema, schema_extensions}
 use Rattle.apollo_meaning.specs.Items.Parts.{SchemaPart}
 use Rattle.apollo_schema.specs.SchemaWriteOut.{write_directives}
 use Rattle.apollo_canonical.proofs.Rebuild.About.{Others, Schema, about, directives-about, first_schema-about, is_about, schema_extensions-about}
-use Rattle.apollo_canonical.proofs.Rebuild.BuiltIns.{built_ins}
+use Rattle.apollo_canonical.proofs.Rebuild.BuiltIns.{built_ins, no-extensions}
 use Rattle.apollo_canonical.proofs.Rebuild.Held.{document_items, document_items-append, extension_items, held_items}
 use Rattle.apollo_canonical.proofs.Rebuild.OneSchema.{schema_extension_of, written_parts_of}
-use Rattle.apollo_canonical.proofs.Rebuild.TypesAgain.{IsQuiet}
+use Rattle.apollo_canonical.proofs.Rebuild.TypesAgain.{IsQuiet, extends-quiet}
 use Rattle.apollo_canonical.proofs.Rebuild.WrittenParts.{written, definition_part, extension_of}
 
 no-schema-built_in : about Schema built_ins ≡ []
@@ -177,3 +178,11 @@ module _ (c : Bool) (d : SchemaDefinition) (place : Option SourceSpan) (types : 
   list-directives =
       directives-about written_list ∙ ap directive_definitions list-about_others ∙ filter_map-append directive_part (about Others built_ins) (directive_items ds)
       ∙ (λ i. sym (directives-about built_ins) i ++ directives-of_items ds i)
+
+  -- types alone have extensions of types
+  pub list-extended : filter_map extended_part written_list ≡ filter_map extended_part (flat_map (held_items c) ts)
+  list-extended =
+      filter_map-append extended_part built_ins ((schema_items c d place types ++ directive_items ds) ++ flat_map (held_items c) ts)
+      ∙ (λ i. no-extensions i ++ (filter_map-append extended_part (schema_items c d place types ++ directive_items ds) (flat_map (held_items c) ts)
+      ∙ ap (λ l. l ++ filter_map extended_part (flat_map (held_items c) ts)) (extends-quiet (schema_items c d place types ++ directive_items ds)
+      (each-append IsQuiet (schema_items c d place types) (directive_items ds) (schema-quiet c d place types) (directives-quiet ds)))) i)

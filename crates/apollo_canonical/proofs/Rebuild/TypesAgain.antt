@@ -16,7 +16,7 @@ use Rattle.apollo_component.proofs.Lists.Each.{each-weaken, filter-fails}
 use Rattle.apollo_types.specs.BareTypes.{bare_extended_type}
 use Rattle.apollo_types.specs.TypeWriteOut.{type_location, type_name}
 use Rattle.apollo_types.specs.declared.extended_type.ExtendedType.{ExtendedType}
-use Rattle.apollo_meaning.specs.Items.ListItems.{ListItem, Defined, Extended, SchemaDefined, SchemaExtended, Other, Added, Folding, OfType, OfSchema, defined_part}
+use Rattle.apollo_meaning.specs.Items.ListItems.{ListItem, Defined, Extended, SchemaDefined, SchemaExtended, Other, Added, Folding, OfType, OfSchema, defined_part, extended_part}
 use Rattle.apollo_meaning.specs.Items.Named.{first, extensions_of, of_kind}
 use Rattle.apollo_meaning.specs.Items.Parts.{TypePart, key_of, kind_of}
 use Rattle.apollo_meaning.specs.Order.Places.{folding_order}
@@ -122,6 +122,14 @@ defines-quiet (Extended p ∷ xs) q = absurd q.0
 defines-quiet (SchemaDefined s ∷ xs) q = defines-quiet xs q.1
 defines-quiet (SchemaExtended s ∷ xs) q = defines-quiet xs q.1
 defines-quiet (Other d ∷ xs) q = defines-quiet xs q.1
+
+pub extends-quiet : (xs : List ListItem) → AllByRecursion IsQuiet xs → filter_map extended_part xs ≡ []
+extends-quiet [] q = refl
+extends-quiet (Defined p ∷ xs) q = absurd q.0
+extends-quiet (Extended p ∷ xs) q = absurd q.0
+extends-quiet (SchemaDefined s ∷ xs) q = extends-quiet xs q.1
+extends-quiet (SchemaExtended s ∷ xs) q = extends-quiet xs q.1
+extends-quiet (Other d ∷ xs) q = extends-quiet xs q.1
 
 -- the types of a list of which nothing but its head is built in
 module _ (adopts : Bool) (more : List Added) (handed : AllByRecursion IsAddedByHand more) (start : ℕ) (types : List (NameView × ExtendedType))
