@@ -1,5 +1,6 @@
-//! Tests of elaboration and of the builder of documents, of what no clause says: that calls succeed with memory, on worked
-//! documents, and the texts of faults and paths. Most compare a text that tells all that is looked at.
+//! Tests of typed trees, of walks over them, of elaboration and of the builder of documents, of what no clause says: that calls
+//! succeed with memory, on worked documents, and the texts of faults and paths. Most compare a text that tells all that is
+//! looked at.
 #![tactic(auto)]
 
 #[cfg(test)]
@@ -28,3 +29,7 @@ mod selections;
 mod sources;
 #[cfg(test)]
 mod telling;
+#[cfg(test)]
+mod typed;
+#[cfg(test)]
+mod walks;

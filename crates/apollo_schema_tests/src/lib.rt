@@ -1,5 +1,5 @@
-//! Tests of schemas and their builder, of what the proofs don't show: that calls succeed with memory, and the texts of
-//! faults. Most compare a text that tells all that is looked at.
+//! Tests of components, of schemas and their builder, and of coordinates, of what the proofs don't show: that calls succeed
+//! with memory, and the texts of faults. Most compare a text that tells all that is looked at.
 #![tactic(auto)]
 
 #[cfg(test)]
@@ -12,6 +12,12 @@ mod building;
 mod by_calls;
 #[cfg(test)]
 mod by_hand;
+#[cfg(test)]
+mod components;
+#[cfg(test)]
+mod coordinates;
+#[cfg(test)]
+mod directives;
 #[cfg(test)]
 mod equality;
 #[cfg(test)]

@@ -1,7 +1,9 @@
 //! The fields of sets, with what they know: their types, keys and arguments.
 
-use crate::making::{name, selected, users_document};
-use crate::schemas::{Account, expect};
+use crate::expecting::expect;
+use crate::inputs::Account;
+use crate::typed::making::{name, selected, users_document};
+use crate::typed::users::USERS;
 use apollo_executable::{
     ExecutableDocument, Field, Fragment, NewFieldError, Selection, SelectionSet,
 };
@@ -88,7 +90,13 @@ fn push_missing(
 }
 
 impl Account for VipCustomer {
-    fn tell(&self, alloc: Global, schema: &Schema, text: &mut String) -> Result<(), AllocError> {
+    fn tell(
+        &self,
+        alloc: Global,
+        schema: &Schema,
+        _documents: &[graphql_ast::Document],
+        text: &mut String,
+    ) -> Result<(), AllocError> {
         match vip_customer(alloc, schema) {
             Ok(fragment) => {
                 push_name(text, &fragment.name)?;
@@ -106,6 +114,7 @@ fn the_fields_of_vip_customer_know_their_types(rt: HostRuntime) -> Result<(), Fa
     expect(
         &rt,
         &VipCustomer,
+        USERS,
         "vipCustomer on User\nid: ID, a scalar type\nname: String, a scalar type\nprofilePic: URL, a scalar type\nno field nope\n",
     )
 }
@@ -197,7 +206,13 @@ fn push_operations(
 }
 
 impl Account for Inside {
-    fn tell(&self, alloc: Global, schema: &Schema, text: &mut String) -> Result<(), AllocError> {
+    fn tell(
+        &self,
+        alloc: Global,
+        schema: &Schema,
+        _documents: &[graphql_ast::Document],
+        text: &mut String,
+    ) -> Result<(), AllocError> {
         match users_document(alloc, schema) {
             Ok(document) => push_operations(alloc, text, &document),
             Err(_) => text.push_str("not made\n"),
@@ -210,6 +225,7 @@ fn selections_know_what_they_are(rt: HostRuntime) -> Result<(), Fail> {
     expect(
         &rt,
         &Inside,
+        USERS,
         "Query true false false\nof Query\n0 on id id false unknown size false unknown\n2 on user id true given size false unknown\nof User\n1 on short id false unknown size false unknown\n3 on Picture on User\n1 on inline fragment\nof User\n0 on id id false unknown size false unknown\nend\n2 on inline fragment\nof User\n0 on id id false unknown size false unknown\n0 on name id false unknown size false unknown\nend\n0 on name id false unknown size false unknown\nend\nend\n",
     )
 }

@@ -1,6 +1,6 @@
 //! Maps of operations in all their cases, with the texts of errors.
 
-use crate::making::{name, operation};
+use crate::typed::making::{name, operation};
 use apollo_executable::{ExecutableDocument, OperationMap, RequestError, SelectionSet};
 use graphql_nodes::collections::hash_keys::HashKeys;
 use graphql_nodes::name::Name;

@@ -1,6 +1,6 @@
 //! Nodes and their places.
 
-use crate::names::PLACE;
+use crate::samples::PLACE;
 use graphql_nodes::name::Name;
 use graphql_nodes::node::Node;
 use graphql_nodes::source::{FileId, SourceFile, SourceSpan};

@@ -1,8 +1,10 @@
 //! A document that is made by calls alone, written out and copied.
 
-use crate::making::users_document;
-use crate::schemas::{Account, expect};
-use crate::written::push_document;
+use crate::expecting::expect;
+use crate::inputs::Account;
+use crate::typed::making::users_document;
+use crate::typed::users::USERS;
+use crate::typed::written::push_document;
 use apollo_executable::{
     ExecutableDocument, Field, Fragment, FragmentSpread, InlineFragment, NewFieldError, Operation,
     Selection, SelectionSet,
@@ -70,7 +72,13 @@ fn push_copied(text: &mut String, document: &ExecutableDocument) -> Result<(), A
 }
 
 impl Account for Document {
-    fn tell(&self, alloc: Global, schema: &Schema, text: &mut String) -> Result<(), AllocError> {
+    fn tell(
+        &self,
+        alloc: Global,
+        schema: &Schema,
+        _documents: &[graphql_ast::Document],
+        text: &mut String,
+    ) -> Result<(), AllocError> {
         match users_document(alloc, schema) {
             Ok(document) => {
                 push_written(alloc, text, &document)?;
@@ -87,6 +95,7 @@ fn the_users_document_is_made_and_written(rt: HostRuntime) -> Result<(), Fail> {
     expect(
         &rt,
         &Document,
+        USERS,
         "query GetUser { id user(id: $me) @first @second { short: name @on ...Picture @on @first @second ... on User @on { id } ... @first @second { id name } name } }\nfragment Picture on User { profilePic(size: 50) }\noperation copied: true\nfragment copied: true\ncopied: true\n",
     )
 }

@@ -1,6 +1,6 @@
 //! What boxes, shared values, nodes and texts offer beside their values.
 
-use crate::names::PLACE;
+use crate::samples::PLACE;
 use crate::shown::is_shown;
 use graphql_nodes::collections::boxed::Boxed;
 use graphql_nodes::collections::shared::Shared;

@@ -1,19 +1,14 @@
 //! Names and shared texts.
 
+use crate::samples::PLACE;
 use crate::tables::expect_at;
 use graphql_nodes::name::{InvalidNameError, Name, NameError};
 use graphql_nodes::node_str::NodeStr;
-use graphql_nodes::source::{FileId, SourceSpan};
+use graphql_nodes::source::SourceSpan;
 use likeness::{are_alike, are_equal, is_printed};
 use std::alloc::{AllocError, Global};
 use std::cmp::Ordering;
 use std::process::Abort;
-
-pub const PLACE: SourceSpan = SourceSpan {
-    file: FileId(3),
-    start: 14,
-    end: 17,
-};
 
 /// Expects that all texts are names, or that none is.
 fn expect_names(rt: &impl Abort, texts: &[&str], valid: bool) {

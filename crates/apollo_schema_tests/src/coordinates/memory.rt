@@ -1,7 +1,7 @@
 //! What is answered for want of memory. Under `rt try --test --fail-alloc N` the Nth request for memory is refused; the tests
 //! pass at each N.
 
-use crate::reading::{Form, push_form};
+use crate::coordinates::reading::{Form, push_form};
 use apollo_coordinate::coordinates::{
     DirectiveArgumentCoordinate, DirectiveCoordinate, FieldArgumentCoordinate,
     TypeAttributeCoordinate,

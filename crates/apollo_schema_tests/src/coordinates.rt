@@ -1,0 +1,7 @@
+//! Tests of coordinates, of what no clause says: that calls succeed with memory, and the printed texts.
+
+mod conversions;
+mod equality;
+mod lookups;
+mod memory;
+mod reading;
