@@ -245,8 +245,11 @@ self_document s xs b document h =
       fragments = subst (λ (ks : List (NameView × Frag)). AllZip (IsUnderName (IsFragmentOf s)) ks document.fragments) (sym kept.fragments) (self_table (IsFragmentOf s) erase_fragment (self_fragment s) (kept_fragments s xs) document.fragments h.fragments);
     }
 
+pub document_is_itself : (s : Option Schema) (xs : List Added) (b : Bool) (document : ExecutableDocument) → IsDocumentOf s xs document → IsDocumentOf s (added b (erased_definitions document)) document
+document_is_itself s xs b document h = subst (λ ys. IsDocumentOf s ys document) (sym (is_written b document)) (self_document s xs b document h)
+
 pub document_is_again : (s : Option Schema) (xs : List Added) (b : Bool) (document again : ExecutableDocument) → IsDocumentOf s xs document → IsDocumentOf s (added b (erased_definitions document)) again → again ≡ record document { sources = again.sources }
-document_is_again s xs b document again h g = one_document s (written_of b document) again document (subst (λ ys. IsDocumentOf s ys again) (is_written b document) g) (self_document s xs b document h)
+document_is_again s xs b document again h g = one_document s (added b (erased_definitions document)) again document g (document_is_itself s xs b document h)
 
 flat-entries : {A B C : Type 0} (f : A → B) (l : List C) (es : List (NameView × A)) → flat_map (λ x. l) (entries_by f es) ≡ flat_map (λ x. l) es
 flat-entries f l [] = refl

@@ -14,11 +14,12 @@ use apollo_schema::schema::Schema;
 
 /// No list builds two documents, but for their sources.
 ///
-/// A built document's write-out, built again over the same schema, or without one if it was built without one, gives the same
-/// document, with every location. What is wrong with the write-out is one ambiguity for each named operation if the document has
-/// an anonymous one, and nothing otherwise. GraphQL specification of October 2021, sections 2.2 to 2.8.
+/// A built document's write-out, built again over the same schema, or without one if it was built without one, gives that
+/// document itself, with every location, and no other. What is wrong with the write-out is one ambiguity for each named operation
+/// if the document has an anonymous one, and nothing otherwise. GraphQL specification of October 2021, sections 2.2 to 2.8.
 pub fn document_again()
     ensures unique { (schema : Option Schema) (xs : List Added) (a b : ExecutableDocument) → IsDocumentOf schema xs a → IsDocumentOf schema xs b → AreOneButSources a b }
+    ensures itself { (s : Option Schema) (xs : List Added) (errors : Bool) (document : ExecutableDocument) → IsDocumentOf s xs document → IsBuiltAgain s errors document document }
     ensures again { (s : Option Schema) (xs : List Added) (errors : Bool) (document again : ExecutableDocument) → IsDocumentOf s xs document → IsBuiltAgain s errors document again → AreOneButSources again document }
     ensures faults { (s : Option Schema) (xs : List Added) (errors : Bool) (document : ExecutableDocument) → IsDocumentOf s xs document → faults_again s errors document ≡ ambiguous_again document.operations }
 {}
