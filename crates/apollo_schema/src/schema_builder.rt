@@ -104,18 +104,31 @@ impl SchemaBuilder {
 
     /// The builder, which adopts at `build` what is extended only: each type that has extensions and no definition is
     /// taken as defined, empty, at its first extension; and the schema is taken as defined, at no place, with the default roots
-    /// unless an extension names a root.
+    /// unless an extension names a root. All else stays: what was added, the other option, and whether a call was refused.
     pub fn adopt_orphan_extensions(self) -> SchemaBuilder
-        ensures { result ≡ record self { adopt_orphan_extensions = true } }
+        ensures stands { (start : ℕ) (xs : List Added) → StandsFor start xs self → StandsFor start xs result }
+        ensures adopts { adopts result ≡ true }
+        ensures ignores { ignores result ≡ ignores self }
+        ensures first_number { first_number result ≡ first_number self }
+        ensures sources { sources_of result ≡ sources_of self }
+        ensures failed { HasFailed result ↔ HasFailed self }
+        ensures left { (source : ExtensionSource) → IsLeftWith source self → IsLeftWith source result }
     {
         let mut builder = self;
         builder.adopt_orphan_extensions = true;
         builder
     }
 
-    /// The builder, which ignores from now on each definition of a built-in type: it is dropped without a fault.
+    /// The builder, which ignores from now on each definition of a built-in type: it is dropped without a fault. All else
+    /// stays: what was added, the other option, and whether a call was refused.
     pub fn ignore_builtin_redefinitions(self) -> SchemaBuilder
-        ensures { result ≡ record self { ignore_builtin_redefinitions = true } }
+        ensures stands { (start : ℕ) (xs : List Added) → StandsFor start xs self → StandsFor start xs result }
+        ensures ignores { ignores result ≡ true }
+        ensures adopts { adopts result ≡ adopts self }
+        ensures first_number { first_number result ≡ first_number self }
+        ensures sources { sources_of result ≡ sources_of self }
+        ensures failed { HasFailed result ↔ HasFailed self }
+        ensures left { (source : ExtensionSource) → IsLeftWith source self → IsLeftWith source result }
     {
         let mut builder = self;
         builder.ignore_builtin_redefinitions = true;
