@@ -3,6 +3,7 @@ pub mod CloneLemmas
 pub mod Ends
 pub mod ImplementerLemmas
 pub mod LookupEquality
+mod OneMeaning
 pub mod SchemaEquality
 pub mod Stands
 pub mod SubtypeLemmas

@@ -1,12 +1,13 @@
 //! Laws of the definitions, for those who build on them; and what `==` answers at schemas, at what lookups answer and at
 //! the errors of builders.
-ghost use Rattle.std.specs.Prelude.{◌⊎◌, ◌↔◌, List, IsTrue, IsSome};
+ghost use Rattle.std.specs.Prelude.{◌≡◌, ◌⊎◌, ◌↔◌, ℕ, Bool, List, IsTrue, IsSome};
 ghost use Rattle.apollo_meaning.specs.Items.ListItems.{Added};
 ghost use Rattle.apollo_schema.specs.BuilderStands.{StandsFor, HasFailed, first_number};
 ghost use Rattle.apollo_schema.specs.EqualLookups.{bare_implementers, bare_field_lookup_error};
 ghost use Rattle.apollo_schema.specs.EqualSchemas.{AreEqualSchemas};
 ghost use Rattle.apollo_schema.specs.Implementers.{is_implementer};
 ghost use Rattle.apollo_schema.specs.Lookups.{Types, type_at, interface_node, is_subtype};
+ghost use Rattle.apollo_schema.specs.MeantSchema.{MeansSchema};
 ghost use Rattle.graphql_nodes.specs.Clones.{IsExact};
 ghost use Rattle.graphql_nodes.specs.Comparing.{ComparesBy};
 ghost use Rattle.graphql_nodes.specs.NameView.{NameView};
@@ -49,6 +50,14 @@ pub fn clones_of_schemas_are_exact()
 pub fn implementers()
     ensures { (types : Types) → HasUniqueKeys same_text types → (i t : NameView) → IsSome (interface_node (type_at types i))
         → IsTrue (is_subtype types i t) ↔ IsTrue (is_implementer types i t) }
+{}
+
+/// A list of definitions means one schema, but for the source files: schemas that it means, with its extensions numbered from
+/// one number, have the same schema definition, the same directive definitions and the same types, in the same order, with every
+/// place and origin. GraphQL specification of October 2021, section 3.3.
+pub fn a_list_means_one_schema()
+    ensures { (start : ℕ) (adopts : Bool) (xs : List Added) (s t : Schema) → MeansSchema start adopts xs s → MeansSchema start adopts xs t
+        → s ≡ record t { sources = s.sources } }
 {}
 
 /// Every builder stands for some list, with its extensions numbered from the builder's first number, or a call was
