@@ -21,7 +21,6 @@ use Rattle.apollo_executable.specs.declared.selection.Selection.TheOpen as typed
 use Rattle.apollo_executable.specs.declared.selection.Field.{Field, roll-Field}
 use Rattle.apollo_executable.specs.declared.selection.InlineFragment.{InlineFragment, roll-InlineFragment}
 use Rattle.apollo_executable.specs.declared.selection.SelectionSet.{SelectionSet, roll-SelectionSet}
-use Rattle.apollo_executable.proofs.Erasing.{set_erases}
 use Rattle.apollo_elaboration.specs.Typable.{child_of, is_bare, typable_field, if_typable}
 use Rattle.apollo_elaboration.specs.Stripped.{in_place_of, stripped}
 use Rattle.apollo_elaboration.specs.Elaborated.{set_of, field_of, fragment_of, elaborated_selection, elaborated_field, elaborated_fragment, elaborated}
@@ -30,7 +29,7 @@ use Rattle.apollo_elaboration.specs.TypedSelections.{IsTyped, IsTypedField, IsTy
 use Rattle.apollo_elaboration.specs.declared.selection_path.SelectionPath.{SelectionPath}
 use Rattle.apollo_elaboration.proofs.Equations.{is_bare-map, typed_in, elaborated-field, elaborated-fragment, faults-field, faults-fragment}
 use Rattle.apollo_elaboration.proofs.ErasureLemmas.{elaborated-roll, erased-typed-field, erased-typed-spread, erased-typed-fragment, erased_is_stripped}
-use Rattle.apollo_elaboration.proofs.TypingLemmas.{along, selection-roll, field-roll, fragment-roll, set-roll}
+use Rattle.apollo_elaboration.proofs.TypingLemmas.{along, selection-roll, field-roll, fragment-roll, set-roll, elaborated_is_typed}
 
 faults-roll : (s : Option Schema) (ty : NameView) (path : SelectionPath) (x : layer.Selection-F ast.Selection ast_field.Field ast_inline.InlineFragment)
     → faults_of_selection s ty path (ast.roll-Selection x) ≡ faults_step (folds.map-Selection ast.Selection ast_field.Field ast_inline.InlineFragment FS FN FN (λ y t p. faults_of_selection s t p y) (λ y t l p. faults_of_field s t l p y) (λ y t l p. faults_of_fragment s t l p y) x) ty path
@@ -81,7 +80,8 @@ field_again s y ty h =
     let t = along (field-roll s ty x) h in
     let z : ast_field.Field = ast_field.roll-Field (record { alias = y.alias; name = y.name; arguments = y.arguments; directives = y.directives; selection_set = erased_set y.selection_set.0 }) in
     let r : erased_field (roll-Field x) ≡ z = typed_folds.fold-roll-Field ES EF EI EL e.selection_step e.field_step e.inline_step e.set_step x in
-    let bare : is_bare (erased_set y.selection_set.0) ≡ is_bare y.selection_set.0.selections = ap is_bare (set_erases y.selection_set.0) ∙ is_bare-map erased y.selection_set.0.selections in
+    let erases : erased_set y.selection_set.0 ≡ map erased y.selection_set.0.selections = typed_folds.fold_out-SelectionSet ES EF EI EL e.selection_step e.field_step e.inline_step e.set_step y.selection_set.0 in
+    let bare : is_bare (erased_set y.selection_set.0) ≡ is_bare y.selection_set.0.selections = ap is_bare erases ∙ is_bare-map erased y.selection_set.0.selections in
     let c : typable_field s ty y.name (is_bare (erased_set y.selection_set.0)) ≡ Ok y.definition = ap (typable_field s ty y.name) bare ∙ t.0 in
     let b = y.selection_set.1 (child_of y.definition) t.1 in
     let within : SelectionPath → SelectionPath = λ path. inside path (key_of y.alias y.name) in (
@@ -138,3 +138,7 @@ faultless_again s ty path x h = (set_is_again s x ty h).1 path
 
 pub one_typed : (s : Option Schema) (ty : NameView) (x y : SelectionSet) → IsTypedSet s ty x → IsTypedSet s ty y → erased_set x ≡ erased_set y → x ≡ y
 one_typed s ty x y h g p = sym (set_is_again s x ty h).0 ∙ ap (elaborated s ty) p ∙ (set_is_again s y ty g).0
+
+-- a set that is typed and erased to the stripped list is the one that stands for it
+pub only_elaborated : (s : Option Schema) (ty : NameView) (xs : List ast.Selection) (set : SelectionSet) → erased_set set ≡ stripped s ty xs → IsTypedSet s ty set → set ≡ elaborated s ty xs
+only_elaborated s ty xs set h g = one_typed s ty set (elaborated s ty xs) g (elaborated_is_typed s ty xs) (h ∙ sym (erased_is_stripped s ty xs))

@@ -1,7 +1,7 @@
 -- Equality of paths and of the errors of a build.
 use Rattle.std.proofs.Common.{refl, ap}
-use Rattle.graphql_nodes.proofs.Comparisons.{Compares, At, of_part, and_then, made, pairs, names, texts, lists, options}
-use Rattle.graphql_ast.proofs.TypeSystemEquality.{operation_types}
+use Rattle.graphql_nodes.specs.contracts.operation_type.OperationType as kind
+use Rattle.graphql_nodes.proofs.Comparisons.{Compares, At, of_part, and_then, made, pairs, names, texts, lists, options, kinds}
 use Rattle.apollo_elaboration.specs.BareErrors.{bare_root, bare_path, bare_build_error}
 use Rattle.apollo_elaboration.specs.declared.selection_path.ExecutableDefinitionName.{ExecutableDefinitionName}
 use Rattle.apollo_elaboration.specs.declared.selection_path.ExecutableDefinitionName.TheVariants.{AnonymousOperation, NamedOperation, Fragment}
@@ -13,9 +13,9 @@ use Rattle.apollo_elaboration.specs.contracts.selection_path.SelectionPathPartia
 use Rattle.apollo_elaboration.specs.contracts.build_error.BuildErrorPartialEq.TheImpl as build_error
 
 root_at : (a b : ExecutableDefinitionName) → At root.ghosts.eq bare_root a b
-root_at (AnonymousOperation k) (AnonymousOperation k') = let w = operation_types.at k k' in (λ h. ap AnonymousOperation (w.0 h), λ h. w.1 cc)
+root_at (AnonymousOperation k) (AnonymousOperation k') = let w = (kinds kind.the_type tt).at k k' in (λ h. ap AnonymousOperation (w.0 h), λ h. w.1 cc)
 root_at (AnonymousOperation k) b = (λ h. cc, λ h. cc)
-root_at (NamedOperation k n) (NamedOperation k' n') = let w = (pairs operation_types names).at (k, n) (k', n') in (λ h. ap (λ q. NamedOperation q.0 q.1) (w.0 h), λ h. w.1 cc)
+root_at (NamedOperation k n) (NamedOperation k' n') = let w = (pairs (kinds kind.the_type tt) names).at (k, n) (k', n') in (λ h. ap (λ q. NamedOperation q.0 q.1) (w.0 h), λ h. w.1 cc)
 root_at (NamedOperation k n) b = (λ h. cc, λ h. cc)
 root_at (Fragment n) (Fragment n') = let w = names.at n n' in (λ h. ap Fragment (w.0 h), λ h. w.1 cc)
 root_at (Fragment n) b = (λ h. cc, λ h. cc)

@@ -1,11 +1,12 @@
 //! Laws of elaboration, for those who build on it; and what `==` answers at paths and the errors of a build.
 //!
 //! Each law is a function that does nothing. A proof cites it by a call, and finds its clauses there.
-ghost use Rattle.std.specs.Prelude.{◌≡◌, [], Option};
+ghost use Rattle.std.specs.Prelude.{◌≡◌, List, [], Option};
 ghost use Rattle.graphql_nodes.specs.Comparing.{ComparesBy};
 ghost use Rattle.graphql_nodes.specs.NameView.{NameView};
 ghost use Rattle.apollo_executable.specs.Erasure.{erased_set};
 ghost use Rattle.apollo_elaboration.specs.BareErrors.{bare_root, bare_path, bare_build_error};
+ghost use Rattle.apollo_elaboration.specs.Elaborated.{elaborated};
 ghost use Rattle.apollo_elaboration.specs.SelectionFaults.{faults_of};
 ghost use Rattle.apollo_elaboration.specs.Stripped.{stripped};
 ghost use Rattle.apollo_elaboration.specs.TypedSelections.{IsTypedSet};
@@ -14,6 +15,7 @@ use crate::build_error::BuildError;
 use crate::selection_path::{ExecutableDefinitionName, SelectionPath};
 use apollo_executable::selection::SelectionSet;
 use apollo_schema::schema::Schema;
+use graphql_ast::selection::Selection;
 
 /// The selections that a typed set is erased to are all typable in its type, so nothing of them is at fault; and no two typed
 /// sets from one type are erased to the same selections. GraphQL specification of October 2021, sections 2.4 to 2.8.
@@ -21,6 +23,15 @@ pub fn typed_sets()
     ensures stripped { (schema : Option Schema) (ty : NameView) (set : SelectionSet) → IsTypedSet schema ty set → stripped schema ty (erased_set set) ≡ erased_set set }
     ensures faultless { (schema : Option Schema) (ty : NameView) (path : SelectionPath) (set : SelectionSet) → IsTypedSet schema ty set → faults_of schema ty path (erased_set set) ≡ [] }
     ensures unique { (schema : Option Schema) (ty : NameView) (a b : SelectionSet) → IsTypedSet schema ty a → IsTypedSet schema ty b → erased_set a ≡ erased_set b → a ≡ b }
+{}
+
+/// The set that selections are elaborated to from a type is erased to the typable ones of them, each stripped in its child type,
+/// and is typed in that type; and no other set is both. GraphQL specification of October 2021, sections 2.4 to 2.8.
+pub fn elaborated_sets()
+    ensures kept { (schema : Option Schema) (ty : NameView) (xs : List Selection) → erased_set (elaborated schema ty xs) ≡ stripped schema ty xs }
+    ensures typed { (schema : Option Schema) (ty : NameView) (xs : List Selection) → IsTypedSet schema ty (elaborated schema ty xs) }
+    ensures unique { (schema : Option Schema) (ty : NameView) (xs : List Selection) (set : SelectionSet) → erased_set set ≡ stripped schema ty xs → IsTypedSet schema ty set
+        → set ≡ elaborated schema ty xs }
 {}
 
 /// Paths and the errors of a build are equal exactly where they are one without the locations of names. GraphQL specification of
