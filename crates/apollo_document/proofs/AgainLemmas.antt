@@ -14,15 +14,17 @@ use Rattle.apollo_component.specs.FirstOfEach.{same_key}
 use Rattle.apollo_component.proofs.Tabled.{first_of_each-distinct}
 use Rattle.apollo_schema.specs.declared.schema.Schema.{Schema}
 use Rattle.apollo_executable.specs.Listed.{listed}
-use Rattle.apollo_executable.specs.Erasure.{at_place, erased_operation, erased_fragment, erased_definitions}
+use Rattle.apollo_executable.specs.Erasure.{at_place, erased_set, erased_operation, erased_fragment, erased_definitions}
 use Rattle.apollo_executable.specs.declared.operation.Operation.{Operation}
 use Rattle.apollo_executable.specs.declared.operation.Fragment.{Fragment}
+use Rattle.apollo_executable.specs.declared.selection.SelectionSet.{SelectionSet}
 use Rattle.apollo_executable.specs.declared.document.ExecutableDocument.{ExecutableDocument}
+use Rattle.apollo_elaboration.specs.SelectionFaults.{faults_of}
+use Rattle.apollo_elaboration.specs.Stripped.{stripped}
 use Rattle.apollo_elaboration.specs.TypedSelections.{IsTypedSet}
 use Rattle.apollo_elaboration.specs.declared.selection_path.ExecutableDefinitionName.{ExecutableDefinitionName}
 use Rattle.apollo_elaboration.specs.declared.selection_path.ExecutableDefinitionName.TheVariants as name
 use Rattle.apollo_elaboration.specs.declared.selection_path.SelectionPath.{SelectionPath}
-use Rattle.apollo_elaboration.proofs.AgainLemmas.{stripped_again, faultless_again, one_typed}
 use Rattle.apollo_document.specs.AddedDefinitions.{Added, added, operations, fragments}
 use Rattle.apollo_document.specs.KeptDefinitions.{root_in, is_rooted, first_if_anonymous, named, kept_anonymous, kept_named, is_on_type, under_name, kept_fragments}
 use Rattle.apollo_document.specs.DocumentFaults.{ambiguous_if, rooted_faults, faults_in_operation, on_type_faults, document_faults}
@@ -46,39 +48,13 @@ erase_operation o = at_place erased_operation o
 abbrev erase_fragment : NodeView Fragment → Frag
 erase_fragment f = at_place erased_fragment f
 
--- one definition has one typed one
-one_operation : (s : Option Schema) (n : Op) (a b : NodeView Operation) → IsOperationOf s n a → IsOperationOf s n b → a ≡ b
-one_operation s n a b h g =
-    let root : g.0 ≡ h.0 = ap (λ (o : Option NameView). unwrap_or o g.0) (sym g.1.0 ∙ h.1.0) in
-    let same : erase_operation a ≡ erase_operation b = h.1.1.0 ∙ (λ i. at_place (stripped_operation s (sym root i)) n) ∙ sym g.1.1.0 in
-    let set : a.value.selection_set ≡ b.value.selection_set = one_typed s h.0 a.value.selection_set b.value.selection_set h.1.1.1 (subst (λ r. IsTypedSet s r b.value.selection_set) root g.1.1.1) (ap (λ z. z.value.selection_set) same) in
-    λ i. record { value = record { operation_type = (same i).value.operation_type; name = (same i).value.name; variables = (same i).value.variables; directives = (same i).value.directives; selection_set = set i }; location = (same i).location }
-
-one_fragment : (s : Option Schema) (n : Frag) (a b : NodeView Fragment) → IsFragmentOf s n a → IsFragmentOf s n b → a ≡ b
-one_fragment s n a b h g =
-    let same : erase_fragment a ≡ erase_fragment b = h.0 ∙ sym g.0 in
-    let set : a.value.selection_set ≡ b.value.selection_set = one_typed s n.value.type_condition a.value.selection_set b.value.selection_set h.1 g.1 (ap (λ z. z.value.selection_set) same) in
-    λ i. record { value = record { name = (same i).value.name; directives = (same i).value.directives; selection_set = set i }; location = (same i).location }
-
--- and is that of what it is erased to
-self_operation : (s : Option Schema) (n : Op) (o : NodeView Operation) → IsOperationOf s n o → IsOperationOf s (erase_operation o) o
-self_operation s n o h =
-    let rooted : root_in s (erase_operation o).value.operation_type ≡ Some h.0 = ap (λ (z : Op). root_in s z.value.operation_type) h.1.1.0 ∙ h.1.0 in
-    let same : erase_operation o ≡ at_place (stripped_operation s h.0) (erase_operation o) = ap (with_selections (erase_operation o)) (sym (stripped_again s h.0 o.value.selection_set h.1.1.1)) in
-    (h.0, (rooted, (same, h.1.1.1)))
-
 condition : (s : Option Schema) (n : Frag) (f : NodeView Fragment) → IsFragmentOf s n f → n.value.type_condition ≡ (erase_fragment f).value.type_condition
 condition s n f h = ap (λ (z : Frag). z.value.type_condition) (sym h.0)
 
 typed_on : (s : Option Schema) (n : Frag) (f : NodeView Fragment) → IsFragmentOf s n f → IsTypedSet s (erase_fragment f).value.type_condition f.value.selection_set
 typed_on s n f h = subst (λ t. IsTypedSet s t f.value.selection_set) (condition s n f h) h.1
 
-self_fragment : (s : Option Schema) (n : Frag) (f : NodeView Fragment) → IsFragmentOf s n f → IsFragmentOf s (erase_fragment f) f
-self_fragment s n f h =
-    let same : erase_fragment f ≡ at_place (stripped_fragment s) (erase_fragment f) = ap (fragment_with (erase_fragment f)) (sym (stripped_again s (erase_fragment f).value.type_condition f.value.selection_set (typed_on s n f h))) in
-    (same, typed_on s n f h)
-
--- so it is with entries
+-- entries that are related to the same things are one, where each thing has one value
 one_table : {A B : Type 0} (R : A → B → Type 0) → ((x : A) (a b : B) → R x a → R x b → a ≡ b) → (ks : List (NameView × A)) (es fs : List (NameView × B)) → AllZip (IsUnderName R) ks es → AllZip (IsUnderName R) ks fs → es ≡ fs
 one_table R one [] [] [] h g = refl
 one_table R one [] [] (f ∷ fs) h g = absurd g
@@ -98,13 +74,6 @@ one_option R one None (Some e) f h g = absurd h
 one_option R one (Some k) None f h g = absurd h
 one_option R one (Some k) (Some e) None h g = absurd g
 one_option R one (Some k) (Some e) (Some f) h g = ap Some (one k e f h.0 g.0)
-
-pub one_document : (s : Option Schema) (xs : List Added) (a b : ExecutableDocument) → IsDocumentOf s xs a → IsDocumentOf s xs b → a ≡ record b { sources = a.sources }
-one_document s xs a b h g =
-    let anonymous = one_option (IsOperationOf s) (one_operation s) (kept_anonymous s xs) a.operations.anonymous b.operations.anonymous h.anonymous g.anonymous in
-    let named = one_table (IsOperationOf s) (one_operation s) (kept_named s xs) a.operations.named b.operations.named h.named g.named in
-    let fragments = one_table (IsFragmentOf s) (one_fragment s) (kept_fragments s xs) a.fragments b.fragments h.fragments g.fragments in
-    λ i. record { sources = a.sources; operations = record { anonymous = anonymous i; named = named i }; fragments = fragments i }
 
 self_table : {A B : Type 0} (R : A → B → Type 0) (erase : B → A) → ((x : A) (b : B) → R x b → R (erase b) b) → (ks : List (NameView × A)) (es : List (NameView × B)) → AllZip (IsUnderName R) ks es → AllZip (IsUnderName R) (entries_by erase es) es
 self_table R erase self [] [] h = tt
@@ -158,49 +127,8 @@ has_no_name (Some m) n h = by m.value.name refl h
     by None e h = let is : m ≡ n = ap (λ (o : Option Op). unwrap_or o m) h in ap (λ (n : Op). n.value.name) (sym is) ∙ e
     by (Some k) e h = cc
 
--- nothing is wrong with the write-out of a built definition itself
-no_faults : (s : Option Schema) (path : ExecutableDefinitionName) (n : Op) (o : NodeView Operation) → IsOperationOf s n o → faults_in_operation s path (erase_operation o) ≡ []
-no_faults s path n o h =
-    let whole : SelectionPath = record { root = path; nested_fields = [] } in
-    ap (rooted_faults s path (erase_operation o)) (ap (λ (z : Op). root_in s z.value.operation_type) h.1.1.0 ∙ h.1.0) ∙ faultless_again s h.0 whole o.value.selection_set h.1.1.1
-
 rooted : (s : Option Schema) (n : Op) (o : NodeView Operation) → IsOperationOf s n o → is_rooted s (erase_operation o) ≡ true
 rooted s n o h = ap (λ (z : Op). is_some (root_in s z.value.operation_type)) h.1.1.0 ∙ ap (λ (r : Option NameView). is_some r) h.1.0
-
-sound_table : (s : Option Schema) (ks : List (NameView × Op)) (es : List (NameView × NodeView Operation)) → AllZip (IsUnderName (IsOperationOf s)) ks es → AllByRecursion (λ x. x.1.value.name ≡ Some x.0) ks → AllByRecursion (IsSoundOperation s) (entries_by erase_operation es)
-sound_table s [] [] h a = tt
-sound_table s [] (e ∷ es) h a = absurd h
-sound_table s (k ∷ ks) [] h a = absurd h
-sound_table s (k ∷ ks) (e ∷ es) h a = (
-  (
-    ap (λ (z : Op). z.value.name) h.0.1.1.1.0 ∙ a.0 ∙ ap Some (sym h.0.0),
-    (rooted s k.1 e.1 h.0.1, no_faults s (name.NamedOperation e.1.value.operation_type e.0) k.1 e.1 h.0.1),
-  ),
-  sound_table s ks es h.1 a.1,
-)
-
-sound_fragments : (s : Option Schema) (ks : List (NameView × Frag)) (es : List (NameView × NodeView Fragment)) → AllZip (IsUnderName (IsFragmentOf s)) ks es → AllByRecursion (λ x. (x.1.value.name ≡ x.0) × (is_on_type s x.1 ≡ true)) ks → AllByRecursion (IsSoundFragment s) (entries_by erase_fragment es)
-sound_fragments s [] [] h a = tt
-sound_fragments s [] (e ∷ es) h a = absurd h
-sound_fragments s (k ∷ ks) [] h a = absurd h
-sound_fragments s (k ∷ ks) (e ∷ es) h a =
-    let whole : SelectionPath = record { root = name.Fragment e.1.value.name; nested_fields = [] } in
-    let on : is_on_type s (erase_fragment e.1) ≡ true = ap (is_on_type s) h.0.1.0 ∙ a.0.1 in (
-      (
-        ap (λ (z : Frag). z.value.name) h.0.1.0 ∙ a.0.0 ∙ sym h.0.0,
-        (on, ap (on_type_faults s (erase_fragment e.1)) on ∙ faultless_again s (erase_fragment e.1).value.type_condition whole e.1.value.selection_set (typed_on s k.1 e.1 h.0.1)),
-      ),
-      sound_fragments s ks es h.1 a.1,
-    )
-
-sound_option : (s : Option Schema) (k : Option Op) (e : Option (NodeView Operation)) → AllZip (IsOperationOf s) (listed k) (listed e) → ((n : Op) → k ≡ Some n → n.value.name ≡ None) → IsSoundIf s (option_map erase_operation e)
-sound_option s None None h a = tt
-sound_option s None (Some e) h a = absurd h
-sound_option s (Some k) None h a = absurd h
-sound_option s (Some k) (Some e) h a = (
-  ap (λ (z : Op). z.value.name) h.0.1.1.0 ∙ a k refl,
-  (rooted s k e h.0, no_faults s (name.AnonymousOperation e.value.operation_type) k e h.0),
-)
 
 -- a write-out as a list
 operations-written : (b : Bool) (es : List (NameView × NodeView Operation)) → map (λ (x : Definition). (b, x)) (map (λ n. d.OperationDefinition (erase_operation n)) (values_of es)) ≡ map (operation_item b) (entries_by erase_operation es)
@@ -227,30 +155,6 @@ is_written b document =
     ∙ ap (λ l. l ++ map (fragment_item b) (entries_by erase_fragment document.fragments)) (map-append with (map op (listed document.operations.anonymous)) (map op (values_of document.operations.named)))
     ∙ (λ i. (anonymous-written b document.operations.anonymous i ++ operations-written b document.operations.named i) ++ map (fragment_item b) (entries_by erase_fragment document.fragments))
 
-kept_again : (s : Option Schema) (xs : List Added) (b : Bool) (document : ExecutableDocument) → IsDocumentOf s xs document
-    → AllKept s b (option_map erase_operation document.operations.anonymous) (entries_by erase_operation document.operations.named) (entries_by erase_fragment document.fragments)
-kept_again s xs b document h = all_kept s b (option_map erase_operation document.operations.anonymous) (entries_by erase_operation document.operations.named) (entries_by erase_fragment document.fragments)
-    (sound_option s (kept_anonymous s xs) document.operations.anonymous h.anonymous (λ n e. has_no_name (find (is_rooted s) (operations xs)) n e))
-    (sound_table s (kept_named s xs) document.operations.named h.named (first_all (λ (x : NameView × Op). x.1.value.name ≡ Some x.0) (same_key same_text) (filter_map named (filter (is_rooted s) (operations xs))) (has_its_name (filter (is_rooted s) (operations xs)))))
-    (distinct_table (IsOperationOf s) erase_operation (kept_named s xs) document.operations.named h.named (first_of_each-distinct (same_key same_text) (filter_map named (filter (is_rooted s) (operations xs)))))
-    (sound_fragments s (kept_fragments s xs) document.fragments h.fragments (first_all (λ (x : NameView × Frag). (x.1.value.name ≡ x.0) × (is_on_type s x.1 ≡ true)) (same_key same_text) (map under_name (filter (is_on_type s) (fragments xs))) (is_its_fragment s (fragments xs))))
-    (distinct_table (IsFragmentOf s) erase_fragment (kept_fragments s xs) document.fragments h.fragments (first_of_each-distinct (same_key same_text) (map under_name (filter (is_on_type s) (fragments xs)))))
-
-self_document : (s : Option Schema) (xs : List Added) (b : Bool) (document : ExecutableDocument) → IsDocumentOf s xs document → IsDocumentOf s (written_of b document) document
-self_document s xs b document h =
-    let kept = kept_again s xs b document h in
-    record {
-      anonymous = subst (λ (k : Option Op). AllZip (IsOperationOf s) (listed k) (listed document.operations.anonymous)) (sym kept.anonymous) (self_option (IsOperationOf s) erase_operation (self_operation s) (kept_anonymous s xs) document.operations.anonymous h.anonymous);
-      named = subst (λ (ks : List (NameView × Op)). AllZip (IsUnderName (IsOperationOf s)) ks document.operations.named) (sym kept.named) (self_table (IsOperationOf s) erase_operation (self_operation s) (kept_named s xs) document.operations.named h.named);
-      fragments = subst (λ (ks : List (NameView × Frag)). AllZip (IsUnderName (IsFragmentOf s)) ks document.fragments) (sym kept.fragments) (self_table (IsFragmentOf s) erase_fragment (self_fragment s) (kept_fragments s xs) document.fragments h.fragments);
-    }
-
-pub document_is_itself : (s : Option Schema) (xs : List Added) (b : Bool) (document : ExecutableDocument) → IsDocumentOf s xs document → IsDocumentOf s (added b (erased_definitions document)) document
-document_is_itself s xs b document h = subst (λ ys. IsDocumentOf s ys document) (sym (is_written b document)) (self_document s xs b document h)
-
-pub document_is_again : (s : Option Schema) (xs : List Added) (b : Bool) (document again : ExecutableDocument) → IsDocumentOf s xs document → IsDocumentOf s (added b (erased_definitions document)) again → again ≡ record document { sources = again.sources }
-document_is_again s xs b document again h g = one_document s (added b (erased_definitions document)) again document g (document_is_itself s xs b document h)
-
 flat-entries : {A B C : Type 0} (f : A → B) (l : List C) (es : List (NameView × A)) → flat_map (λ x. l) (entries_by f es) ≡ flat_map (λ x. l) es
 flat-entries f l [] = refl
 flat-entries f l (e ∷ es) = ap (λ m. l ++ m) (flat-entries f l es)
@@ -259,8 +163,113 @@ place-erased : (o : Option (NodeView Operation)) → option_map (λ (n : Op). n.
 place-erased None = refl
 place-erased (Some n) = refl
 
-pub faults_again : (s : Option Schema) (xs : List Added) (b : Bool) (document : ExecutableDocument) → IsDocumentOf s xs document → document_faults s (added b (erased_definitions document)) ≡ ambiguous_again document.operations
-faults_again s xs b document h =
-    ap (document_faults s) (is_written b document) ∙ (kept_again s xs b document h).faults
-    ∙ flat-entries erase_operation (ambiguous_if (option_map (λ n. n.location) (option_map erase_operation document.operations.anonymous))) document.operations.named
-    ∙ ap (λ p. flat_map (λ x. ambiguous_if p) document.operations.named) (place-erased document.operations.anonymous)
+-- what the law of typed sets says
+pub record TypedSetsLaw : Type 0 where
+  pub again : (s : Option Schema) (ty : NameView) (set : SelectionSet) → IsTypedSet s ty set → stripped s ty (erased_set set) ≡ erased_set set
+  pub faultless : (s : Option Schema) (ty : NameView) (path : SelectionPath) (set : SelectionSet) → IsTypedSet s ty set → faults_of s ty path (erased_set set) ≡ []
+  pub unique : (s : Option Schema) (ty : NameView) (a b : SelectionSet) → IsTypedSet s ty a → IsTypedSet s ty b → erased_set a ≡ erased_set b → a ≡ b
+
+module _ (sets : TypedSetsLaw) where
+  -- one definition has one typed one
+  one_operation : (s : Option Schema) (n : Op) (a b : NodeView Operation) → IsOperationOf s n a → IsOperationOf s n b → a ≡ b
+  one_operation s n a b h g =
+      let root : g.0 ≡ h.0 = ap (λ (o : Option NameView). unwrap_or o g.0) (sym g.1.0 ∙ h.1.0) in
+      let same : erase_operation a ≡ erase_operation b = h.1.1.0 ∙ (λ i. at_place (stripped_operation s (sym root i)) n) ∙ sym g.1.1.0 in
+      let set : a.value.selection_set ≡ b.value.selection_set = sets.unique s h.0 a.value.selection_set b.value.selection_set h.1.1.1 (subst (λ r. IsTypedSet s r b.value.selection_set) root g.1.1.1) (ap (λ z. z.value.selection_set) same) in
+      λ i. record { value = record { operation_type = (same i).value.operation_type; name = (same i).value.name; variables = (same i).value.variables; directives = (same i).value.directives; selection_set = set i }; location = (same i).location }
+
+  one_fragment : (s : Option Schema) (n : Frag) (a b : NodeView Fragment) → IsFragmentOf s n a → IsFragmentOf s n b → a ≡ b
+  one_fragment s n a b h g =
+      let same : erase_fragment a ≡ erase_fragment b = h.0 ∙ sym g.0 in
+      let set : a.value.selection_set ≡ b.value.selection_set = sets.unique s n.value.type_condition a.value.selection_set b.value.selection_set h.1 g.1 (ap (λ z. z.value.selection_set) same) in
+      λ i. record { value = record { name = (same i).value.name; directives = (same i).value.directives; selection_set = set i }; location = (same i).location }
+
+  -- and is that of what it is erased to
+  self_operation : (s : Option Schema) (n : Op) (o : NodeView Operation) → IsOperationOf s n o → IsOperationOf s (erase_operation o) o
+  self_operation s n o h =
+      let rooted : root_in s (erase_operation o).value.operation_type ≡ Some h.0 = ap (λ (z : Op). root_in s z.value.operation_type) h.1.1.0 ∙ h.1.0 in
+      let same : erase_operation o ≡ at_place (stripped_operation s h.0) (erase_operation o) = ap (with_selections (erase_operation o)) (sym (sets.again s h.0 o.value.selection_set h.1.1.1)) in
+      (h.0, (rooted, (same, h.1.1.1)))
+
+  self_fragment : (s : Option Schema) (n : Frag) (f : NodeView Fragment) → IsFragmentOf s n f → IsFragmentOf s (erase_fragment f) f
+  self_fragment s n f h =
+      let same : erase_fragment f ≡ at_place (stripped_fragment s) (erase_fragment f) = ap (fragment_with (erase_fragment f)) (sym (sets.again s (erase_fragment f).value.type_condition f.value.selection_set (typed_on s n f h))) in
+      (same, typed_on s n f h)
+
+  pub one_document : (s : Option Schema) (xs : List Added) (a b : ExecutableDocument) → IsDocumentOf s xs a → IsDocumentOf s xs b → a ≡ record b { sources = a.sources }
+  one_document s xs a b h g =
+      let anonymous = one_option (IsOperationOf s) (one_operation s) (kept_anonymous s xs) a.operations.anonymous b.operations.anonymous h.anonymous g.anonymous in
+      let named = one_table (IsOperationOf s) (one_operation s) (kept_named s xs) a.operations.named b.operations.named h.named g.named in
+      let fragments = one_table (IsFragmentOf s) (one_fragment s) (kept_fragments s xs) a.fragments b.fragments h.fragments g.fragments in
+      λ i. record { sources = a.sources; operations = record { anonymous = anonymous i; named = named i }; fragments = fragments i }
+
+  -- nothing is wrong with the write-out of a built definition itself
+  no_faults : (s : Option Schema) (path : ExecutableDefinitionName) (n : Op) (o : NodeView Operation) → IsOperationOf s n o → faults_in_operation s path (erase_operation o) ≡ []
+  no_faults s path n o h =
+      let whole : SelectionPath = record { root = path; nested_fields = [] } in
+      ap (rooted_faults s path (erase_operation o)) (ap (λ (z : Op). root_in s z.value.operation_type) h.1.1.0 ∙ h.1.0) ∙ sets.faultless s h.0 whole o.value.selection_set h.1.1.1
+
+  sound_table : (s : Option Schema) (ks : List (NameView × Op)) (es : List (NameView × NodeView Operation)) → AllZip (IsUnderName (IsOperationOf s)) ks es → AllByRecursion (λ x. x.1.value.name ≡ Some x.0) ks → AllByRecursion (IsSoundOperation s) (entries_by erase_operation es)
+  sound_table s [] [] h a = tt
+  sound_table s [] (e ∷ es) h a = absurd h
+  sound_table s (k ∷ ks) [] h a = absurd h
+  sound_table s (k ∷ ks) (e ∷ es) h a = (
+    (
+      ap (λ (z : Op). z.value.name) h.0.1.1.1.0 ∙ a.0 ∙ ap Some (sym h.0.0),
+      (rooted s k.1 e.1 h.0.1, no_faults s (name.NamedOperation e.1.value.operation_type e.0) k.1 e.1 h.0.1),
+    ),
+    sound_table s ks es h.1 a.1,
+  )
+
+  sound_fragments : (s : Option Schema) (ks : List (NameView × Frag)) (es : List (NameView × NodeView Fragment)) → AllZip (IsUnderName (IsFragmentOf s)) ks es → AllByRecursion (λ x. (x.1.value.name ≡ x.0) × (is_on_type s x.1 ≡ true)) ks → AllByRecursion (IsSoundFragment s) (entries_by erase_fragment es)
+  sound_fragments s [] [] h a = tt
+  sound_fragments s [] (e ∷ es) h a = absurd h
+  sound_fragments s (k ∷ ks) [] h a = absurd h
+  sound_fragments s (k ∷ ks) (e ∷ es) h a =
+      let whole : SelectionPath = record { root = name.Fragment e.1.value.name; nested_fields = [] } in
+      let on : is_on_type s (erase_fragment e.1) ≡ true = ap (is_on_type s) h.0.1.0 ∙ a.0.1 in (
+        (
+          ap (λ (z : Frag). z.value.name) h.0.1.0 ∙ a.0.0 ∙ sym h.0.0,
+          (on, ap (on_type_faults s (erase_fragment e.1)) on ∙ sets.faultless s (erase_fragment e.1).value.type_condition whole e.1.value.selection_set (typed_on s k.1 e.1 h.0.1)),
+        ),
+        sound_fragments s ks es h.1 a.1,
+      )
+
+  sound_option : (s : Option Schema) (k : Option Op) (e : Option (NodeView Operation)) → AllZip (IsOperationOf s) (listed k) (listed e) → ((n : Op) → k ≡ Some n → n.value.name ≡ None) → IsSoundIf s (option_map erase_operation e)
+  sound_option s None None h a = tt
+  sound_option s None (Some e) h a = absurd h
+  sound_option s (Some k) None h a = absurd h
+  sound_option s (Some k) (Some e) h a = (
+    ap (λ (z : Op). z.value.name) h.0.1.1.0 ∙ a k refl,
+    (rooted s k e h.0, no_faults s (name.AnonymousOperation e.value.operation_type) k e h.0),
+  )
+
+  kept_again : (s : Option Schema) (xs : List Added) (b : Bool) (document : ExecutableDocument) → IsDocumentOf s xs document
+      → AllKept s b (option_map erase_operation document.operations.anonymous) (entries_by erase_operation document.operations.named) (entries_by erase_fragment document.fragments)
+  kept_again s xs b document h = all_kept s b (option_map erase_operation document.operations.anonymous) (entries_by erase_operation document.operations.named) (entries_by erase_fragment document.fragments)
+      (sound_option s (kept_anonymous s xs) document.operations.anonymous h.anonymous (λ n e. has_no_name (find (is_rooted s) (operations xs)) n e))
+      (sound_table s (kept_named s xs) document.operations.named h.named (first_all (λ (x : NameView × Op). x.1.value.name ≡ Some x.0) (same_key same_text) (filter_map named (filter (is_rooted s) (operations xs))) (has_its_name (filter (is_rooted s) (operations xs)))))
+      (distinct_table (IsOperationOf s) erase_operation (kept_named s xs) document.operations.named h.named (first_of_each-distinct (same_key same_text) (filter_map named (filter (is_rooted s) (operations xs)))))
+      (sound_fragments s (kept_fragments s xs) document.fragments h.fragments (first_all (λ (x : NameView × Frag). (x.1.value.name ≡ x.0) × (is_on_type s x.1 ≡ true)) (same_key same_text) (map under_name (filter (is_on_type s) (fragments xs))) (is_its_fragment s (fragments xs))))
+      (distinct_table (IsFragmentOf s) erase_fragment (kept_fragments s xs) document.fragments h.fragments (first_of_each-distinct (same_key same_text) (map under_name (filter (is_on_type s) (fragments xs)))))
+
+  self_document : (s : Option Schema) (xs : List Added) (b : Bool) (document : ExecutableDocument) → IsDocumentOf s xs document → IsDocumentOf s (written_of b document) document
+  self_document s xs b document h =
+      let kept = kept_again s xs b document h in
+      record {
+        anonymous = subst (λ (k : Option Op). AllZip (IsOperationOf s) (listed k) (listed document.operations.anonymous)) (sym kept.anonymous) (self_option (IsOperationOf s) erase_operation (self_operation s) (kept_anonymous s xs) document.operations.anonymous h.anonymous);
+        named = subst (λ (ks : List (NameView × Op)). AllZip (IsUnderName (IsOperationOf s)) ks document.operations.named) (sym kept.named) (self_table (IsOperationOf s) erase_operation (self_operation s) (kept_named s xs) document.operations.named h.named);
+        fragments = subst (λ (ks : List (NameView × Frag)). AllZip (IsUnderName (IsFragmentOf s)) ks document.fragments) (sym kept.fragments) (self_table (IsFragmentOf s) erase_fragment (self_fragment s) (kept_fragments s xs) document.fragments h.fragments);
+      }
+
+  pub document_is_itself : (s : Option Schema) (xs : List Added) (b : Bool) (document : ExecutableDocument) → IsDocumentOf s xs document → IsDocumentOf s (added b (erased_definitions document)) document
+  document_is_itself s xs b document h = subst (λ ys. IsDocumentOf s ys document) (sym (is_written b document)) (self_document s xs b document h)
+
+  pub document_is_again : (s : Option Schema) (xs : List Added) (b : Bool) (document again : ExecutableDocument) → IsDocumentOf s xs document → IsDocumentOf s (added b (erased_definitions document)) again → again ≡ record document { sources = again.sources }
+  document_is_again s xs b document again h g = one_document s (added b (erased_definitions document)) again document g (document_is_itself s xs b document h)
+
+  pub faults_again : (s : Option Schema) (xs : List Added) (b : Bool) (document : ExecutableDocument) → IsDocumentOf s xs document → document_faults s (added b (erased_definitions document)) ≡ ambiguous_again document.operations
+  faults_again s xs b document h =
+      ap (document_faults s) (is_written b document) ∙ (kept_again s xs b document h).faults
+      ∙ flat-entries erase_operation (ambiguous_if (option_map (λ n. n.location) (option_map erase_operation document.operations.anonymous))) document.operations.named
+      ∙ ap (λ p. flat_map (λ x. ambiguous_if p) document.operations.named) (place-erased document.operations.anonymous)

@@ -20,14 +20,11 @@ use Rattle.apollo_elaboration.specs.Typable.{Fault, has_type}
 use Rattle.apollo_elaboration.specs.declared.selection_path.SelectionPath.{SelectionPath}
 use Rattle.apollo_elaboration.specs.declared.selection_path.ExecutableDefinitionName.{ExecutableDefinitionName}
 use Rattle.apollo_elaboration.specs.declared.selection_path.ExecutableDefinitionName.TheVariants as roots
-use Rattle.apollo_elaboration.proofs.AgainLemmas.{one_typed}
 use Rattle.apollo_document.specs.DocumentFaults.{rooted_faults, faults_in_operation, on_type_faults, faults_in_fragment}
 use Rattle.apollo_executable.specs.declared.document.ExecutableDocument.{ExecutableDocument}
 use Rattle.apollo_elaboration.specs.Stripped.{stripped}
 use Rattle.apollo_elaboration.specs.TypedSelections.{IsTypedSet}
 use Rattle.apollo_elaboration.specs.Elaborated.{elaborated}
-use Rattle.apollo_elaboration.proofs.ErasureLemmas.{erased_is_stripped}
-use Rattle.apollo_elaboration.proofs.TypingLemmas.{elaborated_is_typed}
 use Rattle.apollo_document.specs.AddedDefinitions.{Added, operations}
 use Rattle.apollo_document.specs.KeptDefinitions.{root_in, is_rooted, is_anonymous, first_if_anonymous, named, kept_anonymous, kept_named, kept_fragments}
 use Rattle.apollo_document.specs.TypedDefinitions.{stripped_operation, stripped_fragment, IsOperationOf, IsFragmentOf}
@@ -44,22 +41,6 @@ with_selections n l = record { value = record { operation_type = n.value.operati
 
 abbrev pub fragment_with : NodeView FragmentDefinition → List ast.Selection → NodeView FragmentDefinition
 fragment_with n l = record { value = record { name = n.value.name; type_condition = n.value.type_condition; directives = n.value.directives; selection_set = l }; location = n.location }
-
-built_operation : (s : Option Schema) (n : Op) → is_rooted s n ≡ true → IsOperationOf s n (typed_operation s n)
-built_operation s n h = by (root_in s n.value.operation_type) refl h
-  where
-    by : (o : Option NameView) → root_in s n.value.operation_type ≡ o → is_some o ≡ true → IsOperationOf s n (typed_operation s n)
-    by None e h = cc
-    by (Some root) e h =
-        let is : root_or_none s n ≡ root = ap (λ (o : Option NameView). unwrap_or o (plain_name [])) e in
-        let same : at_place erased_operation (typed_operation s n) ≡ at_place (stripped_operation s root) n =
-        ap (with_selections n) (erased_is_stripped s (root_or_none s n) n.value.selection_set ∙ ap (λ r. stripped s r n.value.selection_set) is) in
-        (root, (e, (same, subst (λ r. IsTypedSet s r (elaborated s (root_or_none s n) n.value.selection_set)) is (elaborated_is_typed s (root_or_none s n) n.value.selection_set))))
-
-built_fragment : (s : Option Schema) (n : NodeView FragmentDefinition) → IsFragmentOf s n (typed_fragment s n)
-built_fragment s n =
-    let same : at_place erased_fragment (typed_fragment s n) ≡ at_place (stripped_fragment s) n = ap (fragment_with n) (erased_is_stripped s n.value.type_condition n.value.selection_set) in
-    (same, elaborated_is_typed s n.value.type_condition n.value.selection_set)
 
 -- kept operations are rooted
 rooted_first : (s : Option Schema) (os : List Op) (n : Op) → first_if_anonymous (find (is_rooted s) os) ≡ Some n → is_rooted s n ≡ true
@@ -99,45 +80,64 @@ built_option : {A B : Type 0} (R : A → B → Type 0) (f : A → B) (o : Option
 built_option R f None made = tt
 built_option R f (Some a) made = (made a refl, tt)
 
-pub built_document : (s : Option Schema) (xs : List Added) (t : Tables) (document : ExecutableDocument) → Stands s xs t → document.operations ≡ t.operations → document.fragments ≡ t.fragments → IsDocumentOf s xs document
-built_document s xs t document stands ops frags =
-    let os = operations xs in
-    record {
-      anonymous = subst (λ o. AllZip (IsOperationOf s) (listed (kept_anonymous s xs)) (listed o)) (sym (ap (λ m. m.anonymous) ops ∙ stands.anonymous))
-          (built_option (IsOperationOf s) (typed_operation s) (kept_anonymous s xs) (λ n e. built_operation s n (rooted_first s os n e)));
-      named = subst (λ es. AllZip (IsUnderName (IsOperationOf s)) (kept_named s xs) es) (sym (ap (λ m. m.named) ops ∙ stands.named))
-          (built_table (IsOperationOf s) (typed_operation s) (λ n. is_rooted s n ≡ true) (built_operation s) (kept_named s xs) (first_all (λ (x : NameView × Op). is_rooted s x.1 ≡ true) (same_key same_text) (filter_map named (filter (is_rooted s) os)) (rooted_named s os)));
-      fragments = subst (λ es. AllZip (IsUnderName (IsFragmentOf s)) (kept_fragments s xs) es) (sym (frags ∙ stands.fragments))
-          (built_table (IsFragmentOf s) (typed_fragment s) (λ n. Unit {0}) (λ n _. built_fragment s n) (kept_fragments s xs) (any_table (kept_fragments s xs)));
-    }
-
--- a set that is typed and erased to the stripped list is the one that stands for it
-exact : (s : Option Schema) (ty : NameView) (xs : List ast.Selection) (set : SelectionSet) → erased_set set ≡ stripped s ty xs → IsTypedSet s ty set → set ≡ elaborated s ty xs
-exact s ty xs set h g = one_typed s ty set (elaborated s ty xs) g (elaborated_is_typed s ty xs) (h ∙ sym (erased_is_stripped s ty xs))
-
--- what the code makes of an operation and of a fragment
-pub operation_made : (s : Option Schema) (n : Op) (g : OperationDefinition) (root : NameView) (below : List ast.Selection) (set : SelectionSet) (made : Operation) (node : NodeView Operation) → root_in s n.value.operation_type ≡ Some root
-    → g ≡ n.value → below ≡ n.value.selection_set → erased_set set ≡ stripped s root below → IsTypedSet s root set
-    → made ≡ record { operation_type = g.operation_type; name = g.name; variables = g.variables; directives = g.directives; selection_set = set } → node ≡ record { value = made; location = n.location }
-    → Some node ≡ option_map (λ (root : NameView). at_place (operation_from s root) n) (root_in s n.value.operation_type)
-operation_made s n g root below set made node r same selections h typed m at =
-    let inner : set ≡ elaborated s root n.value.selection_set = exact s root below set h typed ∙ ap (elaborated s root) selections in
-    let whole : made ≡ operation_from s root n.value = m ∙ (λ i. record { operation_type = (same i).operation_type; name = (same i).name; variables = (same i).variables; directives = (same i).directives; selection_set = inner i }) in
-    ap Some (at ∙ (λ i. record { value = whole i; location = n.location })) ∙ ap (option_map (λ (root : NameView). at_place (operation_from s root) n)) (sym r)
-
 pub operation_faults_made : (s : Option Schema) (n : Op) (name : ExecutableDefinitionName) (root : NameView) (below : List ast.Selection) (path : SelectionPath) (before : List Fault) → root_in s n.value.operation_type ≡ Some root → below ≡ n.value.selection_set
     → path ≡ record { root = name; nested_fields = [] } → before ++ faults_of s root path below ≡ before ++ faults_in_operation s name n
 operation_faults_made s n name root below path before r selections is = (λ i. before ++ faults_of s root (is i) (selections i)) ∙ ap (λ o. before ++ rooted_faults s name n o) (sym r)
 
-pub fragment_made : (s : Option Schema) (n : NodeView FragmentDefinition) (g : FragmentDefinition) (ty : NameView) (below : List ast.Selection) (set : SelectionSet) (made : Fragment) (node : NodeView Fragment) → has_type s n.value.type_condition ≡ true
-    → g ≡ n.value → ty ≡ n.value.type_condition → below ≡ n.value.selection_set → erased_set set ≡ stripped s ty below → IsTypedSet s ty set
-    → made ≡ record { name = g.name; directives = g.directives; selection_set = set } → node ≡ record { value = made; location = n.location }
-    → Some node ≡ cond (has_type s n.value.type_condition) (Some (typed_fragment s n)) None
-fragment_made s n g ty below set made node there same is selections h typed m at =
-    let inner : set ≡ elaborated s n.value.type_condition n.value.selection_set = exact s ty below set h typed ∙ (λ i. elaborated s (is i) (selections i)) in
-    let whole : made ≡ fragment_on_type s n.value = m ∙ (λ i. record { name = (same i).name; directives = (same i).directives; selection_set = inner i }) in
-    ap Some (at ∙ (λ i. record { value = whole i; location = n.location })) ∙ ap (λ b. cond b (Some (typed_fragment s n)) None) (sym there)
-
 pub fragment_faults_made : (s : Option Schema) (n : NodeView FragmentDefinition) (ty : NameView) (below : List ast.Selection) (path : SelectionPath) (before : List Fault) → has_type s n.value.type_condition ≡ true → ty ≡ n.value.type_condition → below ≡ n.value.selection_set
     → path ≡ record { root = roots.Fragment n.value.name; nested_fields = [] } → before ++ faults_of s ty path below ≡ before ++ faults_in_fragment s n
 fragment_faults_made s n ty below path before there is selections at = (λ i. before ++ faults_of s (is i) (at i) (selections i)) ∙ ap (λ b. before ++ on_type_faults s n b) (sym there)
+
+-- what the law of elaborated sets says
+pub record ElaboratedSetsLaw : Type 0 where
+  pub kept : (s : Option Schema) (ty : NameView) (xs : List ast.Selection) → erased_set (elaborated s ty xs) ≡ stripped s ty xs
+  pub typed : (s : Option Schema) (ty : NameView) (xs : List ast.Selection) → IsTypedSet s ty (elaborated s ty xs)
+  pub unique : (s : Option Schema) (ty : NameView) (xs : List ast.Selection) (set : SelectionSet) → erased_set set ≡ stripped s ty xs → IsTypedSet s ty set → set ≡ elaborated s ty xs
+
+module _ (sets : ElaboratedSetsLaw) where
+  built_operation : (s : Option Schema) (n : Op) → is_rooted s n ≡ true → IsOperationOf s n (typed_operation s n)
+  built_operation s n h = by (root_in s n.value.operation_type) refl h
+    where
+      by : (o : Option NameView) → root_in s n.value.operation_type ≡ o → is_some o ≡ true → IsOperationOf s n (typed_operation s n)
+      by None e h = cc
+      by (Some root) e h =
+          let is : root_or_none s n ≡ root = ap (λ (o : Option NameView). unwrap_or o (plain_name [])) e in
+          let same : at_place erased_operation (typed_operation s n) ≡ at_place (stripped_operation s root) n =
+          ap (with_selections n) (sets.kept s (root_or_none s n) n.value.selection_set ∙ ap (λ r. stripped s r n.value.selection_set) is) in
+          (root, (e, (same, subst (λ r. IsTypedSet s r (elaborated s (root_or_none s n) n.value.selection_set)) is (sets.typed s (root_or_none s n) n.value.selection_set))))
+
+  built_fragment : (s : Option Schema) (n : NodeView FragmentDefinition) → IsFragmentOf s n (typed_fragment s n)
+  built_fragment s n =
+      let same : at_place erased_fragment (typed_fragment s n) ≡ at_place (stripped_fragment s) n = ap (fragment_with n) (sets.kept s n.value.type_condition n.value.selection_set) in
+      (same, sets.typed s n.value.type_condition n.value.selection_set)
+
+  pub built_document : (s : Option Schema) (xs : List Added) (t : Tables) (document : ExecutableDocument) → Stands s xs t → document.operations ≡ t.operations → document.fragments ≡ t.fragments → IsDocumentOf s xs document
+  built_document s xs t document stands ops frags =
+      let os = operations xs in
+      record {
+        anonymous = subst (λ o. AllZip (IsOperationOf s) (listed (kept_anonymous s xs)) (listed o)) (sym (ap (λ m. m.anonymous) ops ∙ stands.anonymous))
+            (built_option (IsOperationOf s) (typed_operation s) (kept_anonymous s xs) (λ n e. built_operation s n (rooted_first s os n e)));
+        named = subst (λ es. AllZip (IsUnderName (IsOperationOf s)) (kept_named s xs) es) (sym (ap (λ m. m.named) ops ∙ stands.named))
+            (built_table (IsOperationOf s) (typed_operation s) (λ n. is_rooted s n ≡ true) (built_operation s) (kept_named s xs) (first_all (λ (x : NameView × Op). is_rooted s x.1 ≡ true) (same_key same_text) (filter_map named (filter (is_rooted s) os)) (rooted_named s os)));
+        fragments = subst (λ es. AllZip (IsUnderName (IsFragmentOf s)) (kept_fragments s xs) es) (sym (frags ∙ stands.fragments))
+            (built_table (IsFragmentOf s) (typed_fragment s) (λ n. Unit {0}) (λ n _. built_fragment s n) (kept_fragments s xs) (any_table (kept_fragments s xs)));
+      }
+
+  -- what the code makes of an operation and of a fragment
+  pub operation_made : (s : Option Schema) (n : Op) (g : OperationDefinition) (root : NameView) (below : List ast.Selection) (set : SelectionSet) (made : Operation) (node : NodeView Operation) → root_in s n.value.operation_type ≡ Some root
+      → g ≡ n.value → below ≡ n.value.selection_set → erased_set set ≡ stripped s root below → IsTypedSet s root set
+      → made ≡ record { operation_type = g.operation_type; name = g.name; variables = g.variables; directives = g.directives; selection_set = set } → node ≡ record { value = made; location = n.location }
+      → Some node ≡ option_map (λ (root : NameView). at_place (operation_from s root) n) (root_in s n.value.operation_type)
+  operation_made s n g root below set made node r same selections h typed m at =
+      let inner : set ≡ elaborated s root n.value.selection_set = sets.unique s root below set h typed ∙ ap (elaborated s root) selections in
+      let whole : made ≡ operation_from s root n.value = m ∙ (λ i. record { operation_type = (same i).operation_type; name = (same i).name; variables = (same i).variables; directives = (same i).directives; selection_set = inner i }) in
+      ap Some (at ∙ (λ i. record { value = whole i; location = n.location })) ∙ ap (option_map (λ (root : NameView). at_place (operation_from s root) n)) (sym r)
+
+  pub fragment_made : (s : Option Schema) (n : NodeView FragmentDefinition) (g : FragmentDefinition) (ty : NameView) (below : List ast.Selection) (set : SelectionSet) (made : Fragment) (node : NodeView Fragment) → has_type s n.value.type_condition ≡ true
+      → g ≡ n.value → ty ≡ n.value.type_condition → below ≡ n.value.selection_set → erased_set set ≡ stripped s ty below → IsTypedSet s ty set
+      → made ≡ record { name = g.name; directives = g.directives; selection_set = set } → node ≡ record { value = made; location = n.location }
+      → Some node ≡ cond (has_type s n.value.type_condition) (Some (typed_fragment s n)) None
+  fragment_made s n g ty below set made node there same is selections h typed m at =
+      let inner : set ≡ elaborated s n.value.type_condition n.value.selection_set = sets.unique s ty below set h typed ∙ (λ i. elaborated s (is i) (selections i)) in
+      let whole : made ≡ fragment_on_type s n.value = m ∙ (λ i. record { name = (same i).name; directives = (same i).directives; selection_set = inner i }) in
+      ap Some (at ∙ (λ i. record { value = whole i; location = n.location })) ∙ ap (λ b. cond b (Some (typed_fragment s n)) None) (sym there)

@@ -1,5 +1,7 @@
 -- The first of each name, and what stands after the first, in a list with one more element.
 use Rattle.std.proofs.Common.{◌≡◌, ◌∙◌, ap, sym, refl, Bool, true, false, cond, ◌||◌, not, List, [], ◌∷◌, ◌++◌, filter, Option, None, Some, option_map, is_some}
+use Rattle.std.specs.Cmp.{IsEquivalence, on_equiv}
+use Rattle.std.specs.Cmp.Lexicographic.{nat_list_eq_equiv}
 use Rattle.std.specs.List.{AllByRecursion, find, list_any}
 use Rattle.std.specs.Map.{lookup_key}
 use Rattle.std.proofs.lemmas.List.{append-nil, map-append}
@@ -9,9 +11,12 @@ use Rattle.graphql_nodes.specs.SameText.{same_text}
 use Rattle.apollo_component.specs.FirstOfEach.{first_of_each, same_key}
 use Rattle.apollo_component.proofs.Lists.Each.{each-weaken, each-filter}
 use Rattle.apollo_component.proofs.FirstOfEachLemmas.{first_of_each-push_new, first_of_each-push_old, insert_entry-last, list_any-first_of_each}
-use Rattle.apollo_meaning.proofs.Faults.KeptLemmas.{entry_laws}
 use Rattle.apollo_document.specs.KeptDefinitions.{after_first}
 use Rattle.apollo_document.specs.Stands.{entries_by, put_unless_taken}
+
+-- to have one name is an equivalence
+pub entry_laws : {V : Type 0} → IsEquivalence (same_key {V = V} same_text)
+entry_laws = on_equiv (λ e. e.0.text) nat_list_eq_equiv
 
 -- a key is found where an entry passes
 pub some_key : {K V : Type 0} (test : K → Bool) (es : List (K × V)) → list_any (λ e. test e.0) es ≡ is_some (lookup_key test es)

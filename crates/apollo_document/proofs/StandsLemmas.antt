@@ -2,7 +2,7 @@
 use Rattle.std.proofs.Common.{◌≡◌, ◌∙◌, ap, sym, refl, Bool, true, false, cond, List, [], ◌∷◌, ◌++◌, length, map, filter, Option, None, Some, option_map, is_some, unwrap_or, append_assoc}
 use Rattle.std.specs.List.{cons_option}
 use Rattle.std.proofs.lemmas.Bool.{eqb-true}
-use Rattle.std.proofs.lemmas.List.{append-nil, map-append, nil_from_length}
+use Rattle.std.proofs.lemmas.List.{append-nil, length-map, map-append, nil_from_length}
 use Rattle.std.proofs.lemmas.List.Elements.{filter-append, filter_map-append}
 use Rattle.graphql_nodes.specs.NameView.{NameView}
 use Rattle.graphql_nodes.specs.NodeView.{NodeView}
@@ -21,7 +21,6 @@ use Rattle.apollo_executable.specs.declared.operation.Operation.{Operation}
 use Rattle.apollo_elaboration.specs.Typable.{has_type, is_bare}
 use Rattle.apollo_elaboration.specs.declared.build_error.BuildError.TheVariants as e
 use Rattle.apollo_elaboration.specs.declared.selection_path.ExecutableDefinitionName.TheVariants.{AnonymousOperation, NamedOperation}
-use Rattle.apollo_elaboration.proofs.Equations.{is_bare-map}
 use Rattle.apollo_document.specs.AddedDefinitions.{Added, operation_of, fragment_of, operation_in, fragment_in, operations, fragments}
 use Rattle.apollo_document.specs.KeptDefinitions.{root_in, is_rooted, kept_anonymous, kept_named, is_on_type, under_name, kept_fragments, is_repeated}
 use Rattle.apollo_document.specs.DocumentFaults.{ambiguous, ambiguous_if, unless_taken, faults_in_operation, after_anonymous, unless_named, anonymous_faults, anonymous_place, fragment_faults, type_system_faults, operation_faults, definition_faults, faults_at, document_faults}
@@ -52,7 +51,7 @@ unmapped f None h = refl
 unmapped f (Some a) h = cc
 
 no_entries : {A B : Type 0} (f : A → B) (es : List (NameView × A)) → is_bare (entries_by f es) ≡ true → es ≡ []
-no_entries f es h = nil_from_length es (eqb-true (length es) 0 (sym (is_bare-map (λ e. (e.0, f e.1)) es) ∙ h))
+no_entries f es h = nil_from_length es (sym (length-map es (λ e. (e.0, f e.1))) ∙ eqb-true (length (entries_by f es)) 0 h)
 
 -- an operation that is built is the typed one, where it has a root type
 built_operation : (s : Option Schema) (n : NodeView OperationDefinition)

@@ -10,6 +10,7 @@ ghost use Rattle.apollo_document.specs.Stands.{HasStood};
 use crate::state::State;
 use crate::tables::Tables;
 use apollo_elaboration::build_error::Faults;
+use apollo_elaboration::laws::elaborated_sets;
 use apollo_executable::document::ExecutableDocument;
 use apollo_folding::builder_error::BuilderError;
 use apollo_schema::schema::Schema;
@@ -117,6 +118,7 @@ impl<'schema> ExecutableDocumentBuilder<'schema> {
         ensures failed { HasFailed self.entry ↔ (result ≡ Err BuilderError.Failed) }
         ensures refused { OnErr result (HasFailed self.entry) }
     {
+        elaborated_sets();
         let ExecutableDocumentBuilder { schema: _, state } = self;
         match state {
             State::Open(tables) => Ok(tables.into_document()),

@@ -8,6 +8,7 @@ ghost use Rattle.apollo_document.specs.Stands.{fragment_if_typed, put_unless_tak
 
 use apollo_elaboration::build_error::{BuildError, Fault};
 use apollo_elaboration::elaboration::elaborate_selections;
+use apollo_elaboration::laws::elaborated_sets;
 use apollo_elaboration::selection_path::{ExecutableDefinitionName, SelectionPath};
 use apollo_elaboration::typable::has_type;
 use apollo_executable::document::FragmentMap;
@@ -57,6 +58,7 @@ fn build_fragment(
     };
     let ty = &node.type_condition;
     let selections = node.selection_set.as_slice();
+    elaborated_sets();
     let set = elaborate_selections(alloc, schema, ty, selections, &mut path, errors)?;
     let fragment = fragment_over(node, set)?;
     Ok(Some(node.same_location(alloc, fragment)?))

@@ -9,6 +9,7 @@ ghost use Rattle.apollo_document.specs.Documents.{IsDocumentOf};
 ghost use Rattle.apollo_document.specs.WrittenAgain.{AreOneButSources, IsBuiltAgain, ambiguous_again, faults_again};
 
 use crate::document_builder::ExecutableDocumentBuilder;
+use apollo_elaboration::laws::typed_sets;
 use apollo_executable::document::ExecutableDocument;
 use apollo_schema::schema::Schema;
 
@@ -22,7 +23,9 @@ pub fn document_again()
     ensures itself { (s : Option Schema) (xs : List Added) (errors : Bool) (document : ExecutableDocument) → IsDocumentOf s xs document → IsBuiltAgain s errors document document }
     ensures again { (s : Option Schema) (xs : List Added) (errors : Bool) (document again : ExecutableDocument) → IsDocumentOf s xs document → IsBuiltAgain s errors document again → AreOneButSources again document }
     ensures faults { (s : Option Schema) (xs : List Added) (errors : Bool) (document : ExecutableDocument) → IsDocumentOf s xs document → faults_again s errors document ≡ ambiguous_again document.operations }
-{}
+{
+    typed_sets();
+}
 
 /// Every builder stands for some list over its schema, or a call was refused.
 pub fn every_builder_stands_for_a_list_or_has_failed(builder: &ExecutableDocumentBuilder<'_>)

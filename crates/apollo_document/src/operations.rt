@@ -11,6 +11,7 @@ ghost use Rattle.apollo_document.specs.Stands.{operation_over, rooted_operation,
 
 use apollo_elaboration::build_error::{BuildError, Fault};
 use apollo_elaboration::elaboration::elaborate_selections;
+use apollo_elaboration::laws::elaborated_sets;
 use apollo_elaboration::selection_path::{ExecutableDefinitionName, SelectionPath};
 use apollo_executable::operation::Operation;
 use apollo_executable::selection::SelectionSet;
@@ -114,6 +115,7 @@ pub(crate) fn build_operation(
         nested_fields: Items::new(alloc),
     };
     let selections = node.selection_set.as_slice();
+    elaborated_sets();
     let set = elaborate_selections(alloc, schema, &root, selections, &mut path, errors)?;
     let operation = operation_over(node, set)?;
     Ok(Some(node.same_location(alloc, operation)?))
