@@ -1,0 +1,3 @@
+mod HeadlineLemmas
+mod KeptLemmas
+mod ListLemmas

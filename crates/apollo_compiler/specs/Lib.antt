@@ -1,0 +1,3 @@
+pub mod Compilation
+pub mod Headline
+pub mod Lists

@@ -1,0 +1,37 @@
+-- The lists that documents make: GraphQL specification of October 2021, sections 2.2 and 3.
+use Rattle.std.specs.Prelude.{Bool, false, List, []}
+use Rattle.std.specs.List.{flat_map, fold}
+use Rattle.graphql_nodes.specs.Sources.{Files, merged}
+use Rattle.graphql_ast.specs.declared.definition.Definition.{Definition}
+use Rattle.graphql_ast.specs.declared.document.Document.{Document}
+use Rattle.apollo_meaning.specs.Items.ListItems.{Added, added}
+use Rattle.apollo_canonical.specs.WrittenAgain.{with_built_ins}
+use Rattle.apollo_document.specs.AddedDefinitions.{Added as AddedToDocument, added as added_to_document}
+use Rattle.apollo_compiler.specs.declared.compile_options.CompileOptions.{CompileOptions}
+
+-- neither option
+abbrev pub no_options : CompileOptions
+no_options = record { adopt_orphan_extensions = false; ignore_builtin_redefinitions = false }
+
+-- the definitions of all documents, in order
+abbrev pub all_definitions : List Document → List Definition
+all_definitions documents = flat_map (λ (document : Document). document.definitions) documents
+
+-- the source files of all documents
+abbrev pub with_sources : Files → Document → Files
+with_sources files document = merged files document.sources
+
+abbrev pub all_sources : List Document → Files
+all_sources documents = fold with_sources [] documents
+
+-- the definitions of schema documents, added with these options
+abbrev pub handed_in : CompileOptions → List Document → List Added
+handed_in options documents = added options.ignore_builtin_redefinitions (all_definitions documents)
+
+-- the list that a schema is built of: the built-in definitions, and then those of the documents
+unfoldable pub schema_list : CompileOptions → List Document → List Added
+schema_list options documents = with_built_ins (handed_in options documents)
+
+-- the list that a typed document is built of, in which definitions of the type system are at fault, or are not
+abbrev pub executable_list : Bool → List Document → List AddedToDocument
+executable_list errors documents = added_to_document errors (all_definitions documents)

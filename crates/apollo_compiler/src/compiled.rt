@@ -1,0 +1,28 @@
+//! What documents are compiled to.
+
+use apollo_document::Faults as DocumentFaults;
+use apollo_executable::document::ExecutableDocument;
+use apollo_meaning::build_error::Faults as SchemaFaults;
+use apollo_schema::schema::Schema;
+use graphql_ast::definition::Definition;
+use graphql_ast::document::Document;
+
+/// What documents are compiled to, as [`compile`](crate::compiling::compile) says.
+#[derive(Drop)]
+pub struct Compiled {
+    /// The schema of the schema documents; where they have faults, what could be built of them.
+    pub schema: Schema,
+    pub schema_faults: SchemaFaults,
+    /// The schema as syntax.
+    pub ast: Vec<Definition>,
+    /// The schema of `ast` alone.
+    pub rebuilt: Schema,
+    pub rebuilt_faults: SchemaFaults,
+    /// The rebuilt schema as syntax.
+    pub rebuilt_ast: Vec<Definition>,
+    /// The typed document of the executable documents over `schema`.
+    pub document: ExecutableDocument,
+    pub document_faults: DocumentFaults,
+    /// The typed document as syntax, without sources.
+    pub erased: Document,
+}

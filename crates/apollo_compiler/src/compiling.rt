@@ -1,0 +1,90 @@
+//! Documents of the type system and executable documents, compiled in one call.
+ghost use Rattle.std.specs.Prelude.{◌≡◌, Err, IfOk};
+ghost use Rattle.apollo_canonical.specs.WrittenAgain.{IsUnmarkedAndRooted};
+ghost use Rattle.apollo_meaning.specs.Order.SpentIds.{SpendsIds};
+ghost use Rattle.apollo_compiler.specs.Compilation.{IsCompiled, IsRebuiltAsItWas};
+ghost use Rattle.apollo_compiler.specs.Lists.{handed_in, schema_list};
+
+use crate::building::build_schema;
+use crate::compile_error::CompileError;
+use crate::compile_options::CompileOptions;
+use crate::compiled::Compiled;
+use crate::laws::headline;
+use crate::rebuilding::rebuild;
+use crate::typing::type_documents;
+use apollo_canonical::laws::a_write_out_folds_no_more;
+use graphql_ast::document::Document;
+use graphql_nodes::collections::hash_keys::HashKeys;
+use std::alloc::Global;
+
+/// Compiles documents: GraphQL specification of October 2021, sections 2.2 to 2.8 and 3.
+///
+/// The schema documents are built to `schema`, with these options, and `ast` is that as syntax. `rebuilt` is built of `ast`
+/// alone, with adoption, and `rebuilt_ast` is that as syntax. The executable documents are built to `document`, over `schema`,
+/// and `erased` is that as syntax. Each build has its faults beside it, and then what could be built. Definitions of the type
+/// system in executable documents are passed over; with `type_system_definitions_are_errors` each is a fault.
+///
+/// The rebuild has no faults, equals `schema` and is written out the same, where no definition that is handed in is marked
+/// built-in and each schema definition names a root. What else is promised is said by [`headline`].
+///
+/// `Memory` is want of memory; `ExtensionIds` comes only where the numbers don't suffice for the extensions of the schema
+/// documents. No other error comes.
+///
+/// All tables hash by fixed keys: for documents from strangers, take [`compile_with_keys`].
+pub fn compile(
+    alloc: Global,
+    options: CompileOptions,
+    schema_documents: &[Document],
+    executable_documents: &[Document],
+    type_system_definitions_are_errors: bool,
+) -> Result<Compiled, CompileError>
+    ensures compiled { IfOk result (IsCompiled options schema_documents.now executable_documents.now type_system_definitions_are_errors) }
+    ensures rebuilds { IfOk result (λ compiled. IsUnmarkedAndRooted (handed_in options schema_documents.now) → IsRebuiltAsItWas compiled) }
+    ensures spent { result ≡ Err CompileError.ExtensionIds → SpendsIds 0 options.adopt_orphan_extensions (schema_list options schema_documents.now) }
+{
+    compile_with_keys(
+        alloc,
+        HashKeys::FIXED,
+        options,
+        schema_documents,
+        executable_documents,
+        type_system_definitions_are_errors,
+    )
+}
+
+/// The same, for documents from strangers: all tables of both schemas and of the typed document hash by these keys. What is
+/// built, and in what order, is the same under any keys.
+pub fn compile_with_keys(
+    alloc: Global,
+    keys: HashKeys,
+    options: CompileOptions,
+    schema_documents: &[Document],
+    executable_documents: &[Document],
+    type_system_definitions_are_errors: bool,
+) -> Result<Compiled, CompileError>
+    ensures compiled { IfOk result (IsCompiled options schema_documents.now executable_documents.now type_system_definitions_are_errors) }
+    ensures rebuilds { IfOk result (λ compiled. IsUnmarkedAndRooted (handed_in options schema_documents.now) → IsRebuiltAsItWas compiled) }
+    ensures spent { result ≡ Err CompileError.ExtensionIds → SpendsIds 0 options.adopt_orphan_extensions (schema_list options schema_documents.now) }
+{
+    headline();
+    a_write_out_folds_no_more();
+    let (schema, schema_faults) = build_schema(alloc, keys, options, schema_documents)?;
+    let rebuilt = rebuild(alloc, keys, &schema)?;
+    let typed = type_documents(
+        alloc,
+        &schema,
+        executable_documents,
+        type_system_definitions_are_errors,
+    )?;
+    Ok(Compiled {
+        schema,
+        schema_faults,
+        ast: rebuilt.ast,
+        rebuilt: rebuilt.schema,
+        rebuilt_faults: rebuilt.faults,
+        rebuilt_ast: rebuilt.ast_again,
+        document: typed.document,
+        document_faults: typed.faults,
+        erased: typed.erased,
+    })
+}

@@ -1,0 +1,23 @@
+//! Documents compiled in one call: the schema of documents of the type system, its write-out built again, and the typed
+//! document of executable documents over the schema. GraphQL specification of October 2021, sections 2.2 to 2.8 and 3.
+#![tactic(auto)]
+
+pub mod building;
+pub mod compile_error;
+pub mod compile_options;
+pub mod compiled;
+pub mod compiling;
+pub mod document_building;
+pub mod laws;
+mod rebuilding;
+mod typing;
+
+pub use crate::compile_error::CompileError;
+pub use crate::compile_options::CompileOptions;
+pub use crate::compiled::Compiled;
+pub use crate::compiling::{compile, compile_with_keys};
+pub use apollo_executable::document::ExecutableDocument;
+pub use apollo_schema::schema::Schema;
+pub use graphql_ast::definition::Definition;
+pub use graphql_ast::document::Document;
+pub use graphql_nodes::collections::hash_keys::HashKeys;
