@@ -1,9 +1,9 @@
 -- The commands of the program: their words, and how a run ends.
 use Rattle.std.specs.Prelude.{◌≡◌, ◌<◌, ◌^◌, ℕ, List, [], ◌∷◌, ◌++◌, codes}
 use Rattle.std.specs.Str.Parse.{IsNumeral, digits_value, without_leading_plus}
+use Rattle.apollo_compiler.specs.declared.compile_options.CompileOptions.{CompileOptions}
 use Rattle.gqltool_run.specs.SchemaOptions.{AreOptions}
 use Rattle.gqltool_run.specs.Status.{status_of}
-use Rattle.gqltool_run.specs.declared.schema_options.SchemaOptions.{SchemaOptions}
 use Rattle.gqltool_run.specs.declared.status.Status.{Status}
 use Rattle.gqltool_run.specs.declared.status.Status.TheVariants as s
 use Rattle.gqlbench_run.specs.declared.command.Command.{Command}
@@ -29,7 +29,7 @@ pub record IsRepeat (word : List ℕ) (repeat : ℕ) : Type 0 where
   pub fits : repeat < 2 ^ 64
 
 -- the words choose keys and options: `--random-keys` stands first, and fixed keys have no word
-abbrev pub AreChoices : KeyChoice → SchemaOptions → List (List ℕ) → Type 0
+abbrev pub AreChoices : KeyChoice → CompileOptions → List (List ℕ) → Type 0
 AreChoices k.Fixed options words = AreOptions words options
 AreChoices k.Random options [] = ⊥
 AreChoices k.Random options (first ∷ words) = (first ≡ codes "--random-keys") × AreOptions words options

@@ -1,5 +1,5 @@
 -- What the report of the command `doc` says.
-use Rattle.std.specs.Prelude.{◌≡◌, ℕ, List, [], ◌∷◌, ◌++◌, Some, codes, decimal, length}
+use Rattle.std.specs.Prelude.{◌≡◌, ℕ, List, [], ◌∷◌, ◌++◌, Some, codes, decimal, length, true}
 use Rattle.graphql_ast.specs.declared.document.Document.{Document}
 use Rattle.apollo_schema.specs.declared.schema.Schema.{Schema}
 use Rattle.apollo_schema.specs.MeantSchema.{MeansSchema}
@@ -7,8 +7,7 @@ use Rattle.apollo_executable.specs.declared.document.ExecutableDocument.{Executa
 use Rattle.apollo_executable.specs.Operations.{all_operations}
 use Rattle.apollo_document.specs.Documents.{IsDocumentOf}
 use Rattle.apollo_document.specs.DocumentFaults.{document_faults}
-use Rattle.gqltool_run.specs.Building.{list_of}
-use Rattle.gqltool_run.specs.DocumentBuilding.{executable_list}
+use Rattle.apollo_compiler.specs.Lists.{executable_list, schema_list}
 use Rattle.gqlbench_run.specs.declared.command.Command.{Command}
 use Rattle.gqlbench_run.specs.declared.document_phases.DocumentTimes.{DocumentTimes}
 use Rattle.gqlbench_run.specs.PhaseLines.{ArePhaseLines}
@@ -30,14 +29,14 @@ document_counts operations fragments faults = decimal operations ++ (codes " ope
 -- the text counts what these documents mean over a schema
 pub record AreDocumentCounts (schema : Schema) (documents : List Document) (text : List ℕ) : Type 0 where
   pub document : ExecutableDocument
-  pub built : IsDocumentOf (Some schema) (executable_list documents) document
-  pub is : text ≡ document_counts (length (all_operations document.operations)) (length document.fragments) (length (document_faults (Some schema) (executable_list documents)))
+  pub built : IsDocumentOf (Some schema) (executable_list true documents) document
+  pub is : text ≡ document_counts (length (all_operations document.operations)) (length document.fragments) (length (document_faults (Some schema) (executable_list true documents)))
 
 -- the text counts what the documents behind the division mean over the schema of those before it, and has a line for each
 -- phase
 pub record IsDocumentReport (command : Command) (before behind : List Document) (text : List ℕ) : Type 0 where
   pub schema : Schema
-  pub means : MeansSchema 0 command.options.adopt (list_of command.options.ignore_built_in before) schema
+  pub means : MeansSchema 0 command.options.adopt_orphan_extensions (schema_list command.options before) schema
   pub counts : List ℕ
   pub counted : AreDocumentCounts schema behind counts
   pub lines : List ℕ

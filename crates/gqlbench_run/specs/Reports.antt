@@ -7,8 +7,8 @@ use Rattle.apollo_meaning.specs.Faults.ListFaults.{faults_of}
 use Rattle.apollo_schema.specs.MeantSchema.{MeansSchema}
 use Rattle.apollo_schema.specs.SchemaWriteOut.{write_schema}
 use Rattle.apollo_schema.specs.declared.schema.Schema.{Schema}
-use Rattle.gqltool_run.specs.Building.{list_of}
-use Rattle.gqltool_run.specs.declared.schema_options.SchemaOptions.{SchemaOptions}
+use Rattle.apollo_compiler.specs.Lists.{schema_list}
+use Rattle.apollo_compiler.specs.declared.compile_options.CompileOptions.{CompileOptions}
 use Rattle.gqlbench_run.specs.Commands.{AreWordsOf}
 use Rattle.gqlbench_run.specs.LookupQuestions.{field_questions, subtype_questions, has_field, has_subtype}
 use Rattle.gqlbench_run.specs.DocumentReports.{IsDocumentReport}
@@ -51,10 +51,10 @@ abbrev pub counts_text : ℕ → ℕ → ℕ → List ℕ
 counts_text types definitions faults = decimal types ++ (codes " types, " ++ (decimal definitions ++ (codes " definitions out, " ++ (decimal faults ++ codes " faults"))))
 
 -- the text counts what the documents mean with these options
-pub record IsCountsText (options : SchemaOptions) (documents : List Document) (text : List ℕ) : Type 0 where
+pub record IsCountsText (options : CompileOptions) (documents : List Document) (text : List ℕ) : Type 0 where
   pub schema : Schema
-  pub means : MeansSchema 0 options.adopt (list_of options.ignore_built_in documents) schema
-  pub is : text ≡ counts_text (length schema.types) (length (write_schema schema)) (length (faults_of options.adopt (list_of options.ignore_built_in documents)))
+  pub means : MeansSchema 0 options.adopt_orphan_extensions (schema_list options documents) schema
+  pub is : text ≡ counts_text (length schema.types) (length (write_schema schema)) (length (faults_of options.adopt_orphan_extensions (schema_list options documents)))
 
 -- whether what was built again from write-outs equals what was written out
 abbrev pub rebuilt_text : Bool → List ℕ
@@ -76,7 +76,7 @@ calls_text fields found subtypes subtypes_found = decimal fields ++ (codes " cal
 -- the text counts what is asked of the documents' schema and what is there, and has a line for each phase
 pub record IsLookupReport (command : Command) (documents : List Document) (text : List ℕ) : Type 0 where
   pub schema : Schema
-  pub means : MeansSchema 0 command.options.adopt (list_of command.options.ignore_built_in documents) schema
+  pub means : MeansSchema 0 command.options.adopt_orphan_extensions (schema_list command.options documents) schema
   pub lines : List ℕ
   pub timed : ArePhaseLines lookup_phases command.repeat lines
   pub is : text ≡ calls_text (length (field_questions schema.types)) (count_by (has_field schema) (field_questions schema.types)) (length (subtype_questions schema.types)) (count_by (has_subtype schema) (subtype_questions schema.types)) ++ lines

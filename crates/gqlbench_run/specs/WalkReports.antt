@@ -13,8 +13,7 @@ use Rattle.apollo_executable.specs.declared.selection.SelectionSet.{SelectionSet
 use Rattle.apollo_executable.specs.Operations.{all_operations}
 use Rattle.apollo_executable.specs.Walks.WalkView.{AreWalked}
 use Rattle.apollo_document.specs.Documents.{IsDocumentOf}
-use Rattle.gqltool_run.specs.Building.{list_of}
-use Rattle.gqltool_run.specs.DocumentBuilding.{executable_list}
+use Rattle.apollo_compiler.specs.Lists.{executable_list, schema_list}
 use Rattle.gqlbench_run.specs.declared.command.Command.{Command}
 use Rattle.gqlbench_run.specs.declared.walk_phases.WalkTimes.{WalkTimes}
 use Rattle.gqlbench_run.specs.PhaseLines.{ArePhaseLines}
@@ -66,9 +65,9 @@ walk_counts operations fragments root_fields all_fields = decimal operations ++ 
 -- walks over its operations and fragments give, and has a line for each phase
 pub record IsWalkReport (command : Command) (before behind : List Document) (text : List ℕ) : Type 0 where
   pub schema : Schema
-  pub means : MeansSchema 0 command.options.adopt (list_of command.options.ignore_built_in before) schema
+  pub means : MeansSchema 0 command.options.adopt_orphan_extensions (schema_list command.options before) schema
   pub document : ExecutableDocument
-  pub built : IsDocumentOf (Some schema) (executable_list behind) document
+  pub built : IsDocumentOf (Some schema) (executable_list true behind) document
   pub root_fields : ℕ
   pub root : IsCountOver false document (sets_of document) root_fields
   pub all_fields : ℕ

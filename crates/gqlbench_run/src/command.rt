@@ -1,12 +1,13 @@
 //! The commands of the program.
 ghost use Rattle.std.specs.Prelude.{MatchOption, ◌≡◌, ◌≢◌, ℕ};
 ghost use Rattle.bench_notation.specs.Line.{texts_of};
-ghost use Rattle.gqltool_run.specs.declared.schema_options.SchemaOptions.{SchemaOptions};
+ghost use Rattle.apollo_compiler.specs.declared.compile_options.CompileOptions.{CompileOptions};
 ghost use Rattle.gqlbench_run.specs.Commands.{AreChoices, AreNoCommand, AreWordsOf, IsRepeat, work_word};
 ghost use Rattle.gqlbench_run.specs.declared.keys.KeyChoice.{KeyChoice};
 
 use crate::keys::KeyChoice;
-use gqltool_run::schema_options::{SchemaOptions, read_options};
+use apollo_compiler::compile_options::CompileOptions;
+use gqltool_run::schema_options::read_options;
 
 /// What is timed.
 #[derive(Debug, Clone, Copy, PartialEq, Eq)]
@@ -27,7 +28,7 @@ pub enum Work {
 pub struct Command {
     pub work: Work,
     pub keys: KeyChoice,
-    pub options: SchemaOptions,
+    pub options: CompileOptions,
     pub repeat: usize,
 }
 
@@ -60,8 +61,8 @@ fn read_work(word: &str) -> Option<Work>
 }
 
 /// The keys and the options of a build that these words choose. Other words choose none.
-fn read_choices(words: &[&str]) -> Option<(KeyChoice, SchemaOptions)>
-    ensures { MatchOption result ((keys : KeyChoice) (options : SchemaOptions) → ¬ AreChoices keys options (texts_of words.now)) (λ chosen. AreChoices chosen.0 chosen.1 (texts_of words.now)) }
+fn read_choices(words: &[&str]) -> Option<(KeyChoice, CompileOptions)>
+    ensures { MatchOption result ((keys : KeyChoice) (options : CompileOptions) → ¬ AreChoices keys options (texts_of words.now)) (λ chosen. AreChoices chosen.0 chosen.1 (texts_of words.now)) }
 {
     match words {
         ["--random-keys", options @ ..] => Some((KeyChoice::Random, read_options(options)?)),

@@ -6,12 +6,12 @@ use crate::command::Command;
 use crate::failure::Failure;
 use crate::phase::{push_phase, push_time};
 use crate::progress::Progress;
+use apollo_compiler::building::build_schema;
+use apollo_compiler::document_building::build_executable_document;
 use apollo_document::Faults;
 use apollo_executable::document::ExecutableDocument;
 use apollo_schema::schema::Schema;
 use bench_notation::reading::DividedDocuments;
-use gqltool_run::building::built;
-use gqltool_run::document_building::built_document;
 use graphql_ast::document::Document;
 use graphql_nodes::collections::hash_keys::HashKeys;
 use std::alloc::{AllocError, Global};
@@ -46,7 +46,7 @@ fn time_build<C: Clock>(
     ensures { OnOk result (length times.new.items ≡ length times.old.items + 1) }
 {
     let began = Instant::now(clock)?;
-    let built = built_document(alloc, schema, documents)?;
+    let built = build_executable_document(alloc, schema, documents, true)?;
     push_time(clock, began, times)?;
     Ok(built)
 }
@@ -156,7 +156,7 @@ fn counts_text(
 fn counts(alloc: Global, schema: &Schema, documents: &[Document]) -> Result<String, Failure>
     ensures { IfOk result (λ text. AreDocumentCounts schema.now documents.now (string_bytes text)) }
 {
-    let (document, faults) = built_document(alloc, schema, documents)?;
+    let (document, faults) = build_executable_document(alloc, schema, documents, true)?;
     let operations = document.operations.len();
     let fragments = document.fragments.len();
     Ok(counts_text(alloc, operations, fragments, faults.as_slice().len())?)
@@ -173,7 +173,12 @@ pub fn document_report<C: Clock, E: Write>(
 ) -> Result<String, Failure>
     ensures { IfOk result (λ text. IsDocumentReport command documents.now.schema.items documents.now.executable.items (string_bytes text)) }
 {
-    let (schema, _faults) = built(alloc, keys, command.options, documents.schema.as_slice())?;
+    let (schema, _faults) = build_schema(
+        alloc,
+        keys,
+        command.options,
+        documents.schema.as_slice(),
+    )?;
     let executable = documents.executable.as_slice();
     let mut text = counts(alloc, &schema, executable)?;
     let mut times = DocumentTimes::new(alloc);

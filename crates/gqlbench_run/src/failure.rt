@@ -1,5 +1,6 @@
 //! Why a run has nothing to write.
 
+use apollo_compiler::compile_error::CompileError;
 use gqltool_run::failure::Failure as InputFailure;
 use gqltool_run::status::Status;
 use std::alloc::AllocError;
@@ -30,6 +31,18 @@ impl From<InputFailure> for Failure {
 
     fn from(failure: InputFailure) -> Failure {
         Failure::Input(failure)
+    }
+}
+
+impl From<CompileError> for Failure {
+    ghost use Rattle.std.specs.Prelude.{◌≡◌};
+    ghost use Rattle.gqltool_run.specs.Status.{failure_of_compiling};
+    ghost use Rattle.gqlbench_run.specs.declared.failure.Failure.TheVariants.{Input};
+
+    ghost from_gives = { λ error made. made ≡ Input (failure_of_compiling error) };
+
+    fn from(error: CompileError) -> Failure {
+        Failure::Input(InputFailure::from(error))
     }
 }
 

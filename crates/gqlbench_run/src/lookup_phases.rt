@@ -10,8 +10,8 @@ use crate::lookup_questions::{
 };
 use crate::phase::{push_phase, push_time};
 use crate::progress::Progress;
+use apollo_compiler::building::build_schema;
 use apollo_schema::schema::Schema;
-use gqltool_run::building::built;
 use graphql_ast::document::Document;
 use graphql_nodes::collections::hash_keys::HashKeys;
 use std::alloc::{AllocError, Global};
@@ -179,7 +179,7 @@ pub fn lookup_report<C: Clock, E: Write>(
 ) -> Result<String, Failure>
     ensures { IfOk result (λ text. IsLookupReport command documents.now (string_bytes text)) }
 {
-    let (schema, _faults) = built(alloc, keys, command.options, documents)?;
+    let (schema, _faults) = build_schema(alloc, keys, command.options, documents)?;
     let questions = Questions {
         fields: field_questions(alloc, &schema)?,
         subtypes: subtype_questions(alloc, &schema)?,

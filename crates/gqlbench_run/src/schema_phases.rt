@@ -7,10 +7,10 @@ use crate::command::Command;
 use crate::failure::Failure;
 use crate::phase::{push_phase, push_time};
 use crate::progress::Progress;
+use apollo_compiler::building::build_schema;
+use apollo_compiler::compile_options::CompileOptions;
 use apollo_meaning::build_error::Faults;
 use apollo_schema::schema::Schema;
-use gqltool_run::building::built;
-use gqltool_run::schema_options::SchemaOptions;
 use graphql_ast::definition::Definition;
 use graphql_ast::document::Document;
 use graphql_nodes::collections::hash_keys::HashKeys;
@@ -21,9 +21,9 @@ use std::slice;
 use std::time::{Clock, Instant};
 
 /// The options under which a write-out is built again: what extends no definition of it gets one.
-const REBUILDING: SchemaOptions = SchemaOptions {
-    adopt: true,
-    ignore_built_in: false,
+const REBUILDING: CompileOptions = CompileOptions {
+    adopt_orphan_extensions: true,
+    ignore_builtin_redefinitions: false,
 };
 
 /// The times of each phase, one for each repetition.
@@ -53,14 +53,14 @@ fn time_build<C: Clock>(
     alloc: Global,
     clock: &C,
     keys: HashKeys,
-    options: SchemaOptions,
+    options: CompileOptions,
     documents: &[Document],
     times: &mut Vec<u64>,
 ) -> Result<(Schema, Faults), Failure>
     ensures { OnOk result (length times.new.items ≡ length times.old.items + 1) }
 {
     let began = Instant::now(clock)?;
-    let built = built(alloc, keys, options, documents)?;
+    let built = build_schema(alloc, keys, options, documents)?;
     push_time(clock, began, times)?;
     Ok(built)
 }
@@ -92,7 +92,7 @@ fn time_rebuild<C: Clock>(
     ensures { OnOk result (length times.new.items ≡ length times.old.items + 1) }
 {
     let began = Instant::now(clock)?;
-    let (again, _faults) = built(alloc, keys, REBUILDING, slice::from_ref(written))?;
+    let (again, _faults) = build_schema(alloc, keys, REBUILDING, slice::from_ref(written))?;
     let is_equal = again == *schema;
     push_time(clock, began, times)?;
     Ok(is_equal)
@@ -135,7 +135,7 @@ impl SchemaTimes {
         alloc: Global,
         clock: &C,
         keys: HashKeys,
-        options: SchemaOptions,
+        options: CompileOptions,
         documents: &[Document],
     ) -> Result<(), Failure>
         ensures { OnOk result ((n : ℕ) → HaveTimes n self.old → HaveTimes (n + 1) self.new) }
@@ -196,12 +196,12 @@ fn counts_text(
 fn counts(
     alloc: Global,
     keys: HashKeys,
-    options: SchemaOptions,
+    options: CompileOptions,
     documents: &[Document],
 ) -> Result<String, Failure>
     ensures { IfOk result (λ text. IsCountsText options documents.now (string_bytes text)) }
 {
-    let (schema, faults) = built(alloc, keys, options, documents)?;
+    let (schema, faults) = build_schema(alloc, keys, options, documents)?;
     let written = schema.to_ast(alloc)?;
     let definitions = written.as_slice().len();
     let faults = faults.as_slice().len();

@@ -7,11 +7,11 @@ use crate::command::Command;
 use crate::failure::Failure;
 use crate::phase::{push_phase, push_time};
 use crate::progress::Progress;
+use apollo_compiler::building::build_schema;
+use apollo_compiler::document_building::build_executable_document;
 use apollo_executable::document::ExecutableDocument;
 use apollo_executable::selection::SelectionSet;
 use bench_notation::reading::DividedDocuments;
-use gqltool_run::building::built;
-use gqltool_run::document_building::built_document;
 use graphql_nodes::collections::hash_keys::HashKeys;
 use std::alloc::{AllocError, Global};
 use std::io::Write;
@@ -234,8 +234,13 @@ pub fn walk_report<C: Clock, E: Write>(
     ensures { IfOk result (λ text. IsWalkReport command documents.now.schema.items documents.now.executable.items (string_bytes text)) }
 {
     let schema_documents = documents.schema.as_slice();
-    let (schema, _schema_faults) = built(alloc, keys, command.options, schema_documents)?;
-    let (document, _faults) = built_document(alloc, &schema, documents.executable.as_slice())?;
+    let (schema, _schema_faults) = build_schema(alloc, keys, command.options, schema_documents)?;
+    let (document, _faults) = build_executable_document(
+        alloc,
+        &schema,
+        documents.executable.as_slice(),
+        true,
+    )?;
     let mut times = WalkTimes::new(alloc, &document)?;
     times.take(alloc, clock, &document, command.repeat, errors)?;
     let mut text = counts(alloc, &document, &times)?;

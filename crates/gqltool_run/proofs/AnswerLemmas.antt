@@ -2,7 +2,6 @@
 use Rattle.std.proofs.Common.{◌≡◌, ℕ, ◌==◌, ◌&&◌, Bool, true, false, not, List, [], ◌∷◌, ◌++◌, Option, inl, inr, codes, length, sym, ap, subst, ◌∙◌, arith}
 use Rattle.std.proofs.lemmas.Bool.{true≢false}
 use Rattle.std.proofs.lemmas.List.{append-nil}
-use Rattle.graphql_nodes.proofs.Comparisons.{head_same, tail_same}
 use Rattle.graphql_nodes.specs.declared.source.SourceSpan.{SourceSpan}
 use Rattle.apollo_executable.specs.Erasure.{erased_definitions}
 use Rattle.apollo_coordinate.proofs.TextLemmas.{said_in_grammar}
@@ -68,9 +67,11 @@ other_letters e = omega arith
 pub asked_apart : (words : List (List ℕ)) (task : Task) → Ask words task → AskNoCoordinate words → ⊥
 asked_apart words (tasks.Schema options) asked refused =
     let first : codes "coord" ≡ codes "schema" = (subst (λ (w : List (List ℕ)). AreSchemaWords w options) refused.1.0 asked).0 in
-    other_letters (head_same first)
+    let letter : ◌≡◌ {A = ℕ} 99 115 = cc in
+    other_letters letter
 asked_apart words (tasks.Coord c) asked refused =
-    let same : asked.0 ≡ refused.0 = head_same (tail_same (sym asked.1.0 ∙ refused.1.0)) in
+    let whole : codes "coord" ∷ asked.0 ∷ [] ≡ codes "coord" ∷ refused.0 ∷ [] = sym asked.1.0 ∙ refused.1.0 in
+    let same : asked.0 ≡ refused.0 = cc in
     refused.1.1 (subst IsCoordinateText same (said_in_grammar asked.0 c asked.1.1))
 asked_apart words tasks.Doc asked refused = let same : codes "doc" ∷ [] ≡ codes "coord" ∷ refused.0 ∷ [] = sym asked ∙ refused.1.0 in cc
 asked_apart words tasks.Walk asked refused = let same : codes "walk" ∷ [] ≡ codes "coord" ∷ refused.0 ∷ [] = sym asked ∙ refused.1.0 in cc

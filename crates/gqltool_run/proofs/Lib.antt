@@ -1,4 +1,4 @@
 pub mod AnswerLemmas
+pub mod CauseLemmas
 pub mod FaultLineLemmas
-pub mod SourceLemmas
 pub mod WalkTextLemmas

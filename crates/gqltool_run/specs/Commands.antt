@@ -9,7 +9,8 @@ use Rattle.gqltool_run.specs.declared.failure.Failure.{Failure}
 use Rattle.gqltool_run.specs.declared.status.Status.TheVariants as statuses
 use Rattle.gqltool_run.specs.declared.task.Task.{Task}
 use Rattle.gqltool_run.specs.declared.task.Task.TheVariants as tasks
-use Rattle.gqltool_run.specs.Building.{IsCause, no_options}
+use Rattle.apollo_compiler.specs.Lists.{no_options}
+use Rattle.gqltool_run.specs.Building.{IsCause}
 use Rattle.gqltool_run.specs.CoordCommand.{IsCoordAnswer, coordinate_line, found_line}
 use Rattle.gqltool_run.specs.DocCommand.{IsDocAnswer}
 use Rattle.gqltool_run.specs.DocumentBuilding.{IsDocumentCause}

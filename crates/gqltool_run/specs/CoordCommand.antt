@@ -9,7 +9,8 @@ use Rattle.apollo_coordinate.specs.declared.lookup_answers.SchemaCoordinateLooku
 use Rattle.apollo_coordinate.specs.declared.lookup_answers.SchemaLookupError.{SchemaLookupError}
 use Rattle.apollo_meaning.specs.Faults.Collisions.{Fault}
 use Rattle.apollo_schema.specs.declared.schema.Schema.{Schema}
-use Rattle.gqltool_run.specs.Building.{IsBuilt, no_options}
+use Rattle.apollo_compiler.specs.Lists.{no_options}
+use Rattle.gqltool_run.specs.Building.{IsBuilt}
 use Rattle.gqltool_run.specs.FaultLines.{AreFaultLines}
 
 -- the word of a coordinate's form

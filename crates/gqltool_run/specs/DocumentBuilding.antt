@@ -8,31 +8,27 @@ use Rattle.apollo_meaning.specs.Faults.ListFaults.{faults_of}
 use Rattle.apollo_schema.specs.MeantSchema.{MeansSchema}
 use Rattle.apollo_executable.specs.declared.document.ExecutableDocument.{ExecutableDocument}
 use Rattle.apollo_elaboration.specs.Typable.{Fault as DocumentFault}
-use Rattle.apollo_document.specs.AddedDefinitions.{Added, added}
 use Rattle.apollo_document.specs.Documents.{IsDocumentOf}
 use Rattle.apollo_document.specs.DocumentFaults.{document_faults}
+use Rattle.apollo_compiler.specs.Lists.{all_sources, executable_list, no_options, schema_list}
 use Rattle.bench_notation.specs.Line.{lines_of}
 use Rattle.bench_notation.specs.Documents.{AreDividedDocumentsOf, IsDividedReadError}
 use Rattle.bench_notation.specs.declared.refusal.ReadError.TheVariants as reading
 use Rattle.gqltool_run.specs.declared.failure.Failure.{Failure}
 use Rattle.gqltool_run.specs.declared.failure.Failure.TheVariants as failures
-use Rattle.gqltool_run.specs.Building.{all_definitions, all_sources, list_of}
 
--- the list that the typed document is built of, in which definitions of the type system are at fault
-abbrev pub executable_list : List Document → List Added
-executable_list documents = added true (all_definitions documents)
-
--- the typed document that the input means, the faults of its schema, which has no options, and those of the document
+-- the typed document that the input means, the faults of its schema, which has no options, and those of the document, in which
+-- definitions of the type system are at fault
 pub record IsBuiltDocument (input : List ℕ) (document : ExecutableDocument) (schema_faults : List Fault) (faults : List DocumentFault) : Type 0 where
   pub schema_documents : List Document
   pub executable_documents : List Document
   pub says : AreDividedDocumentsOf input schema_documents executable_documents
   pub schema : Schema
-  pub means : MeansSchema 0 false (list_of false schema_documents) schema
-  pub schema_are : schema_faults ≡ faults_of false (list_of false schema_documents)
-  pub typed : IsDocumentOf (Some schema) (executable_list executable_documents) document
+  pub means : MeansSchema 0 false (schema_list no_options schema_documents) schema
+  pub schema_are : schema_faults ≡ faults_of false (schema_list no_options schema_documents)
+  pub typed : IsDocumentOf (Some schema) (executable_list true executable_documents) document
   pub sources : document.sources ≡ all_sources executable_documents
-  pub are : faults ≡ document_faults (Some schema) (executable_list executable_documents)
+  pub are : faults ≡ document_faults (Some schema) (executable_list true executable_documents)
 
 -- why no document is built of an input: a line says nothing where it stands, none divides it, or the schema's extensions spend
 -- the numbers; want of memory says nothing
@@ -40,5 +36,5 @@ abbrev pub IsDocumentCause : List ℕ → Failure → Type 0
 IsDocumentCause input (failures.RefusedLine refused) = IsDividedReadError (lines_of input) (reading.Refused refused)
 IsDocumentCause input failures.NoDivision = IsDividedReadError (lines_of input) reading.NoDivision
 IsDocumentCause input failures.Memory = Unit {0}
-IsDocumentCause input failures.ExtensionIds = (schema : List Document) × ((executable : List Document) × (AreDividedDocumentsOf input schema executable × SpendsIds 0 false (list_of false schema)))
+IsDocumentCause input failures.ExtensionIds = (schema : List Document) × ((executable : List Document) × (AreDividedDocumentsOf input schema executable × SpendsIds 0 false (schema_list no_options schema)))
 IsDocumentCause input _ = ⊥

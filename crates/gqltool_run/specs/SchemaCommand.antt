@@ -4,12 +4,12 @@ use Rattle.apollo_schema.specs.declared.schema.Schema.{Schema}
 use Rattle.apollo_schema.specs.SchemaWriteOut.{write_schema}
 use Rattle.apollo_meaning.specs.Faults.Collisions.{Fault}
 use Rattle.bench_notation.specs.Text.{definitions_text}
-use Rattle.gqltool_run.specs.declared.schema_options.SchemaOptions.{SchemaOptions}
+use Rattle.apollo_compiler.specs.declared.compile_options.CompileOptions.{CompileOptions}
 use Rattle.gqltool_run.specs.Building.{IsBuilt}
 use Rattle.gqltool_run.specs.FaultLines.{AreFaultLines}
 
 -- the text is the print of the write-out of what the input means with these options, and then of its faults
-pub record IsAnswer (options : SchemaOptions) (input text : List ℕ) (has_faults : Bool) : Type 0 where
+pub record IsAnswer (options : CompileOptions) (input text : List ℕ) (has_faults : Bool) : Type 0 where
   pub schema : Schema
   pub faults : List Fault
   pub means : IsBuilt options input schema faults

@@ -6,6 +6,8 @@ use Rattle.gqltool_run.specs.declared.failure.Failure.{Failure}
 use Rattle.gqltool_run.specs.declared.failure.Failure.TheVariants as f
 use Rattle.gqltool_run.specs.declared.input.InputError.{InputError}
 use Rattle.gqltool_run.specs.declared.input.InputError.TheVariants as i
+use Rattle.apollo_compiler.specs.declared.compile_error.CompileError.{CompileError}
+use Rattle.apollo_compiler.specs.declared.compile_error.CompileError.TheVariants as e
 use Rattle.bench_notation.specs.declared.refusal.ReadError.{ReadError}
 use Rattle.bench_notation.specs.declared.refusal.ReadError.TheVariants as r
 
@@ -38,6 +40,11 @@ abbrev pub failure_of_read : ReadError → Failure
 failure_of_read (r.Refused line) = f.RefusedLine line
 failure_of_read r.NoDivision = f.NoDivision
 failure_of_read r.Memory = f.Memory
+
+-- why a run has nothing to write of whose input nothing was compiled
+abbrev pub failure_of_compiling : CompileError → Failure
+failure_of_compiling e.Memory = f.Memory
+failure_of_compiling e.ExtensionIds = f.ExtensionIds
 
 -- why a run has nothing to write whose input could not be had
 abbrev pub failure_of_input : InputError → Failure

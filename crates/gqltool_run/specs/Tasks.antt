@@ -2,9 +2,9 @@
 use Rattle.std.specs.Prelude.{◌≡◌, ◌⊎◌, ℕ, List, [], ◌∷◌, None, codes}
 use Rattle.apollo_coordinate.specs.CoordinateText.{IsCoordinateText, Says}
 use Rattle.apollo_coordinate.specs.Refusals.{without_at}
+use Rattle.apollo_compiler.specs.declared.compile_options.CompileOptions.{CompileOptions}
 use Rattle.gqltool_run.specs.declared.failure.Failure.{Failure}
 use Rattle.gqltool_run.specs.declared.failure.Failure.TheVariants as failures
-use Rattle.gqltool_run.specs.declared.schema_options.SchemaOptions.{SchemaOptions}
 use Rattle.gqltool_run.specs.declared.task.Task.{Task}
 use Rattle.gqltool_run.specs.declared.task.Task.TheVariants as tasks
 use Rattle.gqltool_run.specs.SchemaOptions.{AreSchemaWords}
@@ -34,7 +34,7 @@ Ask words tasks.Walk = AreWalkWords words
 
 -- these words are no command
 pub record AreNoCommand (words : List (List ℕ)) : Type 0 where
-  pub no_schema : (options : SchemaOptions) → ¬ AreSchemaWords words options
+  pub no_schema : (options : CompileOptions) → ¬ AreSchemaWords words options
   pub no_coord : (text : List ℕ) → ¬ AreCoordWords words text
   pub no_document : AreNoDocumentWords words
 

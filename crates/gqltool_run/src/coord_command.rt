@@ -1,7 +1,8 @@
 //! The command `coord`.
 ghost use Rattle.std.specs.Prelude.{◌≡◌, ℕ, ◌++◌, All, List, IfOk, IfErr, OnOk, string_bytes};
 ghost use Rattle.bench_notation.specs.Line.{IsLine, lines_of};
-ghost use Rattle.gqltool_run.specs.Building.{IsCause, no_options};
+ghost use Rattle.apollo_compiler.specs.Lists.{no_options};
+ghost use Rattle.gqltool_run.specs.Building.{IsCause};
 ghost use Rattle.gqltool_run.specs.CoordCommand.{IsCoordAnswer, IsFindingLine, coordinate_line, form_word, found_word};
 
 use crate::answer::Answer;
@@ -10,7 +11,7 @@ use crate::failure::Failure;
 use crate::fault_printing::push_faults;
 use crate::leaving::leave;
 use crate::output_line::push_line;
-use crate::schema_options::SchemaOptions;
+use apollo_compiler::compile_options::CompileOptions;
 use apollo_coordinate::coordinates::SchemaCoordinate;
 use apollo_coordinate::lookup_answers::SchemaCoordinateLookup;
 use apollo_schema::schema::Schema;
@@ -31,7 +32,7 @@ pub fn coord_answer(
     ensures means { IfOk result (λ answer. IsCoordAnswer coordinate.now input.now (string_bytes answer.text) answer.has_faults) }
     ensures causes { IfErr result (IsCause no_options input.now) }
 {
-    let (schema, faults) = build_input(alloc, keys, SchemaOptions::none(), input)?;
+    let (schema, faults) = build_input(alloc, keys, CompileOptions::none(), input)?;
     let mut text = String::new(alloc);
     push_coordinate(alloc, &mut text, coordinate)?;
     let is_found = push_finding(alloc, &mut text, coordinate, &schema)?;

@@ -1,23 +1,19 @@
 //! What the commands on executable documents build: the typed document of an input over its schema, and the faults of both.
-ghost use Rattle.std.specs.Prelude.{◌≡◌, ◌==◌, ◌&&◌, not, length, All, Some, IfOk, IfErr, OnOk};
+ghost use Rattle.std.specs.Prelude.{◌≡◌, ◌==◌, ◌&&◌, not, length, All, IfOk, IfErr, OnOk};
 ghost use Rattle.bench_notation.specs.Line.{IsLine, lines_of};
-ghost use Rattle.apollo_document.specs.DocumentFaults.{document_faults};
-ghost use Rattle.apollo_document.specs.Documents.{IsDocumentOf};
-ghost use Rattle.gqltool_run.specs.Building.{all_sources};
-ghost use Rattle.gqltool_run.specs.DocumentBuilding.{IsBuiltDocument, IsDocumentCause, executable_list};
+ghost use Rattle.gqltool_run.specs.DocumentBuilding.{IsBuiltDocument, IsDocumentCause};
 
-use crate::building::built;
 use crate::failure::Failure;
 use crate::leaving::leave;
-use crate::schema_options::SchemaOptions;
-use apollo_document::{ExecutableDocumentBuilder, Faults as DocumentFaults};
+use apollo_compiler::building::build_schema;
+use apollo_compiler::compile_options::CompileOptions;
+use apollo_compiler::document_building::build_executable_document;
+use apollo_document::Faults as DocumentFaults;
 use apollo_executable::document::ExecutableDocument;
 use apollo_meaning::build_error::Faults as SchemaFaults;
-use apollo_schema::schema::Schema;
 use bench_notation::reading::read_divided;
-use graphql_ast::document::Document;
 use graphql_nodes::collections::hash_keys::HashKeys;
-use std::alloc::{AllocError, Global};
+use std::alloc::Global;
 
 /// A typed document, with what is at fault in its schema and in itself.
 pub struct BuiltDocument {
@@ -58,13 +54,18 @@ pub fn build_document(alloc: Global, keys: HashKeys, input: &str) -> Result<Buil
     ensures causes { IfErr result (IsDocumentCause input.now) }
 {
     let documents = read_divided(alloc, input)?;
-    let (schema, schema_faults) = built(
+    let (schema, schema_faults) = build_schema(
         alloc,
         keys,
-        SchemaOptions::none(),
+        CompileOptions::none(),
         documents.schema.as_slice(),
     )?;
-    let (document, faults) = built_document(alloc, &schema, documents.executable.as_slice())?;
+    let (document, faults) = build_executable_document(
+        alloc,
+        &schema,
+        documents.executable.as_slice(),
+        true,
+    )?;
     leave(documents);
     leave(schema);
     Ok(BuiltDocument {
@@ -72,30 +73,4 @@ pub fn build_document(alloc: Global, keys: HashKeys, input: &str) -> Result<Buil
         schema_faults,
         faults,
     })
-}
-
-/// The typed document of these documents over a schema, and its faults: definitions of the type system are among them. The
-/// error is want of memory.
-pub fn built_document(
-    alloc: Global,
-    schema: &Schema,
-    documents: &[Document],
-) -> Result<(ExecutableDocument, DocumentFaults), AllocError>
-    ensures means { IfOk result (λ built. IsDocumentOf (Some schema.now) (executable_list documents.now) built.0) }
-    ensures sources { IfOk result (λ built. built.0.sources ≡ all_sources documents.now) }
-    ensures faults { IfOk result (λ built. built.1.items ≡ document_faults (Some schema.now) (executable_list documents.now)) }
-{
-    let mut builder = ExecutableDocumentBuilder::new(alloc, Some(schema));
-    for document in documents {
-        match builder.add_ast_document(document, true) {
-            Ok(()) => {}
-            // No earlier call was refused, so this is want of memory.
-            Err(_) => return Err(AllocError),
-        }
-    }
-    match builder.build() {
-        Ok(built) => Ok(built),
-        // No earlier call was refused.
-        Err(_) => unreachable!(),
-    }
 }

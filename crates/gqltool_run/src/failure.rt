@@ -2,6 +2,7 @@
 
 use crate::input::InputError;
 use crate::status::Status;
+use apollo_compiler::compile_error::CompileError;
 use bench_notation::refusal::{ReadError, RefusedLine};
 use graphql_nodes::name::InvalidNameError;
 use std::alloc::AllocError;
@@ -51,6 +52,20 @@ impl From<InputError> for Failure {
         match error {
             InputError::CannotRead => Failure::CannotRead,
             InputError::Memory => Failure::Memory,
+        }
+    }
+}
+
+impl From<CompileError> for Failure {
+    ghost use Rattle.std.specs.Prelude.{◌≡◌};
+    ghost use Rattle.gqltool_run.specs.Status.{failure_of_compiling};
+
+    ghost from_gives = { λ error failure. failure ≡ failure_of_compiling error };
+
+    fn from(error: CompileError) -> Failure {
+        match error {
+            CompileError::Memory => Failure::Memory,
+            CompileError::ExtensionIds => Failure::ExtensionIds,
         }
     }
 }

@@ -11,7 +11,7 @@ use crate::building::build_input;
 use crate::failure::Failure;
 use crate::fault_printing::push_faults;
 use crate::leaving::leave;
-use crate::schema_options::SchemaOptions;
+use apollo_compiler::compile_options::CompileOptions;
 use bench_notation::printing::print;
 use graphql_nodes::collections::hash_keys::HashKeys;
 use std::alloc::Global;
@@ -22,7 +22,7 @@ use std::alloc::Global;
 pub fn schema_answer(
     alloc: Global,
     keys: HashKeys,
-    options: SchemaOptions,
+    options: CompileOptions,
     input: &str,
 ) -> Result<Answer, Failure>
     ensures read { OnOk result (All IsLine (lines_of input.now)) }

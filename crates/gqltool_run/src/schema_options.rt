@@ -1,45 +1,25 @@
 //! The options of the command `schema`.
 ghost use Rattle.std.specs.Prelude.{MatchOption};
 ghost use Rattle.bench_notation.specs.Line.{texts_of};
+ghost use Rattle.apollo_compiler.specs.declared.compile_options.CompileOptions.{CompileOptions};
 ghost use Rattle.gqltool_run.specs.SchemaOptions.{AreOptions};
 
-/// What the options of the command `schema` say.
-#[derive(Debug, Clone, Copy, PartialEq, Eq)]
-pub struct SchemaOptions {
-    /// `--adopt`: an extension without a definition gets one.
-    pub adopt: bool,
-    /// `--ignore-builtin`: a further definition of a built-in type is passed over.
-    pub ignore_built_in: bool,
-}
+use apollo_compiler::compile_options::CompileOptions;
 
-impl SchemaOptions {
-    ghost use Rattle.std.specs.Prelude.{◌≡◌};
-    ghost use Rattle.gqltool_run.specs.Building.{no_options};
-
-    /// Neither option.
-    pub fn none() -> SchemaOptions
-        ensures { result ≡ no_options }
-    {
-        SchemaOptions {
-            adopt: false,
-            ignore_built_in: false,
-        }
-    }
-}
-
-/// The options that these words are, in any order, each at most once. No other words are options.
-pub fn read_options(words: &[&str]) -> Option<SchemaOptions>
-    ensures { MatchOption result ((options : SchemaOptions) → ¬ AreOptions (texts_of words.now) options) (AreOptions (texts_of words.now)) }
+/// The options that these words are, in any order, each at most once: `--adopt` is the first of them, and `--ignore-builtin` the
+/// second. No other words are options.
+pub fn read_options(words: &[&str]) -> Option<CompileOptions>
+    ensures { MatchOption result ((options : CompileOptions) → ¬ AreOptions (texts_of words.now) options) (AreOptions (texts_of words.now)) }
 {
-    let (adopt, ignore_built_in) = match words {
+    let (adopt_orphan_extensions, ignore_builtin_redefinitions) = match words {
         [] => (false, false),
         ["--adopt"] => (true, false),
         ["--ignore-builtin"] => (false, true),
         ["--adopt", "--ignore-builtin"] | ["--ignore-builtin", "--adopt"] => (true, true),
         _ => return None,
     };
-    Some(SchemaOptions {
-        adopt,
-        ignore_built_in,
+    Some(CompileOptions {
+        adopt_orphan_extensions,
+        ignore_builtin_redefinitions,
     })
 }

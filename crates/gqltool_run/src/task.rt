@@ -1,12 +1,14 @@
 //! What the words of the command line ask for.
 ghost use Rattle.std.specs.Prelude.{◌≡◌, ℕ, List, Err, IfErr, IfOk, MatchOption, OnOk};
 ghost use Rattle.bench_notation.specs.Line.{texts_of};
+ghost use Rattle.apollo_compiler.specs.declared.compile_options.CompileOptions.{CompileOptions};
 ghost use Rattle.apollo_coordinate.specs.CoordinateText.{IsCoordinateText, Says};
 ghost use Rattle.gqltool_run.specs.SchemaOptions.{AreSchemaWords};
 ghost use Rattle.gqltool_run.specs.Tasks.{AreCoordWords, AreNoCommand, AreNoDocumentWords, Ask, IsRefusalOf, IsTextRefusal};
 
 use crate::failure::Failure;
-use crate::schema_options::{SchemaOptions, read_options};
+use crate::schema_options::read_options;
+use apollo_compiler::compile_options::CompileOptions;
 use apollo_coordinate::coordinates::SchemaCoordinate;
 use apollo_coordinate::parse_error::SchemaCoordinateParseError;
 use std::alloc::Global;
@@ -15,7 +17,7 @@ use std::alloc::Global;
 #[derive(Debug, Drop)]
 pub enum Task {
     /// `schema` and its options: the schema of the input's documents, and its faults.
-    Schema(SchemaOptions),
+    Schema(CompileOptions),
     /// `coord` and a text: what its coordinate points to in the schema of the input's documents, and the schema's faults.
     Coord(SchemaCoordinate),
     /// `doc`: the typed document of the input's executable documents, and the faults of its schema and its own.
@@ -60,8 +62,8 @@ fn document_task(words: &[&str]) -> Option<Task>
 }
 
 /// The options of `schema`, where the words are this command.
-fn schema_options(words: &[&str]) -> Option<SchemaOptions>
-    ensures { MatchOption result ((options : SchemaOptions) → ¬ AreSchemaWords (texts_of words.now) options) (AreSchemaWords (texts_of words.now)) }
+fn schema_options(words: &[&str]) -> Option<CompileOptions>
+    ensures { MatchOption result ((options : CompileOptions) → ¬ AreSchemaWords (texts_of words.now) options) (AreSchemaWords (texts_of words.now)) }
 {
     match words {
         ["schema", options @ ..] => read_options(options),

@@ -1,7 +1,7 @@
 use Rattle.std.proofs.Common.{List, string_bytes, subst}
 use Rattle.graphql_ast.specs.declared.document.Document.{Document}
 use Rattle.apollo_schema.specs.MeantSchema.{MeansSchema}
-use Rattle.gqltool_run.specs.Building.{list_of}
+use Rattle.apollo_compiler.specs.Lists.{schema_list}
 use Rattle.gqlbench_run.specs.DocumentReports.{AreDocumentCounts}
 use Rattle.gqlbench_run.proofs.document_phases.document_report.Goals as goal
 
@@ -13,7 +13,7 @@ returns g c =
     let have = c.in_ok-take.ensures c.new-times.ensures in
     record {
       schema = schema;
-      means = subst (λ (ds : List Document). MeansSchema 0 options.adopt (list_of options.ignore_built_in ds) schema) c.as_slice.ensures.value c.in_ok-schema.ensures.means;
+      means = subst (λ (ds : List Document). MeansSchema 0 options.adopt_orphan_extensions (schema_list options ds) schema) c.as_slice.ensures.value c.in_ok-schema.ensures.means;
       counts = counts;
       counted = subst (λ (ds : List Document). AreDocumentCounts schema ds counts) c.as_slice-executable.ensures.value c.in_ok-text.ensures;
       lines = c.in_ok-push_lines.ensures.0;

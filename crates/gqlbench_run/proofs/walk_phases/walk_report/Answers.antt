@@ -1,9 +1,8 @@
-use Rattle.std.proofs.Common.{List, Some, ◌++◌, ap, subst, ◌∙◌}
+use Rattle.std.proofs.Common.{List, Some, true, ◌++◌, ap, subst, ◌∙◌}
 use Rattle.graphql_ast.specs.declared.document.Document.{Document}
 use Rattle.apollo_document.specs.Documents.{IsDocumentOf}
 use Rattle.apollo_schema.specs.MeantSchema.{MeansSchema}
-use Rattle.gqltool_run.specs.Building.{list_of}
-use Rattle.gqltool_run.specs.DocumentBuilding.{executable_list}
+use Rattle.apollo_compiler.specs.Lists.{executable_list, schema_list}
 use Rattle.gqlbench_run.proofs.walk_phases.walk_report.Goals as goal
 
 pub returns : goal.returns
@@ -15,9 +14,9 @@ returns g c =
     let have = c.in_ok-take.ensures c.in_ok-times.ensures in
     record {
       schema = schema;
-      means = subst (λ (ds : List Document). MeansSchema 0 options.adopt (list_of options.ignore_built_in ds) schema) c.as_slice-schema_documents.ensures.value c.in_ok-schema.ensures.means;
+      means = subst (λ (ds : List Document). MeansSchema 0 options.adopt_orphan_extensions (schema_list options ds) schema) c.as_slice-schema_documents.ensures.value c.in_ok-schema.ensures.means;
       document = document;
-      built = subst (λ (ds : List Document). IsDocumentOf (Some schema) (executable_list ds) document) c.as_slice.ensures.value c.in_ok-document.ensures.means;
+      built = subst (λ (ds : List Document). IsDocumentOf (Some schema) (executable_list true ds) document) c.as_slice.ensures.value c.in_ok-document.ensures.means;
       root_fields = c.take.new.self.root_fields;
       root = have.root_fields;
       all_fields = c.take.new.self.all_fields;
