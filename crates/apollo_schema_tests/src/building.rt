@@ -113,8 +113,7 @@ fn push_written(
 }
 
 /// The write-out of a schema as one document.
-/// No clause: it serves tests.
-pub fn write_out(alloc: Global, schema: &Schema) -> Result<Document, AllocError> {
+fn write_out(alloc: Global, schema: &Schema) -> Result<Document, AllocError> {
     Ok(Document {
         sources: Table::new(alloc),
         definitions: Items::from_vec(schema.to_ast(alloc)?),

@@ -35,10 +35,6 @@ mod parts;
 #[cfg(test)]
 mod rearranging;
 #[cfg(test)]
-mod rebuilding;
-#[cfg(test)]
-mod rebuilt_by_calls;
-#[cfg(test)]
 mod roots;
 #[cfg(test)]
 mod types;

@@ -1,11 +1,8 @@
-//! Whether write-outs, built again with adoption, are without fault, build equal schemas and are written out the same.
+//! Whether what documents are compiled to is rebuilt without fault, equal and written out the same.
 
-use crate::building::{ADOPTING, PLAIN, Settings, View, begun, schema_in, show, write_out};
-use apollo_schema::build_failure::BuildFailure;
-use apollo_schema::schema::Schema;
+use apollo_compiler::{CompileOptions, Compiled, Definition, Document, compile};
 use bench_notation::printing::print;
 use bench_notation::reading::read;
-use graphql_ast::document::Document;
 use std::alloc::{AllocError, Global};
 use std::process::Abort;
 use std::test::Fail;
@@ -13,145 +10,82 @@ use std::test::Fail;
 /// What is said of a rebuild without fault, of an equal schema with the same write-out.
 pub const EQUAL: &str = "no fault: true\nequal: true\nsame definitions: true\nsame text: true\n";
 
-fn printed(alloc: Global, document: &Document) -> Result<String, AllocError> {
-    print(alloc, document.definitions.as_slice())
-}
+pub const PLAIN: CompileOptions = CompileOptions {
+    adopt_orphan_extensions: false,
+    ignore_builtin_redefinitions: false,
+};
 
-/// A view of the rebuild that compares it with a schema and its write-out.
-#[derive(Drop)]
-struct Rebuild<'a> {
+const ADOPTING: CompileOptions = CompileOptions {
+    adopt_orphan_extensions: true,
+    ignore_builtin_redefinitions: false,
+};
+
+const IGNORING: CompileOptions = CompileOptions {
+    adopt_orphan_extensions: false,
+    ignore_builtin_redefinitions: true,
+};
+
+const BOTH: CompileOptions = CompileOptions {
+    adopt_orphan_extensions: true,
+    ignore_builtin_redefinitions: true,
+};
+
+/// Whether these are printed alike.
+fn are_printed_alike(
     alloc: Global,
-    schema: &'a Schema,
-    written: &'a Document,
-    text: &'a mut String,
+    first: &[Definition],
+    second: &[Definition],
+) -> Result<bool, AllocError> {
+    let first = print(alloc, first)?;
+    let second = print(alloc, second)?;
+    Ok(first.as_str() == second.as_str())
 }
 
-impl<'a> Rebuild<'a> {
-    fn push_text(&mut self, again: &Document) -> Result<(), AllocError> {
-        let before = printed(self.alloc, self.written)?;
-        let after = printed(self.alloc, again)?;
-        let is_same = before.as_str() == after.as_str();
-        write!(self.text, "same text: {is_same}\n")
-    }
-
-    fn push_write_outs(&mut self, rebuilt: &Schema) -> Result<(), AllocError> {
-        let again = write_out(self.alloc, rebuilt)?;
-        let is_same = again == *self.written;
-        write!(self.text, "same definitions: {is_same}\n")?;
-        self.push_text(&again)
-    }
-}
-
-impl<'a> View for Rebuild<'a> {
-    fn view(&mut self, built: &Result<Schema, BuildFailure>, _next: u64) -> Result<(), AllocError> {
-        let is_faultless = built.is_ok();
-        write!(self.text, "no fault: {is_faultless}\n")?;
-        let Some(rebuilt) = schema_in(built) else {
-            return Ok(());
-        };
-        let is_equal = *rebuilt == *self.schema;
-        write!(self.text, "equal: {is_equal}\n")?;
-        self.push_write_outs(rebuilt)
-    }
-}
-
-/// Adds what is said of the schema that the write-out of a schema builds.
-fn push_rebuild(
-    alloc: Global,
-    text: &mut String,
-    schema: &Schema,
-    written: &Document,
-) -> Result<(), AllocError> {
-    let mut builder = begun(alloc, ADOPTING)?;
-    // After a refusal no schema is built.
-    let _ = builder.add_ast(written);
-    let mut rebuild = Rebuild {
+fn push_rebuilt(alloc: Global, text: &mut String, compiled: &Compiled) -> Result<(), AllocError> {
+    let is_faultless = compiled.rebuilt_faults.is_empty();
+    let is_equal = compiled.rebuilt == compiled.schema;
+    let is_same = compiled.rebuilt_ast == compiled.ast;
+    let is_printed_so = are_printed_alike(
         alloc,
-        schema,
-        written,
+        compiled.rebuilt_ast.as_slice(),
+        compiled.ast.as_slice(),
+    )?;
+    write!(text, "no fault: {is_faultless}\nequal: {is_equal}\n")?;
+    write!(
         text,
-    };
-    show(&mut rebuild, builder)
+        "same definitions: {is_same}\nsame text: {is_printed_so}\n"
+    )
 }
 
-/// A view of the first build that adds what is said of the rebuild.
-#[derive(Drop)]
-struct First<'a> {
-    alloc: Global,
-    text: &'a mut String,
-}
-
-impl<'a> View for First<'a> {
-    fn view(&mut self, built: &Result<Schema, BuildFailure>, _next: u64) -> Result<(), AllocError> {
-        let Some(schema) = schema_in(built) else {
-            return self.text.push_str("not built\n");
-        };
-        let written = write_out(self.alloc, schema)?;
-        push_rebuild(self.alloc, self.text, schema, &written)
-    }
-}
-
-/// How the first build takes further definitions of built-in types.
-#[derive(Clone, Copy)]
-pub enum BuiltInTypes {
-    Faulty,
-    Ignored,
-}
-
-/// Adds what is said of the rebuild of a document.
-fn push_document(
-    alloc: Global,
-    text: &mut String,
-    settings: Settings,
-    built_in_types: BuiltInTypes,
-    document: &Document,
-) -> Result<(), AllocError> {
-    let begun = begun(alloc, settings)?;
-    let mut builder = match built_in_types {
-        BuiltInTypes::Faulty => begun,
-        BuiltInTypes::Ignored => begun.ignore_builtin_redefinitions(),
-    };
-    // After a refusal no schema is built.
-    let _ = builder.add_ast(document);
-    show(&mut First { alloc, text }, builder)
-}
-
-/// What is said of the rebuild of a document.
+/// What is said of the rebuild of what documents are compiled to.
 /// No clause: it serves tests.
 pub fn told_of(
     alloc: Global,
-    settings: Settings,
-    built_in_types: BuiltInTypes,
-    document: &Document,
+    options: CompileOptions,
+    documents: &[Document],
 ) -> Result<String, AllocError> {
     let mut text = String::new(alloc);
-    push_document(alloc, &mut text, settings, built_in_types, document)?;
+    match compile(alloc, options, documents, &[], true) {
+        Ok(compiled) => push_rebuilt(alloc, &mut text, &compiled)?,
+        Err(error) => write!(&mut text, "{error}\n")?,
+    }
     Ok(text)
 }
 
-/// What is said of the rebuild of the document that a text says.
-fn told(
-    alloc: Global,
-    settings: Settings,
-    built_in_types: BuiltInTypes,
-    input: &str,
-) -> Result<String, Fail> {
+/// What is said of the rebuild of the documents that a text says.
+fn told(alloc: Global, options: CompileOptions, input: &str) -> Result<String, Fail> {
     let documents = read(alloc, input)?;
-    match documents.get(0) {
-        Some(document) => Ok(told_of(alloc, settings, built_in_types, document)?),
-        None => Ok(String::new(alloc)),
-    }
+    Ok(told_of(alloc, options, documents.as_slice())?)
 }
 
 /// Expects each input's write-out to build an equal schema, without fault, with the same write-out.
 fn expect_each(
     rt: &(impl Abort + AllocGlobal),
-    settings: Settings,
-    built_in_types: BuiltInTypes,
+    options: CompileOptions,
     inputs: &[(&str, &str)],
 ) -> Result<(), Fail> {
     for (title, input) in inputs {
-        let text = told(rt.alloc(), settings, built_in_types, *input)?;
+        let text = told(rt.alloc(), options, *input)?;
         assert_eq!(rt; text.as_str(), EQUAL, "{title:?}");
     }
     Ok(())
@@ -246,7 +180,7 @@ const BUILT_PLAINLY: [(&str, &str); 23] = [
 
 #[test]
 fn plain_builds_are_rebuilt_equal(rt: HostRuntime) -> Result<(), Fail> {
-    expect_each(&rt, PLAIN, BuiltInTypes::Faulty, &BUILT_PLAINLY)
+    expect_each(&rt, PLAIN, &BUILT_PLAINLY)
 }
 
 /// Inputs that are built with adoption, each with what it shows.
@@ -284,22 +218,22 @@ const BUILT_WITH_ADOPTION: [(&str, &str); 8] = [
 
 #[test]
 fn adopting_builds_are_rebuilt_equal(rt: HostRuntime) -> Result<(), Fail> {
-    expect_each(&rt, ADOPTING, BuiltInTypes::Faulty, &BUILT_WITH_ADOPTION)
+    expect_each(&rt, ADOPTING, &BUILT_WITH_ADOPTION)
 }
 
 #[test]
 fn the_same_without_adoption_is_rebuilt_equal(rt: HostRuntime) -> Result<(), Fail> {
-    expect_each(&rt, PLAIN, BuiltInTypes::Faulty, &BUILT_WITH_ADOPTION)
+    expect_each(&rt, PLAIN, &BUILT_WITH_ADOPTION)
 }
 
 #[test]
 fn with_ignored_built_in_types_builds_are_rebuilt_equal(rt: HostRuntime) -> Result<(), Fail> {
-    expect_each(&rt, PLAIN, BuiltInTypes::Ignored, &BUILT_PLAINLY)
+    expect_each(&rt, IGNORING, &BUILT_PLAINLY)
 }
 
 #[test]
 fn under_both_options_builds_are_rebuilt_equal(rt: HostRuntime) -> Result<(), Fail> {
-    expect_each(&rt, ADOPTING, BuiltInTypes::Ignored, &BUILT_PLAINLY)
+    expect_each(&rt, BOTH, &BUILT_PLAINLY)
 }
 
 /// How many extensions there are of one type.
@@ -319,7 +253,7 @@ fn with_many_extensions(alloc: Global) -> Result<String, AllocError> {
 #[test]
 fn many_extensions_are_rebuilt_equal(rt: HostRuntime) -> Result<(), Fail> {
     let input = with_many_extensions(rt.alloc())?;
-    let text = told(rt.alloc(), PLAIN, BuiltInTypes::Faulty, input.as_str())?;
+    let text = told(rt.alloc(), PLAIN, input.as_str())?;
     assert_eq!(rt; text.as_str(), EQUAL);
     Ok(())
 }
@@ -327,7 +261,7 @@ fn many_extensions_are_rebuilt_equal(rt: HostRuntime) -> Result<(), Fail> {
 #[test]
 fn a_schema_definition_without_a_root_is_not_rebuilt_equal(rt: HostRuntime) -> Result<(), Fail> {
     let input = "schema\n@ d\ndirective d\non SCHEMA\ndef object Query\nfield a Int";
-    let text = told(rt.alloc(), PLAIN, BuiltInTypes::Faulty, input)?;
+    let text = told(rt.alloc(), PLAIN, input)?;
     assert_eq!(rt;
         text.as_str(),
         "no fault: true\nequal: false\nsame definitions: true\nsame text: true\n"

@@ -1,12 +1,12 @@
 //! Rebuilds of what the notation can't say: arguments of directives, and names that are no names of GraphQL.
 
-use crate::building::PLAIN;
-use crate::rebuilding::{BuiltInTypes, EQUAL, told_of};
+use crate::rebuilt::{EQUAL, PLAIN, told_of};
 use graphql_ast::{
     Argument, Directive, Document, FieldDefinition, Name, Node, ObjectTypeDefinition,
     ObjectTypeExtension, Type, Value,
 };
 use std::alloc::{AllocError, Global};
+use std::slice;
 use std::test::Fail;
 
 fn name(alloc: Global, text: &str) -> Result<Name, AllocError> {
@@ -66,7 +66,7 @@ fn products(alloc: Global) -> Result<Document, AllocError> {
 #[test]
 fn arguments_of_directives_are_rebuilt_equal(rt: HostRuntime) -> Result<(), Fail> {
     let document = products(rt.alloc())?;
-    let text = told_of(rt.alloc(), PLAIN, BuiltInTypes::Faulty, &document)?;
+    let text = told_of(rt.alloc(), PLAIN, slice::from_ref(&document))?;
     assert_eq!(rt; text.as_str(), EQUAL);
     Ok(())
 }
@@ -93,7 +93,7 @@ fn unchecked_names(alloc: Global) -> Result<Document, AllocError> {
 #[test]
 fn names_that_are_not_checked_are_rebuilt_equal(rt: HostRuntime) -> Result<(), Fail> {
     let document = unchecked_names(rt.alloc())?;
-    let text = told_of(rt.alloc(), PLAIN, BuiltInTypes::Faulty, &document)?;
+    let text = told_of(rt.alloc(), PLAIN, slice::from_ref(&document))?;
     assert_eq!(rt; text.as_str(), EQUAL);
     Ok(())
 }

@@ -1,0 +1,26 @@
+//! Tests of documents that are compiled, of what no clause says: that calls succeed with memory; and of the programs `gqltool` and
+//! `gqlbench`, of what rows can't say.
+#![tactic(auto)]
+
+#[cfg(test)]
+mod clocks;
+#[cfg(test)]
+mod compiled;
+#[cfg(test)]
+mod failures;
+#[cfg(test)]
+mod hash_keys;
+#[cfg(test)]
+mod many_extensions;
+#[cfg(test)]
+mod rebuilt;
+#[cfg(test)]
+mod rebuilt_by_calls;
+#[cfg(test)]
+mod runs;
+#[cfg(test)]
+mod sources;
+#[cfg(test)]
+mod streams;
+#[cfg(test)]
+mod summaries;
