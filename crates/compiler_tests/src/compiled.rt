@@ -25,11 +25,27 @@ fn push_parts(alloc: Global, text: &mut String, compiled: &Compiled) -> Result<(
     let faults = compiled.schema_faults.len();
     push_part(alloc, text, "schema", compiled.ast.as_slice(), faults)?;
     let faults = compiled.rebuilt_faults.len();
-    push_part(alloc, text, "rebuilt", compiled.rebuilt_ast.as_slice(), faults)?;
+    push_part(
+        alloc,
+        text,
+        "rebuilt",
+        compiled.rebuilt_ast.as_slice(),
+        faults,
+    )?;
     let faults = compiled.document_faults.len();
-    push_part(alloc, text, "document", compiled.erased.definitions.as_slice(), faults)?;
+    push_part(
+        alloc,
+        text,
+        "document",
+        compiled.erased.definitions.as_slice(),
+        faults,
+    )?;
     let is_equal = compiled.rebuilt == compiled.schema;
-    let roots = compiled.rebuilt.schema_definition.iter_root_operations().len();
+    let roots = compiled
+        .rebuilt
+        .schema_definition
+        .iter_root_operations()
+        .len();
     let directives = compiled.rebuilt.schema_definition.directives.len();
     let operations = compiled.document.operations.len();
     write!(

@@ -1,5 +1,6 @@
-//! What the commands build: the schema of the documents of an input, and its faults.
-ghost use Rattle.std.specs.Prelude.{All, IfOk, IfErr, OnOk};
+//! What the commands build: the schema of the documents of an input, and its faults; and what they are compiled to.
+ghost use Rattle.std.specs.Prelude.{◌≡◌, All, IfOk, IfErr, OnOk};
+ghost use Rattle.apollo_schema.specs.SchemaWriteOut.{write_schema};
 ghost use Rattle.bench_notation.specs.Line.{IsLine, lines_of};
 ghost use Rattle.gqltool_run.specs.Building.{IsBuilt, IsCause};
 
@@ -7,6 +8,8 @@ use crate::failure::Failure;
 use crate::leaving::leave;
 use apollo_compiler::building::build_schema;
 use apollo_compiler::compile_options::CompileOptions;
+use apollo_compiler::compiled::Compiled;
+use apollo_compiler::compiling::compile_with_keys;
 use apollo_meaning::build_error::Faults;
 use apollo_schema::schema::Schema;
 use bench_notation::reading::read;
@@ -31,4 +34,24 @@ pub fn build_input(
     let built = build_schema(alloc, keys, options, documents.as_slice())?;
     leave(documents);
     Ok(built)
+}
+
+/// What the documents of an input are compiled to with these options, without executable documents.
+///
+/// The errors are those of [`build_input`].
+pub fn compile_input(
+    alloc: Global,
+    keys: HashKeys,
+    options: CompileOptions,
+    input: &str,
+) -> Result<Compiled, Failure>
+    ensures read { OnOk result (All IsLine (lines_of input.now)) }
+    ensures means { IfOk result (λ compiled. IsBuilt options input.now compiled.schema compiled.schema_faults.items) }
+    ensures ast { IfOk result (λ compiled. compiled.ast.items ≡ write_schema compiled.schema) }
+    ensures causes { IfErr result (IsCause options input.now) }
+{
+    let documents = read(alloc, input)?;
+    let compiled = compile_with_keys(alloc, keys, options, documents.as_slice(), &[], true)?;
+    leave(documents);
+    Ok(compiled)
 }

@@ -156,7 +156,7 @@ fn run_task<O: Write, E: Write>(
 /// The answer to what was asked and an input.
 ///
 /// The errors are those of [`build_input`](crate::building::build_input), and of `doc` and `walk` those of
-/// [`build_document`](crate::document_building::build_document).
+/// [`compile_documents`](crate::document_building::compile_documents).
 fn answer_task(alloc: Global, keys: HashKeys, task: &Task, input: &str) -> Result<Answer, Failure>
     ensures read { OnOk result (All IsLine (lines_of input.now)) }
     ensures means { IfOk result (λ answer. IsAnswerOf task.now input.now (string_bytes answer.text) answer.has_faults) }

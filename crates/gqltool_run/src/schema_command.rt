@@ -7,7 +7,7 @@ ghost use Rattle.gqltool_run.specs.Building.{IsCause};
 ghost use Rattle.gqltool_run.specs.SchemaCommand.{IsAnswer};
 
 use crate::answer::Answer;
-use crate::building::build_input;
+use crate::building::compile_input;
 use crate::failure::Failure;
 use crate::fault_printing::push_faults;
 use crate::leaving::leave;
@@ -18,7 +18,7 @@ use std::alloc::Global;
 
 /// The answer of `schema` with these options to an input: the print of the write-out, and then a line for each fault.
 ///
-/// The errors are those of [`build_input`].
+/// The errors are those of [`compile_input`].
 pub fn schema_answer(
     alloc: Global,
     keys: HashKeys,
@@ -30,14 +30,13 @@ pub fn schema_answer(
     ensures printed { IfOk result (λ answer. answer.has_faults ≡ false → (definitions : List Definition) × (string_bytes answer.text ≡ definitions_text definitions)) }
     ensures causes { IfErr result (IsCause options input.now) }
 {
-    let (schema, faults) = build_input(alloc, keys, options, input)?;
-    let written = schema.to_ast(alloc)?;
-    let mut text = print(alloc, written.as_slice())?;
-    push_faults(alloc, &mut text, faults.as_slice())?;
-    leave(written);
-    leave(schema);
-    Ok(Answer {
+    let compiled = compile_input(alloc, keys, options, input)?;
+    let mut text = print(alloc, compiled.ast.as_slice())?;
+    push_faults(alloc, &mut text, compiled.schema_faults.as_slice())?;
+    let answer = Answer {
         text,
-        has_faults: !faults.is_empty(),
-    })
+        has_faults: !compiled.schema_faults.is_empty(),
+    };
+    leave(compiled);
+    Ok(answer)
 }

@@ -7,7 +7,7 @@ ghost use Rattle.gqltool_run.specs.DocumentBuilding.{IsDocumentCause};
 ghost use Rattle.gqltool_run.specs.WalkCommand.{AreSetsText, AreWalksText, IsAdded, IsSetText, IsWalkAnswer, IsWalkText, fragment_set, operation_line, operation_set, turns_line};
 
 use crate::answer::Answer;
-use crate::document_building::build_document;
+use crate::document_building::{compile_documents, has_faults};
 use crate::failure::Failure;
 use crate::fault_printing::push_faults;
 use crate::leaving::leave;
@@ -21,22 +21,22 @@ use std::alloc::{AllocError, Global};
 /// The answer of `walk` to an input: for each operation and then each fragment of the typed document the lines of its walks,
 /// then a line for each fault of the schema, and then one for each fault of the document.
 ///
-/// The errors are those of [`build_document`].
+/// The errors are those of [`compile_documents`].
 pub fn walk_answer(alloc: Global, keys: HashKeys, input: &str) -> Result<Answer, Failure>
     ensures read { OnOk result (All IsLine (lines_of input.now)) }
     ensures means { IfOk result (λ answer. IsWalkAnswer input.now (string_bytes answer.text) answer.has_faults) }
     ensures causes { IfErr result (IsDocumentCause input.now) }
 {
-    let built = build_document(alloc, keys, input)?;
+    let compiled = compile_documents(alloc, keys, input)?;
     let mut text = String::new(alloc);
-    push_walks(alloc, &mut text, &built.document)?;
-    push_faults(alloc, &mut text, built.schema_faults.as_slice())?;
-    push_faults(alloc, &mut text, built.faults.as_slice())?;
+    push_walks(alloc, &mut text, &compiled.document)?;
+    push_faults(alloc, &mut text, compiled.schema_faults.as_slice())?;
+    push_faults(alloc, &mut text, compiled.document_faults.as_slice())?;
     let answer = Answer {
         text,
-        has_faults: built.has_faults(),
+        has_faults: has_faults(&compiled),
     };
-    leave(built);
+    leave(compiled);
     Ok(answer)
 }
 

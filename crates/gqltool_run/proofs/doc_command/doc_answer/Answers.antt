@@ -7,16 +7,16 @@ use Rattle.gqltool_run.proofs.doc_command.doc_answer.Goals as goal
 
 pub returns-clause-means : goal.returns-clause-means
 returns-clause-means c =
-    let built = c.in_ok-built.built in
+    let compiled = c.in_ok-compiled.compiled in
     let schema_lines = c.in_ok-push_faults.ensures.0 in
     let lines = c.in_ok-push_faults-2.ensures.0 in
-    let print = c.in_ok-text.ensures ∙ ap definitions_text (c.as_slice.ensures ∙ ap (λ d. d.definitions) c.in_ok-written.ensures) in
+    let print = c.in_ok-text.ensures ∙ ap definitions_text (c.as_slice.ensures ∙ ap (λ d. d.definitions) c.in_ok-compiled.ensures.erased) in
     let first = c.in_ok-push_faults.ensures.1.0 ∙ ap (λ l. l ++ schema_lines) print in
     record {
-      document = built.document;
-      schema_faults = built.schema_faults.items;
-      faults = built.faults.items;
-      means = c.in_ok-built.ensures.means;
+      document = compiled.document;
+      schema_faults = compiled.schema_faults.items;
+      faults = compiled.document_faults.items;
+      means = c.in_ok-compiled.ensures.means;
       schema_lines = schema_lines;
       lines = lines;
       prints = c.in_ok-push_faults-2.ensures.1.0 ∙ ap (λ l. l ++ lines) first ∙ append_assoc _ schema_lines lines;

@@ -10,30 +10,31 @@ use Rattle.gqltool_run.proofs.schema_command.schema_answer.Goals as goal
 
 pub returns-clause-means : goal.returns-clause-means
 returns-clause-means c =
-    let schema = c.in_ok-schema.schema in
+    let compiled = c.in_ok-compiled.compiled in
     let lines = c.in_ok-push_faults.ensures.0 in
-    let len : vec_len c.in_ok-schema.faults ≡ length c.as_slice-2.result.now = sym c.as_slice-2.ensures.len in
+    let len : vec_len compiled.schema_faults ≡ length c.as_slice-2.result.now = sym c.as_slice-2.ensures.len in
     let faults = c.as_slice-2.ensures.value in
     record {
-      schema = schema;
-      faults = c.in_ok-schema.faults.items;
-      means = c.in_ok-schema.ensures.means;
+      schema = compiled.schema;
+      faults = compiled.schema_faults.items;
+      means = c.in_ok-compiled.ensures.means;
       lines = lines;
-      prints = c.in_ok-push_faults.ensures.1.0 ∙ ap (λ l. l ++ lines) (c.in_ok-text.ensures ∙ ap definitions_text (c.as_slice.ensures.value ∙ c.in_ok-written.ensures));
+      prints = c.in_ok-push_faults.ensures.1.0 ∙ ap (λ l. l ++ lines) (c.in_ok-text.ensures ∙ ap definitions_text (c.as_slice.ensures.value ∙ c.in_ok-compiled.ensures.ast));
       tells = subst (λ (l : List Fault). AreFaultLines l lines) faults c.in_ok-push_faults.ensures.1.1;
       any = ap not (c.is_empty.ensures ∙ ap (λ (n : ℕ). n == 0) len ∙ ap (λ (l : List Fault). length l == 0) faults);
     }
 
 pub returns-clause-printed : goal.returns-clause-printed
 returns-clause-printed c = λ none.
+    let compiled = c.in_ok-compiled.compiled in
     let lines = c.in_ok-push_faults.ensures.0 in
-    let len : vec_len c.in_ok-schema.faults ≡ length c.as_slice-2.result.now = sym c.as_slice-2.ensures.len in
+    let len : vec_len compiled.schema_faults ≡ length c.as_slice-2.result.now = sym c.as_slice-2.ensures.len in
     let empty : (length c.as_slice-2.result.now == 0) ≡ true = ap (λ (n : ℕ). n == 0) (sym len) ∙ sym c.is_empty.ensures ∙ not-false c.is_empty.result none in (
-      write_schema c.in_ok-schema.schema,
+      write_schema compiled.schema,
       c.in_ok-push_faults.ensures.1.0
-          ∙ (λ i. (c.in_ok-text.ensures ∙ ap definitions_text (c.as_slice.ensures.value ∙ c.in_ok-written.ensures)) i
+          ∙ (λ i. (c.in_ok-text.ensures ∙ ap definitions_text (c.as_slice.ensures.value ∙ c.in_ok-compiled.ensures.ast)) i
           ++ no-lines c.as_slice-2.result.now lines empty c.in_ok-push_faults.ensures.1.1 i)
-          ∙ append-nil (definitions_text (write_schema c.in_ok-schema.schema)),
+          ∙ append-nil (definitions_text (write_schema compiled.schema)),
     )
 
 pub returns-in_err-text-clause-causes : goal.returns-in_err-text-clause-causes

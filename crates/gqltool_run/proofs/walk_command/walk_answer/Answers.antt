@@ -6,7 +6,7 @@ use Rattle.gqltool_run.proofs.walk_command.walk_answer.Goals as goal
 
 pub returns-clause-means : goal.returns-clause-means
 returns-clause-means c =
-    let built = c.in_ok-built.built in
+    let compiled = c.in_ok-compiled.compiled in
     let walks = c.in_ok-push_walks.ensures in
     let schema_lines = c.in_ok-push_faults.ensures.0 in
     let lines = c.in_ok-push_faults-2.ensures.0 in
@@ -14,10 +14,10 @@ returns-clause-means c =
     let text = walks.1.0 ∙ ap (λ l. l ++ walks.0) none in
     let first = c.in_ok-push_faults.ensures.1.0 ∙ ap (λ l. l ++ schema_lines) text in
     record {
-      document = built.document;
-      schema_faults = built.schema_faults.items;
-      faults = built.faults.items;
-      means = c.in_ok-built.ensures.means;
+      document = compiled.document;
+      schema_faults = compiled.schema_faults.items;
+      faults = compiled.document_faults.items;
+      means = c.in_ok-compiled.ensures.means;
       walks = walks.0;
       walk = walks.1.1;
       schema_lines = schema_lines;

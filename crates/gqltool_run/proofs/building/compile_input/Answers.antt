@@ -1,0 +1,32 @@
+use Rattle.std.proofs.Common.{[], true, List, subst}
+use Rattle.std.proofs.lemmas.Result.{err_from_is_err_and}
+use Rattle.graphql_ast.specs.declared.document.Document.{Document}
+use Rattle.apollo_meaning.specs.Order.SpentIds.{SpendsIds}
+use Rattle.apollo_compiler.specs.Compilation.{IsCompiled}
+use Rattle.apollo_compiler.specs.Lists.{schema_list}
+use Rattle.gqltool_run.proofs.CauseLemmas.{compiling-cause}
+use Rattle.gqltool_run.proofs.building.compile_input.Goals as goal
+
+pub returns-clause-means : goal.returns-clause-means
+returns-clause-means c =
+    let compiled = c.in_ok-compiled.compiled in
+    let documents = c.in_ok-documents.documents.items in
+    let is : IsCompiled c.args.options documents [] true compiled = subst (λ (ds : List Document). IsCompiled c.args.options ds [] true compiled) c.as_slice.ensures.value c.in_ok-compiled.ensures.compiled in
+    record {
+      documents = documents;
+      says = c.in_ok-documents.ensures.said;
+      means = is.schema;
+      sources = is.schema_sources;
+      are = is.schema_faults;
+    }
+
+pub returns-clause-ast : goal.returns-clause-ast
+returns-clause-ast c = c.in_ok-compiled.ensures.compiled.ast
+
+pub returns-in_err-compiled-clause-causes : goal.returns-in_err-compiled-clause-causes
+returns-in_err-compiled-clause-causes c =
+    let exit = err_from_is_err_and c.from_residual-in_err-compiled.result c.from_residual-in_err-compiled.ensures.1 in
+    let options = c.args.options in
+    let said = c.in_ok-documents.ensures in
+    rw (exit.1, exit.2) (compiling-cause options c.args.input.now c.in_ok-documents.documents.items c.in_err-compiled.field-0.0 said.said
+    (λ spent. subst (λ (ds : List Document). SpendsIds 0 options.adopt_orphan_extensions (schema_list options ds)) c.as_slice.ensures.value (c.in_err-compiled.ensures.spent cc)))
