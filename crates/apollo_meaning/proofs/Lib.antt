@@ -3,4 +3,5 @@ pub mod ErrorEquality
 pub mod Faults
 pub mod Items
 pub mod Order
+pub mod Schema
 pub mod Types

@@ -3,7 +3,7 @@ ghost use Rattle.std.specs.Prelude.{◌≡◌, ◌≤◌, ◌+◌, ℕ, Bool, Li
 ghost use Rattle.std.specs.Cmp.{IsEquivalence};
 ghost use Rattle.apollo_meaning.specs.Items.Parts.{TypePart, SchemaPart, kind_of, key_of, Root, roots_in};
 ghost use Rattle.apollo_meaning.specs.Items.ListItems.{ListItem, Added, added, added_items};
-ghost use Rattle.apollo_meaning.specs.Items.Named.{first, extensions_of, of_kind, schema_extensions};
+ghost use Rattle.apollo_meaning.specs.Items.Named.{first, extensions_of, of_kind, first_schema, schema_extensions};
 ghost use Rattle.apollo_meaning.specs.Order.Places.{Placed, types, schemas, extension_places, first_place, times_met, once_if_defined, folding_order};
 ghost use Rattle.apollo_meaning.specs.Types.Meaning.{sourced, type_of};
 ghost use Rattle.apollo_meaning.specs.Schema.Whole.{whole, folds};
@@ -16,7 +16,7 @@ ghost use Rattle.apollo_meaning.specs.Faults.ListFaults.{faults_of, found_of_typ
 ghost use Rattle.apollo_meaning.specs.Rows.FaultRows.{faulty_list, its_faults};
 ghost use Rattle.apollo_meaning.specs.Completion.Adoption.{adopted, with_adopted};
 ghost use Rattle.apollo_meaning.specs.Completion.OrphanNames.{orphan_names};
-ghost use Rattle.apollo_meaning.specs.Schema.Definition.{schema_of};
+ghost use Rattle.apollo_meaning.specs.Schema.Definition.{schema_of, schema_sourced};
 ghost use Rattle.apollo_meaning.specs.Rows.SchemaRows.{type_name_of, extensions_alone, adopted_schema, adopted_faults, orphan_faults, query_type_alone, implied_query, schema_extensions_that_wait, waited_for_schema, dropped_root_fault, built_in_int, int_again, redefinition_fault};
 ghost use Rattle.apollo_built_in.specs.BuiltInTable.{built_in_definitions};
 ghost use Rattle.apollo_meaning.specs.Rows.BuiltInNames.{defined_names, component_names, Distinct};
@@ -35,6 +35,13 @@ use crate::build_error::BuildError;
 pub fn folded_extensions()
     ensures { (start : ℕ) (xs : List ListItem) (n : List ℕ) (d : TypePart) → first xs n ≡ Some d
         → map (λ s. s.1) (sourced n start (folding_order xs)) ≡ of_kind (kind_of d) (extensions_of xs n) }
+{}
+
+/// The extensions that are folded for the schema, once it has a definition, are all of its extensions, in the order of the
+/// list: GraphQL specification of October 2021, section 3.3.2.
+pub fn folded_schema_extensions()
+    ensures { (start : ℕ) (xs : List ListItem) (s : SchemaPart) → first_schema xs ≡ Some s
+        → map (λ e. e.1) (schema_sourced start (folding_order xs)) ≡ schema_extensions xs }
 {}
 
 /// Each extension of a type whose name is defined is met at one moment of the list, and each other one at none; and so are

@@ -25,7 +25,7 @@ use Rattle.apollo_rearrangement.proofs.WholeFaults.{faults-rearranged}
 use Rattle.apollo_rearrangement.specs.Documents.{Documents, added_each, added_joined}
 use Rattle.apollo_rearrangement.specs.Rearranged.{AreRearranged, DirectiveDefinitionsOf, SchemaDefinitions, SchemaExtensions, type_meant}
 use Rattle.apollo_rearranged_builds.specs.BuiltAlike.{BuildEqualSchemas, BuildFaultlessTogether, BuildSameFaults, MeanEqualSchemas, StandFor}
-use Rattle.apollo_schema.proofs.Stands.SchemaLemmas.{schema_sourced-parts}
+use Rattle.apollo_meaning.proofs.Schema.SchemaLemmas.{schema_sourced-parts}
 use Rattle.apollo_schema.specs.BuilderStands.{adopts}
 use Rattle.apollo_schema.specs.MeantSchema.{MeansSchema}
 use Rattle.apollo_schema.specs.declared.schema_builder.SchemaBuilder.{SchemaBuilder}

@@ -1,6 +1,5 @@
 pub mod FaultLemmas
 pub mod RoleLemmas
-pub mod SchemaLemmas
 pub mod SchemaStandsLemmas
 pub mod StandsLemmas
 pub mod WaitingLemmas

@@ -22,7 +22,7 @@ use Rattle.apollo_meaning.specs.Order.Places.{folding_order}
 use Rattle.apollo_meaning.specs.Schema.Definition.{SourcedSchema, no_schema, roots_of, same_operation, schema_extension_source, schema_from, schema_of, schema_parts, schema_sourced}
 use Rattle.apollo_meaning.specs.Schema.Whole.{whole}
 use Rattle.apollo_meaning.proofs.Order.PlaceLemmas.{folding_order-forget}
-use Rattle.apollo_schema.proofs.Stands.SchemaLemmas.{schema_sourced-parts}
+use Rattle.apollo_meaning.proofs.Schema.SchemaLemmas.{schema_sourced-parts}
 use Rattle.apollo_canonical.specs.WrittenAgain.{with_built_ins}
 use Rattle.apollo_canonical.proofs.Kept.{both-empty}
 use Rattle.apollo_canonical.proofs.Rebuild.BuiltIns.{built_ins, no-schema_definitions}

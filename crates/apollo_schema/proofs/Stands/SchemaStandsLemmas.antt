@@ -23,7 +23,7 @@ use Rattle.apollo_meaning.specs.Steps.Joining.{schema_numbered, schema_begun, sc
 use Rattle.apollo_meaning.specs.Steps.Prefixes.{schemas_folded_at, folded}
 use Rattle.apollo_schema.specs.Stands.{Stands}
 use Rattle.apollo_meaning.proofs.Items.ItemLemmas.{first_schema-push_definition, first_schema-push_undefined, schema_extensions-push_extension, schema_extensions-push_unextended}
-use Rattle.apollo_schema.proofs.Stands.SchemaLemmas.{schema_of-same, schema_of-more, schema-unfolded, schema_sourced-parts}
+use Rattle.apollo_meaning.proofs.Schema.SchemaLemmas.{schema_of-same, schema_of-more, schema-unfolded, schema_sourced-parts}
 use Rattle.apollo_schema.proofs.Stands.StandsLemmas.{counted, length-map, at, same_types, same_waiting, same_names, same_directives, more_faults}
 
 module _ {start : ℕ} {xs : List ListItem} {t : Tables} (was : Stands start xs t) where

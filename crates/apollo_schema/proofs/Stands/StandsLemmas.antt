@@ -31,7 +31,7 @@ use Rattle.apollo_schema.specs.Stands.{Stands}
 use Rattle.graphql_nodes.proofs.Texts.{same-true, same-is}
 use Rattle.apollo_folding.proofs.NameTables.{lookup-put, keys-put, lookup-write}
 use Rattle.apollo_meaning.proofs.Items.ItemLemmas.{parts-extended, first-push_undefined, first_schema-push_undefined, schema_extensions-push_unextended, folded-push, found-push, waited-push}
-use Rattle.apollo_schema.proofs.Stands.SchemaLemmas.{schema_of-same}
+use Rattle.apollo_meaning.proofs.Schema.SchemaLemmas.{schema_of-same}
 use Rattle.apollo_schema.proofs.Stands.FaultLemmas.{found_at-new, found_at-again, found_at-early, found_at-late, parts-forget}
 use Rattle.apollo_meaning.proofs.Completion.OrphanLemmas.{waited-early, waited-late}
 use Rattle.apollo_meaning.proofs.Order.FoldingLemmas.{type_kind-from}
