@@ -9,7 +9,11 @@ ghost use Rattle.apollo_rearranged_builds.specs.BuiltAlike.{BuildEqualSchemas, B
 ghost use Rattle.apollo_schema.specs.BuilderStands.{StandsFor};
 ghost use Rattle.apollo_schema.specs.declared.schema_builder.SchemaBuilder.{SchemaBuilder};
 
-use apollo_rearrangement::laws::rearranged_types_are_equal;
+use apollo_rearrangement::laws::{
+    completed_lists_are_rearranged, rearranged_directives_are_the_same,
+    rearranged_faults_are_the_same, rearranged_schema_definitions_are_equal,
+    rearranged_types_are_equal, rearranging_is_an_equivalence,
+};
 
 /// Two lists of the same definitions that keep, for each type name, the order of its definitions and the order of its
 /// extensions, and so for the directive definitions of each name, the schema definitions and the schema extensions, mean
@@ -23,7 +27,11 @@ pub fn rearranged()
     ensures found { (xs ys : List Added) → AreRearranged (added_items xs) (added_items ys) → (b c : SchemaBuilder) → StandFor xs ys b c → BuildSameFaults b c }
     ensures faultless { (xs ys : List Added) → AreRearranged (added_items xs) (added_items ys) → (b c : SchemaBuilder) → StandFor xs ys b c → BuildFaultlessTogether b c }
 {
+    completed_lists_are_rearranged();
+    rearranged_schema_definitions_are_equal();
     rearranged_types_are_equal();
+    rearranged_directives_are_the_same();
+    rearranged_faults_are_the_same();
 }
 
 /// Documents that are added one by one, with one setting, mean the schema of one document of all their definitions, and have
@@ -36,5 +44,7 @@ pub fn documents_one_by_one()
     ensures stands { (b : SchemaBuilder) (n : ℕ) (ignores : Bool) (xs : List Added) (documents : Documents)
         → StandsFor n (xs ++ added_each ignores documents) b → StandsFor n (xs ++ added_joined ignores documents) b }
 {
-    rearranged_types_are_equal();
+    rearranged();
+    rearranging_is_an_equivalence();
+    apollo_rearrangement::laws::documents_one_by_one();
 }

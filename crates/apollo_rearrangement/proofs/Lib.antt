@@ -1,17 +1,18 @@
-pub mod Agreement
-pub mod BareSchemas
-pub mod BareTypes
+mod Agreement
+mod BareSchemas
+mod BareTypes
 mod BySubject
-pub mod Completed
-pub mod Documents
+mod Completed
+mod Documents
 mod FaultSubjects
 mod Filters
 mod Found
 mod Names
 mod Permutations
-pub mod Rearranging
+mod Rearranging
 mod Regrouped
-pub mod Reported
+mod Reported
+mod SchemaDefinitions
 mod Subjects
 mod Types
-pub mod WholeFaults
+mod WholeFaults

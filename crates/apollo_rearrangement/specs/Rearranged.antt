@@ -7,8 +7,9 @@ use Rattle.apollo_meaning.specs.Directives.{directive_part, has_text}
 use Rattle.apollo_meaning.specs.Items.ListItems.{ListItem, defined_part, defined_schema, extended_part, extended_schema}
 use Rattle.apollo_meaning.specs.Items.Parts.{key_of}
 use Rattle.apollo_meaning.specs.Order.Places.{folding_order}
+use Rattle.apollo_meaning.specs.Schema.Definition.{schema_of}
 use Rattle.apollo_meaning.specs.Types.Meaning.{type_of}
-use Rattle.apollo_types.specs.BareTypes.{BareType, bare_extended_type}
+use Rattle.apollo_types.specs.BareTypes.{BareSchemaDefinition, BareType, bare_extended_type, bare_schema_definition}
 
 -- definitions among which the order counts: those of a type's name, the extensions of a type's name, the directive
 -- definitions of a name, the definitions of the schema, and its extensions
@@ -35,3 +36,7 @@ pub record AreRearranged (xs ys : List ListItem) : Type 0 where
 -- what `==` compares of the type that a name means, with extensions numbered from `start`
 abbrev pub type_meant : ℕ → List ListItem → List ℕ → Option BareType
 type_meant start xs n = option_map bare_extended_type (type_of start (folding_order xs) xs n)
+
+-- the same of the schema definition, if the list means one
+abbrev pub schema_meant : ℕ → List ListItem → Option BareSchemaDefinition
+schema_meant start xs = option_map (λ s. bare_schema_definition s.value) (schema_of start (folding_order xs) xs)

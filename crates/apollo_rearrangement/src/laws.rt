@@ -11,10 +11,10 @@ ghost use Rattle.apollo_meaning.specs.Items.Parts.{SchemaPart, TypePart, key_of}
 ghost use Rattle.apollo_meaning.specs.Order.Places.{Placed, first_place, schemas, types};
 ghost use Rattle.apollo_meaning.specs.Schema.Whole.{whole};
 ghost use Rattle.apollo_rearrangement.specs.Documents.{Documents, added_each, added_joined};
-ghost use Rattle.apollo_rearrangement.specs.Rearranged.{AreRearranged, Group, is_in, type_meant};
+ghost use Rattle.apollo_rearrangement.specs.Rearranged.{AreRearranged, Group, is_in, schema_meant, type_meant};
 ghost use Rattle.apollo_rearrangement.specs.Reported.{reported_collisions, reported_repeated_roots};
 
-use apollo_meaning::laws::folded_extensions;
+use apollo_meaning::laws::{folded_extensions, folded_schema_extensions};
 
 /// Each list is a rearrangement of itself; what is rearranged can be put back; and what is rearranged twice is rearranged.
 pub fn rearranging_is_an_equivalence()
@@ -47,6 +47,14 @@ pub fn rearranged_types_are_equal()
     ensures { (start other : ℕ) (xs ys : List ListItem) (n : List ℕ) → AreRearranged xs ys → type_meant start xs n ≡ type_meant other ys n }
 {
     folded_extensions();
+}
+
+/// The schema definitions that rearranged lists mean are equal, whatever numbers their extensions get, or neither means one.
+/// GraphQL specification of October 2021, sections 3.3 and 3.3.2.
+pub fn rearranged_schema_definitions_are_equal()
+    ensures { (start other : ℕ) (xs ys : List ListItem) → AreRearranged xs ys → schema_meant start xs ≡ schema_meant other ys }
+{
+    folded_schema_extensions();
 }
 
 /// Each directive's name means the same definition in rearranged lists. GraphQL specification of October 2021, section 3.13.

@@ -1,15 +1,19 @@
 use Rattle.std.proofs.Common.{◌++◌, ap, subst}
 use Rattle.apollo_meaning.specs.Faults.ListFaults.{faults_of}
-use Rattle.apollo_rearrangement.proofs.Documents.{one_by_one}
-use Rattle.apollo_rearranged_builds.proofs.Schemas.{schemas-one_by_one}
+use Rattle.apollo_meaning.specs.Items.ListItems.{added_items}
+use Rattle.apollo_rearrangement.specs.Documents.{added_each, added_joined}
+use Rattle.apollo_rearrangement.specs.Rearranged.{AreRearranged}
 use Rattle.apollo_rearranged_builds.proofs.laws.documents_one_by_one.Goals as goal
 use Rattle.apollo_schema.specs.BuilderStands.{StandsFor}
 
 pub returns-clause-schemas : goal.returns-clause-schemas
-returns-clause-schemas c = schemas-one_by_one c.rearranged_types_are_equal.ensures
+returns-clause-schemas c = λ adopts ignores xs documents.
+    let list = xs ++ added_each ignores documents in
+    c.rearranged.ensures.schemas adopts list (xs ++ added_joined ignores documents)
+    (subst (λ l. AreRearranged (added_items list) (added_items (xs ++ l))) (c.documents_one_by_one.ensures ignores documents) (c.rearranging_is_an_equivalence.ensures.itself (added_items list)))
 
 pub returns-clause-faults : goal.returns-clause-faults
-returns-clause-faults c = λ adopts ignores xs documents. ap (λ l. faults_of adopts (xs ++ l)) (one_by_one ignores documents)
+returns-clause-faults c = λ adopts ignores xs documents. ap (λ l. faults_of adopts (xs ++ l)) (c.documents_one_by_one.ensures ignores documents)
 
 pub returns-clause-stands : goal.returns-clause-stands
-returns-clause-stands c = λ b start ignores xs documents stands. subst (λ l. StandsFor start (xs ++ l) b) (one_by_one ignores documents) stands
+returns-clause-stands c = λ b start ignores xs documents stands. subst (λ l. StandsFor start (xs ++ l) b) (c.documents_one_by_one.ensures ignores documents) stands
