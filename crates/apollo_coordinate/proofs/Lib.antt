@@ -1,5 +1,5 @@
-pub mod GrammarLemmas
-pub mod LookupEquality
-pub mod MarkLemmas
-pub mod RefusalLemmas
+mod GrammarLemmas
+mod LookupEquality
+mod MarkLemmas
+mod RefusalLemmas
 pub mod TextLemmas

@@ -2,7 +2,7 @@
 //! lookups answer.
 ghost use Rattle.std.specs.Prelude.{◌≡◌, ℕ, List, Result};
 ghost use Rattle.apollo_coordinate.specs.BareLookups.{bare_attribute_lookup, bare_lookup};
-ghost use Rattle.apollo_coordinate.specs.CoordinateText.{IsTypeText, IsAttributeText, IsFieldArgumentText, IsDirectiveText, IsDirectiveArgumentText, HasNames, text, bare, bare_type, bare_attribute, bare_field_argument, bare_directive, bare_directive_argument};
+ghost use Rattle.apollo_coordinate.specs.CoordinateText.{IsTypeText, IsAttributeText, IsFieldArgumentText, IsDirectiveText, IsDirectiveArgumentText, IsCoordinateText, HasNames, Says, text, bare, bare_type, bare_attribute, bare_field_argument, bare_directive, bare_directive_argument};
 ghost use Rattle.apollo_coordinate.specs.Refusals.{IsNoName, IsNoAttribute, IsNoFieldArgument, IsNoDirective, IsNoDirectiveArgument};
 ghost use Rattle.apollo_coordinate.specs.Readings.{IsReadingOf, IsReadBack};
 ghost use Rattle.graphql_nodes.specs.Clones.{IsExact};
@@ -12,14 +12,18 @@ use crate::coordinates::{
     DirectiveArgumentCoordinate, DirectiveCoordinate, FieldArgumentCoordinate, SchemaCoordinate,
     TypeAttributeCoordinate, TypeCoordinate,
 };
-use crate::lookup_answers::{SchemaCoordinateLookup, TypeAttributeLookup};
+use crate::lookup_answers::{SchemaCoordinateLookup, SchemaLookupError, TypeAttributeLookup};
 use crate::parse_error::SchemaCoordinateParseError;
+use apollo_types::laws::equality_of_types;
+use graphql_ast::laws::equality_of_the_type_system;
 
 /// Whatever reads the text of a coordinate of valid names, as [`SchemaCoordinate::from_str`] does, answers that
-/// coordinate, without the places of its names, or want of memory; and no text belongs to two such coordinates.
+/// coordinate, without the places of its names, or want of memory; no text belongs to two such coordinates; and each text
+/// that says a coordinate is in the grammar.
 pub fn coordinates()
     ensures read { (c : SchemaCoordinate) (result : Result SchemaCoordinate SchemaCoordinateParseError) → HasNames c → IsReadingOf (text c) result → IsReadBack c result }
     ensures apart { (c d : SchemaCoordinate) → HasNames c → HasNames d → text c ≡ text d → bare c ≡ bare d }
+    ensures said { (t : List ℕ) (c : SchemaCoordinate) → Says t c → IsCoordinateText t }
 {}
 
 /// What one form refuses, other than for want of memory, is no text of that form.
@@ -46,7 +50,10 @@ pub fn equality_of_coordinates()
 pub fn equality_of_lookups<'schema>()
     ensures attribute { ComparesBy ⟦<TypeAttributeLookup<'schema> as PartialEq>⟧.eq bare_attribute_lookup }
     ensures coordinate { ComparesBy ⟦<SchemaCoordinateLookup<'schema> as PartialEq>⟧.eq bare_lookup }
-{}
+{
+    equality_of_the_type_system();
+    equality_of_types();
+}
 
 /// Each clone of a coordinate is the original, with the places of its names; and so is each clone of a refusal.
 pub fn clones_of_coordinates_are_exact()
@@ -57,4 +64,11 @@ pub fn clones_of_coordinates_are_exact()
     ensures directive_argument { IsExact ⟦<DirectiveArgumentCoordinate as Clone>⟧.is_clone }
     ensures coordinate { IsExact ⟦<SchemaCoordinate as Clone>⟧.is_clone }
     ensures parse_error { IsExact ⟦<SchemaCoordinateParseError as Clone>⟧.is_clone }
+{}
+
+/// Each clone of what lookups answer, and of their errors, is the original.
+pub fn clones_of_lookups_are_exact<'coord, 'schema>()
+    ensures attribute { IsExact ⟦<TypeAttributeLookup<'schema> as Clone>⟧.is_clone }
+    ensures coordinate { IsExact ⟦<SchemaCoordinateLookup<'schema> as Clone>⟧.is_clone }
+    ensures error { IsExact ⟦<SchemaLookupError<'coord, 'schema> as Clone>⟧.is_clone }
 {}
