@@ -1,7 +1,10 @@
 -- Equality of what lookups answer.
 use Rattle.std.proofs.Common.{refl, ap, Some}
 use Rattle.graphql_nodes.proofs.Comparisons.{Compares, At, of_part, and_then, pairs, names}
-use Rattle.graphql_nodes.proofs.TableEquality.{sets_of_names}
+use Rattle.graphql_nodes.proofs.TableEquality.{sets_of_names, tables_of_names}
+use Rattle.graphql_nodes.specs.Comparing.{entries_by_text}
+use Rattle.graphql_nodes.specs.SameText.{same_text}
+use Rattle.graphql_nodes.specs.Tables.{table_eq}
 use Rattle.apollo_types.proofs.TypeEquality.{extended_types}
 use Rattle.apollo_schema.specs.EqualLookups.{bare_implementers, bare_field_lookup_error}
 use Rattle.apollo_schema.specs.declared.field_lookup_error.FieldLookupError.{FieldLookupError}
@@ -12,6 +15,9 @@ use Rattle.apollo_schema.specs.contracts.implementers.ImplementersPartialEq.TheI
 
 pub implementers : Compares implementer.ghosts.eq bare_implementers
 implementers = and_then (of_part (λ (i : Implementers). i.objects) sets_of_names) (of_part (λ (i : Implementers). i.interfaces) sets_of_names)
+
+pub implementers_maps : Compares (table_eq same_text implementer.ghosts.eq) (entries_by_text bare_implementers)
+implementers_maps = tables_of_names implementers
 
 error_at : (a b : FieldLookupError) → At error.ghosts.eq bare_field_lookup_error a b
 error_at e.NoSuchType e.NoSuchType = (λ _. refl, λ _. refl)

@@ -9,7 +9,7 @@ ghost use Rattle.apollo_schema.specs.Implementers.{is_implementer};
 ghost use Rattle.apollo_schema.specs.Lookups.{Types, type_at, interface_node, is_subtype};
 ghost use Rattle.apollo_schema.specs.MeantSchema.{MeansSchema};
 ghost use Rattle.graphql_nodes.specs.Clones.{IsExact};
-ghost use Rattle.graphql_nodes.specs.Comparing.{ComparesBy};
+ghost use Rattle.graphql_nodes.specs.Comparing.{ComparesBy, entries_by_text};
 ghost use Rattle.graphql_nodes.specs.NameView.{NameView};
 ghost use Rattle.graphql_nodes.specs.SameText.{same_text};
 ghost use Rattle.graphql_nodes.specs.Tables.{HasUniqueKeys};
@@ -19,6 +19,8 @@ use crate::implementers::Implementers;
 use crate::schema::Schema;
 use crate::schema_builder::SchemaBuilder;
 use apollo_folding::builder_error::BuilderError;
+use graphql_nodes::collections::table::Table;
+use graphql_nodes::name::Name;
 
 /// Two schemas are equal exactly where their definitions are and they have equal types and equal directive definitions
 /// under each name, in any order: places, origins and sources are left out. GraphQL specification of October 2021,
@@ -28,10 +30,12 @@ pub fn equality_of_schemas()
 {}
 
 /// Implementers are equal exactly where they have the same names of object types and the same of interface types, in any
-/// order; and errors of fields where both say that there is no type, or name one key and equal types. Places and origins
-/// are left out. GraphQL specification of October 2021, sections 3.6 and 3.7.
+/// order; tables of them, as `implementers_map` answers, where they have equal implementers under each name, in any order;
+/// and errors of fields where both say that there is no type, or name one key and equal types. Places and origins are left
+/// out. GraphQL specification of October 2021, sections 3.6 and 3.7.
 pub fn equality_of_lookups<'schema>()
     ensures implementers { ComparesBy ⟦<Implementers as PartialEq>⟧.eq bare_implementers }
+    ensures implementers_map { ComparesBy ⟦<Table<Name, Implementers> as PartialEq>⟧.eq (entries_by_text bare_implementers) }
     ensures field_lookup_error { ComparesBy ⟦<FieldLookupError<'schema> as PartialEq>⟧.eq bare_field_lookup_error }
 {}
 

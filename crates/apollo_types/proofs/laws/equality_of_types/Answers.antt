@@ -1,3 +1,4 @@
+use Rattle.graphql_nodes.proofs.TableEquality.{tables_of_names}
 use Rattle.apollo_types.proofs.TypeEquality.{scalars, objects, interfaces, unions, enums, input_objects, extended_types}
 use Rattle.apollo_types.proofs.laws.equality_of_types.Goals as goal
 
@@ -21,3 +22,6 @@ returns-clause-input_object_type c = input_objects.at
 
 pub returns-clause-extended_type : goal.returns-clause-extended_type
 returns-clause-extended_type c = extended_types.at
+
+pub returns-clause-types_by_name : goal.returns-clause-types_by_name
+returns-clause-types_by_name c = (tables_of_names extended_types).at
