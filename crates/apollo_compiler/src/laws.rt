@@ -1,6 +1,7 @@
-//! What is promised of documents that are compiled, for those who ask what it comes to.
+//! What is promised of documents that are compiled, for those who ask what it comes to; and what clones of options and errors
+//! are.
 //!
-//! The law is a function that does nothing. A proof cites it by a call, and finds its clauses there.
+//! Each law is a function that does nothing. A proof cites it by a call, and finds its clauses there.
 ghost use Rattle.std.specs.Prelude.{◌≡◌, ◌↔◌, ℕ, Bool, List, Some, IsSome};
 ghost use Rattle.apollo_canonical.specs.WrittenAgain.{IsUnmarkedAndRooted};
 ghost use Rattle.apollo_executable.specs.declared.document.ExecutableDocument.{ExecutableDocument};
@@ -10,7 +11,10 @@ ghost use Rattle.apollo_types.specs.declared.extended_type.ExtendedType.{Extende
 ghost use Rattle.apollo_compiler.specs.Compilation.{Compilation, IsRebuiltAsItWas};
 ghost use Rattle.apollo_compiler.specs.Headline.{HasOneWalk, IsFolded, all_items, kept_definitions, type_named};
 ghost use Rattle.apollo_compiler.specs.Lists.{executable_list, handed_in};
+ghost use Rattle.graphql_nodes.specs.Clones.{IsExact};
 
+use crate::compile_error::CompileError;
+use crate::compile_options::CompileOptions;
 use apollo_canonical::laws::canonical;
 use apollo_executable::selection::Field;
 use apollo_meaning::laws::folded_extensions;
@@ -52,3 +56,9 @@ pub fn headline()
     walks_reach_each_field_once::<Node<Field>>();
     walks_take_few_turns::<Node<Field>>();
 }
+
+/// Each clone of a choice of options is the original, and so is each clone of an error.
+pub fn clones_are_exact()
+    ensures options { IsExact ⟦<CompileOptions as Clone>⟧.is_clone }
+    ensures error { IsExact ⟦<CompileError as Clone>⟧.is_clone }
+{}

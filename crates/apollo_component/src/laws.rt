@@ -1,7 +1,9 @@
-//! Laws of the definitions, for those who build on them; and what `==` answers at each type of this crate.
+//! Laws of the definitions, for those who build on them; what `==` answers at each type of this crate, and what its clones
+//! are.
 ghost use Rattle.std.specs.Prelude.{◌≡◌, Bool, true, not, List, map, filter, is_some};
 ghost use Rattle.std.specs.List.{All, enumerate_from, find};
 ghost use Rattle.std.specs.Cmp.{IsEquivalence};
+ghost use Rattle.graphql_nodes.specs.Clones.{IsExact};
 ghost use Rattle.graphql_nodes.specs.Comparing.{ComparesBy, members_by_text};
 ghost use Rattle.apollo_component.specs.BareComponents.{bare_component, bare_component_name, bare_directives, bare_origin};
 ghost use Rattle.apollo_component.specs.Extensions.{number_of};
@@ -34,4 +36,15 @@ pub fn equality_of_names_and_origins()
     ensures extension_id { ComparesBy ⟦<ExtensionId as PartialEq>⟧.eq number_of }
     ensures component_origin { ComparesBy ⟦<ComponentOrigin as PartialEq>⟧.eq bare_origin }
     ensures ids_spent { ComparesBy ⟦<IdsSpent as PartialEq>⟧.eq (λ error. error) }
+{}
+
+/// Each clone of an origin or an identity is the original, with its location, and so is each clone of a list of directives, with
+/// all locations and origins in it.
+///
+/// The `Clone` of components and of their names says so itself.
+pub fn clones_are_exact()
+    ensures directive_list { IsExact ⟦<DirectiveList as Clone>⟧.is_clone }
+    ensures extension_id { IsExact ⟦<ExtensionId as Clone>⟧.is_clone }
+    ensures component_origin { IsExact ⟦<ComponentOrigin as Clone>⟧.is_clone }
+    ensures ids_spent { IsExact ⟦<IdsSpent as Clone>⟧.is_clone }
 {}

@@ -1,7 +1,9 @@
-//! Laws of elaboration, for those who build on it; and what `==` answers at paths and the errors of a build.
+//! Laws of elaboration, for those who build on it; and what `==` answers at paths and the errors of a build, and what clones
+//! of these errors are.
 //!
 //! Each law is a function that does nothing. A proof cites it by a call, and finds its clauses there.
 ghost use Rattle.std.specs.Prelude.{◌≡◌, List, [], Option};
+ghost use Rattle.graphql_nodes.specs.Clones.{IsExact};
 ghost use Rattle.graphql_nodes.specs.Comparing.{ComparesBy};
 ghost use Rattle.graphql_nodes.specs.NameView.{NameView};
 ghost use Rattle.apollo_executable.specs.Erasure.{erased_set};
@@ -40,4 +42,11 @@ pub fn equality_of_build_errors()
     ensures definition_name { ComparesBy ⟦<ExecutableDefinitionName as PartialEq>⟧.eq bare_root }
     ensures path { ComparesBy ⟦<SelectionPath as PartialEq>⟧.eq bare_path }
     ensures build_error { ComparesBy ⟦<BuildError as PartialEq>⟧.eq bare_build_error }
+{}
+
+/// Each clone of an error of a build is the original, with every location in it.
+///
+/// The `Clone` of paths says so itself.
+pub fn clones_of_build_errors_are_exact()
+    ensures { IsExact ⟦<BuildError as Clone>⟧.is_clone }
 {}

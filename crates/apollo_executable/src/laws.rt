@@ -52,3 +52,8 @@ pub fn clones_are_exact()
     ensures operation_map { IsExact ⟦<OperationMap as Clone>⟧.is_clone }
     ensures document { IsExact ⟦<ExecutableDocument as Clone>⟧.is_clone }
 {}
+
+/// Each clone of an error of a request is the original, with the name that it carries.
+pub fn clones_of_errors_are_exact<'a>()
+    ensures { IsExact ⟦<RequestError<'a> as Clone>⟧.is_clone }
+{}

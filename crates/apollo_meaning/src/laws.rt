@@ -1,4 +1,4 @@
-//! Laws of the definitions, for those who build on them; and what `==` answers at the errors of a build.
+//! Laws of the definitions, for those who build on them; and what `==` and clones are at the errors of a build.
 ghost use Rattle.std.specs.Prelude.{◌≡◌, ◌≤◌, ◌+◌, ℕ, Bool, List, [], ◌∷◌, ◌++◌, None, Some, true, false, length, codes, map, filter_map, option_map, All};
 ghost use Rattle.std.specs.Cmp.{IsEquivalence};
 ghost use Rattle.apollo_meaning.specs.Items.Parts.{TypePart, SchemaPart, kind_of, key_of, Root, roots_in};
@@ -8,7 +8,6 @@ ghost use Rattle.apollo_meaning.specs.Order.Places.{Placed, types, schemas, exte
 ghost use Rattle.apollo_meaning.specs.Types.Meaning.{sourced, type_of};
 ghost use Rattle.apollo_meaning.specs.Schema.Whole.{whole, folds};
 ghost use Rattle.apollo_meaning.specs.Rows.TypeRows.{line, folding_place, extensions_around, written_around, extensions_that_wait, extension_of_another_kind};
-ghost use Rattle.apollo_meaning.specs.declared.collision.Collection.{Collection};
 ghost use Rattle.apollo_meaning.specs.Faults.Collisions.{Entry, collisions, same_name, dropped_component};
 ghost use Rattle.apollo_meaning.specs.Faults.TypeComponents.{components_of, same_component, dropped_from_type, joined_faults};
 ghost use Rattle.apollo_meaning.specs.Faults.RootFaults.{root_faults, same_root, dropped_root};
@@ -25,10 +24,12 @@ ghost use Rattle.apollo_types.specs.TypeWriteOut.{write_type};
 ghost use Rattle.apollo_component.specs.FirstOfEach.{first_of_each, later_of_each, same_key};
 ghost use Rattle.graphql_nodes.specs.NameView.{NameView};
 ghost use Rattle.graphql_nodes.specs.SameText.{same_text};
+ghost use Rattle.graphql_nodes.specs.Clones.{IsExact};
 ghost use Rattle.graphql_nodes.specs.Comparing.{ComparesBy};
 ghost use Rattle.apollo_meaning.specs.Faults.BareErrors.{bare_build_error};
 
 use crate::build_error::BuildError;
+use crate::collision::Collection;
 
 /// The extensions that are folded for a name are those of its kind, in the order of the list, whatever stands between
 /// them: GraphQL specification of October 2021, section 3.4.3.
@@ -189,4 +190,10 @@ pub fn built_in_scalar_redefined()
 /// is kept are compared: `previous_location` and `def_location`.
 pub fn equality_of_build_errors()
     ensures { ComparesBy ⟦<BuildError as PartialEq>⟧.eq bare_build_error }
+{}
+
+/// Each clone of an error of a build is the original, with every location in it; and so is each clone of a collection.
+pub fn clones_are_exact()
+    ensures build_error { IsExact ⟦<BuildError as Clone>⟧.is_clone }
+    ensures collection { IsExact ⟦<Collection as Clone>⟧.is_clone }
 {}

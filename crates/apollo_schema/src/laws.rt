@@ -49,6 +49,11 @@ pub fn clones_of_schemas_are_exact()
     ensures { IsExact ⟦<Schema as Clone>⟧.is_clone }
 {}
 
+/// Each clone of an error of a field is the original, with the key and the type that it names.
+pub fn clones_of_field_lookup_errors_are_exact<'schema>()
+    ensures { IsExact ⟦<FieldLookupError<'schema> as Clone>⟧.is_clone }
+{}
+
 /// A type is a subtype of an interface exactly where it is among the interface's implementers, for any types of which no
 /// two have one name, as those of every table. GraphQL specification of October 2021, sections 3.6 and 3.7.
 pub fn implementers()

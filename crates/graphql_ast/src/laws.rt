@@ -25,11 +25,15 @@ use crate::type_system::{
     UnionTypeDefinition, UnionTypeExtension,
 };
 use crate::value::Value;
+use graphql_nodes::collections::hash_keys::HashKeys;
 use graphql_nodes::collections::items::Items;
 use graphql_nodes::collections::key_set::KeySet;
 use graphql_nodes::collections::table::Table;
+use graphql_nodes::directive_location::DirectiveLocation;
 use graphql_nodes::name::InvalidNameError;
-use graphql_nodes::source::SourceFile;
+use graphql_nodes::operation_type::OperationType;
+use graphql_nodes::source::{FileId, SourceFile, SourceSpan};
+use graphql_nodes::type_kind::TypeKind;
 use std::hash::Hash;
 
 /// Values, type references, arguments and directives are equal exactly where they are one without their locations.
@@ -89,7 +93,8 @@ pub fn clones_of_containers_are_exact<T: Eq + Hash + Clone, V: Clone>()
     ensures key_set { IsExact T.is_clone → IsExact ⟦<KeySet<T> as Clone>⟧.is_clone }
 {}
 
-/// Each clone of a part of a tree is the original, with its locations and the sources of a document.
+/// Each clone of a part of a tree is the original, with its locations and the sources of a document; and so is each clone of
+/// a place, a kind, keys or an error.
 ///
 /// The `Clone` of the other types says so itself.
 pub fn clones_are_exact()
@@ -120,5 +125,12 @@ pub fn clones_are_exact()
     ensures enum_type_extension { IsExact ⟦<EnumTypeExtension as Clone>⟧.is_clone }
     ensures input_object_type_extension { IsExact ⟦<InputObjectTypeExtension as Clone>⟧.is_clone }
     ensures source_file { IsExact ⟦<SourceFile as Clone>⟧.is_clone }
+    ensures source_span { IsExact ⟦<SourceSpan as Clone>⟧.is_clone }
+    ensures file_id { IsExact ⟦<FileId as Clone>⟧.is_clone }
+    ensures operation_type { IsExact ⟦<OperationType as Clone>⟧.is_clone }
+    ensures type_kind { IsExact ⟦<TypeKind as Clone>⟧.is_clone }
+    ensures directive_location { IsExact ⟦<DirectiveLocation as Clone>⟧.is_clone }
+    ensures hash_keys { IsExact ⟦<HashKeys as Clone>⟧.is_clone }
+    ensures argument_by_name_error { IsExact ⟦<ArgumentByNameError as Clone>⟧.is_clone }
     ensures document { IsExact ⟦<Document as Clone>⟧.is_clone }
 {}
