@@ -2,4 +2,4 @@ mod GrammarLemmas
 mod LookupEquality
 mod MarkLemmas
 mod RefusalLemmas
-pub mod TextLemmas
+mod TextLemmas

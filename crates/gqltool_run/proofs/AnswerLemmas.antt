@@ -4,8 +4,7 @@ use Rattle.std.proofs.lemmas.Bool.{true≢false}
 use Rattle.std.proofs.lemmas.List.{append-nil}
 use Rattle.graphql_nodes.specs.declared.source.SourceSpan.{SourceSpan}
 use Rattle.apollo_executable.specs.Erasure.{erased_definitions}
-use Rattle.apollo_coordinate.proofs.TextLemmas.{said_in_grammar}
-use Rattle.apollo_coordinate.specs.CoordinateText.{IsCoordinateText}
+use Rattle.apollo_coordinate.specs.CoordinateText.{IsCoordinateText, Says}
 use Rattle.apollo_coordinate.specs.declared.coordinates.SchemaCoordinate.{SchemaCoordinate}
 use Rattle.apollo_coordinate.specs.declared.lookup_answers.SchemaCoordinateLookup.{SchemaCoordinateLookup}
 use Rattle.apollo_meaning.specs.Faults.Collisions.{Fault}
@@ -63,18 +62,18 @@ faultless_print tasks.Walk input text has_faults is none =
 other_letters : ◌≡◌ {A = ℕ} 99 115 → ⊥
 other_letters e = omega arith
 
--- words that ask for something have no refused text
-pub asked_apart : (words : List (List ℕ)) (task : Task) → Ask words task → AskNoCoordinate words → ⊥
-asked_apart words (tasks.Schema options) asked refused =
+-- words that ask for something have no refused text, since a text that says a coordinate is in the grammar
+pub asked_apart : ((text : List ℕ) (c : SchemaCoordinate) → Says text c → IsCoordinateText text) → (words : List (List ℕ)) (task : Task) → Ask words task → AskNoCoordinate words → ⊥
+asked_apart in_grammar words (tasks.Schema options) asked refused =
     let first : codes "coord" ≡ codes "schema" = (subst (λ (w : List (List ℕ)). AreSchemaWords w options) refused.1.0 asked).0 in
     let letter : ◌≡◌ {A = ℕ} 99 115 = cc in
     other_letters letter
-asked_apart words (tasks.Coord c) asked refused =
+asked_apart in_grammar words (tasks.Coord c) asked refused =
     let whole : codes "coord" ∷ asked.0 ∷ [] ≡ codes "coord" ∷ refused.0 ∷ [] = sym asked.1.0 ∙ refused.1.0 in
     let same : asked.0 ≡ refused.0 = cc in
-    refused.1.1 (subst IsCoordinateText same (said_in_grammar asked.0 c asked.1.1))
-asked_apart words tasks.Doc asked refused = let same : codes "doc" ∷ [] ≡ codes "coord" ∷ refused.0 ∷ [] = sym asked ∙ refused.1.0 in cc
-asked_apart words tasks.Walk asked refused = let same : codes "walk" ∷ [] ≡ codes "coord" ∷ refused.0 ∷ [] = sym asked ∙ refused.1.0 in cc
+    refused.1.1 (subst IsCoordinateText same (in_grammar asked.0 c asked.1.1))
+asked_apart in_grammar words tasks.Doc asked refused = let same : codes "doc" ∷ [] ≡ codes "coord" ∷ refused.0 ∷ [] = sym asked ∙ refused.1.0 in cc
+asked_apart in_grammar words tasks.Walk asked refused = let same : codes "walk" ∷ [] ≡ codes "coord" ∷ refused.0 ∷ [] = sym asked ∙ refused.1.0 in cc
 
 -- words that ask for something are a command
 pub asked_command : (words : List (List ℕ)) (task : Task) → Ask words task → AreNoCommand words → ⊥

@@ -15,6 +15,7 @@ use crate::schema_command::schema_answer;
 use crate::status::Status;
 use crate::task::{Task, read_task};
 use crate::walk_command::walk_answer;
+use apollo_coordinate::laws::coordinates;
 use graphql_nodes::collections::hash_keys::HashKeys;
 use std::alloc::Global;
 use std::io::{self, Read, Write};
@@ -75,6 +76,7 @@ pub fn run_with_keys<R: Read, O: Write, E: Write>(
     ensures usage { AreNoCommand (texts_of words.now) → (result ≡ Status.Refused) × (reader.new ≡ reader.old) }
     ensures no_coordinate { AskNoCoordinate (texts_of words.now) → ((result ≡ Status.Refused) ⊎ (result ≡ Status.Exhausted)) × (reader.new ≡ reader.old) }
 {
+    coordinates();
     let task = match read_task(alloc, words) {
         Ok(task) => task,
         Err(failure) => return end_without_answer(failure, errors),
@@ -108,6 +110,7 @@ pub fn run_on_text<O: Write, E: Write>(
     ensures usage { AreNoCommand (texts_of words.now) → result ≡ Status.Refused }
     ensures no_coordinate { AskNoCoordinate (texts_of words.now) → (result ≡ Status.Refused) ⊎ (result ≡ Status.Exhausted) }
 {
+    coordinates();
     match read_task(alloc, words) {
         Ok(task) => run_task(alloc, HashKeys::FIXED, &task, input, output, errors),
         Err(failure) => end_without_answer(failure, errors),

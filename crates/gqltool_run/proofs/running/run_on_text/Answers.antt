@@ -9,4 +9,4 @@ returns-in-Err-clause-refused g c = λ ends.
 
 -- where something is asked, no text is refused
 pub returns-in-Ok-clause-no_coordinate : goal.returns-in-Ok-clause-no_coordinate
-returns-in-Ok-clause-no_coordinate g c = λ refused. absurd (asked_apart (texts_of c.args.words.now) c.in-Ok.task c.in-Ok.ensures.asked refused)
+returns-in-Ok-clause-no_coordinate g c = λ refused. absurd (asked_apart c.coordinates.ensures.said (texts_of c.args.words.now) c.in-Ok.task c.in-Ok.ensures.asked refused)

@@ -39,7 +39,7 @@ returns-in-Ok-read_all-clause-not_written g c = λ ends.
 
 -- where something is asked, no text is refused
 pub returns-in-Ok-read_all-clause-no_coordinate : goal.returns-in-Ok-read_all-clause-no_coordinate
-returns-in-Ok-read_all-clause-no_coordinate g c = λ refused. absurd (asked_apart (texts_of c.args.words.now) c.in-Ok.task c.in-Ok.ensures.asked refused)
+returns-in-Ok-read_all-clause-no_coordinate g c = λ refused. absurd (asked_apart c.coordinates.ensures.said (texts_of c.args.words.now) c.in-Ok.task c.in-Ok.ensures.asked refused)
 
 pub returns-clause-no_coordinate : goal.returns-clause-no_coordinate
-returns-clause-no_coordinate g c = λ refused. absurd (asked_apart (texts_of c.args.words.now) c.in-Ok.task c.in-Ok.ensures.asked refused)
+returns-clause-no_coordinate g c = λ refused. absurd (asked_apart c.coordinates.ensures.said (texts_of c.args.words.now) c.in-Ok.task c.in-Ok.ensures.asked refused)
