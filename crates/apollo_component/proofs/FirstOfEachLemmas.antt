@@ -1,12 +1,35 @@
--- What `first_of_each` leaves of a list with one more element.
-use Rattle.std.proofs.Common.{◌≡◌, Bool, true, false, cond, not, ◌||◌, List, [], ◌∷◌, ◌++◌, Some, is_some, filter, refl, sym, ap, ◌∙◌, true≢false}
+-- What `first_of_each` leaves of a list, with one more element and seen through a function.
+use Rattle.std.proofs.Common.{◌≡◌, Bool, true, false, cond, not, ◌||◌, List, [], ◌∷◌, ◌++◌, Some, is_some, map, filter, refl, sym, ap, ◌∙◌, true≢false}
 use Rattle.std.proofs.lemmas.List.{append-nil}
 use Rattle.std.proofs.lemmas.List.Elements.{filter-append}
-use Rattle.std.specs.Cmp.{IsEquivalence}
-use Rattle.std.specs.List.{find, list_any}
+use Rattle.std.specs.Cmp.{IsEquivalence, on_equiv}
+use Rattle.std.specs.Cmp.Lexicographic.{nat_list_eq_equiv}
+use Rattle.std.specs.List.{AllByRecursion, find, list_any}
 use Rattle.std.specs.Map.{keys_of, lookup, lookup_key}
 use Rattle.indexmap.specs.IndexMap.{insert_entry}
+use Rattle.graphql_nodes.specs.NameView.{NameView}
+use Rattle.graphql_nodes.specs.SameText.{same_text}
 use Rattle.apollo_component.specs.FirstOfEach.{first_of_each, same_key}
+use Rattle.apollo_component.proofs.Lists.Each.{each-filter, each-weaken, filter-map}
+
+-- names are the same by their texts, and entries by their names
+pub name_laws : IsEquivalence same_text
+name_laws = on_equiv (λ (n : NameView). n.text) nat_list_eq_equiv
+
+pub entry_laws : {V : Type 0} → IsEquivalence (same_key {V = V} same_text)
+entry_laws = on_equiv (λ e. e.0) name_laws
+
+-- what holds of each element holds of the first ones
+pub each-first : {X : Type 0} (P : X → Type 0) (same : X → X → Bool) (xs : List X) → AllByRecursion P xs → AllByRecursion P (first_of_each same xs)
+each-first P same [] a = tt
+each-first P same (x ∷ xs) a =
+    (a.0, each-weaken (λ y. P y × (not (same x y) ≡ true)) P (λ y h. h.0) (filter (λ y. not (same x y)) (first_of_each same xs)) (each-filter P (λ y. not (same x y)) (first_of_each same xs) (each-first P same xs a.1)))
+
+-- the first of each, seen through the function that they are told apart by
+pub first_of_each-map : {X Y : Type 0} (same : Y → Y → Bool) (f : X → Y) (xs : List X) → map f (first_of_each (λ x y. same (f x) (f y)) xs) ≡ first_of_each same (map f xs)
+first_of_each-map same f [] = refl
+first_of_each-map same f (x ∷ xs) =
+    ap (λ l. f x ∷ l) (sym (filter-map (λ y. not (same (f x) y)) f (first_of_each (λ x y. same (f x) (f y)) xs)) ∙ ap (filter (λ y. not (same (f x) y))) (first_of_each-map same f xs))
 
 module _ {X : Type 0} (same : X → X → Bool) (laws : IsEquivalence same) where
   -- taking out what is the same as one thing leaves what is the same as another

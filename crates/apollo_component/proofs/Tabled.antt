@@ -1,8 +1,12 @@
--- Tables that have at each key what a function gives of it.
-use Rattle.std.proofs.Common.{◌≡◌, Bool, true, false, cond, not, ◌||◌, List, [], ◌∷◌, ◌++◌, Some, None, is_some, map, filter, refl, sym, ap, ◌∙◌, true≢false}
+-- Tables that have at each key what a function gives of it, and tables with the same under each key.
+use Rattle.std.proofs.Common.{◌≡◌, Bool, true, false, cond, not, ◌||◌, List, [], ◌∷◌, ◌++◌, Some, None, is_some, map, filter, refl, sym, ap, subst, ◌∙◌, true≢false}
 use Rattle.std.specs.List.{list_any, IsDistinct, AllByRecursion}
 use Rattle.std.specs.Map.{lookup, set_value}
+use Rattle.graphql_nodes.specs.Tables.{HasUniqueKeys, keys_of}
 use Rattle.std.specs.Cmp.{IsEquivalence}
+use Rattle.std.proofs.lemmas.Map.{lookup-none}
+use Rattle.std.proofs.lemmas.Map.Entries.{lookup_head, lookup_tail, none_past_head}
+use Rattle.std.proofs.lemmas.Map.Keys.{IsDistinct-tail}
 use Rattle.indexmap.specs.IndexMap.{insert_entry}
 use Rattle.indexmap.specs.IndexSet.{insert_key}
 use Rattle.apollo_component.specs.FirstOfEach.{first_of_each}
@@ -87,3 +91,34 @@ insert_entry-found eq (e ∷ es) k v w h = by (eq k e.0) h (insert_entry-found e
         → cond b ((e.0, w) ∷ es) (e ∷ set_value (eq k) es w) ≡ cond b ((e.0, w) ∷ es) (e ∷ insert_entry eq es k w)
     by true h rest = refl
     by false h rest = ap (λ l. e ∷ l) (rest h)
+
+-- tables with the same keys, of which no two are the same, are one where they have the same under each
+pub entries_from_lookups : {K V : Type 0} {eq : K → K → Bool} → IsEquivalence eq → (es fs : List (K × V)) → HasUniqueKeys eq es → keys_of fs ≡ keys_of es → ((k : K) → lookup (eq k) fs ≡ lookup (eq k) es) → fs ≡ es
+entries_from_lookups laws [] [] apart keys each = refl
+entries_from_lookups laws [] (f ∷ fs) apart keys each = cc
+entries_from_lookups laws (e ∷ es) [] apart keys each = cc
+entries_from_lookups {K} {V} {eq} laws (e ∷ es) (f ∷ fs) apart keys each =
+    let rest = entries_from_lookups laws es fs (IsDistinct-tail eq e.0 (keys_of es) apart) other_keys others in
+    λ i. (key i, value i) ∷ rest i
+  where
+    key : f.0 ≡ e.0
+    key = cc
+
+    other_keys : keys_of fs ≡ keys_of es
+    other_keys = cc
+
+    value : f.1 ≡ e.1
+    value =
+        let found : Some f.1 ≡ Some e.1 =
+        sym (lookup_head (eq e.0) f fs (ap (eq e.0) key ∙ laws.refl e.0)) ∙ each e.0 ∙ lookup_head (eq e.0) e es (laws.refl e.0) in
+        cc
+
+    -- the first entry hides nothing under another key, and under its own there is nothing else
+    others : (k : K) → lookup (eq k) fs ≡ lookup (eq k) es
+    others k = by (eq k e.0) refl
+      where
+        by : (b : Bool) → eq k e.0 ≡ b → lookup (eq k) fs ≡ lookup (eq k) es
+        by true own =
+            lookup-none (eq k) fs (none_past_head laws k f fs (subst (IsDistinct eq) (sym keys) apart) (ap (eq k) key ∙ own))
+            ∙ sym (lookup-none (eq k) es (none_past_head laws k e es apart own))
+        by false other = sym (lookup_tail (eq k) f fs (ap (eq k) key ∙ other)) ∙ each k ∙ lookup_tail (eq k) e es other

@@ -1,7 +1,7 @@
 -- What becomes of a list with more elements at its end.
-use Rattle.std.proofs.Common.{◌≡◌, ℕ, ◌+◌, ◌<◌, Bool, true, false, cond, List, [], ◌∷◌, ◌++◌, length, zero, suc, Option, Some, None, filter, slice_get, refl, sym, ap, subst, ◌∙◌, append_assoc, arith}
+use Rattle.std.proofs.Common.{◌≡◌, ℕ, ◌+◌, ◌<◌, Bool, true, false, cond, List, [], ◌∷◌, ◌++◌, length, zero, suc, Option, Some, None, filter, slice_get, map, refl, sym, ap, subst, ◌∙◌, append_assoc, arith}
 use Rattle.std.specs.List.{filter_map, cons_option, enumerate_from}
-use Rattle.std.specs.Option.{option_or}
+use Rattle.std.specs.Option.{option_map, option_or}
 use Rattle.std.specs.Map.{lookup}
 use Rattle.std.proofs.lemmas.List.{append-nil}
 use Rattle.std.proofs.lemmas.List.Elements.{filter_map-append}
@@ -23,10 +23,32 @@ enumerate_from-append n (x ∷ xs) ys = grind (arith, enumerate_from-append (n +
 pub filter_map-push_none : {X Y : Type 0} (which : X → Option Y) (xs : List X) (x : X) → which x ≡ None → filter_map which (xs ++ x ∷ []) ≡ filter_map which xs
 filter_map-push_none which xs x none = filter_map-append which xs (x ∷ []) ∙ ap (λ o. filter_map which xs ++ cons_option o []) none ∙ append-nil (filter_map which xs)
 
+-- what is chosen, with its number and without
+pub filter_map-numbered : {X Y : Type 0} (which : X → Option Y) (n : ℕ) (xs : List X) → map (λ (e : ℕ × Y). e.1) (filter_map (λ (e : ℕ × X). option_map (λ (y : Y). (e.0, y)) (which e.1)) (enumerate_from n xs)) ≡ filter_map which xs
+filter_map-numbered which n [] = refl
+filter_map-numbered {X} {Y} which n (x ∷ xs) = by (which x) (filter_map-numbered which (n + 1) xs)
+  where
+    chosen : List (ℕ × Y)
+    chosen = filter_map (λ (e : ℕ × X). option_map (λ (y : Y). (e.0, y)) (which e.1)) (enumerate_from (n + 1) xs)
+
+    by : (o : Option Y) → map (λ e. e.1) chosen ≡ filter_map which xs → map (λ (e : ℕ × Y). e.1) (cons_option (option_map (λ y. (n, y)) o) chosen) ≡ cons_option o (filter_map which xs)
+    by None rest = rest
+    by (Some y) rest = ap (λ l. y ∷ l) rest
+
+-- all is chosen of what is made to be chosen
+pub filter_map-made : {X Y : Type 0} (which : X → Option Y) (make : Y → X) → ((y : Y) → which (make y) ≡ Some y) → (ys : List Y) → filter_map which (map make ys) ≡ ys
+filter_map-made which make is [] = refl
+filter_map-made which make is (y ∷ ys) = λ i. cons_option (is y i) (filter_map-made which make is ys i)
+
 -- a test that all pass keeps all
 pub all-kept : {X : Type 0} (xs : List X) → xs ≡ filter (λ _. true) xs
 all-kept [] = refl
 all-kept (x ∷ xs) = ap (λ l. x ∷ l) (all-kept xs)
+
+-- nothing else
+pub or-none : {X : Type 0} (o : Option X) → option_or o None ≡ o
+or-none None = refl
+or-none (Some x) = refl
 
 -- what stands under a key in a front, or else in the rest
 pub lookup-append : {K V : Type 0} (test : K → Bool) (es fs : List (K × V)) → lookup test (es ++ fs) ≡ option_or (lookup test es) (lookup test fs)
