@@ -21,7 +21,7 @@ use Rattle.apollo_component.proofs.FirstOfEachLemmas.{list_any-first_of_each, fi
 use Rattle.apollo_meaning.specs.declared.build_error.BuildError.TheVariants as errors
 use Rattle.apollo_meaning.specs.Directives.{Directives, has_text, is_handed_in, directive_of, directive_names, AreDirectivesOf}
 use Rattle.apollo_meaning.specs.Faults.OtherFaults.{directive_faults}
-use Rattle.apollo_meaning.proofs.Order.PlaceLemmas.{or-none}
+use Rattle.apollo_component.proofs.Lists.Ends.{or-none}
 use Rattle.graphql_nodes.proofs.Texts.{same-true}
 use Rattle.apollo_folding.proofs.NameTables.{lookup-put, keys-put, lookup-write}
 

@@ -29,9 +29,6 @@ same_kind-false a b apart = false_from_ne_true (same_kind a b) (λ h. apart (sam
 pub extension_text : (k : TypeKind) → kind_extension_text k ≡ kind_text k ++ codes " extension"
 extension_text k = grind arith
 
-pub same_kind-refl : (k : TypeKind) → same_kind k k ≡ true
-same_kind-refl k = grind arith
-
 module _ (d : TypePart) where
   -- more extensions join the parts and the extensions before them
   joining-append : (parts es fs : List TypePart) → joining_faults d parts (es ++ fs) ≡ joining_faults d parts es ++ joining_faults d (parts ++ of_kind (kind_of d) es) fs

@@ -16,7 +16,7 @@ use Rattle.apollo_component.specs.declared.component.ComponentName.{ComponentNam
 use Rattle.apollo_component.specs.declared.extension.ComponentOrigin.{ComponentOrigin}
 use Rattle.apollo_types.specs.SchemaRoots.{root_of}
 use Rattle.apollo_types.specs.declared.schema_definition.SchemaDefinition.{SchemaDefinition}
-use Rattle.apollo_component.proofs.Lists.Ends.{enumerate_from-append}
+use Rattle.apollo_component.proofs.Lists.Ends.{enumerate_from-append, or-none}
 use Rattle.apollo_meaning.specs.declared.build_error.BuildError.TheVariants as errors
 use Rattle.apollo_meaning.specs.Faults.Collisions.{Fault}
 use Rattle.apollo_meaning.specs.Items.Parts.{SchemaPart, Root, roots_in}
@@ -24,7 +24,6 @@ use Rattle.apollo_meaning.specs.Schema.Definition.{SourcedSchema, same_operation
 use Rattle.apollo_meaning.specs.Faults.RootFaults.{root_fault, root_faults, schema_faults}
 use Rattle.apollo_folding.specs.RootTables.{NamedRoot, named_root, first_named, with_roots, put_root, held_fault, held_faults}
 use Rattle.apollo_meaning.specs.Steps.Joining.{schema_numbered}
-use Rattle.apollo_meaning.proofs.Order.PlaceLemmas.{or-none}
 
 -- one more root
 first-push : (op : OperationType) (rs : List NamedRoot) (r : NamedRoot) → first_named op (rs ++ r ∷ []) ≡ option_or (first_named op rs) (cond (same_operation op r.0) (Some r.1) None)

@@ -1,26 +1,34 @@
 //! Laws of the definitions, for those who build on them; and what `==` and clones are at the errors of a build.
-ghost use Rattle.std.specs.Prelude.{◌≡◌, ◌≤◌, ◌+◌, ℕ, Bool, List, [], ◌∷◌, ◌++◌, None, Some, true, false, length, codes, map, filter_map, option_map, All};
+ghost use Rattle.std.specs.Prelude.{◌≡◌, ◌≤◌, ◌+◌, ℕ, Bool, List, [], ◌∷◌, ◌++◌, None, Some, true, false, length, codes, map, filter_map, flat_map, option_map, All};
+ghost use Rattle.std.specs.Option.{option_or};
 ghost use Rattle.std.specs.Cmp.{IsEquivalence};
-ghost use Rattle.apollo_meaning.specs.Items.Parts.{TypePart, SchemaPart, kind_of, key_of, Root, roots_in};
-ghost use Rattle.apollo_meaning.specs.Items.ListItems.{ListItem, Added, added, added_items};
+ghost use Rattle.apollo_meaning.specs.Items.Parts.{TypePart, SchemaPart, kind_of, key_of, same_kind, Root, roots_in};
+ghost use Rattle.apollo_meaning.specs.Items.ListItems.{ListItem, Added, added, added_items, defined_part};
 ghost use Rattle.apollo_meaning.specs.Items.Named.{first, extensions_of, of_kind, first_schema, schema_extensions};
 ghost use Rattle.apollo_meaning.specs.Order.Places.{Placed, types, schemas, extension_places, first_place, times_met, once_if_defined, folding_order};
-ghost use Rattle.apollo_meaning.specs.Types.Meaning.{sourced, type_of};
+ghost use Rattle.apollo_meaning.specs.Types.Meaning.{sourced, type_from, type_names, type_of};
+ghost use Rattle.apollo_meaning.specs.Types.Components.{Sourced};
 ghost use Rattle.apollo_meaning.specs.Schema.Whole.{whole, folds};
 ghost use Rattle.apollo_meaning.specs.Rows.TypeRows.{line, folding_place, extensions_around, written_around, extensions_that_wait, extension_of_another_kind};
 ghost use Rattle.apollo_meaning.specs.Faults.Collisions.{Entry, collisions, same_name, dropped_component};
 ghost use Rattle.apollo_meaning.specs.Faults.TypeComponents.{components_of, same_component, dropped_from_type, joined_faults};
-ghost use Rattle.apollo_meaning.specs.Faults.RootFaults.{root_faults, same_root, dropped_root};
-ghost use Rattle.apollo_meaning.specs.Faults.ListFaults.{faults_of, found_of_type, found_of_schema};
+ghost use Rattle.apollo_meaning.specs.Faults.RootFaults.{root_faults, same_root, dropped_root, schema_orphan};
+ghost use Rattle.apollo_meaning.specs.Faults.TypeFaults.{orphan};
+ghost use Rattle.apollo_meaning.specs.Faults.ListFaults.{faults_in, faults_of, found_of_type, found_of_schema};
+ghost use Rattle.apollo_meaning.specs.Steps.Prefixes.{found, found_at};
 ghost use Rattle.apollo_meaning.specs.Rows.FaultRows.{faulty_list, its_faults};
-ghost use Rattle.apollo_meaning.specs.Completion.Adoption.{adopted, with_adopted};
+ghost use Rattle.apollo_meaning.specs.Completion.Adoption.{adopted, extended_names, orphans_of, schema_orphans, with_adopted};
+ghost use Rattle.apollo_meaning.specs.Completion.ImpliedSchema.{completed, implied_schema};
 ghost use Rattle.apollo_meaning.specs.Completion.OrphanNames.{orphan_names};
 ghost use Rattle.apollo_meaning.specs.Schema.Definition.{schema_of, schema_sourced};
 ghost use Rattle.apollo_meaning.specs.Rows.SchemaRows.{type_name_of, extensions_alone, adopted_schema, adopted_faults, orphan_faults, query_type_alone, implied_query, schema_extensions_that_wait, waited_for_schema, dropped_root_fault, built_in_int, int_again, redefinition_fault};
 ghost use Rattle.apollo_built_in.specs.BuiltInTable.{built_in_definitions};
 ghost use Rattle.apollo_meaning.specs.Rows.BuiltInNames.{defined_names, component_names, Distinct};
 ghost use Rattle.apollo_meaning.specs.Order.SpentIds.{SpendsIdsSoFar, SpendsIds};
-ghost use Rattle.apollo_types.specs.TypeWriteOut.{write_type};
+ghost use Rattle.apollo_types.specs.TypeWriteOut.{type_description, type_kind, type_location, type_name, write_type};
+ghost use Rattle.apollo_component.specs.EachAfter.{each_after};
+ghost use Rattle.apollo_component.specs.declared.extension.ComponentOrigin.TheVariants.{Definition};
+ghost use Rattle.graphql_nodes.specs.declared.type_kind.TypeKind.{TypeKind};
 ghost use Rattle.apollo_component.specs.FirstOfEach.{first_of_each, later_of_each, same_key};
 ghost use Rattle.graphql_nodes.specs.NameView.{NameView};
 ghost use Rattle.graphql_nodes.specs.SameText.{same_text};
@@ -43,6 +51,31 @@ pub fn folded_extensions()
 pub fn folded_schema_extensions()
     ensures { (start : ℕ) (xs : List ListItem) (s : SchemaPart) → first_schema xs ≡ Some s
         → map (λ e. e.1) (schema_sourced start (folding_order xs)) ≡ schema_extensions xs }
+{}
+
+/// A type has the kind, the description, the name and the place of the definition that its parts begin with, and each kind
+/// is the same as itself. Whether that definition is ignorable changes nothing of the type. GraphQL specification of October
+/// 2021, sections 3.5 to 3.10.
+pub fn types_are_headed_by_their_definitions()
+    ensures kind { (head : TypePart) (ps : List Sourced) → type_kind (type_from head ps) ≡ kind_of head }
+    ensures own { (k : TypeKind) → same_kind k k ≡ true }
+    ensures description { (head : TypePart) (ps : List Sourced) → type_description (type_from head ps) ≡ head.description }
+    ensures name { (head : TypePart) (ps : List Sourced) → type_name (type_from head ps) ≡ head.name }
+    ensures location { (head : TypePart) (ps : List Sourced) → type_location (type_from head ps) ≡ head.location }
+    ensures ignorable { (head : TypePart) (b : Bool) (ps : List Sourced)
+        → type_from (record head { ignorable = b }) ((Definition, record head { ignorable = b }) ∷ ps) ≡ type_from head ((Definition, head) ∷ ps) }
+{}
+
+/// The names of a list's types are the first of each text among the names that it defines, in order. So no two of them have
+/// one text. GraphQL specification of October 2021, section 3.3.
+pub fn type_names_are_the_first_of_each_text()
+    ensures { (xs : List ListItem) → type_names xs ≡ first_of_each same_text (map (λ p. p.name) (filter_map defined_part xs)) }
+{}
+
+/// Of a joined list, the first definition of a name is that of the front, or else that of the rest: GraphQL specification of
+/// October 2021, section 3.3.
+pub fn joined_lists_define_first_in_front()
+    ensures { (xs ys : List ListItem) (n : List ℕ) → first (xs ++ ys) n ≡ option_or (first xs n) (first ys n) }
 {}
 
 /// Each extension of a type whose name is defined is met at one moment of the list, and each other one at none; and so are
@@ -126,6 +159,14 @@ pub fn later_roots_are_at_fault()
     ensures faults { (rs : List Root) → root_faults [] rs ≡ map (dropped_root (first_of_each same_root rs)) (later_of_each same_root rs) }
     ensures joined { (rs more : List Root) → root_faults [] (rs ++ more) ≡ root_faults [] rs ++ root_faults rs more }
     ensures all { (xs : List ListItem) (s : Placed SchemaPart) → first_place schemas xs [] ≡ Some s → found_of_schema xs s.1 ≡ root_faults [] (roots_in (s.1 ∷ schema_extensions xs)) }
+{}
+
+/// The faults of a list, item by item: first those that its items find, each in view of those before it, and then its
+/// orphans; then what the implied schema definition finds, and at last the orphans of the schema. GraphQL specification of
+/// October 2021, section 3.
+pub fn faults_item_by_item()
+    ensures { (adopts : Bool) (xs : List ListItem) → let ys : List ListItem = with_adopted adopts xs in faults_in adopts xs
+        ≡ found ys ++ (map orphan (flat_map (orphans_of ys) (extended_names ys)) ++ (each_after found_at ys (implied_schema adopts ys) ++ map schema_orphan (schema_orphans (completed adopts xs)))) }
 {}
 
 /// The faults of a list, computed: they stand in the order in which they are found, and not in that of the list.

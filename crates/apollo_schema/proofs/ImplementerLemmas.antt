@@ -3,8 +3,6 @@ use Rattle.std.proofs.Common.{◌≡◌, ℕ, Bool, true, false, cond, not, ◌|
 use Rattle.std.specs.Prelude.{unwrap_or}
 use Rattle.std.specs.List.{list_any, flat_map}
 use Rattle.std.specs.Map.{lookup, keys_of, set_value}
-use Rattle.std.specs.Cmp.{IsEquivalence, on_equiv}
-use Rattle.std.specs.Cmp.Lexicographic.{nat_list_eq_equiv}
 use Rattle.std.proofs.lemmas.Bool.{or_parts}
 use Rattle.std.proofs.lemmas.List.{append-nil, map-append}
 use Rattle.std.proofs.lemmas.List.Elements.{filter-append}
@@ -17,7 +15,7 @@ use Rattle.graphql_nodes.specs.SameText.{same_text}
 use Rattle.graphql_nodes.proofs.Texts.{same-true, same-flip, same-refl}
 use Rattle.apollo_component.specs.FirstOfEach.{first_of_each}
 use Rattle.apollo_component.specs.declared.component.ComponentName.{ComponentName}
-use Rattle.apollo_component.proofs.FirstOfEachLemmas.{first_of_each-push_old, list_any-first_of_each}
+use Rattle.apollo_component.proofs.FirstOfEachLemmas.{first_of_each-push_old, list_any-first_of_each, name_laws}
 use Rattle.apollo_component.proofs.Tabled.{tabled, first_of_each-distinct, first_of_each-insert, tabled-insert, lookup-tabled, insert_entry-found}
 use Rattle.apollo_types.specs.TypeKinds.{is_object, is_interface}
 use Rattle.apollo_types.specs.declared.extended_type.ExtendedType.{ExtendedType}
@@ -26,9 +24,6 @@ use Rattle.apollo_schema.specs.Lookups.{Types, interfaces_of, is_listed, declare
 use Rattle.apollo_schema.specs.Implementers.{names_declared, implementers_of, implementers_map}
 use Rattle.apollo_schema.specs.Noted.{no_implementers, with_name, noted, noted_under}
 use Rattle.apollo_schema.specs.declared.implementers.Implementers.{Implementers}
-
-pub names_equiv : IsEquivalence same_text
-names_equiv = on_equiv (λ (n : NameView). n.text) nat_list_eq_equiv
 
 abbrev names_of : List ComponentName → List NameView
 names_of cs = map (λ c. c.name) cs
@@ -85,8 +80,8 @@ grown types is_object_type k cs = tabled (value types is_object_type k cs) (firs
 
 -- a name that is noted once more stays
 put : (ks : List NameView) (listed : Bool) (k : NameView) → insert_key same_text (first_of_each same_text (ks ++ one_if listed k)) k ≡ first_of_each same_text (ks ++ k ∷ [])
-put ks false k = ap (λ l. insert_key same_text (first_of_each same_text l) k) (append-nil ks) ∙ sym (first_of_each-insert same_text names_equiv ks k)
-put ks true k = sym (first_of_each-insert same_text names_equiv (ks ++ k ∷ []) k) ∙ first_of_each-push_old same_text names_equiv (ks ++ k ∷ []) k there
+put ks false k = ap (λ l. insert_key same_text (first_of_each same_text l) k) (append-nil ks) ∙ sym (first_of_each-insert same_text name_laws ks k)
+put ks true k = sym (first_of_each-insert same_text name_laws (ks ++ k ∷ []) k) ∙ first_of_each-push_old same_text name_laws (ks ++ k ∷ []) k there
   where
     or_true : (b : Bool) → (b || true) ≡ true
     or_true true = refl
@@ -157,8 +152,8 @@ module _ (types : Types) (k : NameView) where
   grown-push o cs c =
       ap (λ m. insert_entry same_text (grown types o k cs) c.name (with_name o k m)) was
       ∙ ap (λ v. insert_entry same_text (grown types o k cs) c.name v) (value-own o cs c)
-      ∙ tabled-insert same_text names_equiv (value types o k cs) (value types o k (cs ++ c ∷ [])) c.name (value-other o cs c) (value-text o (cs ++ c ∷ []) c.name) (first_of_each same_text before) (first_of_each-distinct same_text before)
-      ∙ ap (tabled (value types o k (cs ++ c ∷ []))) (sym (first_of_each-insert same_text names_equiv before c.name) ∙ ap (first_of_each same_text) after)
+      ∙ tabled-insert same_text name_laws (value types o k cs) (value types o k (cs ++ c ∷ [])) c.name (value-other o cs c) (value-text o (cs ++ c ∷ []) c.name) (first_of_each same_text before) (first_of_each-distinct same_text before)
+      ∙ ap (tabled (value types o k (cs ++ c ∷ []))) (sym (first_of_each-insert same_text name_laws before c.name) ∙ ap (first_of_each same_text) after)
     where
       before : List NameView
       before = raw types ++ names_of cs
@@ -167,11 +162,11 @@ module _ (types : Types) (k : NameView) where
       after = append_assoc (raw types) (names_of cs) (c.name ∷ []) ∙ ap (λ l. raw types ++ l) (sym (map-append (λ d. d.name) cs (c ∷ [])))
 
       was : unwrap_or (lookup (same_text c.name) (grown types o k cs)) no_implementers ≡ value types o k cs c.name
-      was = ap (λ found. unwrap_or found no_implementers) (lookup-tabled same_text names_equiv (value types o k cs) c.name (value-text o cs c.name) (first_of_each same_text before)) ∙ by (list_any (same_text c.name) (first_of_each same_text before)) refl
+      was = ap (λ found. unwrap_or found no_implementers) (lookup-tabled same_text name_laws (value types o k cs) c.name (value-text o cs c.name) (first_of_each same_text before)) ∙ by (list_any (same_text c.name) (first_of_each same_text before)) refl
         where
           by : (b : Bool) → list_any (same_text c.name) (first_of_each same_text before) ≡ b → unwrap_or (cond b (Some (value types o k cs c.name)) None) no_implementers ≡ value types o k cs c.name
           by true e = refl
-          by false e = sym (value-none o cs c.name (sym (list_any-first_of_each same_text names_equiv c.name before) ∙ e))
+          by false e = sym (value-none o cs c.name (sym (list_any-first_of_each same_text name_laws c.name before) ∙ e))
 
   -- more interfaces noted, one after another
   grown-more : (o : Bool) (cs more : List ComponentName) → noted_under o k (grown types o k cs) more ≡ grown types o k (cs ++ more)

@@ -12,14 +12,14 @@ use Rattle.graphql_nodes.specs.SameText.{same_text}
 use Rattle.graphql_nodes.specs.Tables.{HasUniqueKeys}
 use Rattle.graphql_nodes.proofs.Texts.{same-true}
 use Rattle.apollo_component.specs.FirstOfEach.{first_of_each}
-use Rattle.apollo_component.proofs.FirstOfEachLemmas.{is_some-lookup, list_any-first_of_each}
+use Rattle.apollo_component.proofs.FirstOfEachLemmas.{is_some-lookup, list_any-first_of_each, name_laws}
 use Rattle.apollo_types.specs.TypeKinds.{is_object, is_interface}
 use Rattle.apollo_types.specs.declared.extended_type.ExtendedType.{ExtendedType}
 use Rattle.apollo_types.specs.declared.extended_type.ExtendedType.TheVariants.{Scalar, Object, Interface, Union, Enum, InputObject}
 use Rattle.apollo_schema.specs.Lookups.{Types, type_at, interface_node, declares, interfaces_of, is_subtype, is_subtype_of}
 use Rattle.apollo_schema.specs.Implementers.{names_declared, implementers_of, is_among, is_implementer}
 use Rattle.apollo_component.proofs.Tabled.{lookup-tabled}
-use Rattle.apollo_schema.proofs.ImplementerLemmas.{names_equiv, listed-names}
+use Rattle.apollo_schema.proofs.ImplementerLemmas.{listed-names}
 
 -- where no type declares an interface, the type of a name doesn't
 undeclared : (types : Types) (test : NameView → Bool) (i : NameView) → list_any (same_text i) (flat_map (λ e. names_declared e.1) types) ≡ false → option_map_or (declares i) (lookup test types) false ≡ false
@@ -35,10 +35,10 @@ undeclared (e ∷ types) test i none =
 -- a name is a key of a type that passes a test where its type does
 has-key : (pass : ExtendedType → Bool) (types : Types) → HasUniqueKeys same_text types → (t : NameView) → has_key (same_text t) (first_of_each same_text (keys_of (filter (λ e. pass e.1) types))) ≡ is_some (option_filter pass (type_at types t))
 has-key pass types unique t =
-    list_any-first_of_each same_text names_equiv t (keys_of (filter (λ e. pass e.1) types))
+    list_any-first_of_each same_text name_laws t (keys_of (filter (λ e. pass e.1) types))
     ∙ any-keys (filter (λ e. pass e.1) types)
     ∙ sym (is_some-lookup (same_text t) (filter (λ e. pass e.1) types))
-    ∙ ap is_some (lookup-filter-values names_equiv pass t types unique)
+    ∙ ap is_some (lookup-filter-values name_laws pass t types unique)
   where
     any-keys : (es : Types) → list_any (same_text t) (keys_of es) ≡ list_any (λ e. same_text t e.0) es
     any-keys [] = refl
@@ -66,7 +66,7 @@ passes-either i (Some (InputObject n)) = refl
 -- a name is an implementer of an interface where its type declares that
 implementer-declares : (types : Types) → HasUniqueKeys same_text types → (i t : NameView) → is_implementer types i t ≡ option_map_or (declares i) (type_at types t) false
 implementer-declares types unique i t =
-    ap (is_among t) (lookup-tabled same_text names_equiv (implementers_of types) i one (first_of_each same_text names))
+    ap (is_among t) (lookup-tabled same_text name_laws (implementers_of types) i one (first_of_each same_text names))
     ∙ by (list_any (same_text i) names) refl
   where
     names : List NameView
@@ -76,7 +76,7 @@ implementer-declares types unique i t =
     one k e = ap (λ text. implementers_of types (record { text = text; location = None })) (sym (same-true i.text k.text e))
 
     declared : list_any (same_text i) (first_of_each same_text names) ≡ list_any (same_text i) names
-    declared = list_any-first_of_each same_text names_equiv i names
+    declared = list_any-first_of_each same_text name_laws i names
 
     by : (b : Bool) → list_any (same_text i) names ≡ b → is_among t (cond (list_any (same_text i) (first_of_each same_text names)) (Some (implementers_of types i)) None) ≡ option_map_or (declares i) (type_at types t) false
     by true e =

@@ -2,7 +2,6 @@
 use Rattle.std.proofs.Common.{◌≡◌, ℕ, Bool, true, false, cond, not, ◌||◌, ◌==◌, List, [], ◌∷◌, ◌++◌, length, map, Option, Some, None, is_some, filter, refl, sym, ap, subst, ◌∙◌, arith}
 use Rattle.std.specs.List.{filter_map, flat_map, list_any, IsDistinct}
 use Rattle.std.specs.Option.{option_map_or}
-use Rattle.std.specs.Cmp.{on_equiv}
 use Rattle.std.specs.Cmp.Lexicographic.{nat_list_eq_equiv}
 use Rattle.std.specs.Map.{lookup, keys_of, values_of}
 use Rattle.std.proofs.lemmas.Bool.Decides.{nat_tests}
@@ -15,8 +14,8 @@ use Rattle.graphql_nodes.specs.Tables.{HasUniqueKeys}
 use Rattle.graphql_nodes.specs.SameText.{same_text, same, by_text}
 use Rattle.graphql_ast.specs.declared.definition.Definition.{Definition}
 use Rattle.apollo_component.specs.FirstOfEach.{first_of_each}
-use Rattle.apollo_component.proofs.FirstOfEachLemmas.{first_of_each-push_new, first_of_each-push_old, is_some-lookup, list_any-first_of_each}
-use Rattle.apollo_component.proofs.Lists.Ends.{filter_map-push_none, snoc_ind}
+use Rattle.apollo_component.proofs.FirstOfEachLemmas.{first_of_each-push_new, first_of_each-push_old, is_some-lookup, list_any-first_of_each, name_laws}
+use Rattle.apollo_component.proofs.Lists.Ends.{filter_map-made, filter_map-push_none, snoc_ind}
 use Rattle.apollo_meaning.specs.Items.Parts.{TypePart, key_of}
 use Rattle.apollo_meaning.specs.Items.ListItems.{ListItem, Defined, Extended, SchemaDefined, SchemaExtended, Other, extended_part, items_of, extended_parts, items_held}
 use Rattle.apollo_meaning.specs.Items.Named.{first, extensions_of}
@@ -25,7 +24,7 @@ use Rattle.apollo_meaning.specs.Completion.Adoption.{extended_names, orphans_of,
 use Rattle.apollo_meaning.specs.Steps.Prefixes.{waited_at, waited}
 use Rattle.graphql_nodes.proofs.Texts.{same-true, same-is, same-flip}
 use Rattle.apollo_component.proofs.Lists.Each.{flat_map-each}
-use Rattle.apollo_meaning.proofs.Items.ItemLemmas.{parts-extended, first-push_undefined, waited-push}
+use Rattle.apollo_meaning.proofs.Items.ItemLemmas.{first-push_undefined, waited-push}
 use Rattle.apollo_meaning.proofs.Order.PlaceLemmas.{first-none, first-some, first_place-stays}
 
 -- the names of extensions, each as often as it is extended
@@ -220,7 +219,7 @@ waited-distinct = snoc_ind (λ xs. IsDistinct same_text (waited xs)) tt step
             by None e true f = subst (λ l. IsDistinct same_text (waited xs ++ l)) (sym (waited_at-extended xs p None e ∙ ap (λ b. cond b [] (p.name ∷ [])) f)) still
             by None e false f =
                 subst (λ l. IsDistinct same_text (waited xs ++ l)) (sym (waited_at-extended xs p None e ∙ ap (λ b. cond b [] (p.name ∷ [])) f))
-                (IsDistinct-push (on_equiv (λ (k : NameView). k.text) nat_list_eq_equiv) (waited xs) p.name before (waited-extended xs (key_of p) f))
+                (IsDistinct-push name_laws (waited xs) p.name before (waited-extended xs (key_of p) f))
 
 -- what a table gives, entry by entry, is what it gives under its names
 module _ {X : Type 0} (give : NameView → List ListItem → List X) where
@@ -245,7 +244,7 @@ held-by : {X : Type 0} (give : List TypePart → List X) → give [] ≡ []
     → flat_map (λ e. give (extended_parts e.1)) W ≡ flat_map (λ n. give (orphans_of xs n)) (extended_names xs)
 held-by give nothing xs W names each =
     held-waited (λ k items. give (filter_map extended_part items)) xs W names each
-    ∙ (λ i. flat_map (λ (k : NameView). give (parts-extended (orphans_of xs k.text) i)) (waited xs))
+    ∙ (λ i. flat_map (λ (k : NameView). give (filter_map-made extended_part Extended (λ p. refl) (orphans_of xs k.text) i)) (waited xs))
     ∙ orphans-waited give nothing xs
 
 -- it holds the extensions without a definition

@@ -25,7 +25,7 @@ use Rattle.apollo_meaning.specs.Faults.RootFaults.{root_fault, root_faults, same
 use Rattle.apollo_meaning.specs.Steps.Joining.{schema_joining_faults}
 use Rattle.apollo_meaning.specs.Order.Places.{schemas, Placed, extension_places, first_place}
 use Rattle.apollo_meaning.specs.Faults.ListFaults.{found_of_schema}
-use Rattle.apollo_meaning.proofs.Faults.KeptLemmas.{entry_laws}
+use Rattle.apollo_component.proofs.FirstOfEachLemmas.{entry_laws}
 use Rattle.apollo_meaning.proofs.Faults.FoundLemmas.{schema_faults_with-joining}
 
 abbrev names : List Entry → List NameView

@@ -4,7 +4,6 @@ use Rattle.std.specs.List.{find, list_any}
 use Rattle.std.specs.Option.{option_map}
 use Rattle.std.specs.Map.{keys_of, lookup_key}
 use Rattle.std.specs.Cmp.{IsEquivalence, on_equiv}
-use Rattle.std.specs.Cmp.Lexicographic.{nat_list_eq_equiv}
 use Rattle.std.proofs.lemmas.List.{take_more, map-append}
 use Rattle.indexmap.specs.IndexMap.{insert_entry}
 use Rattle.graphql_nodes.specs.NameView.{NameView}
@@ -15,21 +14,15 @@ use Rattle.apollo_component.specs.FirstOfEach.{first_of_each, same_key}
 use Rattle.apollo_component.specs.declared.component.Component.{Component}
 use Rattle.apollo_component.specs.declared.component.ComponentName.{ComponentName}
 use Rattle.apollo_component.proofs.Lists.EachAfter.{each_after-push}
-use Rattle.apollo_component.proofs.FirstOfEachLemmas.{find-first_of_each, first_of_each-push_new, first_of_each-push_old, keys_of-first_of_each, lookup_key-find, list_any-first_of_each, insert_entry-last}
+use Rattle.apollo_component.proofs.FirstOfEachLemmas.{entry_laws, find-first_of_each, first_of_each-push_new, first_of_each-push_old, keys_of-first_of_each, lookup_key-find, list_any-first_of_each, insert_entry-last, name_laws}
 use Rattle.apollo_component.proofs.LaterLemmas.{found-any}
 use Rattle.apollo_meaning.specs.declared.collision.Collection.{Collection}
 use Rattle.apollo_meaning.specs.Types.Components.{component, component_name, same_component_name, distinct_names}
 use Rattle.apollo_meaning.specs.Faults.TypeFaults.{name_entries}
 use Rattle.apollo_meaning.specs.Faults.Collisions.{Fault, Entry, collision_at, collisions}
 
-pub name_laws : IsEquivalence same_text
-name_laws = on_equiv (λ n. n.text) nat_list_eq_equiv
-
 pub component_name_laws : IsEquivalence same_component_name
-component_name_laws = on_equiv (λ c. c.name.text) nat_list_eq_equiv
-
-pub entry_laws : {V : Type 0} → IsEquivalence (same_key {V = V} same_text)
-entry_laws = on_equiv (λ e. e.0.text) nat_list_eq_equiv
+component_name_laws = on_equiv (λ c. c.name) name_laws
 
 module _ {X : Type 0} (same : X → X → Bool) (laws : IsEquivalence same) (xs : List X) (x : X) where
   -- one that is found is not added

@@ -1,5 +1,5 @@
 -- What a list says of a name with one more item.
-use Rattle.std.proofs.Common.{◌≡◌, ℕ, ◌+◌, ◌≤◌, cond, List, [], ◌∷◌, ◌++◌, length, map, filter, slice_get, Some, None, refl, ap, ◌∙◌, append_assoc, length-append, arith}
+use Rattle.std.proofs.Common.{◌≡◌, ℕ, ◌+◌, ◌≤◌, cond, List, [], ◌∷◌, ◌++◌, length, filter, slice_get, Some, None, ap, ◌∙◌, append_assoc, length-append, arith}
 use Rattle.std.specs.List.{filter_map}
 use Rattle.std.specs.Option.{option_or}
 use Rattle.std.specs.Map.{lookup}
@@ -13,11 +13,6 @@ use Rattle.graphql_nodes.specs.SameText.{same}
 use Rattle.apollo_meaning.specs.Items.Named.{named, definitions, first, extensions_of, first_schema, schema_extensions}
 use Rattle.apollo_meaning.specs.Steps.Prefixes.{folded_at, folded, found_at, found, waited_at, waited}
 use Rattle.apollo_meaning.specs.Types.Meaning.{sourced}
-
--- the parts of extensions alone
-pub parts-extended : (ps : List TypePart) → filter_map extended_part (map Extended ps) ≡ ps
-parts-extended [] = refl
-parts-extended (p ∷ ps) = ap (λ l. p ∷ l) (parts-extended ps)
 
 -- the first definition of a name in a front, or else in the rest
 pub first-append : (xs ys : List ListItem) (n : List ℕ) → first (xs ++ ys) n ≡ option_or (first xs n) (first ys n)

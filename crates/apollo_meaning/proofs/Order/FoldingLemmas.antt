@@ -1,5 +1,5 @@
 -- Extensions that are folded one after another.
-use Rattle.std.proofs.Common.{◌≡◌, ℕ, ◌+◌, ◌<◌, ◌≤◌, get_or, take, drop, Bool, List, [], ◌∷◌, ◌++◌, length, map, refl, sym, ap, ◌∙◌, append_assoc, length-append, arith}
+use Rattle.std.proofs.Common.{◌≡◌, ℕ, ◌+◌, ◌<◌, ◌≤◌, get_or, take, drop, Bool, List, [], ◌∷◌, ◌++◌, length, map, true, refl, sym, ap, ◌∙◌, append_assoc, length-append, arith}
 use Rattle.std.specs.List.{filter_map}
 use Rattle.std.proofs.lemmas.List.{map-append, take_more, take-append-drop}
 use Rattle.std.proofs.lemmas.List.Elements.{filter-append, filter_map-append}
@@ -12,7 +12,7 @@ use Rattle.apollo_meaning.specs.Items.ListItems.{item_of, items_of, extended_par
 use Rattle.apollo_meaning.specs.Items.Named.{of_kind}
 use Rattle.apollo_meaning.specs.Types.Components.{Sourced}
 use Rattle.apollo_meaning.specs.Types.Meaning.{type_at, type_from, extension_part, numbered}
-use Rattle.apollo_types.specs.TypeWriteOut.{type_kind, type_name, type_location}
+use Rattle.apollo_types.specs.TypeWriteOut.{type_kind, type_description, type_name, type_location}
 
 -- more extensions have the next numbers
 pub numbered-more : (done : List Sourced) (start : ℕ) (ps qs : List TypePart)
@@ -47,11 +47,26 @@ module _ (k : TypeKind) (xs : List Definition) (i : ℕ) (x : Definition) (lt : 
         length-append (of_kind k (extended_parts (take (i + 1) xs))) (of_kind k (extended_parts (drop (i + 1) xs))),
       )
 
+pub same_kind-refl : (k : TypeKind) → same_kind k k ≡ true
+same_kind-refl k = grind arith
+
 -- the type of parts has the kind of the head
 pub type_kind-from : (head : TypePart) (done : List Sourced) → type_kind (type_from head done) ≡ kind_of head
 type_kind-from head done = by head.body
   where
     by : (b : TypeBody) → type_kind (type_at b head done) ≡ body_kind b
+    by ScalarBody = refl
+    by (ObjectBody interfaces fields) = refl
+    by (InterfaceBody interfaces fields) = refl
+    by (UnionBody members) = refl
+    by (EnumBody values) = refl
+    by (InputObjectBody fields) = refl
+
+-- and its description
+pub type_description-from : (head : TypePart) (done : List Sourced) → type_description (type_from head done) ≡ head.description
+type_description-from head done = by head.body
+  where
+    by : (b : TypeBody) → type_description (type_at b head done) ≡ head.description
     by ScalarBody = refl
     by (ObjectBody interfaces fields) = refl
     by (InterfaceBody interfaces fields) = refl

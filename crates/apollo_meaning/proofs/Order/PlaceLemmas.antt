@@ -9,7 +9,7 @@ use Rattle.std.proofs.lemmas.Bool.Decides.{nat_tests}
 use Rattle.std.proofs.lemmas.List.{append-nil, map-append}
 use Rattle.std.proofs.lemmas.List.Elements.{filter-append, filter_map-append}
 use Rattle.apollo_component.specs.EachAfter.{each_after}
-use Rattle.apollo_component.proofs.Lists.Ends.{enumerate_from-append, lookup-append, snoc_ind}
+use Rattle.apollo_component.proofs.Lists.Ends.{enumerate_from-append, filter_map-numbered, lookup-append, or-none, snoc_ind}
 use Rattle.apollo_meaning.specs.Items.Parts.{TypePart, SchemaPart, kind_of, key_of, same_kind}
 use Rattle.apollo_meaning.specs.Items.ListItems.{ListItem, Defined, Extended, SchemaDefined, SchemaExtended, Other, Folding, OfType, OfSchema, extended_part, defined_schema, extended_schema}
 use Rattle.graphql_nodes.specs.SameText.{same}
@@ -89,16 +89,6 @@ module _ {P : Type 0} (which : ListItem → Option P) where
       one n None = tt
       one n (Some p) = (omega arith, tt)
 
-  -- places forgotten
-  pub forget-placed : (n : ℕ) (xs : List ListItem) → map (λ e. e.1) (filter_map (placed_by which) (enumerate_from n xs)) ≡ filter_map which xs
-  forget-placed n [] = refl
-  forget-placed n (x ∷ xs) = by (which x) refl (forget-placed (n + 1) xs)
-    where
-      by : (o : Option P) → which x ≡ o → map (λ e. e.1) (filter_map (placed_by which) (enumerate_from (n + 1) xs)) ≡ filter_map which xs
-          → map (λ e. e.1) (filter_map (placed_by which) ((n, x) ∷ enumerate_from (n + 1) xs)) ≡ filter_map which (x ∷ xs)
-      by None e rest = rw e rest
-      by (Some p) e rest = rw e (ap (λ l. p ∷ l) rest)
-
 pub extensions-below : {P : Type 0} (f : Family P) (xs : List ListItem) → AllByRecursion (IsBelow (length xs)) (extension_places f xs)
 extensions-below f = placed-below f.extended
 
@@ -113,10 +103,6 @@ under f = map (λ e. (f.key e.1, e))
 abbrev own_place : {P : Type 0} → Family P → ℕ → Option P → List ℕ → Option (Placed P)
 own_place f i o n = option_map_or (λ d. cond (same n (f.key d)) (Some (i, d)) None) o None
 
-pub or-none : {X : Type 0} (o : Option X) → option_or o None ≡ o
-or-none None = refl
-or-none (Some e) = refl
-
 module _ {P : Type 0} (f : Family P) where
   lookup-forget : (n : List ℕ) (es : List (Placed P)) → option_map (λ e. e.1) (lookup (same n) (under f es)) ≡ lookup (same n) (keyed f (map (λ e. e.1) es))
   lookup-forget n [] = refl
@@ -129,7 +115,7 @@ module _ {P : Type 0} (f : Family P) where
 
   -- the first definition of a key, with its place and without
   pub first-forget : (xs : List ListItem) (n : List ℕ) → option_map (λ e. e.1) (first_place f xs n) ≡ lookup (same n) (keyed f (filter_map f.defined xs))
-  first-forget xs n = lookup-forget n (definition_places f xs) ∙ ap (λ l. lookup (same n) (keyed f l)) (forget-placed f.defined 0 xs)
+  first-forget xs n = lookup-forget n (definition_places f xs) ∙ ap (λ l. lookup (same n) (keyed f l)) (filter_map-numbered f.defined 0 xs)
 
   lookup-below : (m : ℕ) (n : List ℕ) (es : List (Placed P)) (z : Placed P) → AllByRecursion (IsBelow m) es → lookup (same n) (under f es) ≡ Some z → z.0 < m
   lookup-below m n [] z b h = absurd (let g : None ≡ Some z = h in cc)
@@ -425,7 +411,7 @@ types_when-now xs (Defined d) = by (first_place types xs (key_of d)) refl
         λ a both. ap (λ o. option_map_or (λ z. same_kind (kind_of z.1) (kind_of a.1)) o false) (ap (first_place types ys) (sym (same-true (key_of d) (key_of a.1) both.1)) ∙ first_place-new types xs (Defined d) d refl e) in
         ap (λ l. map (λ e. e.1) (filter (is_folded ys) l)) (met_when-new types types-apart xs (Defined d) d refl e)
         ∙ ap (map (λ (a : Placed TypePart). a.1)) (filter-each (λ a. IsBelow (length xs) a × (own a ≡ true)) (is_folded ys) (λ a. kind a.1) agree (filter own (extension_places types xs)) (each-filter (IsBelow (length xs)) own (extension_places types xs) (extensions-below types xs)))
-        ∙ map-filter kind (filter own (extension_places types xs)) ∙ ap (filter kind) (map-filter (λ p. same (key_of d) (key_of p)) (extension_places types xs) ∙ ap (filter (λ p. same (key_of d) (key_of p))) (forget-placed extended_part 0 xs))
+        ∙ map-filter kind (filter own (extension_places types xs)) ∙ ap (filter kind) (map-filter (λ p. same (key_of d) (key_of p)) (extension_places types xs) ∙ ap (filter (λ p. same (key_of d) (key_of p))) (filter_map-numbered extended_part 0 xs))
         ∙ sym (ap (λ o. option_map_or (λ _. []) o (of_kind (kind_of d) (extensions_of xs (key_of d)))) (first-none xs (key_of d) e))
 
 schemas_when-now : (xs : List ListItem) (x : ListItem) → map (λ e. e.1) (met_when schemas (xs ++ x ∷ []) (length xs)) ≡ schemas_folded_at xs x
@@ -449,7 +435,7 @@ schemas_when-now xs (SchemaDefined s) = by (first_place schemas xs []) refl
         ∙ sym (ap (λ o. option_map_or (λ _. []) o (schema_extensions xs)) (first_schema-some xs z e))
     by None e =
         ap (map (λ (e : Placed SchemaPart). e.1)) (met_when-new schemas schemas-apart xs (SchemaDefined s) s refl e ∙ filter-schemas (extension_places schemas xs))
-        ∙ forget-placed extended_schema 0 xs
+        ∙ filter_map-numbered extended_schema 0 xs
         ∙ sym (ap (λ o. option_map_or (λ _. []) o (schema_extensions xs)) (first_schema-none xs e))
 
 folded_when-now : (xs : List ListItem) (x : ListItem) → folded_when (xs ++ x ∷ []) (length xs) ≡ folded_at xs x

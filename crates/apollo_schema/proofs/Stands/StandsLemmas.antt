@@ -29,8 +29,9 @@ use Rattle.apollo_meaning.specs.Steps.Joining.{joining_faults}
 use Rattle.apollo_meaning.specs.Steps.Prefixes.{types_folded_at, schemas_folded_at, folded_at, folded, found_at, found, waited_at, waited}
 use Rattle.apollo_schema.specs.Stands.{Stands}
 use Rattle.graphql_nodes.proofs.Texts.{same-true, same-is}
+use Rattle.apollo_component.proofs.Lists.Ends.{filter_map-made}
 use Rattle.apollo_folding.proofs.NameTables.{lookup-put, keys-put, lookup-write}
-use Rattle.apollo_meaning.proofs.Items.ItemLemmas.{parts-extended, first-push_undefined, first_schema-push_undefined, schema_extensions-push_unextended, folded-push, found-push, waited-push}
+use Rattle.apollo_meaning.proofs.Items.ItemLemmas.{first-push_undefined, first_schema-push_undefined, schema_extensions-push_unextended, folded-push, found-push, waited-push}
 use Rattle.apollo_meaning.proofs.Schema.SchemaLemmas.{schema_of-same}
 use Rattle.apollo_schema.proofs.Stands.FaultLemmas.{found_at-new, found_at-again, found_at-early, found_at-late, parts-forget}
 use Rattle.apollo_meaning.proofs.Completion.OrphanLemmas.{waited-early, waited-late}
@@ -92,7 +93,7 @@ module _ {start : ℕ} {xs : List ListItem} {t : Tables} (was : Stands start xs 
   -- what is folded at the first definition of a name, and at an extension of a name that has a type
   new-were : (p : TypePart) (es : List TypePart) → is_some (lookup (by_text (key_of p)) t.types) ≡ false
       → es ≡ filter_map extended_part (items_held (lookup (by_text (key_of p)) t.waiting)) → es ≡ extensions_of xs (key_of p)
-  new-were p es absent were = were ∙ ap (filter_map extended_part) (was.waiting (key_of p)) ∙ parts-extended (orphans_of xs (key_of p)) ∙ orphans_of-undefined xs (key_of p) (undefined (key_of p) absent)
+  new-were p es absent were = were ∙ ap (filter_map extended_part) (was.waiting (key_of p)) ∙ filter_map-made extended_part Extended (λ p. refl) (orphans_of xs (key_of p)) ∙ orphans_of-undefined xs (key_of p) (undefined (key_of p) absent)
 
   new-folded : (p : TypePart) (es : List TypePart) → is_some (lookup (by_text (key_of p)) t.types) ≡ false
       → es ≡ filter_map extended_part (items_held (lookup (by_text (key_of p)) t.waiting)) → types_folded_at xs (Defined p) ≡ of_kind (kind_of p) es

@@ -13,7 +13,7 @@ use Rattle.apollo_meaning.specs.Items.Named.{definitions, first, extensions_of}
 use Rattle.apollo_meaning.specs.Types.Meaning.{type_names}
 use Rattle.apollo_meaning.specs.Completion.Adoption.{orphans_of}
 use Rattle.graphql_nodes.proofs.Texts.{same-true, same-is}
-use Rattle.apollo_meaning.proofs.Order.PlaceLemmas.{or-none}
+use Rattle.apollo_component.proofs.Lists.Ends.{or-none}
 use Rattle.apollo_meaning.proofs.Items.ItemLemmas.{definitions-push_definition, definitions-push_undefined, first-push_definition, first-push_undefined, extensions_of-push_extension, extensions_of-push_unextended}
 
 by_key : IsEquivalence (same_key {V = TypePart} same)

@@ -4,9 +4,9 @@ use Rattle.graphql_nodes.specs.contracts.type_kind.TypeKind.{the_type}
 use Rattle.apollo_types.specs.TypeWriteOut.{type_kind}
 use Rattle.apollo_meaning.specs.Items.Parts.{kind_of, same_kind}
 use Rattle.apollo_meaning.specs.Faults.TypeFaults.{part_faults, kind_mismatch}
-use Rattle.apollo_meaning.proofs.Order.FoldingLemmas.{type_kind-from}
+use Rattle.apollo_meaning.proofs.Order.FoldingLemmas.{same_kind-refl, type_kind-from}
 use Rattle.apollo_folding.specs.Views.{part_seen}
-use Rattle.apollo_folding.proofs.JoiningLemmas.{same_kind-refl, joining-one}
+use Rattle.apollo_folding.proofs.JoiningLemmas.{joining-one}
 use Rattle.apollo_folding.proofs.from_ast.extend_type.Goals as goal
 
 pub returns-clause-faults : goal.returns-clause-faults

@@ -1,0 +1,18 @@
+-- The names of the types of a list.
+use Rattle.std.proofs.Common.{◌≡◌, ℕ, List, map, sym, ap, ◌∙◌}
+use Rattle.std.specs.List.{filter_map}
+use Rattle.std.proofs.lemmas.Simd.{map-map}
+use Rattle.graphql_nodes.specs.SameText.{same, same_text}
+use Rattle.apollo_component.specs.FirstOfEach.{first_of_each, same_key}
+use Rattle.apollo_component.proofs.FirstOfEachLemmas.{first_of_each-map}
+use Rattle.apollo_meaning.specs.Items.ListItems.{ListItem, defined_part}
+use Rattle.apollo_meaning.specs.Items.Parts.{TypePart, key_of}
+use Rattle.apollo_meaning.specs.Types.Meaning.{type_names}
+
+-- they are the first of each text among those that are defined
+pub type_names-first : (xs : List ListItem) → type_names xs ≡ first_of_each same_text (map (λ p. p.name) (filter_map defined_part xs))
+type_names-first xs =
+    let ps : List TypePart = filter_map defined_part xs in
+    ap (map (λ e. e.1.name)) (sym (first_of_each-map (same_key same) (λ (p : TypePart). (key_of p, p)) ps))
+    ∙ map-map (λ (e : List ℕ × TypePart). e.1.name) (λ p. (key_of p, p)) (first_of_each (λ p q. same (key_of p) (key_of q)) ps)
+    ∙ first_of_each-map same_text (λ p. p.name) ps
