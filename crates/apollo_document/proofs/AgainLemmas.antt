@@ -33,7 +33,7 @@ use Rattle.apollo_document.specs.Documents.{IsUnderName, IsDocumentOf}
 use Rattle.apollo_document.specs.Stands.{entries_by}
 use Rattle.apollo_document.specs.WrittenAgain.{ambiguous_again}
 use Rattle.apollo_document.proofs.BuiltLemmas.{with_selections, fragment_with}
-use Rattle.apollo_document.proofs.ListLemmas.{first_all}
+use Rattle.apollo_component.proofs.FirstOfEachLemmas.{each-first}
 use Rattle.apollo_document.proofs.WrittenLemmas.{IsSoundOperation, IsSoundFragment, IsSoundIf, operation_item, fragment_item, anonymous_items, written, AllKept, all_kept}
 
 abbrev Op : Type 0
@@ -248,9 +248,9 @@ module _ (sets : TypedSetsLaw) where
       → AllKept s b (option_map erase_operation document.operations.anonymous) (entries_by erase_operation document.operations.named) (entries_by erase_fragment document.fragments)
   kept_again s xs b document h = all_kept s b (option_map erase_operation document.operations.anonymous) (entries_by erase_operation document.operations.named) (entries_by erase_fragment document.fragments)
       (sound_option s (kept_anonymous s xs) document.operations.anonymous h.anonymous (λ n e. has_no_name (find (is_rooted s) (operations xs)) n e))
-      (sound_table s (kept_named s xs) document.operations.named h.named (first_all (λ (x : NameView × Op). x.1.value.name ≡ Some x.0) (same_key same_text) (filter_map named (filter (is_rooted s) (operations xs))) (has_its_name (filter (is_rooted s) (operations xs)))))
+      (sound_table s (kept_named s xs) document.operations.named h.named (each-first (λ (x : NameView × Op). x.1.value.name ≡ Some x.0) (same_key same_text) (filter_map named (filter (is_rooted s) (operations xs))) (has_its_name (filter (is_rooted s) (operations xs)))))
       (distinct_table (IsOperationOf s) erase_operation (kept_named s xs) document.operations.named h.named (first_of_each-distinct (same_key same_text) (filter_map named (filter (is_rooted s) (operations xs)))))
-      (sound_fragments s (kept_fragments s xs) document.fragments h.fragments (first_all (λ (x : NameView × Frag). (x.1.value.name ≡ x.0) × (is_on_type s x.1 ≡ true)) (same_key same_text) (map under_name (filter (is_on_type s) (fragments xs))) (is_its_fragment s (fragments xs))))
+      (sound_fragments s (kept_fragments s xs) document.fragments h.fragments (each-first (λ (x : NameView × Frag). (x.1.value.name ≡ x.0) × (is_on_type s x.1 ≡ true)) (same_key same_text) (map under_name (filter (is_on_type s) (fragments xs))) (is_its_fragment s (fragments xs))))
       (distinct_table (IsFragmentOf s) erase_fragment (kept_fragments s xs) document.fragments h.fragments (first_of_each-distinct (same_key same_text) (map under_name (filter (is_on_type s) (fragments xs)))))
 
   self_document : (s : Option Schema) (xs : List Added) (b : Bool) (document : ExecutableDocument) → IsDocumentOf s xs document → IsDocumentOf s (written_of b document) document

@@ -31,7 +31,7 @@ use Rattle.apollo_document.specs.TypedDefinitions.{stripped_operation, stripped_
 use Rattle.apollo_document.specs.Documents.{IsUnderName, IsDocumentOf}
 use Rattle.apollo_document.specs.Stands.{operation_from, root_or_none, typed_operation, fragment_on_type, typed_fragment, entries_by, Stands}
 use Rattle.apollo_document.specs.declared.tables.Tables.{Tables}
-use Rattle.apollo_document.proofs.ListLemmas.{first_all}
+use Rattle.apollo_component.proofs.FirstOfEachLemmas.{each-first}
 
 abbrev Op : Type 0
 Op = NodeView OperationDefinition
@@ -118,7 +118,7 @@ module _ (sets : ElaboratedSetsLaw) where
         anonymous = subst (λ o. AllZip (IsOperationOf s) (listed (kept_anonymous s xs)) (listed o)) (sym (ap (λ m. m.anonymous) ops ∙ stands.anonymous))
             (built_option (IsOperationOf s) (typed_operation s) (kept_anonymous s xs) (λ n e. built_operation s n (rooted_first s os n e)));
         named = subst (λ es. AllZip (IsUnderName (IsOperationOf s)) (kept_named s xs) es) (sym (ap (λ m. m.named) ops ∙ stands.named))
-            (built_table (IsOperationOf s) (typed_operation s) (λ n. is_rooted s n ≡ true) (built_operation s) (kept_named s xs) (first_all (λ (x : NameView × Op). is_rooted s x.1 ≡ true) (same_key same_text) (filter_map named (filter (is_rooted s) os)) (rooted_named s os)));
+            (built_table (IsOperationOf s) (typed_operation s) (λ n. is_rooted s n ≡ true) (built_operation s) (kept_named s xs) (each-first (λ (x : NameView × Op). is_rooted s x.1 ≡ true) (same_key same_text) (filter_map named (filter (is_rooted s) os)) (rooted_named s os)));
         fragments = subst (λ es. AllZip (IsUnderName (IsFragmentOf s)) (kept_fragments s xs) es) (sym (frags ∙ stands.fragments))
             (built_table (IsFragmentOf s) (typed_fragment s) (λ n. Unit {0}) (λ n _. built_fragment s n) (kept_fragments s xs) (any_table (kept_fragments s xs)));
       }

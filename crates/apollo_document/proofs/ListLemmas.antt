@@ -1,22 +1,15 @@
 -- The first of each name, and what stands after the first, in a list with one more element.
-use Rattle.std.proofs.Common.{◌≡◌, ◌∙◌, ap, sym, refl, Bool, true, false, cond, ◌||◌, not, List, [], ◌∷◌, ◌++◌, filter, Option, None, Some, option_map, is_some}
-use Rattle.std.specs.Cmp.{IsEquivalence, on_equiv}
-use Rattle.std.specs.Cmp.Lexicographic.{nat_list_eq_equiv}
-use Rattle.std.specs.List.{AllByRecursion, find, list_any}
+use Rattle.std.proofs.Common.{◌≡◌, ◌∙◌, ap, sym, refl, Bool, true, false, cond, ◌||◌, List, [], ◌∷◌, ◌++◌, Option, None, Some, option_map, is_some}
+use Rattle.std.specs.List.{find, list_any}
 use Rattle.std.specs.Map.{lookup_key}
 use Rattle.std.proofs.lemmas.List.{append-nil, map-append}
 use Rattle.indexmap.specs.IndexMap.{insert_entry}
 use Rattle.graphql_nodes.specs.NameView.{NameView}
 use Rattle.graphql_nodes.specs.SameText.{same_text}
 use Rattle.apollo_component.specs.FirstOfEach.{first_of_each, same_key}
-use Rattle.apollo_component.proofs.Lists.Each.{each-weaken, each-filter}
-use Rattle.apollo_component.proofs.FirstOfEachLemmas.{first_of_each-push_new, first_of_each-push_old, insert_entry-last, list_any-first_of_each}
+use Rattle.apollo_component.proofs.FirstOfEachLemmas.{entry_laws, first_of_each-push_new, first_of_each-push_old, insert_entry-last, list_any-first_of_each}
 use Rattle.apollo_document.specs.KeptDefinitions.{after_first}
 use Rattle.apollo_document.specs.Stands.{entries_by, put_unless_taken}
-
--- to have one name is an equivalence
-pub entry_laws : {V : Type 0} → IsEquivalence (same_key {V = V} same_text)
-entry_laws = on_equiv (λ e. e.0.text) nat_list_eq_equiv
 
 -- a key is found where an entry passes
 pub some_key : {K V : Type 0} (test : K → Bool) (es : List (K × V)) → list_any (λ e. test e.0) es ≡ is_some (lookup_key test es)
@@ -75,8 +68,3 @@ after-push {A} p (y ∷ ys) x = by (p y) (after-push p ys x)
         → cond b (ys ++ x ∷ []) (after_first p (ys ++ x ∷ [])) ≡ cond (is_some (cond b (Some y) (find p ys))) (cond b ys (after_first p ys) ++ x ∷ []) []
     by true rest = refl
     by false rest = rest
-
--- what holds of each element holds of the first of each name
-pub first_all : {X : Type 0} (P : X → Type 0) (same : X → X → Bool) (xs : List X) → AllByRecursion P xs → AllByRecursion P (first_of_each same xs)
-first_all P same [] a = tt
-first_all P same (x ∷ xs) a = (a.0, each-weaken (λ y. P y × (not (same x y) ≡ true)) P (λ y h. h.0) (filter (λ y. not (same x y)) (first_of_each same xs)) (each-filter P (λ y. not (same x y)) (first_of_each same xs) (first_all P same xs a.1)))

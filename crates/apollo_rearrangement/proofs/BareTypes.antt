@@ -1,5 +1,5 @@
 -- What `==` compares of a type that parts make is decided by the parts without the origins of their components.
-use Rattle.std.proofs.Common.{◌≡◌, ℕ, Bool, true, false, not, ◌||◌, cond, List, [], ◌∷◌, ◌++◌, Option, Some, None, map, filter, refl, sym, ap, ◌∙◌}
+use Rattle.std.proofs.Common.{◌≡◌, ℕ, Bool, ◌||◌, List, [], ◌∷◌, ◌++◌, Option, Some, None, map, refl, sym, ap, ◌∙◌}
 use Rattle.std.specs.List.{flat_map, list_any}
 use Rattle.std.specs.Map.{lookup}
 use Rattle.std.specs.Option.{option_map}
@@ -14,6 +14,7 @@ use Rattle.graphql_nodes.specs.NodeView.{NodeView}
 use Rattle.graphql_nodes.specs.SameText.{by_text, same_text}
 use Rattle.apollo_component.specs.BareComponents.{bare_component, bare_directives}
 use Rattle.apollo_component.specs.FirstOfEach.{first_of_each, same_key}
+use Rattle.apollo_component.proofs.FirstOfEachLemmas.{first_of_each-map}
 use Rattle.apollo_component.specs.declared.component.Component.{Component}
 use Rattle.apollo_component.specs.declared.component.ComponentName.{ComponentName}
 use Rattle.apollo_component.specs.declared.extension.ComponentOrigin.{ComponentOrigin}
@@ -25,20 +26,6 @@ use Rattle.apollo_meaning.specs.Types.Meaning.{type_at, type_from}
 -- parts without the origins of their components
 abbrev pub parts_of : {P : Type 0} → List (ComponentOrigin × P) → List P
 parts_of = map (λ s. s.1)
-
-filter-map : {X Y : Type 0} (p : Y → Bool) (f : X → Y) (xs : List X) → filter p (map f xs) ≡ map f (filter (λ x. p (f x)) xs)
-filter-map p f [] = refl
-filter-map p f (x ∷ xs) = by (p (f x)) (filter-map p f xs)
-  where
-    by : (b : Bool) → filter p (map f xs) ≡ map f (filter (λ x. p (f x)) xs) → cond b (f x ∷ filter p (map f xs)) (filter p (map f xs)) ≡ map f (cond b (x ∷ filter (λ x. p (f x)) xs) (filter (λ x. p (f x)) xs))
-    by true rest = ap (λ l. f x ∷ l) rest
-    by false rest = rest
-
--- the first of each, seen through a function that a test goes by
-first-through : {X Y : Type 0} (same : Y → Y → Bool) (f : X → Y) (xs : List X) → map f (first_of_each (λ a b. same (f a) (f b)) xs) ≡ first_of_each same (map f xs)
-first-through same f [] = refl
-first-through same f (x ∷ xs) =
-    ap (λ l. f x ∷ l) (sym (filter-map (λ y. not (same (f x) y)) f (first_of_each (λ a b. same (f a) (f b)) xs)) ∙ ap (filter (λ y. not (same (f x) y))) (first-through same f xs))
 
 any-through : {X Y : Type 0} (test : Y → Bool) (f : X → Y) (xs : List X) → list_any (λ x. test (f x)) xs ≡ list_any test (map f xs)
 any-through test f [] = refl
@@ -72,7 +59,7 @@ module _ (held : TypePart → List NameView) where
   forget-names : (ps : List Sourced) → members_by_text (λ c. c.name) (distinct_names (names_of ps)) ≡ plain_names (parts_of ps)
   forget-names ps = λ i. λ text. (
       any-through (by_text text) (λ c. c.name) (distinct_names (names_of ps))
-      ∙ ap (list_any (by_text text)) (first-through same_text (λ c. c.name) (names_of ps) ∙ ap (first_of_each same_text) (forget (λ c. c.name) component_name (λ n. n) (λ o n. refl) held ps))) i
+      ∙ ap (list_any (by_text text)) (first_of_each-map same_text (λ c. c.name) (names_of ps) ∙ ap (first_of_each same_text) (forget (λ c. c.name) component_name (λ n. n) (λ o n. refl) held ps))) i
 
 module _ {T B : Type 0} (bare : T → B) (name : NodeView T → NameView) (held : TypePart → List (NodeView T)) where
   abbrev entry : ComponentOrigin → NodeView T → NameView × Component T
@@ -93,7 +80,7 @@ module _ {T B : Type 0} (bare : T → B) (name : NodeView T → NameView) (held 
   forget-entries : (ps : List Sourced) → entries_by_text (bare_component bare) (distinct_entries (entries_of ps)) ≡ plain_entries (parts_of ps)
   forget-entries ps = λ i. λ text. (
       sym (lookup-map_values (bare_component bare) (by_text text) (distinct_entries (entries_of ps)))
-      ∙ ap (lookup (by_text text)) (first-through (same_key same_text) bare_entry (entries_of ps) ∙ ap (first_of_each (same_key same_text)) (forget bare_entry entry (λ c. (name c, bare c.value)) (λ o c. refl) held ps))
+      ∙ ap (lookup (by_text text)) (first_of_each-map (same_key same_text) bare_entry (entries_of ps) ∙ ap (first_of_each (same_key same_text)) (forget bare_entry entry (λ c. (name c, bare c.value)) (λ o c. refl) held ps))
       ∙ sym (itself (lookup (by_text text) (first_of_each (same_key same_text) (bare_entries (parts_of ps)))))) i
     where
       itself : (o : Option B) → option_map (λ b. b) o ≡ o
