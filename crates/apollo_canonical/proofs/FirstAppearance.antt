@@ -5,8 +5,8 @@ use Rattle.std.proofs.lemmas.Simd.{map-map}
 use Rattle.std.specs.Cmp.{IsEquivalence}
 use Rattle.std.specs.List.{AllByRecursion, flat_map, list_any}
 use Rattle.apollo_component.specs.FirstOfEach.{first_of_each}
-use Rattle.apollo_component.proofs.Lists.Each.{each-filter, each-weaken, filter-fails}
-use Rattle.apollo_canonical.proofs.Kept.{filter-map, filter-filter, filter-all, each-of, passes}
+use Rattle.apollo_component.proofs.Lists.Each.{each-filter, each-weaken, filter-fails, filter-map}
+use Rattle.apollo_canonical.proofs.Kept.{filter-filter, filter-all, each-of, passes}
 
 -- whether no element that fails comes before one that passes
 abbrev pub leads : List Bool → Bool

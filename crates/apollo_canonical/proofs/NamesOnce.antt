@@ -1,5 +1,5 @@
 -- Names that stand once: in each type that a list means, and in each that has what such a type is written out as.
-use Rattle.std.proofs.Common.{◌≡◌, ℕ, Bool, true, not, List, [], ◌∷◌, Option, None, Some, is_some, map, filter, refl, sym, ap, subst, ◌∙◌, true≢false}
+use Rattle.std.proofs.Common.{◌≡◌, ℕ, List, [], ◌∷◌, Option, None, Some, is_some, map, refl, sym, ap, subst, ◌∙◌, true≢false}
 use Rattle.std.proofs.lemmas.List.Sorted.{IsPermutation-map}
 use Rattle.std.proofs.lemmas.Map.Keys.{IsDistinct-IsPermutation}
 use Rattle.std.proofs.lemmas.Simd.{map-map}
@@ -15,7 +15,8 @@ use Rattle.apollo_component.specs.FirstOfEach.{first_of_each, same_key}
 use Rattle.apollo_component.specs.declared.component.Component.{Component}
 use Rattle.apollo_component.specs.declared.component.ComponentName.{ComponentName}
 use Rattle.apollo_component.specs.declared.extension.ComponentOrigin.{ComponentOrigin}
-use Rattle.apollo_component.proofs.Lists.Each.{each-append, each-filter, each-weaken}
+use Rattle.apollo_component.proofs.Lists.Each.{each-append, each-weaken}
+use Rattle.apollo_component.proofs.FirstOfEachLemmas.{each-first, first_of_each-map, name_laws}
 use Rattle.apollo_component.proofs.Tabled.{first_of_each-distinct}
 use Rattle.apollo_types.specs.declared.extended_type.ExtendedType.{ExtendedType}
 use Rattle.apollo_meaning.specs.Items.ListItems.{ListItem, Folding}
@@ -24,10 +25,9 @@ use Rattle.apollo_meaning.specs.Items.Parts.{TypePart, TypeBody, ScalarBody, Obj
 use Rattle.apollo_meaning.specs.Types.Components.{Sourced, body_fields, body_values, body_input_fields, interfaces_of, members_of, fields_of, field_entry, input_fields_of, input_field_entry, value_entry, distinct_names, distinct_entries}
 use Rattle.apollo_meaning.specs.Types.Components as components
 use Rattle.apollo_meaning.specs.Types.Meaning.{parts, type_at, type_from, type_of}
-use Rattle.apollo_meaning.proofs.Faults.KeptLemmas.{name_laws}
 use Rattle.apollo_canonical.specs.Sections.{Sections, HasSameComponents}
 use Rattle.apollo_canonical.specs.TypeSections.{node_of, name_of, type_sections, HasWhatIsWritten, HasEachNameOnce}
-use Rattle.apollo_canonical.proofs.Kept.{filter-map, map-each}
+use Rattle.apollo_canonical.proofs.Kept.{map-each}
 use Rattle.apollo_canonical.proofs.TypeLemmas.{components-again}
 
 -- names of the same components stand once in both
@@ -48,17 +48,6 @@ once-kept a b all once = record {
 
 pub once-again : (t u : ExtendedType) → HasWhatIsWritten t u → HasEachNameOnce (type_sections t) → HasEachNameOnce (type_sections u)
 once-again t u h once = once-kept (type_sections t) (type_sections u) (components-again t u h) once
-
--- the first of each key have the first of those keys
-pub first_of_each-map : {X Y : Type 0} (same : Y → Y → Bool) (f : X → Y) (xs : List X) → map f (first_of_each (λ x y. same (f x) (f y)) xs) ≡ first_of_each same (map f xs)
-first_of_each-map same f [] = refl
-first_of_each-map same f (x ∷ xs) =
-    ap (λ l. f x ∷ l) (sym (filter-map (λ y. not (same (f x) y)) f (first_of_each (λ x y. same (f x) (f y)) xs)) ∙ ap (filter (λ y. not (same (f x) y))) (first_of_each-map same f xs))
-
-pub each-first : {X : Type 0} (P : X → Type 0) (same : X → X → Bool) (xs : List X) → AllByRecursion P xs → AllByRecursion P (first_of_each same xs)
-each-first P same [] a = tt
-each-first P same (x ∷ xs) a =
-    (a.0, each-weaken (λ y. P y × (not (same x y) ≡ true)) P (λ y h. h.0) (filter (λ y. not (same x y)) (first_of_each same xs)) (each-filter P (λ y. not (same x y)) (first_of_each same xs) (each-first P same xs a.1)))
 
 names-once : (cs : List ComponentName) → IsDistinct same_text (map (λ n. n.1) (map name_of (distinct_names cs)))
 names-once cs =

@@ -16,10 +16,10 @@ use Rattle.apollo_component.specs.declared.extension.ComponentOrigin.{ComponentO
 use Rattle.apollo_component.specs.declared.extension.ComponentOrigin.TheVariants.{Definition, Extension}
 use Rattle.apollo_component.specs.declared.extension.ExtensionId.{ExtensionId}
 use Rattle.apollo_component.specs.declared.parts_by_origin.PartsByOrigin.{PartsByOrigin}
-use Rattle.apollo_component.proofs.Lists.Each.{each-weaken}
+use Rattle.apollo_component.proofs.Lists.Each.{each-weaken, filter-map}
 use Rattle.apollo_canonical.specs.Sections.{Sections, as_parts, in_sections, with_origins, joined, sections_of}
 use Rattle.apollo_canonical.proofs.FirstAppearance.{in_order, is_nothing, in_order-map, first-in_order}
-use Rattle.apollo_canonical.proofs.Kept.{filter-map, filter-all, each-of, map-each}
+use Rattle.apollo_canonical.proofs.Kept.{filter-all, each-of, map-each}
 use Rattle.apollo_canonical.proofs.Regrouped.{own-group, shown, first-shown_again}
 
 pub same_id-equiv : IsEquivalence same_id

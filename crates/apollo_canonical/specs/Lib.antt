@@ -1,3 +1,4 @@
+pub mod MeaningLaws
 pub mod Sections
 pub mod TypeSections
 pub mod WrittenAgain

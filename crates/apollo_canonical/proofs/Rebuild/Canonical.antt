@@ -10,6 +10,8 @@ use Rattle.graphql_nodes.specs.SameText.{by_text}
 use Rattle.graphql_nodes.specs.Tables.{keys_of, lookup, values_of}
 use Rattle.graphql_ast.specs.BareTypeSystem.{bare_directive_definition}
 use Rattle.graphql_ast.specs.Definitions.{location_of}
+use Rattle.apollo_component.proofs.FirstOfEachLemmas.{name_laws}
+use Rattle.apollo_component.proofs.Tabled.{entries_from_lookups}
 use Rattle.apollo_types.specs.BareTypes.{bare_schema_definition}
 use Rattle.apollo_types.specs.SchemaDefinitionWriteOut.{write_schema_definition}
 use Rattle.apollo_types.specs.declared.extended_type.ExtendedType.{ExtendedType}
@@ -24,6 +26,7 @@ use Rattle.apollo_schema.specs.EqualSchemas.{AreEqualSchemas}
 use Rattle.apollo_schema.specs.MeantSchema.{AreOf, MeansSchema}
 use Rattle.apollo_schema.specs.SchemaWriteOut.{write_directives, write_held_schema_definition, write_held_type, write_schema}
 use Rattle.apollo_schema.specs.declared.schema.Schema.{Schema}
+use Rattle.apollo_canonical.specs.MeaningLaws.{MeaningLaws}
 use Rattle.apollo_canonical.specs.WrittenAgain.{IsUnmarkedAndRooted, with_built_ins, written_again}
 use Rattle.apollo_canonical.proofs.Rebuild.BuiltIns.{built_ins}
 use Rattle.apollo_canonical.proofs.Rebuild.DirectivesAgain.{directives-again, unique, written_directives}
@@ -33,7 +36,6 @@ use Rattle.apollo_canonical.proofs.Rebuild.Meant.{IsAddedByHand, items-split}
 use Rattle.apollo_canonical.proofs.Rebuild.OneType.{IsAgain}
 use Rattle.apollo_canonical.proofs.Rebuild.SchemaMeant.{NamesRoot, schema_node}
 use Rattle.apollo_canonical.proofs.Rebuild.SchemaWritten.{directives-listed, list-directives, written_list}
-use Rattle.apollo_canonical.proofs.Rebuild.Tables.{tables-same}
 use Rattle.apollo_canonical.proofs.Rebuild.TypesAgain.{equal_types, same_written}
 use Rattle.apollo_canonical.proofs.Rebuild.Whole.{Y, Z, ends, others, quiet, implied-directives, quiet-implied, same-schema, with-adopted}
 
@@ -46,7 +48,7 @@ items-listed c schema =
     ∙ (λ i. (document_items-append c (write_held_schema_definition schema) (write_directives (values_of schema.directive_definitions))
     ∙ ap (λ l. document_items c (write_held_schema_definition schema) ++ l) (directives-listed c (values_of schema.directive_definitions))) i ++ items-types c (values_of schema.types) i))
 
-module _ (start : ℕ) (adopts c : Bool) (more : List Added) (schema : Schema) (within : IsUnmarkedAndRooted more) (means : MeansSchema start adopts (with_built_ins more) schema) where
+module _ (laws : MeaningLaws) (start : ℕ) (adopts c : Bool) (more : List Added) (schema : Schema) (within : IsUnmarkedAndRooted more) (means : MeansSchema start adopts (with_built_ins more) schema) where
   pub handed : AllByRecursion IsAddedByHand more
   handed = recursion_from_All (λ a. is_built_in (location_of a.1) ≡ false) more within.unmarked
 
@@ -57,10 +59,10 @@ module _ (start : ℕ) (adopts c : Bool) (more : List Added) (schema : Schema) (
   xs = whole adopts (with_built_ins more)
 
   abbrev pub written_items : List ListItem
-  written_items = Y adopts more handed rooted start schema.types means.types schema.directive_definitions means.directives c
+  written_items = Y laws adopts more handed rooted start schema.types means.types schema.directive_definitions means.directives c
 
   abbrev pub all_items : List ListItem
-  all_items = Z adopts more handed rooted start schema.types means.types schema.directive_definitions means.directives c
+  all_items = Z laws adopts more handed rooted start schema.types means.types schema.directive_definitions means.directives c
 
   -- the items of the list with the write-out
   pub listed : added_items (written_again c schema) ≡ written_items
@@ -71,11 +73,11 @@ module _ (start : ℕ) (adopts c : Bool) (more : List Added) (schema : Schema) (
   pub all-listed : whole true (written_again c schema) ≡ all_items
   all-listed =
       ap (completed true) listed
-      ∙ (λ i. with-adopted adopts more handed rooted start schema.types means.types schema.directive_definitions means.directives c i ++ implied_schema true (with-adopted adopts more handed rooted start schema.types means.types schema.directive_definitions means.directives c i))
+      ∙ (λ i. with-adopted laws adopts more handed rooted start schema.types means.types schema.directive_definitions means.directives c i ++ implied_schema true (with-adopted laws adopts more handed rooted start schema.types means.types schema.directive_definitions means.directives c i))
 
   pub directive_list : directive_definitions all_items ≡ directive_definitions built_ins ++ written_directives adopts more handed schema.directive_definitions means.directives
   directive_list =
-      filter_map-append directive_part written_items (ends adopts more handed rooted start schema.types means.types schema.directive_definitions means.directives c)
+      filter_map-append directive_part written_items (ends laws adopts more handed rooted start schema.types means.types schema.directive_definitions means.directives c)
       ∙ (λ i. list-directives c (schema_node start xs).value (schema_node start xs).location schema.types (written_directives adopts more handed schema.directive_definitions means.directives) (values_of schema.types) i
       ++ implied-directives written_items i)
       ∙ append-nil (directive_definitions built_ins ++ written_directives adopts more handed schema.directive_definitions means.directives)
@@ -86,7 +88,7 @@ module _ (start : ℕ) (adopts c : Bool) (more : List Added) (schema : Schema) (
 
     same_definition : (bare_schema_definition (schema_node again all_items).value ≡ bare_schema_definition (schema_node start xs).value)
         × (write_schema_definition (schema_node again all_items).value (schema_node again all_items).location rebuilt.types ≡ write_schema_definition (schema_node start xs).value (schema_node start xs).location schema.types)
-    same_definition = same-schema adopts more handed rooted start schema.types means.types schema.directive_definitions means.directives c again rebuilt.types are_again.types
+    same_definition = same-schema laws adopts more handed rooted start schema.types means.types schema.directive_definitions means.directives c again rebuilt.types are_again.types
 
     same_directives : (keys_of rebuilt.directive_definitions ≡ keys_of schema.directive_definitions) × ((n : List ℕ) → lookup (by_text n) rebuilt.directive_definitions ≡ lookup (by_text n) schema.directive_definitions)
     same_directives = directives-again adopts more handed schema.directive_definitions means.directives all_items rebuilt.directive_definitions directive_list are_again.directives
@@ -96,8 +98,8 @@ module _ (start : ℕ) (adopts c : Bool) (more : List Added) (schema : Schema) (
     equal = (λ i. record {
       definition = definition i;
       directive_definitions = (λ n. option_map (λ d. bare_directive_definition d.value) (same_directives.1 n i));
-      types = equal_types adopts more handed start schema.types means.types c (others adopts more handed rooted start schema.types means.types schema.directive_definitions means.directives c)
-          (ends adopts more handed rooted start schema.types means.types schema.directive_definitions means.directives c) (quiet adopts more handed rooted start schema.types means.types schema.directive_definitions means.directives c) (quiet-implied written_items)
+      types = equal_types laws adopts more handed start schema.types means.types c (others laws adopts more handed rooted start schema.types means.types schema.directive_definitions means.directives c)
+          (ends laws adopts more handed rooted start schema.types means.types schema.directive_definitions means.directives c) (quiet laws adopts more handed rooted start schema.types means.types schema.directive_definitions means.directives c) (quiet-implied written_items)
           again rebuilt.types are_again.types i;
     })
       where
@@ -106,23 +108,28 @@ module _ (start : ℕ) (adopts c : Bool) (more : List Added) (schema : Schema) (
 
     -- with the same write-out
     pub same : write_schema rebuilt ≡ write_schema schema
-    same = (λ i. (definition i ++ ap write_directives (tables-same schema.directive_definitions rebuilt.directive_definitions (unique adopts more handed schema.directive_definitions means.directives) same_directives.0 same_directives.1) i) ++ types i)
+    same = (λ i. (definition i ++ ap (λ es. write_directives (values_of es)) same_table i) ++ types i)
       where
         definition : write_held_schema_definition rebuilt ≡ write_held_schema_definition schema
         definition =
             ap (λ (n : NodeView SchemaDefinition). write_schema_definition n.value n.location rebuilt.types) are_again.definition ∙ same_definition.1
             ∙ ap (λ (n : NodeView SchemaDefinition). write_schema_definition n.value n.location schema.types) (sym means.definition)
 
+        same_table : rebuilt.directive_definitions ≡ schema.directive_definitions
+        same_table =
+            entries_from_lookups name_laws schema.directive_definitions rebuilt.directive_definitions (unique adopts more handed schema.directive_definitions means.directives)
+            same_directives.0 (λ k. same_directives.1 k.text)
+
         held : (t u : ExtendedType) → IsAgain t u → write_held_type u ≡ write_held_type t
         held t u a = (λ i. cond (is_built_in (a.location i)) (drop 1 (a.same i)) (a.same i))
 
         types : flat_map write_held_type (values_of rebuilt.types) ≡ flat_map write_held_type (values_of schema.types)
-        types = same_written adopts more handed start schema.types means.types c (others adopts more handed rooted start schema.types means.types schema.directive_definitions means.directives c)
-            (ends adopts more handed rooted start schema.types means.types schema.directive_definitions means.directives c) (quiet adopts more handed rooted start schema.types means.types schema.directive_definitions means.directives c) (quiet-implied written_items)
+        types = same_written laws adopts more handed start schema.types means.types c (others laws adopts more handed rooted start schema.types means.types schema.directive_definitions means.directives c)
+            (ends laws adopts more handed rooted start schema.types means.types schema.directive_definitions means.directives c) (quiet laws adopts more handed rooted start schema.types means.types schema.directive_definitions means.directives c) (quiet-implied written_items)
             again rebuilt.types are_again.types write_held_type held
 
 -- and is without fault
-pub faultless : (start : ℕ) (adopts c : Bool) (more : List Added) (schema : Schema) → IsUnmarkedAndRooted more → MeansSchema start adopts (with_built_ins more) schema → faults_of true (written_again c schema) ≡ []
-faultless start adopts c more schema within means =
-    ap (faults_in true) (listed start adopts c more schema within means)
-    ∙ faults-none adopts more (handed start adopts c more schema within means) (rooted start adopts c more schema within means) start schema.types means.types schema.directive_definitions means.directives c
+pub faultless : MeaningLaws → (start : ℕ) (adopts c : Bool) (more : List Added) (schema : Schema) → IsUnmarkedAndRooted more → MeansSchema start adopts (with_built_ins more) schema → faults_of true (written_again c schema) ≡ []
+faultless laws start adopts c more schema within means =
+    ap (faults_in true) (listed laws start adopts c more schema within means)
+    ∙ faults-none laws adopts more (handed laws start adopts c more schema within means) (rooted laws start adopts c more schema within means) start schema.types means.types schema.directive_definitions means.directives c

@@ -18,11 +18,10 @@ use Rattle.apollo_component.proofs.Tabled.{first_of_each-distinct}
 use Rattle.apollo_meaning.specs.Directives.{AreDirectivesOf, Directives, directive_definitions, directive_names, directive_of, directive_part, has_text, is_handed_in}
 use Rattle.apollo_meaning.specs.Items.ListItems.{Added, Defined, Extended, ListItem, Other, SchemaDefined, SchemaExtended}
 use Rattle.apollo_meaning.specs.Schema.Whole.{whole}
-use Rattle.apollo_meaning.proofs.Faults.KeptLemmas.{name_laws}
+use Rattle.apollo_component.proofs.FirstOfEachLemmas.{first_of_each-map, name_laws}
 use Rattle.apollo_canonical.specs.WrittenAgain.{with_built_ins}
 use Rattle.apollo_canonical.proofs.FirstAppearance.{first-there, first_of_each-append, first_of_each-filter, new_to-same, new_to_these}
 use Rattle.apollo_canonical.proofs.Kept.{each-both, each-from_map, filter-all, find-none, passes}
-use Rattle.apollo_canonical.proofs.NamesOnce.{first_of_each-map}
 use Rattle.apollo_canonical.proofs.Once.{all-first}
 use Rattle.apollo_canonical.proofs.Rebuild.BuiltIns.{built_ins}
 use Rattle.apollo_canonical.proofs.Rebuild.Meant.{IsAddedByHand, IsHandedIn, handed-later, later_items, whole-split}

@@ -27,10 +27,10 @@ use Rattle.apollo_meaning.specs.Items.Parts.{TypePart, TypeBody, ScalarBody, Obj
 use Rattle.apollo_meaning.specs.Types.Components.{Sourced, body_fields, body_values, body_input_fields, fields_of, field_entry, input_fields_of, input_field_entry, value_entry}
 use Rattle.apollo_meaning.specs.Types.Components as components
 use Rattle.apollo_meaning.specs.Types.Meaning.{type_at}
-use Rattle.apollo_meaning.proofs.Faults.KeptLemmas.{name_laws}
+use Rattle.apollo_component.proofs.FirstOfEachLemmas.{each-first, name_laws}
 use Rattle.apollo_canonical.specs.Sections.{Sections, HasSameComponents}
 use Rattle.apollo_canonical.specs.TypeSections.{node_of, name_of, type_sections, HasEachNameOnce}
-use Rattle.apollo_canonical.proofs.NamesOnce.{IsNamed, all-named, each-first}
+use Rattle.apollo_canonical.proofs.NamesOnce.{IsNamed, all-named}
 use Rattle.apollo_canonical.proofs.Once.{found-permuted}
 
 -- what `==` compares of components of each sort

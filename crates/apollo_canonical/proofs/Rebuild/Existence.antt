@@ -14,6 +14,7 @@ use Rattle.apollo_meaning.specs.Order.Places.{folding_order}
 use Rattle.apollo_meaning.specs.Types.Meaning.{parts, type_from, type_of}
 use Rattle.apollo_schema.specs.MeantSchema.{AreOf, MeansSchema}
 use Rattle.apollo_schema.specs.declared.schema.Schema.{Schema}
+use Rattle.apollo_canonical.specs.MeaningLaws.{MeaningLaws}
 use Rattle.apollo_canonical.specs.WrittenAgain.{IsUnmarkedAndRooted, with_built_ins, written_again}
 use Rattle.apollo_canonical.proofs.Rebuild.About.{first-about}
 use Rattle.apollo_canonical.proofs.Rebuild.Canonical.{all-listed, all_items, directive_list, handed, rooted, written_items}
@@ -36,9 +37,9 @@ module _ {V : Type 0} (g : List ℕ → Option V) where
       by true h rest = ap (λ (m : List ℕ). Some (unwrap_or (g m) e.1)) (sym (same-true n e.0.text h))
       by false h rest = rest
 
-module _ (start : ℕ) (adopts c : Bool) (more : List Added) (schema : Schema) (within : IsUnmarkedAndRooted more) (means : MeansSchema start adopts (with_built_ins more) schema) (again : ℕ) where
+module _ (laws : MeaningLaws) (start : ℕ) (adopts c : Bool) (more : List Added) (schema : Schema) (within : IsUnmarkedAndRooted more) (means : MeansSchema start adopts (with_built_ins more) schema) (again : ℕ) where
   abbrev zs : List ListItem
-  zs = all_items start adopts c more schema within means
+  zs = all_items laws start adopts c more schema within means
 
   abbrev types_meant : List ℕ → Option ExtendedType
   types_meant = type_of again (folding_order zs) zs
@@ -50,17 +51,17 @@ module _ (start : ℕ) (adopts c : Bool) (more : List Added) (schema : Schema) (
       by None e =
           ap (option_map (unwrap_or (types_meant n))) e
           ∙ sym (ap (option_map (λ d. type_from d (parts again (folding_order zs) n d))) (first-about n zs ∙ ap (λ l. first l n)
-          (view-nothing adopts more (handed start adopts c more schema within means) start schema.types means.types c
-          (others adopts more (handed start adopts c more schema within means) (rooted start adopts c more schema within means) start schema.types means.types schema.directive_definitions means.directives c)
-          (ends adopts more (handed start adopts c more schema within means) (rooted start adopts c more schema within means) start schema.types means.types schema.directive_definitions means.directives c)
-          (quiet adopts more (handed start adopts c more schema within means) (rooted start adopts c more schema within means) start schema.types means.types schema.directive_definitions means.directives c)
-          (quiet-implied (written_items start adopts c more schema within means)) n e)))
+          (view-nothing laws adopts more (handed laws start adopts c more schema within means) start schema.types means.types c
+          (others laws adopts more (handed laws start adopts c more schema within means) (rooted laws start adopts c more schema within means) start schema.types means.types schema.directive_definitions means.directives c)
+          (ends laws adopts more (handed laws start adopts c more schema within means) (rooted laws start adopts c more schema within means) start schema.types means.types schema.directive_definitions means.directives c)
+          (quiet laws adopts more (handed laws start adopts c more schema within means) (rooted laws start adopts c more schema within means) start schema.types means.types schema.directive_definitions means.directives c)
+          (quiet-implied (written_items laws start adopts c more schema within means)) n e)))
       by (Some t) e =
-          let there = first-again adopts more (handed start adopts c more schema within means) start schema.types means.types c
-          (others adopts more (handed start adopts c more schema within means) (rooted start adopts c more schema within means) start schema.types means.types schema.directive_definitions means.directives c)
-          (ends adopts more (handed start adopts c more schema within means) (rooted start adopts c more schema within means) start schema.types means.types schema.directive_definitions means.directives c)
-          (quiet adopts more (handed start adopts c more schema within means) (rooted start adopts c more schema within means) start schema.types means.types schema.directive_definitions means.directives c)
-          (quiet-implied (written_items start adopts c more schema within means)) n t e in
+          let there = first-again laws adopts more (handed laws start adopts c more schema within means) start schema.types means.types c
+          (others laws adopts more (handed laws start adopts c more schema within means) (rooted laws start adopts c more schema within means) start schema.types means.types schema.directive_definitions means.directives c)
+          (ends laws adopts more (handed laws start adopts c more schema within means) (rooted laws start adopts c more schema within means) start schema.types means.types schema.directive_definitions means.directives c)
+          (quiet laws adopts more (handed laws start adopts c more schema within means) (rooted laws start adopts c more schema within means) start schema.types means.types schema.directive_definitions means.directives c)
+          (quiet-implied (written_items laws start adopts c more schema within means)) n t e in
           ap (option_map (unwrap_or (types_meant n))) e
           ∙ ap (λ o. Some (unwrap_or (option_map (λ d. type_from d (parts again (folding_order zs) n d)) o) t)) there
           ∙ sym (ap (option_map (λ d. type_from d (parts again (folding_order zs) n d))) there)
@@ -73,18 +74,18 @@ module _ (start : ℕ) (adopts c : Bool) (more : List Added) (schema : Schema) (
     definition = refl;
     types = record {
       names = map-map (λ (e : NameView × ExtendedType). e.0) (λ e. (e.0, unwrap_or (types_meant e.0.text) e.1)) schema.types
-          ∙ sym (names-again adopts more (handed start adopts c more schema within means) start schema.types means.types c
-          (others adopts more (handed start adopts c more schema within means) (rooted start adopts c more schema within means) start schema.types means.types schema.directive_definitions means.directives c)
-          (ends adopts more (handed start adopts c more schema within means) (rooted start adopts c more schema within means) start schema.types means.types schema.directive_definitions means.directives c)
-          (quiet adopts more (handed start adopts c more schema within means) (rooted start adopts c more schema within means) start schema.types means.types schema.directive_definitions means.directives c)
-          (quiet-implied (written_items start adopts c more schema within means)));
+          ∙ sym (names-again laws adopts more (handed laws start adopts c more schema within means) start schema.types means.types c
+          (others laws adopts more (handed laws start adopts c more schema within means) (rooted laws start adopts c more schema within means) start schema.types means.types schema.directive_definitions means.directives c)
+          (ends laws adopts more (handed laws start adopts c more schema within means) (rooted laws start adopts c more schema within means) start schema.types means.types schema.directive_definitions means.directives c)
+          (quiet laws adopts more (handed laws start adopts c more schema within means) (rooted laws start adopts c more schema within means) start schema.types means.types schema.directive_definitions means.directives c)
+          (quiet-implied (written_items laws start adopts c more schema within means)));
       each = meant-each;
     };
     directives = record {
-      names = sym (ap directive_names (directive_list start adopts c more schema within means) ∙ same_keys adopts more (handed start adopts c more schema within means) schema.directive_definitions means.directives);
-      each = (λ n. sym (ap (λ ds. directive_of ds n) (directive_list start adopts c more schema within means) ∙ same_meaning adopts more (handed start adopts c more schema within means) schema.directive_definitions means.directives n));
+      names = sym (ap directive_names (directive_list laws start adopts c more schema within means) ∙ same_keys adopts more (handed laws start adopts c more schema within means) schema.directive_definitions means.directives);
+      each = (λ n. sym (ap (λ ds. directive_of ds n) (directive_list laws start adopts c more schema within means) ∙ same_meaning adopts more (handed laws start adopts c more schema within means) schema.directive_definitions means.directives n));
     };
   }
 
   pub rebuilds : (rebuilt : Schema) × MeansSchema again true (written_again c schema) rebuilt
-  rebuilds = (rebuilt, subst (λ l. AreOf again (folding_order l) l rebuilt) (sym (all-listed start adopts c more schema within means)) is-meant)
+  rebuilds = (rebuilt, subst (λ l. AreOf again (folding_order l) l rebuilt) (sym (all-listed laws start adopts c more schema within means)) is-meant)

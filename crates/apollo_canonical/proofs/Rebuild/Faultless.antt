@@ -35,8 +35,8 @@ use Rattle.apollo_meaning.specs.Steps.Joining.{schema_begun_faults}
 use Rattle.apollo_meaning.specs.Steps.Prefixes.{found, found_at}
 use Rattle.apollo_meaning.specs.Types.Meaning.{AreTypesOf}
 use Rattle.apollo_meaning.specs.declared.build_error.BuildError.TheVariants as errors
-use Rattle.apollo_meaning.proofs.Completion.CompletionLemmas.{faults-completed}
-use Rattle.apollo_meaning.proofs.Faults.KeptLemmas.{name_laws}
+use Rattle.apollo_canonical.specs.MeaningLaws.{MeaningLaws}
+use Rattle.apollo_component.proofs.FirstOfEachLemmas.{name_laws}
 use Rattle.apollo_canonical.specs.WrittenAgain.{with_built_ins}
 use Rattle.apollo_canonical.proofs.Rebuild.About.{Name, Others, Schema, Topic, about, directives-about, faultless-by_topic}
 use Rattle.apollo_canonical.proofs.Rebuild.BuiltIns.{built_ins}
@@ -123,14 +123,14 @@ implied-distinct true false true = ((refl, tt), (tt, tt))
 implied-distinct true true false = ((refl, tt), (tt, tt))
 implied-distinct true true true = ((refl, (refl, tt)), ((refl, tt), (tt, tt)))
 
-module _ (adopts : Bool) (more : List Added) (handed : AllByRecursion IsAddedByHand more) (rooted : AllByRecursion NamesRoot (filter_map defined_schema (added_items more))) (start : ℕ)
+module _ (laws : MeaningLaws) (adopts : Bool) (more : List Added) (handed : AllByRecursion IsAddedByHand more) (rooted : AllByRecursion NamesRoot (filter_map defined_schema (added_items more))) (start : ℕ)
     (types : List (NameView × ExtendedType)) (are : AreTypesOf start (folding_order (whole adopts (with_built_ins more))) (whole adopts (with_built_ins more)) types)
     (table : List (NameView × NodeView DirectiveDefinition)) (are_directives : AreDirectivesOf (directive_definitions (whole adopts (with_built_ins more))) table) (c : Bool) where
   abbrev ys : List ListItem
-  ys = Y adopts more handed rooted start types are table are_directives c
+  ys = Y laws adopts more handed rooted start types are table are_directives c
 
   abbrev zs : List ListItem
-  zs = Z adopts more handed rooted start types are table are_directives c
+  zs = Z laws adopts more handed rooted start types are table are_directives c
 
   abbrev node : NodeView SchemaDefinition
   node = schema_node start (whole adopts (with_built_ins more))
@@ -143,13 +143,13 @@ module _ (adopts : Bool) (more : List Added) (handed : AllByRecursion IsAddedByH
 
   type-none : (n : List ℕ) (t : ExtendedType) → lookup (by_text n) types ≡ Some t → found (about (Name n) ys) ≡ []
   type-none n t e =
-      let b : Bool = flag adopts more handed start types are c (others adopts more handed rooted start types are table are_directives c) [] (quiet adopts more handed rooted start types are table are_directives c) tt n t e in
-      let h : HaveEachNameOnce (written_parts t) = once-in_parts t (once t (is-made adopts more handed start types are n t e)) in
-      ap found (ap (about (Name n)) (sym (alone adopts more handed rooted start types are table are_directives c))
-      ∙ view-type adopts more handed start types are c (others adopts more handed rooted start types are table are_directives c) [] (quiet adopts more handed rooted start types are table are_directives c) tt n t e
+      let b : Bool = flag laws adopts more handed start types are c (others laws adopts more handed rooted start types are table are_directives c) [] (quiet laws adopts more handed rooted start types are table are_directives c) tt n t e in
+      let h : HaveEachNameOnce (written_parts t) = once-in_parts t (once t (is-made laws adopts more handed start types are n t e)) in
+      ap found (ap (about (Name n)) (sym (alone laws adopts more handed rooted start types are table are_directives c))
+      ∙ view-type laws adopts more handed start types are c (others laws adopts more handed rooted start types are table are_directives c) [] (quiet laws adopts more handed rooted start types are table are_directives c) tt n t e
       ∙ ap (λ l. Defined (record (definition_part t) { ignorable = b }) ∷ l) (sym (map-map Extended (extension_of t) (written t).extensions)))
-      ∙ type-faultless (record (definition_part t) { ignorable = b }) (map (extension_of t) (written t).extensions)
-      (fits adopts more handed start types are c (others adopts more handed rooted start types are table are_directives c) [] (quiet adopts more handed rooted start types are table are_directives c) tt n t e (written t).extensions)
+      ∙ type-faultless laws.own_kind (record (definition_part t) { ignorable = b }) (map (extension_of t) (written t).extensions)
+      (fits laws adopts more handed start types are c (others laws adopts more handed rooted start types are table are_directives c) [] (quiet laws adopts more handed rooted start types are table are_directives c) tt n t e (written t).extensions)
       (record { interfaces = h.interfaces; members = h.members; fields = h.fields; values = h.values; input_fields = h.input_fields })
 
   schema-items-none : found (about Schema ys) ≡ []
@@ -159,7 +159,7 @@ module _ (adopts : Bool) (more : List Added) (handed : AllByRecursion IsAddedByH
       ∙ by (is_written types node.value)
     where
       by : (b : Bool) → found (cond b (SchemaDefined (written_head node.value node.location) ∷ []) [] ++ map SchemaExtended exts) ≡ []
-      by true = schema-faultless (written_head node.value node.location) exts (written-distinct node.value)
+      by true = schema-faultless laws.same_root (written_head node.value node.location) exts (written-distinct laws.same_root node.value)
       by false = early-none [] exts
 
   others-none : found (about Others ys) ≡ []
@@ -173,7 +173,7 @@ module _ (adopts : Bool) (more : List Added) (handed : AllByRecursion IsAddedByH
   found-none = faultless-by_topic ys by
     where
       named : (n : List ℕ) (o : Option ExtendedType) → lookup (by_text n) types ≡ o → found (about (Name n) ys) ≡ []
-      named n None e = ap found (first-nothing adopts more handed rooted start types are table are_directives c n e)
+      named n None e = ap found (first-nothing laws adopts more handed rooted start types are table are_directives c n e)
       named n (Some t) e = type-none n t e
 
       by : (topic : Topic) → found (about topic ys) ≡ []
@@ -186,7 +186,7 @@ module _ (adopts : Bool) (more : List Added) (handed : AllByRecursion IsAddedByH
     where
       go : (ns : List (List ℕ)) → flat_map (orphans_of ys) ns ≡ []
       go [] = refl
-      go (n ∷ ns) = (λ i. orphans-none adopts more handed rooted start types are table are_directives c n i ++ go ns i)
+      go (n ∷ ns) = (λ i. orphans-none laws adopts more handed rooted start types are table are_directives c n i ++ go ns i)
 
   first-ys : first_schema ys ≡ cond (is_written types node.value) (Some (written_head node.value node.location)) None
   first-ys = list-first_schema c node.value node.location types ds (values_of types)
@@ -202,7 +202,7 @@ module _ (adopts : Bool) (more : List Added) (handed : AllByRecursion IsAddedByH
       at s none is d = (
         ap (each_after found_at ys) is ∙ append-nil (found_at ys (SchemaDefined s))
             ∙ ap (λ o. option_map_or (λ f. further_schema f s ∷ []) o (schema_begun_faults s (schema_extensions ys))) none
-            ∙ ap (schema_begun_faults s) (list-schema_extensions c node.value node.location types ds (values_of types)) ∙ begun-none s exts d,
+            ∙ ap (schema_begun_faults s) (list-schema_extensions c node.value node.location types ds (values_of types)) ∙ begun-none laws.same_root s exts d,
         defined s (first_schema-append ys (implied_schema true ys) ∙ (λ i. option_or (none i) (first_schema (is i)))),
       )
 
@@ -224,15 +224,15 @@ module _ (adopts : Bool) (more : List Added) (handed : AllByRecursion IsAddedByH
           same_exts = list-schema_extensions c node.value node.location types ds (values_of types)
 
           unnamed : (named : List Root) → roots_in (schema_extensions ys) ≡ named → (each_after found_at ys (implied_schema true ys) ≡ []) × (schema_orphans zs ≡ [])
-          unnamed (r ∷ rs) g = at (schema_of_roots []) none (are_ends ∙ ap (λ l. adopting_schema l (implicit_roots ys)) g) (distinct-back (written_parts_of node.value).definition.roots (roots_in exts) (written-distinct node.value))
+          unnamed (r ∷ rs) g = at (schema_of_roots []) none (are_ends ∙ ap (λ l. adopting_schema l (implicit_roots ys)) g) (distinct-back (written_parts_of node.value).definition.roots (roots_in exts) (written-distinct laws.same_root node.value))
           unnamed [] g =
               at (schema_of_roots (implicit_roots ys)) none (are_ends ∙ ap (λ l. adopting_schema l (implicit_roots ys)) g)
-              (subst (IsDistinct same_root) (sym ((λ i. implicit-again adopts more handed rooted start types are table are_directives c i ++ (ap roots_in (sym same_exts) ∙ g) i) ∙ append-nil (roots_where (object_at types Query) (object_at types Mutation) (object_at types Subscription))))
+              (subst (IsDistinct same_root) (sym ((λ i. implicit-again laws adopts more handed rooted start types are table are_directives c i ++ (ap roots_in (sym same_exts) ∙ g) i) ∙ append-nil (roots_where (object_at types Query) (object_at types Mutation) (object_at types Subscription))))
               (implied-distinct (object_at types Query) (object_at types Mutation) (object_at types Subscription)))
 
   pub faults-none : faults_in true ys ≡ []
   faults-none =
-      faults-completed true ys ∙ ap all (with-adopted adopts more handed rooted start types are table are_directives c)
+      laws.faults true ys ∙ ap all (with-adopted laws adopts more handed rooted start types are table are_directives c)
       ∙ (λ i. found-none i ++ (map orphan (orphaned-none i) ++ (end-none.0 i ++ map schema_orphan (end-none.1 i))))
     where
       all : List ListItem → List Fault

@@ -3,9 +3,10 @@ use Rattle.std.proofs.Common.{◌≡◌, ℕ, ◌+◌, ◌≤◌, List, [], ◌�
 use Rattle.std.proofs.lemmas.List.{length-map}
 use Rattle.std.proofs.lemmas.List.Elements.{filter_map-append, recursion_from_All}
 use Rattle.std.proofs.lemmas.List.Sums.{count_by-le-length, length-filter}
-use Rattle.std.specs.List.{filter_map, range_with_len}
+use Rattle.std.specs.List.{All, filter_map, range_with_len}
 use Rattle.std.specs.Option.{option_map_or}
 use Rattle.apollo_component.proofs.Lists.Each.{each-weaken}
+use Rattle.apollo_component.proofs.Lists.Ends.{filter_map-numbered}
 use Rattle.apollo_meaning.specs.Completion.Adoption.{adopted, adopted_by, extended_names, orphans_of, with_adopted}
 use Rattle.apollo_meaning.specs.Completion.ImpliedSchema.{adopting_schema, implicit_roots, implied_schema, schema_for}
 use Rattle.apollo_meaning.specs.Items.ListItems.{Added, ListItem, OfSchema, OfType, added_items, extended_part, extended_schema}
@@ -13,8 +14,7 @@ use Rattle.apollo_meaning.specs.Items.Named.{first_schema, schema_extensions}
 use Rattle.apollo_meaning.specs.Items.Parts.{Root, SchemaPart, TypePart, roots_in}
 use Rattle.apollo_meaning.specs.Order.Places.{Family, Placed, extension_places, first_place, folded_when, folding_order, is_folded, is_met, met_when, once_if_defined, schemas, times_met, types}
 use Rattle.apollo_meaning.specs.Schema.Whole.{folds, whole}
-use Rattle.apollo_meaning.proofs.Order.OnceLemmas.{each-met-once}
-use Rattle.apollo_meaning.proofs.Order.PlaceLemmas.{forget-placed}
+use Rattle.apollo_canonical.specs.MeaningLaws.{MeaningLaws}
 use Rattle.apollo_canonical.proofs.Groups.{grouped-few}
 
 -- how many extensions a list has, of types and of the schema
@@ -33,15 +33,15 @@ extensions_in-append xs ys =
 
 module _ (xs : List ListItem) where
   -- no more are met, at all moments of the list, than there are
-  met-few : {P : Type 0} (f : Family P) → length (flat_map (met_when f xs) (range_with_len 0 (length xs))) ≤ length (filter_map f.extended xs)
-  met-few {P} f =
+  met-few : {P : Type 0} (f : Family P) → All (λ e. times_met f xs e ≡ once_if_defined f xs e) (extension_places f xs) → length (flat_map (met_when f xs) (range_with_len 0 (length xs))) ≤ length (filter_map f.extended xs)
+  met-few {P} f met =
       omega (
         arith,
         grouped-few (is_met f xs) (range_with_len 0 (length xs)) (extension_places f xs)
             (each-weaken (λ e. times_met f xs e ≡ once_if_defined f xs e) (λ e. times_met f xs e ≤ 1) (λ e. at_most (first_place f xs (f.key e.1)) (times_met f xs e)) (extension_places f xs)
-            (recursion_from_All (λ e. times_met f xs e ≡ once_if_defined f xs e) (extension_places f xs) (each-met-once f xs))),
+            (recursion_from_All (λ e. times_met f xs e ≡ once_if_defined f xs e) (extension_places f xs) met)),
         length-map (extension_places f xs) (λ e. e.1),
-        ap length (forget-placed f.extended 0 xs),
+        ap length (filter_map-numbered f.extended 0 xs),
       )
     where
       at_most : (o : Option (Placed P)) (n : ℕ) → n ≡ option_map_or (λ _. 1) o 0 → n ≤ 1
@@ -67,8 +67,8 @@ module _ (xs : List ListItem) where
         length-append ss (flat_map (met_when schemas xs) is),
       )
 
-  folded-few : length (folding_order xs) ≤ extensions_in xs
-  folded-few = omega (arith, folded-met (range_with_len 0 (length xs)), met-few types, met-few schemas)
+  folded-few : MeaningLaws → length (folding_order xs) ≤ extensions_in xs
+  folded-few laws = omega (arith, folded-met (range_with_len 0 (length xs)), met-few types (laws.types_met xs), met-few schemas (laws.schemas_met xs))
 
   -- what is adopted extends nothing
   adopted-none : (ns : List (List ℕ)) → extensions_in (flat_map (λ n. adopted_by (orphans_of xs n)) ns) ≡ 0
@@ -92,12 +92,12 @@ module _ (xs : List ListItem) where
       by None = for (roots_in (schema_extensions xs)) (implicit_roots xs)
 
 -- so where extensions are adopted no more are folded than there are
-pub folds-few : (xs : List Added) → folds true xs ≤ extensions_in (added_items xs)
-folds-few xs =
+pub folds-few : MeaningLaws → (xs : List Added) → folds true xs ≤ extensions_in (added_items xs)
+folds-few laws xs =
     let items : List ListItem = added_items xs in
     omega (
       arith,
-      folded-few (whole true xs),
+      folded-few (whole true xs) laws,
       extensions_in-append (with_adopted true items) (implied_schema true (with_adopted true items)),
       implied-none (with_adopted true items),
       extensions_in-append items (adopted items),

@@ -25,9 +25,10 @@ use Rattle.apollo_meaning.specs.Order.SpentIds.{SpendsIds}
 use Rattle.apollo_meaning.specs.Schema.Definition.{no_schema, schema_from, schema_parts}
 use Rattle.apollo_meaning.specs.Schema.Whole.{folds, whole}
 use Rattle.apollo_meaning.specs.Types.Meaning.{of_type, parts, type_from}
-use Rattle.apollo_meaning.proofs.Faults.KeptLemmas.{name_laws}
 use Rattle.apollo_schema.specs.MeantSchema.{MeansSchema}
 use Rattle.apollo_schema.specs.declared.schema.Schema.{Schema}
+use Rattle.apollo_component.proofs.FirstOfEachLemmas.{name_laws}
+use Rattle.apollo_canonical.specs.MeaningLaws.{MeaningLaws}
 use Rattle.apollo_canonical.specs.WrittenAgain.{written_again}
 use Rattle.apollo_canonical.proofs.Groups.{grouped-few, passed, same-once}
 use Rattle.apollo_canonical.proofs.Kept.{each-of}
@@ -103,7 +104,7 @@ module _ (c : Bool) where
         length-map (written_parts_of d).extensions schema_extension_of,
       )
 
-module _ (start : ℕ) (adopts : Bool) (xs : List Added) (schema : Schema) (means : MeansSchema start adopts xs schema) where
+module _ (laws : MeaningLaws) (start : ℕ) (adopts : Bool) (xs : List Added) (schema : Schema) (means : MeansSchema start adopts xs schema) where
   abbrev items : List ListItem
   items = whole adopts xs
 
@@ -120,7 +121,7 @@ module _ (start : ℕ) (adopts : Bool) (xs : List Added) (schema : Schema) (mean
   each-few : AllByRecursion (λ e. length (written e.1).extensions ≤ length (numbers_of e.0.text start folded)) schema.types
   each-few =
       each-weaken (λ e. lookup (by_text e.0.text) schema.types ≡ Some e.1) (λ e. length (written e.1).extensions ≤ length (numbers_of e.0.text start folded))
-      (λ e found. by e.0.text e.1 (first items e.0.text) (sym (means.types.each e.0.text) ∙ found)) schema.types (each-entry schema.types (unique start items schema.types means.types))
+      (λ e found. by e.0.text e.1 (first items e.0.text) (sym (means.types.each e.0.text) ∙ found)) schema.types (each-entry schema.types (unique laws start items schema.types means.types))
     where
       by : (n : List ℕ) (t : ExtendedType) (o : Option TypePart) → option_map (λ d. type_from d (parts start folded n d)) o ≡ Some t → length (written t).extensions ≤ length (numbers_of n start folded)
       by n t None h = absurd (let g : None ≡ Some t = h in cc)
@@ -130,11 +131,11 @@ module _ (start : ℕ) (adopts : Bool) (xs : List Added) (schema : Schema) (mean
   folds-no_more c =
       omega (
         arith,
-        folds-few (written_again c schema),
+        folds-few laws (written_again c schema),
         written-counted c schema,
         definition-few,
         types-few c start folded schema.types each-few,
-        by-name-few start folded (keys_of schema.types) (unique start items schema.types means.types),
+        by-name-few start folded (keys_of schema.types) (unique laws start items schema.types means.types),
       )
 
   -- so where the numbers don't suffice for the write-out, they don't for the list

@@ -2,21 +2,19 @@
 use Rattle.std.proofs.Common.{◌≡◌, ℕ, Bool, true, false, cond, ◌||◌, List, [], ◌∷◌, ◌++◌, None, Some, is_some, map, find, option_map, refl, sym, ap, subst, ◌∙◌}
 use Rattle.std.proofs.lemmas.List.{map-append}
 use Rattle.std.proofs.lemmas.List.Elements.{filter_map-append}
-use Rattle.std.proofs.lemmas.Simd.{map-map}
-use Rattle.std.specs.List.{AllByRecursion, IsDistinct, filter_map, list_any}
+use Rattle.std.specs.List.{AllByRecursion, filter_map, list_any}
 use Rattle.std.specs.Map.{lookup}
 use Rattle.std.specs.Option.{unwrap_or}
 use Rattle.graphql_nodes.specs.NameView.{NameView}
 use Rattle.graphql_nodes.specs.SameText.{same, same_text}
-use Rattle.apollo_component.specs.FirstOfEach.{first_of_each, same_key}
+use Rattle.apollo_component.specs.FirstOfEach.{first_of_each}
 use Rattle.apollo_component.proofs.Lists.Each.{each-weaken}
-use Rattle.apollo_component.proofs.Tabled.{first_of_each-distinct}
 use Rattle.apollo_meaning.specs.Items.ListItems.{ListItem, defined_part}
 use Rattle.apollo_meaning.specs.Items.Named.{named, first}
 use Rattle.apollo_meaning.specs.Items.Parts.{TypePart, key_of}
 use Rattle.apollo_meaning.specs.Types.Meaning.{type_names}
-use Rattle.apollo_meaning.proofs.Faults.KeptLemmas.{name_laws}
-use Rattle.apollo_canonical.proofs.NamesOnce.{first_of_each-map}
+use Rattle.apollo_component.proofs.FirstOfEachLemmas.{name_laws}
+use Rattle.apollo_canonical.specs.MeaningLaws.{MeaningLaws}
 use Rattle.apollo_canonical.proofs.Rebuild.Tables.{each-found}
 
 abbrev pub defined_names : List ListItem → List NameView
@@ -24,16 +22,6 @@ defined_names xs = map (λ p. p.name) (filter_map defined_part xs)
 
 pub defined_names-append : (xs ys : List ListItem) → defined_names (xs ++ ys) ≡ defined_names xs ++ defined_names ys
 defined_names-append xs ys = ap (map (λ p. p.name)) (filter_map-append defined_part xs ys) ∙ map-append (λ p. p.name) (filter_map defined_part xs) (filter_map defined_part ys)
-
-pub type_names-first : (xs : List ListItem) → type_names xs ≡ first_of_each same_text (defined_names xs)
-type_names-first xs =
-    let ps : List TypePart = filter_map defined_part xs in
-    ap (map (λ e. e.1.name)) (sym (first_of_each-map (same_key same) (λ (p : TypePart). (key_of p, p)) ps))
-    ∙ map-map (λ (e : List ℕ × TypePart). e.1.name) (λ p. (key_of p, p)) (first_of_each (λ p q. same (key_of p) (key_of q)) ps)
-    ∙ first_of_each-map same_text (λ p. p.name) ps
-
-pub type_names-distinct : (xs : List ListItem) → IsDistinct same_text (type_names xs)
-type_names-distinct xs = subst (IsDistinct same_text) (sym (type_names-first xs)) (first_of_each-distinct same_text (defined_names xs))
 
 find-defined : (k : NameView) (ps : List TypePart) → find (same_text k) (map (λ p. p.name) ps) ≡ option_map (λ d. d.name) (lookup (same k.text) (named ps))
 find-defined k [] = refl
@@ -45,9 +33,9 @@ find-defined k (p ∷ ps) = by (same k.text (key_of p)) (find-defined k ps)
     by false rest = rest
 
 -- each name is that of its text's first definition
-pub names-of_first : (xs : List ListItem) → AllByRecursion (λ k. option_map (λ d. d.name) (first xs k.text) ≡ Some k) (type_names xs)
-names-of_first xs =
-    subst (AllByRecursion (λ k. option_map (λ d. d.name) (first xs k.text) ≡ Some k)) (sym (type_names-first xs))
+pub names-of_first : MeaningLaws → (xs : List ListItem) → AllByRecursion (λ k. option_map (λ d. d.name) (first xs k.text) ≡ Some k) (type_names xs)
+names-of_first laws xs =
+    subst (AllByRecursion (λ k. option_map (λ d. d.name) (first xs k.text) ≡ Some k)) (sym (laws.names xs))
     (each-weaken (λ k. find (same_text k) (defined_names xs) ≡ Some k) (λ k. option_map (λ d. d.name) (first xs k.text) ≡ Some k) (λ k h. sym (find-defined k (filter_map defined_part xs)) ∙ h)
     (first_of_each same_text (defined_names xs)) (each-found same_text name_laws (defined_names xs)))
 

@@ -16,7 +16,7 @@ use Rattle.apollo_types.specs.declared.extended_type.ExtendedType.{ExtendedType}
 use Rattle.apollo_meaning.specs.Items.Parts.{TypePart, TypeBody, ScalarBody, ObjectBody, InterfaceBody, UnionBody, EnumBody, InputObjectBody}
 use Rattle.apollo_meaning.specs.Types.Components.{Sourced, component}
 use Rattle.apollo_meaning.specs.Types.Meaning.{type_at, type_from, extension_part}
-use Rattle.apollo_meaning.proofs.Order.FoldingLemmas.{type_from-ignorable}
+use Rattle.apollo_canonical.specs.MeaningLaws.{MeaningLaws}
 use Rattle.apollo_canonical.specs.Sections.{joined, sections_of}
 use Rattle.apollo_canonical.specs.TypeSections.{node_of, type_sections, HasWhatIsWritten, HasEachNameOnce}
 use Rattle.apollo_canonical.proofs.DirectivesInOrder.{directives-in_order}
@@ -75,16 +75,16 @@ module _ (head : TypePart) (es : List (ℕ × TypePart)) where
       later [] = refl
       later (f ∷ fs) = ap (λ l. map (λ x. (Extension (extension_id f.0 f.1.location), x)) f.1.directives ++ l) (later fs)
 
-module _ (t : ExtendedType) (m : IsMade t) where
-  pub once : HasEachNameOnce (type_sections t)
-  once = subst (λ u. HasEachNameOnce (type_sections u)) (sym m.is) (made-once m.head.body m.head ((Definition, m.head) ∷ map extension_part m.extensions))
+pub once : (t : ExtendedType) → IsMade t → HasEachNameOnce (type_sections t)
+once t m = subst (λ u. HasEachNameOnce (type_sections u)) (sym m.is) (made-once m.head.body m.head ((Definition, m.head) ∷ map extension_part m.extensions))
 
+module _ (laws : MeaningLaws) (t : ExtendedType) (m : IsMade t) where
   named : HasNamedEntries t
   named = subst HasNamedEntries (sym m.is) (named-made m.head.body m.head ((Definition, m.head) ∷ map extension_part m.extensions))
 
   module _ (is : List ℕ) (many : length is ≡ length (written t).extensions) (apart : IsDistinct ◌==◌ is) where
     has : HasWhatIsWritten t (type_again t is)
-    has = has-what-is-written t once is many apart
+    has = has-what-is-written laws t (once t m) is many apart
 
     -- directives keep their order
     same_directives : map (λ d. d.1) (type_sections (type_again t is)).directives ≡ map (λ d. d.1) (type_sections t).directives
@@ -100,7 +100,7 @@ module _ (t : ExtendedType) (m : IsMade t) where
       location = has.location;
       same = type-again t (type_again t is) has;
       equal = equal-types t (type_again t is) named (named-made (definition_part t).body (definition_part t) (sourced_again t is)) has.kind has.description has.name
-          same_directives (components-again t (type_again t is) has) once;
+          same_directives (components-again t (type_again t is) has) (once t m);
     }
 
   numbered-parts : (is : List ℕ) (es : List (ExtensionId × DefinitionParts)) → map extension_part (paired is (map (extension_of t) es)) ≡ map (λ g. (Extension g.0, extension_of t g)) (renumbered is es)
@@ -115,7 +115,7 @@ module _ (t : ExtendedType) (m : IsMade t) where
       let many : length is ≡ length (written t).extensions =
       length-map es (λ e. e.0) ∙ sym (length-map es (λ e. e.1)) ∙ ap length written_parts ∙ length-map (written t).extensions (extension_of t) in
       let made_again : made (record (definition_part t) { ignorable = b }) es ≡ type_again t is =
-      type_from-ignorable (definition_part t) b (map extension_part es)
+      laws.ignorable (definition_part t) b (map extension_part es)
       ∙ ap (λ l. type_from (definition_part t) ((Definition, definition_part t) ∷ l))
       (ap (map extension_part) (paired-self es ∙ ap (paired is) written_parts) ∙ numbered-parts is (written t).extensions) in
       subst (IsAgain t) (sym made_again) (again is many apart)

@@ -26,7 +26,7 @@ use Rattle.apollo_meaning.specs.Schema.Definition.{SourcedSchema, root_in, roots
 use Rattle.apollo_meaning.specs.Types.Components.{Sourced, body_fields, body_input_fields, body_interfaces, body_members, body_values, component, component_name, directives_of, distinct_entries, distinct_names, field_entry, input_field_entry, same_component_name, value_entry}
 use Rattle.apollo_meaning.specs.Types.Meaning.{type_at}
 use Rattle.apollo_canonical.proofs.Kept.{each-map, if-found}
-use Rattle.apollo_canonical.proofs.NamesOnce.{each-first}
+use Rattle.apollo_component.proofs.FirstOfEachLemmas.{each-first}
 use Rattle.apollo_canonical.proofs.Rebuild.OneSchema.{root_under}
 
 module _ (P : ComponentOrigin → Type 0) where

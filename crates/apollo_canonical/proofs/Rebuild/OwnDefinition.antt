@@ -2,7 +2,7 @@
 use Rattle.std.proofs.Common.{◌≡◌, ℕ, Bool, true, false, cond, List, [], ◌∷◌, ◌++◌, Option, map, map-id, filter, flat_map, refl, sym, ap, subst, ◌∙◌}
 use Rattle.std.proofs.lemmas.List.{append-nil, map-append}
 use Rattle.std.proofs.lemmas.Simd.{map-map}
-use Rattle.std.specs.Cmp.{IsEquivalence}
+use Rattle.std.specs.Cmp.{IsEquivalence, on_equiv}
 use Rattle.std.specs.List.{AllByRecursion, IsDistinct}
 use Rattle.graphql_nodes.specs.NameView.{NameView}
 use Rattle.graphql_nodes.specs.NodeView.{NodeView}
@@ -23,10 +23,9 @@ use Rattle.apollo_types.specs.declared.extended_type.ExtendedType.{ExtendedType}
 use Rattle.apollo_meaning.specs.Items.Parts.{TypePart, TypeBody, ScalarBody, ObjectBody, InterfaceBody, UnionBody, EnumBody, InputObjectBody}
 use Rattle.apollo_meaning.specs.Types.Components.{component, component_name, same_component_name, field_entry, value_entry, input_field_entry, body_interfaces, body_members, body_fields, body_values, body_input_fields, distinct_names, distinct_entries}
 use Rattle.apollo_meaning.specs.Types.Meaning.{extension_part}
-use Rattle.apollo_meaning.proofs.Faults.KeptLemmas.{component_name_laws, entry_laws}
+use Rattle.apollo_component.proofs.FirstOfEachLemmas.{each-first, entry_laws, name_laws}
 use Rattle.apollo_canonical.specs.TypeSections.{node_of, name_of, type_sections}
 use Rattle.apollo_canonical.proofs.FirstAppearance.{new_to_these, first_of_each-append}
-use Rattle.apollo_canonical.proofs.NamesOnce.{each-first}
 use Rattle.apollo_canonical.proofs.Once.{all-first}
 use Rattle.apollo_canonical.proofs.SectionLemmas.{of_origin-sections, parts_in, picked, picked-append, picked-of}
 use Rattle.apollo_canonical.proofs.TypeLemmas.{components-sections}
@@ -74,7 +73,7 @@ module _ {A C : Type 0} (view : C → ComponentOrigin × A) (make : ComponentOri
 names-own : (of : TypePart → List NameView) (head : TypePart) (es : List (ℕ × TypePart)) → IsDistinct same_text (of head ++ [])
     → picked Definition (map name_of (distinct_names (flat_map (λ s. map (component_name s.0) (of s.1)) ((Definition, head) ∷ map extension_part es)))) ≡ of head
 names-own of head es d =
-    kept-own name_of component_name (λ o a. refl) same_component_name component_name_laws of head es
+    kept-own name_of component_name (λ o a. refl) same_component_name (on_equiv (λ c. c.name) name_laws) of head es
     (all-first same_text (λ c. c.name) (map (component_name Definition) (of head)) (subst (IsDistinct same_text) (append-nil (of head) ∙ sym (map-map (λ (c : ComponentName). c.name) (component_name Definition) (of head) ∙ map-id (of head))) d))
 
 entries-own : {T : Type 0} (name : NodeView T → NameView) (entry : ComponentOrigin → NodeView T → NameView × Component T) → ((o : ComponentOrigin) (n : NodeView T) → node_of (entry o n).1 ≡ (o, n)) → ((o : ComponentOrigin) (n : NodeView T) → (entry o n).0 ≡ name n)

@@ -21,10 +21,11 @@ use Rattle.apollo_component.specs.declared.parts_by_origin.PartsByOrigin.{PartsB
 use Rattle.apollo_types.specs.Components.{root_node}
 use Rattle.apollo_meaning.specs.Items.Parts.{Root}
 use Rattle.apollo_meaning.specs.Types.Components.{component_name}
+use Rattle.apollo_component.proofs.Lists.Each.{filter-map}
 use Rattle.apollo_canonical.specs.Sections.{Sections, in_sections, joined, with_origins}
 use Rattle.apollo_canonical.specs.TypeSections.{no_components}
 use Rattle.apollo_canonical.proofs.FirstAppearance.{in_order, in_order-map}
-use Rattle.apollo_canonical.proofs.Kept.{each-both, filter-map, map-each}
+use Rattle.apollo_canonical.proofs.Kept.{each-both, map-each}
 use Rattle.apollo_canonical.proofs.Regrouped.{first-shown_again, own-group, shown}
 use Rattle.apollo_canonical.proofs.SectionLemmas.{same_id-equiv, definition-alone, extension-alone, ids_in, ids_in-append, ids_in-sections, marks, of_origin-sections, picked, picked-append, picked-joined, shown-joined}
 use Rattle.apollo_canonical.proofs.Rebuild.SchemaSections.{IsSchemaRow, entries, roots_for, schema_sorts}

@@ -19,10 +19,9 @@ use Rattle.apollo_meaning.specs.Items.ListItems.{Added, ListItem, SchemaDefined,
 use Rattle.apollo_meaning.specs.Items.Named.{first_schema, schema_extensions}
 use Rattle.apollo_meaning.specs.Items.Parts.{Root, SchemaPart, TypePart, roots_in}
 use Rattle.apollo_meaning.specs.Order.Places.{folding_order}
-use Rattle.apollo_meaning.specs.Schema.Definition.{SourcedSchema, no_schema, roots_of, same_operation, schema_extension_source, schema_from, schema_of, schema_parts, schema_sourced}
+use Rattle.apollo_meaning.specs.Schema.Definition.{SourcedSchema, no_schema, roots_of, same_operation, schema_extension_source, schema_from, schema_of, schema_parts}
 use Rattle.apollo_meaning.specs.Schema.Whole.{whole}
-use Rattle.apollo_meaning.proofs.Order.PlaceLemmas.{folding_order-forget}
-use Rattle.apollo_meaning.proofs.Schema.SchemaLemmas.{schema_sourced-parts}
+use Rattle.apollo_canonical.specs.MeaningLaws.{MeaningLaws}
 use Rattle.apollo_canonical.specs.WrittenAgain.{with_built_ins}
 use Rattle.apollo_canonical.proofs.Kept.{both-empty}
 use Rattle.apollo_canonical.proofs.Rebuild.BuiltIns.{built_ins, no-schema_definitions}
@@ -43,10 +42,10 @@ first_schema-append xs ys = ap (λ l. slice_get l 0) (filter_map-append defined_
     by (s ∷ l) = refl
 
 -- the extensions that are folded are all, where there is a definition
-pub schema_numbers-parts : (start : ℕ) (xs : List ListItem) (s : SchemaPart) → first_schema xs ≡ Some s → map (λ e. e.1) (schema_numbers start (folding_order xs)) ≡ schema_extensions xs
-schema_numbers-parts start xs s h =
+pub schema_numbers-parts : MeaningLaws → (start : ℕ) (xs : List ListItem) (s : SchemaPart) → first_schema xs ≡ Some s → map (λ e. e.1) (schema_numbers start (folding_order xs)) ≡ schema_extensions xs
+schema_numbers-parts laws start xs s h =
     sym (map-map (λ (e : SourcedSchema). e.1) schema_extension_source (schema_numbers start (folding_order xs)))
-    ∙ ap (λ fs. map (λ (e : SourcedSchema). e.1) (schema_sourced start fs)) (folding_order-forget xs) ∙ schema_sourced-parts start xs s h
+    ∙ laws.schema_folded start xs s h
 
 -- a schema definition that isn't written in a list has nothing of its own but implied roots, if the list implies these
 pub record IsMeantSchema (d : SchemaDefinition) (implied : List Root) : Type 0 where
@@ -113,7 +112,7 @@ none-named head es none = by es (both-empty (roots_of (origins.Definition, head)
         let two = both-empty (roots_of (schema_extension_source f)) (flat_map roots_of (map schema_extension_source fs)) h in
         (λ i. empty (root_under (schema_extension_source f).0) f.1.roots two.0 i ++ by fs two.1 i)
 
-module _ (adopts : Bool) (more : List Added) (rooted : AllByRecursion NamesRoot (filter_map defined_schema (added_items more))) (start : ℕ) where
+module _ (laws : MeaningLaws) (adopts : Bool) (more : List Added) (rooted : AllByRecursion NamesRoot (filter_map defined_schema (added_items more))) (start : ℕ) where
   -- the list with adopted types, and with the implied definition of the schema
   abbrev W : List ListItem
   W = with_adopted adopts (items adopts more)
@@ -173,7 +172,7 @@ module _ (adopts : Bool) (more : List Added) (rooted : AllByRecursion NamesRoot 
           let here : first_schema xs ≡ Some (schema_of_roots []) = completed-first (schema_of_roots []) none is in
           is_meant (schema_of_roots []) here
           (meant-of_roots [] (schema_numbers start (folding_order xs)) (implicit_roots W) apart
-          (λ own nothing. absurd (let g : r ∷ rs ≡ [] = sym named_is ∙ ap roots_in (sym (extensions-kept (schema_of_roots []) is) ∙ sym (schema_numbers-parts start xs (schema_of_roots []) here)) ∙ none-named (schema_of_roots []) (schema_numbers start (folding_order xs)) nothing in cc)))
+          (λ own nothing. absurd (let g : r ∷ rs ≡ [] = sym named_is ∙ ap roots_in (sym (extensions-kept (schema_of_roots []) is) ∙ sym (schema_numbers-parts laws start xs (schema_of_roots []) here)) ∙ none-named (schema_of_roots []) (schema_numbers start (folding_order xs)) nothing in cc)))
 
       rooted_by : first_schema W ≡ None → (implied : List Root) → implicit_roots W ≡ implied → implied_schema adopts W ≡ rooted_schema implied → IsMeantSchema (schema_node start xs).value (implicit_roots W)
       rooted_by none [] implied_is is =

@@ -1,5 +1,5 @@
 -- Tables by their keys, where no two keys have one text.
-use Rattle.std.proofs.Common.{◌≡◌, ℕ, Bool, true, false, cond, not, List, [], ◌∷◌, ◌++◌, None, Some, filter, find, flat_map, refl, sym, ap, subst, ◌∙◌}
+use Rattle.std.proofs.Common.{◌≡◌, ℕ, Bool, true, false, cond, not, List, [], ◌∷◌, ◌++◌, None, Some, filter, find, flat_map, refl, sym, ap, ◌∙◌}
 use Rattle.std.specs.Cmp.{IsEquivalence}
 use Rattle.std.specs.List.{AllByRecursion, IsDistinct}
 use Rattle.std.specs.Option.{option_map_or}
@@ -53,12 +53,3 @@ module _ {V : Type 0} where
       ∙ flat_map-each (λ k. same_text e.0 k ≡ false) (λ k. option_map_or give (lookup (by_text k.text) es) []) (λ k. option_map_or give (lookup (by_text k.text) (e ∷ es)) [])
       (λ k apart. ap (λ b. option_map_or give (cond b (Some e.1) (lookup (by_text k.text) es)) []) (sym (same-flip e.0.text k.text apart))) (keys_of es) d.0)
       ∙ ap (λ b. option_map_or give (cond b (Some e.1) (lookup (by_text e.0.text) es)) [] ++ flat_map (λ k. option_map_or give (lookup (by_text k.text) (e ∷ es)) []) (keys_of es)) (sym (same-is e.0.text e.0.text refl))
-
-  -- tables with the same keys that have the same under each are one
-  pub tables-same : (es fs : List (NameView × V)) → HasUniqueKeys same_text es → keys_of fs ≡ keys_of es → ((n : List ℕ) → lookup (by_text n) fs ≡ lookup (by_text n) es) → values_of fs ≡ values_of es
-  tables-same es fs d keys each =
-      values-listed fs ∙ values-by_keys (λ v. v ∷ []) fs (subst (IsDistinct same_text) (sym keys) d) ∙ (λ i. flat_map (λ k. option_map_or (λ v. v ∷ []) (each k.text i) []) (keys i)) ∙ sym (values-by_keys (λ v. v ∷ []) es d) ∙ sym (values-listed es)
-    where
-      values-listed : (gs : List (NameView × V)) → values_of gs ≡ flat_map (λ v. v ∷ []) (values_of gs)
-      values-listed [] = refl
-      values-listed (g ∷ gs) = ap (λ l. g.1 ∷ l) (values-listed gs)

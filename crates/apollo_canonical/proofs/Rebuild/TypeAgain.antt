@@ -16,13 +16,13 @@ use Rattle.apollo_component.specs.declared.extension.ComponentOrigin.{ComponentO
 use Rattle.apollo_component.specs.declared.extension.ComponentOrigin.TheVariants.{Definition, Extension}
 use Rattle.apollo_component.specs.declared.extension.ExtensionId.{ExtensionId}
 use Rattle.apollo_component.specs.declared.parts_by_origin.PartsByOrigin.{PartsByOrigin}
-use Rattle.apollo_types.specs.TypeWriteOut.{type_kind, type_description, type_components}
+use Rattle.apollo_types.specs.TypeWriteOut.{type_kind, type_components}
 use Rattle.apollo_types.specs.declared.extended_type.ExtendedType.{ExtendedType}
 use Rattle.apollo_types.specs.declared.extended_type.ExtendedType.TheVariants.{Scalar, Object, Interface, Union, Enum, InputObject}
-use Rattle.apollo_meaning.specs.Items.Parts.{TypePart, TypeBody, ScalarBody, ObjectBody, InterfaceBody, UnionBody, EnumBody, InputObjectBody}
+use Rattle.apollo_meaning.specs.Items.Parts.{TypePart}
 use Rattle.apollo_meaning.specs.Types.Components.{Sourced, component, component_name, field_entry, value_entry, input_field_entry, body_interfaces, body_members, body_fields, body_values, body_input_fields, directives_of, distinct_names, distinct_entries}
-use Rattle.apollo_meaning.specs.Types.Meaning.{type_at, type_from}
-use Rattle.apollo_meaning.proofs.Order.FoldingLemmas.{type_kind-from, type_name-from, type_location-from}
+use Rattle.apollo_meaning.specs.Types.Meaning.{type_from}
+use Rattle.apollo_canonical.specs.MeaningLaws.{MeaningLaws}
 use Rattle.apollo_canonical.specs.Sections.{in_sections, with_origins, joined, sections_of}
 use Rattle.apollo_canonical.specs.TypeSections.{node_of, name_of, type_sections, HasWhatIsWritten, HasEachNameOnce}
 use Rattle.apollo_canonical.proofs.ComponentsKept.{written-keeps}
@@ -189,24 +189,13 @@ sections-again (InputObject n) is once =
       roots = none-of t is (λ d. d.roots) (λ o. ap (λ d. d.roots) (of_sections t is o)) i;
     })
 
-type_description-from : (head : TypePart) (done : List Sourced) → type_description (type_from head done) ≡ head.description
-type_description-from head done = by head.body
-  where
-    by : (b : TypeBody) → type_description (type_at b head done) ≡ head.description
-    by ScalarBody = refl
-    by (ObjectBody interfaces fields) = refl
-    by (InterfaceBody interfaces fields) = refl
-    by (UnionBody members) = refl
-    by (EnumBody values) = refl
-    by (InputObjectBody fields) = refl
-
 -- so it has what is written of the first type
-pub has-what-is-written : (t : ExtendedType) → HasEachNameOnce (type_sections t) → (is : List ℕ) → length is ≡ length (written t).extensions → IsDistinct ◌==◌ is → HasWhatIsWritten t (type_again t is)
-has-what-is-written t once is many apart = record {
-  kind = type_kind-from (definition_part t) (sourced_again t is) ∙ kind-body (type_kind t) (written t).definition;
-  description = type_description-from (definition_part t) (sourced_again t is);
-  name = type_name-from (definition_part t) (sourced_again t is);
-  location = type_location-from (definition_part t) (sourced_again t is);
+pub has-what-is-written : MeaningLaws → (t : ExtendedType) → HasEachNameOnce (type_sections t) → (is : List ℕ) → length is ≡ length (written t).extensions → IsDistinct ◌==◌ is → HasWhatIsWritten t (type_again t is)
+has-what-is-written laws t once is many apart = record {
+  kind = laws.kind (definition_part t) (sourced_again t is) ∙ kind-body (type_kind t) (written t).definition;
+  description = laws.description (definition_part t) (sourced_again t is);
+  name = laws.name (definition_part t) (sourced_again t is);
+  location = laws.location (definition_part t) (sourced_again t is);
   parts = parts_again t is;
   definition = refl;
   extensions = renumbered-placed is (written t).extensions many;

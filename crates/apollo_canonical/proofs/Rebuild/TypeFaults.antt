@@ -1,5 +1,5 @@
 -- What a type is written out as is without fault: its components differ, and its extensions have its name and kind.
-use Rattle.std.proofs.Common.{◌≡◌, Bool, false, cond, ◌||◌, List, [], ◌∷◌, ◌++◌, Some, map, map-id, filter, flat_map, refl, sym, ap, subst, ◌∙◌, append_assoc}
+use Rattle.std.proofs.Common.{◌≡◌, Bool, true, false, cond, ◌||◌, List, [], ◌∷◌, ◌++◌, Some, map, map-id, filter, flat_map, refl, sym, ap, subst, ◌∙◌, append_assoc}
 use Rattle.std.proofs.lemmas.List.{append-nil, map-append}
 use Rattle.std.proofs.lemmas.List.Concat.{flat_map-append}
 use Rattle.std.specs.Cmp.{IsEquivalence}
@@ -7,21 +7,21 @@ use Rattle.std.specs.List.{AllByRecursion, IsDistinct, list_any}
 use Rattle.std.specs.Option.{option_map_or}
 use Rattle.graphql_nodes.specs.NameView.{NameView}
 use Rattle.graphql_nodes.specs.SameText.{same, same_text}
+use Rattle.graphql_nodes.specs.declared.type_kind.TypeKind.{TypeKind}
 use Rattle.graphql_nodes.proofs.Texts.{same-is}
 use Rattle.apollo_component.specs.EachAfter.{each_after}
 use Rattle.apollo_component.proofs.Lists.Each.{each-append}
 use Rattle.apollo_meaning.specs.Faults.Collisions.{Entry, collision, collision_at, collisions}
 use Rattle.apollo_meaning.specs.Faults.TypeFaults.{interface_names, member_names, field_names, value_names, input_field_names, name_entries, body_faults, part_faults, joining_fault, kind_mismatch}
-use Rattle.apollo_meaning.specs.Items.ListItems.{Defined, Extended}
+use Rattle.apollo_meaning.specs.Items.ListItems.{Defined, Extended, extended_part}
 use Rattle.apollo_meaning.specs.Items.Named.{extensions_of, first, of_kind}
 use Rattle.apollo_meaning.specs.Items.Parts.{TypePart, TypeBody, ScalarBody, ObjectBody, InterfaceBody, UnionBody, EnumBody, InputObjectBody, key_of, kind_of, same_kind}
 use Rattle.apollo_meaning.specs.Steps.Prefixes.{found_at}
 use Rattle.apollo_meaning.specs.Types.Components.{body_interfaces, body_members, body_fields, body_values, body_input_fields}
 use Rattle.apollo_meaning.specs.declared.collision.Collection.{Collection}
 use Rattle.apollo_meaning.specs.declared.collision.Collection.TheVariants as c
-use Rattle.apollo_meaning.proofs.Faults.KeptLemmas.{name_laws}
-use Rattle.apollo_meaning.proofs.Items.ItemLemmas.{parts-extended}
-use Rattle.apollo_folding.proofs.JoiningLemmas.{same_kind-refl}
+use Rattle.apollo_component.proofs.Lists.Ends.{filter_map-made}
+use Rattle.apollo_component.proofs.FirstOfEachLemmas.{name_laws}
 use Rattle.apollo_canonical.proofs.Kept.{find-none}
 
 -- an element of a list of which no two are the same is the same as none before it
@@ -115,14 +115,15 @@ parts-none ps p rest h =
 abbrev pub Fits : TypePart → TypePart → Type 0
 Fits d e = (key_of e ≡ key_of d) × (kind_of e ≡ kind_of d)
 
-module _ (d : TypePart) where
+-- where each kind is itself
+module _ (own_kind : (k : TypeKind) → same_kind k k ≡ true) (d : TypePart) where
   pub fits-of_kind : (es : List TypePart) → AllByRecursion (Fits d) es → of_kind (kind_of d) es ≡ es
   fits-of_kind [] a = refl
-  fits-of_kind (e ∷ es) a = ap (λ b. cond b (e ∷ of_kind (kind_of d) es) (of_kind (kind_of d) es)) (ap (same_kind (kind_of d)) a.0.1 ∙ same_kind-refl (kind_of d)) ∙ ap (λ l. e ∷ l) (fits-of_kind es a.1)
+  fits-of_kind (e ∷ es) a = ap (λ b. cond b (e ∷ of_kind (kind_of d) es) (of_kind (kind_of d) es)) (ap (same_kind (kind_of d)) a.0.1 ∙ own_kind (kind_of d)) ∙ ap (λ l. e ∷ l) (fits-of_kind es a.1)
 
   -- those before one are the definition and the extensions before it
   extensions-found : (done : List TypePart) → AllByRecursion (Fits d) done → (e : TypePart) → Fits d e → extensions_of (Defined d ∷ map Extended done) (key_of e) ≡ done
-  extensions-found done fit e f = ap (filter (λ p. same (key_of e) (key_of p))) (parts-extended done) ∙ own done fit
+  extensions-found done fit e f = ap (filter (λ p. same (key_of e) (key_of p))) (filter_map-made extended_part Extended (λ p. refl) done) ∙ own done fit
     where
       own : (ps : List TypePart) → AllByRecursion (Fits d) ps → filter (λ p. same (key_of e) (key_of p)) ps ≡ ps
       own [] a = refl
@@ -133,7 +134,7 @@ module _ (d : TypePart) where
       ap (λ b. option_map_or (λ x. joining_fault x (x ∷ of_kind (kind_of x) (extensions_of (Defined d ∷ map Extended done) (key_of e))) e) (cond b (Some d) (first (map Extended done) (key_of e))) []) (same-is (key_of e) (key_of d) f.0)
       ∙ ap (λ l. joining_fault d (d ∷ of_kind (kind_of d) l) e) (extensions-found done fit e f)
       ∙ ap (λ l. joining_fault d (d ∷ l) e) (fits-of_kind done fit)
-      ∙ ap (λ b. cond b (part_faults (d ∷ done) e) (kind_mismatch d e ∷ [])) (ap (same_kind (kind_of d)) f.1 ∙ same_kind-refl (kind_of d))
+      ∙ ap (λ b. cond b (part_faults (d ∷ done) e) (kind_mismatch d e ∷ [])) (ap (same_kind (kind_of d)) f.1 ∙ own_kind (kind_of d))
       ∙ parts-none (d ∷ done) e rest h
 
   extensions-none : (done es : List TypePart) → AllByRecursion (Fits d) done → AllByRecursion (Fits d) es → HaveEachNameOnce ((d ∷ done) ++ es) → each_after found_at (Defined d ∷ map Extended done) (map Extended es) ≡ []

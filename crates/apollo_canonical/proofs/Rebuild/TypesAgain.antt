@@ -1,7 +1,8 @@
 -- The types of a list with a write-out are the types that were written out.
-use Rattle.std.proofs.Common.{◌≡◌, ℕ, Bool, true, false, cond, not, List, [], ◌∷◌, ◌++◌, None, Option, Some, is_some, map, map-id, ◌+◌, filter, flat_map, option_map, refl, sym, ap, subst, ◌∙◌, ◌==◌}
+use Rattle.std.proofs.Common.{◌≡◌, ℕ, Bool, true, false, cond, not, List, [], ◌∷◌, ◌++◌, None, Option, Some, is_some, map, map-id, filter, flat_map, option_map, refl, sym, ap, subst, ◌∙◌, ◌==◌}
 use Rattle.std.proofs.lemmas.List.{append-nil}
 use Rattle.std.proofs.lemmas.List.Elements.{filter-append}
+use Rattle.std.proofs.lemmas.Simd.{map-map}
 use Rattle.std.specs.List.{AllByRecursion, IsDistinct, filter_map, list_any}
 use Rattle.std.specs.Option.{option_map_or, option_or, unwrap_or}
 use Rattle.graphql_nodes.specs.BuiltIn.{is_built_in}
@@ -16,18 +17,16 @@ use Rattle.apollo_component.proofs.Lists.Each.{each-weaken, filter-fails}
 use Rattle.apollo_types.specs.BareTypes.{bare_extended_type}
 use Rattle.apollo_types.specs.TypeWriteOut.{type_location, type_name}
 use Rattle.apollo_types.specs.declared.extended_type.ExtendedType.{ExtendedType}
-use Rattle.apollo_meaning.specs.Items.ListItems.{ListItem, Defined, Extended, SchemaDefined, SchemaExtended, Other, Added, Folding, OfType, OfSchema, defined_part, extended_part}
+use Rattle.apollo_meaning.specs.Items.ListItems.{ListItem, Defined, Extended, SchemaDefined, SchemaExtended, Other, Added, defined_part, extended_part}
 use Rattle.apollo_meaning.specs.Items.Named.{first, extensions_of, of_kind}
-use Rattle.apollo_meaning.specs.Items.Parts.{TypePart, key_of, kind_of}
+use Rattle.apollo_meaning.specs.Items.Parts.{TypePart, kind_of}
 use Rattle.apollo_meaning.specs.Order.Places.{folding_order}
 use Rattle.apollo_meaning.specs.Schema.Whole.{whole}
-use Rattle.apollo_meaning.specs.Types.Meaning.{AreTypesOf, type_names, type_from, parts}
-use Rattle.apollo_meaning.proofs.Items.ItemLemmas.{first-append}
-use Rattle.apollo_meaning.proofs.Items.PartLemmas.{of_name}
-use Rattle.apollo_meaning.proofs.Order.FoldingLemmas.{type_location-from, type_name-from}
-use Rattle.apollo_meaning.proofs.Order.PlaceLemmas.{folding_order-forget}
-use Rattle.apollo_meaning.proofs.Types.TypeLemmas.{type_foldings}
-use Rattle.apollo_meaning.proofs.Faults.KeptLemmas.{name_laws}
+use Rattle.apollo_meaning.specs.Types.Components.{Sourced}
+use Rattle.apollo_meaning.specs.Types.Meaning.{AreTypesOf, extension_part, type_names, type_from, parts}
+use Rattle.apollo_canonical.specs.MeaningLaws.{MeaningLaws}
+use Rattle.apollo_component.proofs.FirstOfEachLemmas.{name_laws}
+use Rattle.apollo_component.proofs.Tabled.{first_of_each-distinct}
 use Rattle.apollo_canonical.specs.WrittenAgain.{with_built_ins}
 use Rattle.apollo_canonical.proofs.FirstAppearance.{new_to_these, first-there, first_of_each-append}
 use Rattle.apollo_canonical.proofs.Kept.{each-both, each-from_map, filter-all, passes}
@@ -36,24 +35,13 @@ use Rattle.apollo_canonical.proofs.Rebuild.About.{Name, about, is_about, first-a
 use Rattle.apollo_canonical.proofs.Rebuild.BuiltIns.{built_ins, built_in_names, all-names, about-built_ins, first-built_in}
 use Rattle.apollo_canonical.proofs.Rebuild.Held.{held_items, extension_items, about-types, defines-types}
 use Rattle.apollo_canonical.proofs.Rebuild.Meant.{IsAddedByHand, later_items, whole-split, first-unmarked}
-use Rattle.apollo_canonical.proofs.Rebuild.Names.{defined_names, defined_names-append, type_names-first, type_names-distinct, names-of_first, among-defined, first-key}
+use Rattle.apollo_canonical.proofs.Rebuild.Names.{defined_names, defined_names-append, names-of_first, among-defined, first-key}
 use Rattle.apollo_canonical.proofs.Rebuild.Numbers.{numbers_of, numbers-rise, rising-distinct}
 use Rattle.apollo_canonical.proofs.Rebuild.OneType.{IsMade, IsAgain, made, rebuilt}
 use Rattle.apollo_canonical.proofs.Rebuild.OwnDefinition.{definition-own}
 use Rattle.apollo_canonical.proofs.Rebuild.Tables.{each-entry, values-by_keys}
 use Rattle.apollo_canonical.proofs.Rebuild.TypeFaults.{Fits, fits-of_kind}
 use Rattle.apollo_canonical.proofs.Rebuild.WrittenParts.{written, definition_part, extension_of, kind-body}
-
--- the extensions of a name that are folded, with their numbers forgotten
-numbers-forget : (n : List ℕ) (start : ℕ) (fs : List Folding) → map (λ e. e.1) (numbers_of n start fs) ≡ filter (λ p. same n (key_of p)) (type_foldings fs)
-numbers-forget n start [] = refl
-numbers-forget n start (OfSchema s ∷ fs) = numbers-forget n (start + 1) fs
-numbers-forget n start (OfType p ∷ fs) = by (same n (key_of p)) (numbers-forget n (start + 1) fs)
-  where
-    by : (b : Bool) → map (λ e. e.1) (numbers_of n (start + 1) fs) ≡ filter (λ q. same n (key_of q)) (type_foldings fs)
-        → map (λ e. e.1) (cond b ((start, p) ∷ numbers_of n (start + 1) fs) (numbers_of n (start + 1) fs)) ≡ cond b (p ∷ filter (λ q. same n (key_of q)) (type_foldings fs)) (filter (λ q. same n (key_of q)) (type_foldings fs))
-    by true rest = ap (λ l. p ∷ l) rest
-    by false rest = rest
 
 -- a type of a list is made of its name's first definition
 pub record IsMeant (xs : List ListItem) (n : List ℕ) (t : ExtendedType) : Type 0 where
@@ -84,20 +72,21 @@ module _ (start : ℕ) (xs : List ListItem) (types : List (NameView × ExtendedT
       by None g = refl
       by (Some d) g = absurd (let f : Some (type_from d (parts start (folding_order xs) n d)) ≡ None = g in cc)
 
+module _ (laws : MeaningLaws) (start : ℕ) (xs : List ListItem) (types : List (NameView × ExtendedType)) (are : AreTypesOf start (folding_order xs) xs types) where
   pub unique : HasUniqueKeys same_text types
-  unique = subst (IsDistinct same_text) (sym are.names) (type_names-distinct xs)
+  unique = subst (IsDistinct same_text) (sym (are.names ∙ laws.names xs)) (first_of_each-distinct same_text (defined_names xs))
 
   -- each type has the name that it stands under
   pub own_names : AllByRecursion (λ e. type_name e.1 ≡ e.0) types
   own_names =
       each-both (λ e. option_map (λ d. d.name) (first xs e.0.text) ≡ Some e.0) (λ e. lookup (by_text e.0.text) types ≡ Some e.1) (λ e. type_name e.1 ≡ e.0) one types
-      (each-from_map (λ k. option_map (λ d. d.name) (first xs k.text) ≡ Some k) (λ e. e.0) types (subst (AllByRecursion (λ k. option_map (λ d. d.name) (first xs k.text) ≡ Some k)) (sym are.names) (names-of_first xs)))
+      (each-from_map (λ k. option_map (λ d. d.name) (first xs k.text) ≡ Some k) (λ e. e.0) types (subst (AllByRecursion (λ k. option_map (λ d. d.name) (first xs k.text) ≡ Some k)) (sym are.names) (names-of_first laws xs)))
       (each-entry types unique)
     where
       one : (e : NameView × ExtendedType) → option_map (λ d. d.name) (first xs e.0.text) ≡ Some e.0 → lookup (by_text e.0.text) types ≡ Some e.1 → type_name e.1 ≡ e.0
       one e name found =
-          let m : IsMeant xs e.0.text e.1 = meant e.0.text e.1 found in
-          ap type_name m.is ∙ type_name-from m.head _ ∙ ap (λ o. unwrap_or o e.0) (sym (ap (option_map (λ (d : TypePart). d.name)) m.first_one) ∙ name)
+          let m : IsMeant xs e.0.text e.1 = meant start xs types are e.0.text e.1 found in
+          ap type_name m.is ∙ laws.name m.head _ ∙ ap (λ o. unwrap_or o e.0) (sym (ap (option_map (λ (d : TypePart). d.name)) m.first_one) ∙ name)
 
 -- items that say nothing of types
 abbrev pub IsQuiet : ListItem → Type 0
@@ -132,13 +121,13 @@ extends-quiet (SchemaExtended s ∷ xs) q = extends-quiet xs q.1
 extends-quiet (Other d ∷ xs) q = extends-quiet xs q.1
 
 -- the types of a list of which nothing but its head is built in
-module _ (adopts : Bool) (more : List Added) (handed : AllByRecursion IsAddedByHand more) (start : ℕ) (types : List (NameView × ExtendedType))
+module _ (laws : MeaningLaws) (adopts : Bool) (more : List Added) (handed : AllByRecursion IsAddedByHand more) (start : ℕ) (types : List (NameView × ExtendedType))
     (are : AreTypesOf start (folding_order (whole adopts (with_built_ins more))) (whole adopts (with_built_ins more)) types) where
   abbrev xs : List ListItem
   xs = whole adopts (with_built_ins more)
 
   first-split : (n : List ℕ) → first xs n ≡ option_or (first built_ins n) (first (later_items adopts more) n)
-  first-split n = ap (λ l. first l n) (whole-split adopts more) ∙ first-append built_ins (later_items adopts more) n
+  first-split n = ap (λ l. first l n) (whole-split adopts more) ∙ laws.joined built_ins (later_items adopts more) n
 
   module _ (n : List ℕ) (t : ExtendedType) (found : lookup (by_text n) types ≡ Some t) where
     abbrev m : IsMeant xs n t
@@ -148,10 +137,10 @@ module _ (adopts : Bool) (more : List Added) (handed : AllByRecursion IsAddedByH
     is-made = record { head = m.head; extensions = m.extensions; apart = m.apart; is = m.is }
 
     location : type_location t ≡ m.head.location
-    location = ap type_location m.is ∙ type_location-from m.head _
+    location = ap type_location m.is ∙ laws.location m.head _
 
     pub key : same n (type_name t).text ≡ true
-    key = ap (λ (k : NameView). same n k.text) (ap type_name m.is ∙ type_name-from m.head _) ∙ first-key n (filter_map defined_part xs) m.head m.first_one
+    key = ap (λ (k : NameView). same n k.text) (ap type_name m.is ∙ laws.name m.head _) ∙ first-key n (filter_map defined_part xs) m.head m.first_one
 
     -- its place is marked built-in where its name is that of a built-in type
     marked-where : (o : Option TypePart) → first built_ins n ≡ o → is_built_in (type_location t) ≡ is_some o
@@ -177,7 +166,7 @@ module _ (adopts : Bool) (more : List Added) (handed : AllByRecursion IsAddedByH
   -- entries are marked built-in where built-in names have theirs
   marked : AllByRecursion (λ e. is_built_in (type_location e.1) ≡ list_any (same_text e.0) built_in_names) types
   marked = each-weaken (λ e. lookup (by_text e.0.text) types ≡ Some e.1) (λ e. is_built_in (type_location e.1) ≡ list_any (same_text e.0) built_in_names)
-      (λ e found. marked-where e.0.text e.1 found (first built_ins e.0.text) refl ∙ sym (among-defined e.0 built_ins)) types (each-entry types (unique start xs types are))
+      (λ e found. marked-where e.0.text e.1 found (first built_ins e.0.text) refl ∙ sym (among-defined e.0 built_ins)) types (each-entry types (unique laws start xs types are))
 
   -- what a name's part of the written list is
   module _ (c : Bool) (others ends : List ListItem) (quiet : AllByRecursion IsQuiet others) (quiet_end : AllByRecursion IsQuiet ends) where
@@ -190,7 +179,7 @@ module _ (adopts : Bool) (more : List Added) (handed : AllByRecursion IsAddedByH
         ∙ (λ i. filter-append (is_about (Name n)) built_ins (others ++ flat_map (held_items c) (values_of types)) i ++ about-quiet n ends quiet_end i)
         ∙ append-nil (about (Name n) built_ins ++ about (Name n) (others ++ flat_map (held_items c) (values_of types)))
         ∙ ap (λ l. about (Name n) built_ins ++ l) (filter-append (is_about (Name n)) others (flat_map (held_items c) (values_of types))
-        ∙ (λ i. about-quiet n others quiet i ++ about-types c n types (unique start xs types are) (own_names start xs types are) i))
+        ∙ (λ i. about-quiet n others quiet i ++ about-types c n types (unique laws start xs types are) (own_names laws start xs types are) i))
 
     pub view-nothing : (n : List ℕ) → lookup (by_text n) types ≡ None → about (Name n) again_items ≡ []
     view-nothing n none =
@@ -224,11 +213,10 @@ module _ (adopts : Bool) (more : List Added) (handed : AllByRecursion IsAddedByH
 
       numbers-again : (again : ℕ) → map (λ e. e.1) (numbers_of n again (folding_order again_items)) ≡ map (extension_of t) (written t).extensions
       numbers-again again =
-          numbers-forget n again (folding_order again_items)
-          ∙ ap (λ fs. filter (λ p. same n (key_of p)) (type_foldings fs)) (folding_order-forget again_items)
-          ∙ of_name again_items n (record (definition_part t) { ignorable = flag }) first-again
+          sym (map-map (λ (s : Sourced). s.1) extension_part (numbers_of n again (folding_order again_items)))
+          ∙ laws.folded again again_items n (record (definition_part t) { ignorable = flag }) first-again
           ∙ ap (of_kind (kind_of (definition_part t))) extensions-again
-          ∙ fits-of_kind (record (definition_part t) { ignorable = flag }) (map (extension_of t) (written t).extensions) (fits (written t).extensions)
+          ∙ fits-of_kind laws.own_kind (record (definition_part t) { ignorable = flag }) (map (extension_of t) (written t).extensions) (fits (written t).extensions)
 
     known : AllByRecursion (λ k. list_any (same_text k) built_in_names ≡ true) built_in_names
     known = subst (AllByRecursion (λ k. list_any (same_text k) built_in_names ≡ true)) all-names (first-there same_text name_laws built_in_names)
@@ -236,9 +224,9 @@ module _ (adopts : Bool) (more : List Added) (handed : AllByRecursion IsAddedByH
     -- the same names are defined, in order
     pub names-again : type_names again_items ≡ keys_of types
     names-again =
-        type_names-first again_items
+        laws.names again_items
         ∙ ap (first_of_each same_text) (defined ∙ ap (λ ks. built_in_names ++ filter new ks) keys ∙ ap (λ l. built_in_names ++ l) twice ∙ sym keys)
-        ∙ all-first same_text (λ k. k) (keys_of types) (subst (IsDistinct same_text) (sym (map-id (keys_of types))) (unique start xs types are))
+        ∙ all-first same_text (λ k. k) (keys_of types) (subst (IsDistinct same_text) (sym (map-id (keys_of types))) (unique laws start xs types are))
       where
         new : NameView → Bool
         new = new_to_these same_text built_in_names
@@ -248,7 +236,7 @@ module _ (adopts : Bool) (more : List Added) (handed : AllByRecursion IsAddedByH
 
         keys : keys_of types ≡ built_in_names ++ rest
         keys =
-            are.names ∙ type_names-first xs ∙ ap (λ l. first_of_each same_text (defined_names l)) (whole-split adopts more)
+            are.names ∙ laws.names xs ∙ ap (λ l. first_of_each same_text (defined_names l)) (whole-split adopts more)
             ∙ ap (first_of_each same_text) (defined_names-append built_ins (later_items adopts more))
             ∙ first_of_each-append same_text name_laws built_in_names (defined_names (later_items adopts more)) ∙ ap (λ l. l ++ rest) all-names
 
@@ -263,7 +251,7 @@ module _ (adopts : Bool) (more : List Added) (handed : AllByRecursion IsAddedByH
             ∙ (λ i. defined_names-append built_ins (others ++ flat_map (held_items c) (values_of types)) i ++ defines-quiet ends quiet_end i)
             ∙ append-nil (built_in_names ++ defined_names (others ++ flat_map (held_items c) (values_of types)))
             ∙ ap (λ l. built_in_names ++ l) (defined_names-append others (flat_map (held_items c) (values_of types))
-            ∙ (λ i. defines-quiet others quiet i ++ defines-types c built_in_names types (own_names start xs types are) marked i))
+            ∙ (λ i. defines-quiet others quiet i ++ defines-types c built_in_names types (own_names laws start xs types are) marked i))
 
     module _ (again : ℕ) (types_again : List (NameView × ExtendedType)) (are_again : AreTypesOf again (folding_order again_items) again_items types_again) where
       -- each type is there again
@@ -272,7 +260,7 @@ module _ (adopts : Bool) (more : List Added) (handed : AllByRecursion IsAddedByH
           let ms : List (ℕ × TypePart) = numbers_of n again (folding_order again_items) in (
             made (record (definition_part t) { ignorable = flag n t found }) ms,
             are_again.each n ∙ ap (option_map (λ d. type_from d (parts again (folding_order again_items) n d))) (first-again n t found),
-            rebuilt t (is-made n t found) (flag n t found) ms (rising-distinct again ms (numbers-rise n again (folding_order again_items))) (numbers-again n t found again),
+            rebuilt laws t (is-made n t found) (flag n t found) ms (rising-distinct again ms (numbers-rise n again (folding_order again_items))) (numbers-again n t found again),
           )
 
       -- and no other
@@ -295,9 +283,9 @@ module _ (adopts : Bool) (more : List Added) (handed : AllByRecursion IsAddedByH
       -- and so is what they are written out as
       pub same_written : {X : Type 0} (give : ExtendedType → List X) → ((t u : ExtendedType) → IsAgain t u → give u ≡ give t) → flat_map give (values_of types_again) ≡ flat_map give (values_of types)
       same_written give alike =
-          values-by_keys give types_again (subst (IsDistinct same_text) (sym same_names) (unique start xs types are))
+          values-by_keys give types_again (subst (IsDistinct same_text) (sym same_names) (unique laws start xs types are))
           ∙ (λ i. flat_map (λ k. by k.text (lookup (by_text k.text) types) refl i) (same_names i))
-          ∙ sym (values-by_keys give types (unique start xs types are))
+          ∙ sym (values-by_keys give types (unique laws start xs types are))
         where
           by : (n : List ℕ) (o : Option ExtendedType) → lookup (by_text n) types ≡ o → option_map_or give (lookup (by_text n) types_again) [] ≡ option_map_or give (lookup (by_text n) types) []
           by n None e = ap (λ o. option_map_or give o []) (none-there n e ∙ sym e)

@@ -14,6 +14,7 @@ use Rattle.graphql_nodes.specs.declared.operation_type.OperationType.TheVariants
 use Rattle.graphql_nodes.specs.declared.type_kind.TypeKind.TheVariants as kinds
 use Rattle.graphql_ast.specs.declared.type_system.DirectiveDefinition.{DirectiveDefinition}
 use Rattle.apollo_component.proofs.Lists.Each.{each-append}
+use Rattle.apollo_component.proofs.Lists.Ends.{or-none}
 use Rattle.apollo_component.specs.declared.component.ComponentName.{ComponentName}
 use Rattle.apollo_types.specs.BareTypes.{BareType, bare_extended_type, bare_schema_definition}
 use Rattle.apollo_types.specs.SchemaDefinitionWriteOut.{has_own_root, implied_name, is_implied, is_some_object, is_written, write_schema_definition}
@@ -33,9 +34,7 @@ use Rattle.apollo_meaning.specs.Order.Places.{folding_order}
 use Rattle.apollo_meaning.specs.Schema.Definition.{roots_of, same_operation, schema_extension_source}
 use Rattle.apollo_meaning.specs.Schema.Whole.{whole}
 use Rattle.apollo_meaning.specs.Types.Meaning.{AreTypesOf}
-use Rattle.apollo_meaning.proofs.Items.ItemLemmas.{first-append}
-use Rattle.apollo_meaning.proofs.Order.FoldingLemmas.{type_kind-from}
-use Rattle.apollo_meaning.proofs.Order.PlaceLemmas.{or-none}
+use Rattle.apollo_canonical.specs.MeaningLaws.{MeaningLaws}
 use Rattle.apollo_canonical.specs.WrittenAgain.{with_built_ins}
 use Rattle.apollo_canonical.proofs.Kept.{both-empty}
 use Rattle.apollo_canonical.proofs.Rebuild.About.{Name, about, extensions-about, first-about}
@@ -125,7 +124,7 @@ no-roots es h op = by op
     by Mutation = found Mutation
     by Subscription = found Subscription
 
-module _ (adopts : Bool) (more : List Added) (handed : AllByRecursion IsAddedByHand more) (rooted : AllByRecursion NamesRoot (filter_map defined_schema (added_items more))) (start : ℕ)
+module _ (laws : MeaningLaws) (adopts : Bool) (more : List Added) (handed : AllByRecursion IsAddedByHand more) (rooted : AllByRecursion NamesRoot (filter_map defined_schema (added_items more))) (start : ℕ)
     (types : List (NameView × ExtendedType)) (are : AreTypesOf start (folding_order (whole adopts (with_built_ins more))) (whole adopts (with_built_ins more)) types)
     (table : List (NameView × NodeView DirectiveDefinition)) (are_directives : AreDirectivesOf (directive_definitions (whole adopts (with_built_ins more))) table) (c : Bool) where
   abbrev xs : List ListItem
@@ -148,18 +147,18 @@ module _ (adopts : Bool) (more : List Added) (handed : AllByRecursion IsAddedByH
   quiet = each-append IsQuiet (schema_items c node.value node.location types) (directive_items (written_directives adopts more handed table are_directives))
       (schema-quiet c node.value node.location types) (directives-quiet (written_directives adopts more handed table are_directives))
 
-  pub alone : again_items adopts more handed start types are c others [] quiet tt ≡ Y
+  pub alone : again_items laws adopts more handed start types are c others [] quiet tt ≡ Y
   alone = append-nil Y
 
   pub first-nothing : (n : List ℕ) → lookup (by_text n) types ≡ None → about (Name n) Y ≡ []
-  first-nothing n none = ap (about (Name n)) (sym alone) ∙ view-nothing adopts more handed start types are c others [] quiet tt n none
+  first-nothing n none = ap (about (Name n)) (sym alone) ∙ view-nothing laws adopts more handed start types are c others [] quiet tt n none
 
   pub orphans-none : (n : List ℕ) → orphans_of Y n ≡ []
   orphans-none n = by (lookup (by_text n) types) refl
     where
       by : (o : Option ExtendedType) → lookup (by_text n) types ≡ o → orphans_of Y n ≡ []
       by None e = no-orphans (first Y n) (extensions_of Y n) (extensions-about n Y ∙ ap (λ l. extensions_of l n) (first-nothing n e))
-      by (Some t) e = ap (λ o. option_map_or (λ _. []) o (extensions_of Y n)) (ap (λ l. first l n) (sym alone) ∙ first-again adopts more handed start types are c others [] quiet tt n t e)
+      by (Some t) e = ap (λ o. option_map_or (λ _. []) o (extensions_of Y n)) (ap (λ l. first l n) (sym alone) ∙ first-again laws adopts more handed start types are c others [] quiet tt n t e)
 
   adopted-none : adopted Y ≡ []
   adopted-none = go (extended_names Y)
@@ -182,7 +181,7 @@ module _ (adopts : Bool) (more : List Added) (handed : AllByRecursion IsAddedByH
   object-listed n = by (lookup (by_text n) types) refl
     where
       same_first : first xs n ≡ first W n
-      same_first = first-append W (implied_schema adopts W) n ∙ ap (λ l. option_or (first W n) l) (nothing (first_schema W)) ∙ or-none (first W n)
+      same_first = laws.joined W (implied_schema adopts W) n ∙ ap (λ l. option_or (first W n) l) (nothing (first_schema W)) ∙ or-none (first W n)
         where
           for : (b : Bool) (rs is : List Root) → first (schema_for b rs is) n ≡ None
           for true [] is = refl
@@ -199,7 +198,7 @@ module _ (adopts : Bool) (more : List Added) (handed : AllByRecursion IsAddedByH
       by (Some t) e =
           let m = meant start xs types are n t e in
           ap (λ o. option_map_or (λ p. same_kind kinds.Object (kind_of p)) o false) (sym same_first ∙ m.first_one)
-          ∙ ap (same_kind kinds.Object) (sym (ap type_kind m.is ∙ type_kind-from m.head _)) ∙ sym (object-kind t) ∙ sym (ap is_some_object e)
+          ∙ ap (same_kind kinds.Object) (sym (ap type_kind m.is ∙ laws.kind m.head _)) ∙ sym (object-kind t) ∙ sym (ap is_some_object e)
 
   object-again : (n : List ℕ) → is_object_name Y n ≡ is_some_object (lookup (by_text n) types)
   object-again n = by (lookup (by_text n) types) refl
@@ -207,7 +206,7 @@ module _ (adopts : Bool) (more : List Added) (handed : AllByRecursion IsAddedByH
       by : (o : Option ExtendedType) → lookup (by_text n) types ≡ o → is_object_name Y n ≡ is_some_object (lookup (by_text n) types)
       by None e = ap (λ o. option_map_or (λ p. same_kind kinds.Object (kind_of p)) o false) (first-about n Y ∙ ap (λ l. first l n) (first-nothing n e)) ∙ sym (ap is_some_object e)
       by (Some t) e =
-          ap (λ o. option_map_or (λ p. same_kind kinds.Object (kind_of p)) o false) (ap (λ l. first l n) (sym alone) ∙ first-again adopts more handed start types are c others [] quiet tt n t e)
+          ap (λ o. option_map_or (λ p. same_kind kinds.Object (kind_of p)) o false) (ap (λ l. first l n) (sym alone) ∙ first-again laws adopts more handed start types are c others [] quiet tt n t e)
           ∙ ap (same_kind kinds.Object) (kind-body (type_kind t) (written t).definition) ∙ sym (object-kind t) ∙ sym (ap is_some_object e)
 
   abbrev implied_here : List Root
@@ -229,19 +228,19 @@ module _ (adopts : Bool) (more : List Added) (handed : AllByRecursion IsAddedByH
   d = node.value
 
   m : IsMeantSchema d (implicit_roots W)
-  m = meant-schema adopts more rooted start
+  m = meant-schema laws adopts more rooted start
 
   module _ (again : ℕ) (types_again : List (NameView × ExtendedType)) (are_again : AreTypesOf again (folding_order Z) Z types_again) where
-    are_types : AreTypesOf again (folding_order (again_items adopts more handed start types are c others ends quiet (quiet-implied Y))) (again_items adopts more handed start types are c others ends quiet (quiet-implied Y)) types_again
+    are_types : AreTypesOf again (folding_order (again_items laws adopts more handed start types are c others ends quiet (quiet-implied Y))) (again_items laws adopts more handed start types are c others ends quiet (quiet-implied Y)) types_again
     are_types = are_again
 
     object-same : (n : List ℕ) → is_some_object (lookup (by_text n) types_again) ≡ is_some_object (lookup (by_text n) types)
     object-same n = by (lookup (by_text n) types) refl
       where
         by : (o : Option ExtendedType) → lookup (by_text n) types ≡ o → is_some_object (lookup (by_text n) types_again) ≡ is_some_object (lookup (by_text n) types)
-        by None e = ap is_some_object (none-there adopts more handed start types are c others ends quiet (quiet-implied Y) again types_again are_types n e ∙ sym e)
+        by None e = ap is_some_object (none-there laws adopts more handed start types are c others ends quiet (quiet-implied Y) again types_again are_types n e ∙ sym e)
         by (Some t) e =
-            let there = type-there adopts more handed start types are c others ends quiet (quiet-implied Y) again types_again are_types n t e in
+            let there = type-there laws adopts more handed start types are c others ends quiet (quiet-implied Y) again types_again are_types n t e in
             ap is_some_object there.1 ∙ object-bare there.0 ∙ ap is_bare_object there.2.equal ∙ sym (object-bare t) ∙ sym (ap is_some_object e)
 
     same_implied : SameImplied types types_again
@@ -259,7 +258,7 @@ module _ (adopts : Bool) (more : List Added) (handed : AllByRecursion IsAddedByH
     -- what follows from a head that is written
     from-head : (head : SchemaPart) → first_schema Z ≡ Some head → schema_extensions Z ≡ map schema_extension_of (written_parts_of d).extensions → IsWrittenHead d head → (is_written types d ≡ true → head.location ≡ node.location) → Same (schema_node again Z)
     from-head head here exts h place =
-        let a : IsSchemaAgain d (made_schema head (schema_numbers again (folding_order Z))) = schema-again d m.made head h (schema_numbers again (folding_order Z)) apart (schema_numbers-parts again Z head here ∙ exts) in
+        let a : IsSchemaAgain d (made_schema head (schema_numbers again (folding_order Z))) = schema-again d m.made head h (schema_numbers again (folding_order Z)) apart (schema_numbers-parts laws again Z head here ∙ exts) in
         subst Same (sym (node-of again Z head here)) (equal-again d (made_schema head (schema_numbers again (folding_order Z))) a, written-alike d (made_schema head (schema_numbers again (folding_order Z))) a types types_again same_implied node.location head.location place)
 
     first-Y : first_schema Y ≡ cond (is_written types d) (Some (written_head d node.location)) None
@@ -297,7 +296,7 @@ module _ (adopts : Bool) (more : List Added) (handed : AllByRecursion IsAddedByH
           let no_exts : (written_parts_of d).extensions ≡ [] = ap (map (extension_written d)) l.extensions in
           let is : ends ≡ SchemaDefined (schema_of_roots implied_here) ∷ [] = ends-are ∙ (λ i. adopting_schema (roots_in ((exts-Y ∙ ap (map schema_extension_of) no_exts) i)) (implicit-again i)) in
           let here = at-end (schema_of_roots implied_here) is in
-          let none : schema_numbers again (folding_order Z) ≡ [] = empty (schema_numbers again (folding_order Z)) (schema_numbers-parts again Z (schema_of_roots implied_here) here.0 ∙ here.1 ∙ ap (map schema_extension_of) no_exts) in
+          let none : schema_numbers again (folding_order Z) ≡ [] = empty (schema_numbers again (folding_order Z)) (schema_numbers-parts laws again Z (schema_of_roots implied_here) here.0 ∙ here.1 ∙ ap (map schema_extension_of) no_exts) in
           subst Same (sym (node-of again Z (schema_of_roots implied_here) here.0 ∙ ap of_extensions none)) (
             left-out-equal types (object_at types Query) (object_at types Mutation) (object_at types Subscription) (implied-cond types) d l,
             implied-unwritten types_again (object_at types Query) (object_at types Mutation) (object_at types Subscription) (λ op. same_implied op ∙ implied-cond types op) None
@@ -336,7 +335,7 @@ module _ (adopts : Bool) (more : List Added) (handed : AllByRecursion IsAddedByH
           by [] g =
               let is : ends ≡ SchemaDefined (schema_of_roots (implicit_roots Y)) ∷ [] = ends-are ∙ ap (λ l. adopting_schema l (implicit_roots Y)) g in
               let here = at-end (schema_of_roots (implicit_roots Y)) is in
-              let parts : map (λ e. e.1) (schema_numbers again (folding_order Z)) ≡ map schema_extension_of (written_parts_of d).extensions = schema_numbers-parts again Z (schema_of_roots (implicit_roots Y)) here.0 ∙ here.1 in
+              let parts : map (λ e. e.1) (schema_numbers again (folding_order Z)) ≡ map schema_extension_of (written_parts_of d).extensions = schema_numbers-parts laws again Z (schema_of_roots (implicit_roots Y)) here.0 ∙ here.1 in
               let a : IsSchemaAgain d (made_schema (schema_of_roots []) (schema_numbers again (folding_order Z))) = schema-again d m.made (schema_of_roots []) (written-head [] refl) (schema_numbers again (folding_order Z)) apart parts in
               let nothing : (op : OperationType) → root_of d op ≡ None =
               λ op. unnamed (root_of d op) (sym (a.roots op) ∙ ap (option_map (λ (n : ComponentName). n.name)) (no-roots (schema_numbers again (folding_order Z)) (ap roots_in (parts ∙ sym exts-Y) ∙ g) op)) in
