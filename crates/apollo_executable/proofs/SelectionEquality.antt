@@ -13,8 +13,6 @@ use Rattle.graphql_ast.specs.declared.type_system.FieldDefinition.{FieldDefiniti
 use Rattle.graphql_ast.specs.contracts.directive.ArgumentPartialEq.TheImpl as argument
 use Rattle.graphql_ast.specs.contracts.directive.DirectiveListPartialEq.TheImpl as list
 use Rattle.graphql_ast.specs.contracts.type_system.FieldDefinitionPartialEq.TheImpl as definition
-use Rattle.graphql_ast.proofs.DirectiveEquality.{arguments, directive_lists}
-use Rattle.graphql_ast.proofs.TypeSystemEquality.{field_definitions}
 use Rattle.graphql_nodes.proofs.Comparisons.{At, Compares, both_true, and_true, of_part, and_then, made, names, nodes, lists, options, name_at, node_at, list_at, rolled}
 use Rattle.apollo_executable.specs.BareSelections.{bare_selection, bare_field, bare_inline_fragment, bare_selection_set, bare_fragment_spread, selection_step, field_step, inline_step, set_step}
 use Rattle.apollo_executable.specs.declared.selection.FragmentSpread.{FragmentSpread}
@@ -32,10 +30,6 @@ use Rattle.apollo_executable.specs.contracts.selection.SelectionPartialEq.TheImp
 use Rattle.apollo_executable.specs.contracts.selection.FieldPartialEq.TheImpl as field
 use Rattle.apollo_executable.specs.contracts.selection.InlineFragmentPartialEq.TheImpl as inline
 use Rattle.apollo_executable.specs.contracts.selection.SelectionSetPartialEq.TheImpl as set
-
-pub fragment_spreads : Compares spread.ghosts.eq bare_fragment_spread
-fragment_spreads = made (λ p. record { fragment_name = p.0; directives = p.1 }) (λ s. (s.fragment_name, s.directives)) (λ _. refl)
-    (and_then (of_part (λ (s : FragmentSpread). s.fragment_name) names) (of_part (λ (s : FragmentSpread). s.directives) directive_lists))
 
 -- what `==` answers
 unfoldable pub selection_eq : Selection → Selection → Bool
@@ -174,70 +168,81 @@ plain_inline = map-InlineFragment S F I T Selection Field InlineFragment Selecti
 abbrev plain_set : SelectionSet-F S F I T → TL
 plain_set = map-SelectionSet S F I T Selection Field InlineFragment SelectionSet (λ e. e.0) (λ e. e.0) (λ e. e.0) (λ e. e.0)
 
-selection_layers : (y : Selection-F S F I T) (z : SL) → At selection_layer_eq bare_selection_layer (plain_selection y) z
-selection_layers (Selection-F.Field x) (Selection-F.Field z) = let t = node_at field_eq bare_field (along (λ (e : F). e.0) x) z (x.value.1 z.value) in (λ h. ap Selection-F.Field (t.0 h), λ h. t.1 cc)
-selection_layers (Selection-F.Field x) z = (λ h. cc, λ h. cc)
-selection_layers (Selection-F.FragmentSpread x) (Selection-F.FragmentSpread z) = let t = (nodes fragment_spreads).at x z in (λ h. ap Selection-F.FragmentSpread (t.0 h), λ h. t.1 cc)
-selection_layers (Selection-F.FragmentSpread x) z = (λ h. cc, λ h. cc)
-selection_layers (Selection-F.InlineFragment x) (Selection-F.InlineFragment z) = let t = node_at inline_eq bare_inline_fragment (along (λ (e : I). e.0) x) z (x.value.1 z.value) in (λ h. ap Selection-F.InlineFragment (t.0 h), λ h. t.1 cc)
-selection_layers (Selection-F.InlineFragment x) z = (λ h. cc, λ h. cc)
+-- what the laws of equality say of the parts of typed selections
+pub record ComparedParts : Type 0 where
+  pub arguments : Compares argument.ghosts.eq bare_argument
+  pub directive_lists : Compares list.ghosts.eq bare_directive_list
+  pub field_definitions : Compares definition.ghosts.eq bare_field_definition
 
-field_layers : (y : Field-F S F I T) (z : FL) → At field_layer_eq bare_field_layer (plain_field y) z
-field_layers y z =
-    let f = (nodes field_definitions).at y.definition z.definition in let a = (options names).at y.alias z.alias in let n = name_at y.name z.name in let g = (lists (nodes arguments)).at y.arguments z.arguments in
-    let d = directive_lists.at y.directives z.directives in let s = y.selection_set.1 z.selection_set in (
-      λ h. let o = both_true (definition_eq y.definition z.definition) _ h in let p = both_true (option_eq name_eq y.alias z.alias) _ o.1 in let q = both_true (name_eq y.name z.name) _ p.1 in
-          let r = both_true (arguments_eq y.arguments z.arguments) _ q.1 in let t = both_true (list.ghosts.eq y.directives z.directives) _ r.1 in
-          let pf = f.0 o.0 in let pa = a.0 p.0 in let pn = n.0 q.0 in let pg = g.0 r.0 in let pd = d.0 t.0 in let ps = s.0 t.1 in
-          λ i. record { definition = pf i; alias = pa i; name = pn i; arguments = pg i; directives = pd i; selection_set = ps i },
-      λ h. and_true _ _ (f.1 (λ i. (h i).definition)) (and_true _ _ (a.1 (λ i. (h i).alias)) (and_true _ _ (n.1 (λ i. (h i).name)) (and_true _ _ (g.1 (λ i. (h i).arguments)) (and_true _ _ (d.1 (λ i. (h i).directives)) (s.1 (λ i. (h i).selection_set)))))),
-    )
+module _ (parts : ComparedParts) where
+  pub fragment_spreads : Compares spread.ghosts.eq bare_fragment_spread
+  fragment_spreads = made (λ p. record { fragment_name = p.0; directives = p.1 }) (λ s. (s.fragment_name, s.directives)) (λ _. refl)
+      (and_then (of_part (λ (s : FragmentSpread). s.fragment_name) names) (of_part (λ (s : FragmentSpread). s.directives) parts.directive_lists))
 
-inline_layers : (y : InlineFragment-F S F I T) (z : IL) → At inline_layer_eq bare_inline_layer (plain_inline y) z
-inline_layers y z =
-    let c = (options names).at y.type_condition z.type_condition in
-    let d = directive_lists.at y.directives z.directives in let s = y.selection_set.1 z.selection_set in (
-      λ h. let p = both_true (option_eq name_eq y.type_condition z.type_condition) _ h in let t = both_true (list.ghosts.eq y.directives z.directives) _ p.1 in
-          let pc = c.0 p.0 in let pd = d.0 t.0 in let ps = s.0 t.1 in
-          λ i. record { type_condition = pc i; directives = pd i; selection_set = ps i },
-      λ h. and_true _ _ (c.1 (λ i. (h i).type_condition)) (and_true _ _ (d.1 (λ i. (h i).directives)) (s.1 (λ i. (h i).selection_set))),
-    )
+  selection_layers : (y : Selection-F S F I T) (z : SL) → At selection_layer_eq bare_selection_layer (plain_selection y) z
+  selection_layers (Selection-F.Field x) (Selection-F.Field z) = let t = node_at field_eq bare_field (along (λ (e : F). e.0) x) z (x.value.1 z.value) in (λ h. ap Selection-F.Field (t.0 h), λ h. t.1 cc)
+  selection_layers (Selection-F.Field x) z = (λ h. cc, λ h. cc)
+  selection_layers (Selection-F.FragmentSpread x) (Selection-F.FragmentSpread z) = let t = (nodes fragment_spreads).at x z in (λ h. ap Selection-F.FragmentSpread (t.0 h), λ h. t.1 cc)
+  selection_layers (Selection-F.FragmentSpread x) z = (λ h. cc, λ h. cc)
+  selection_layers (Selection-F.InlineFragment x) (Selection-F.InlineFragment z) = let t = node_at inline_eq bare_inline_fragment (along (λ (e : I). e.0) x) z (x.value.1 z.value) in (λ h. ap Selection-F.InlineFragment (t.0 h), λ h. t.1 cc)
+  selection_layers (Selection-F.InlineFragment x) z = (λ h. cc, λ h. cc)
 
-set_layers : (y : SelectionSet-F S F I T) (z : TL) → At set_layer_eq bare_set_layer (plain_set y) z
-set_layers y z =
-    let n = name_at y.ty z.ty in let s = list_at selection_eq bare_selection (λ (e : S). e.0) (λ e z. e.1 z) y.selections z.selections in (
-      λ h. let p = both_true (name_eq y.ty z.ty) _ h in let pn = n.0 p.0 in let ps = s.0 p.1 in λ i. record { ty = pn i; selections = ps i },
-      λ h. and_true _ _ (n.1 (λ i. (h i).ty)) (s.1 (λ i. (h i).selections)),
-    )
+  field_layers : (y : Field-F S F I T) (z : FL) → At field_layer_eq bare_field_layer (plain_field y) z
+  field_layers y z =
+      let f = (nodes parts.field_definitions).at y.definition z.definition in let a = (options names).at y.alias z.alias in let n = name_at y.name z.name in let g = (lists (nodes parts.arguments)).at y.arguments z.arguments in
+      let d = parts.directive_lists.at y.directives z.directives in let s = y.selection_set.1 z.selection_set in (
+        λ h. let o = both_true (definition_eq y.definition z.definition) _ h in let p = both_true (option_eq name_eq y.alias z.alias) _ o.1 in let q = both_true (name_eq y.name z.name) _ p.1 in
+            let r = both_true (arguments_eq y.arguments z.arguments) _ q.1 in let t = both_true (list.ghosts.eq y.directives z.directives) _ r.1 in
+            let pf = f.0 o.0 in let pa = a.0 p.0 in let pn = n.0 q.0 in let pg = g.0 r.0 in let pd = d.0 t.0 in let ps = s.0 t.1 in
+            λ i. record { definition = pf i; alias = pa i; name = pn i; arguments = pg i; directives = pd i; selection_set = ps i },
+        λ h. and_true _ _ (f.1 (λ i. (h i).definition)) (and_true _ _ (a.1 (λ i. (h i).alias)) (and_true _ _ (n.1 (λ i. (h i).name)) (and_true _ _ (g.1 (λ i. (h i).arguments)) (and_true _ _ (d.1 (λ i. (h i).directives)) (s.1 (λ i. (h i).selection_set)))))),
+      )
 
-selection_met : (x : SL) (y : Selection-F S F I T) → plain_selection y ≡ x → OfSelection (roll-Selection x)
-selection_met x y is b = subst (λ c. At selection_eq bare_selection (roll-Selection x) c) (roll-out-Selection b)
-    (rolled selection_eq bare_selection roll-Selection out-Selection selection_layer_eq bare_selection_layer selection-roll bare-selection out-roll-Selection x (out-Selection b) (subst (λ l. At selection_layer_eq bare_selection_layer l (out-Selection b)) is (selection_layers y (out-Selection b))))
+  inline_layers : (y : InlineFragment-F S F I T) (z : IL) → At inline_layer_eq bare_inline_layer (plain_inline y) z
+  inline_layers y z =
+      let c = (options names).at y.type_condition z.type_condition in
+      let d = parts.directive_lists.at y.directives z.directives in let s = y.selection_set.1 z.selection_set in (
+        λ h. let p = both_true (option_eq name_eq y.type_condition z.type_condition) _ h in let t = both_true (list.ghosts.eq y.directives z.directives) _ p.1 in
+            let pc = c.0 p.0 in let pd = d.0 t.0 in let ps = s.0 t.1 in
+            λ i. record { type_condition = pc i; directives = pd i; selection_set = ps i },
+        λ h. and_true _ _ (c.1 (λ i. (h i).type_condition)) (and_true _ _ (d.1 (λ i. (h i).directives)) (s.1 (λ i. (h i).selection_set))),
+      )
 
-field_met : (x : FL) (y : Field-F S F I T) → plain_field y ≡ x → OfField (roll-Field x)
-field_met x y is b = subst (λ c. At field_eq bare_field (roll-Field x) c) (roll-out-Field b)
-    (rolled field_eq bare_field roll-Field out-Field field_layer_eq bare_field_layer field-roll bare-field out-roll-Field x (out-Field b) (subst (λ l. At field_layer_eq bare_field_layer l (out-Field b)) is (field_layers y (out-Field b))))
+  set_layers : (y : SelectionSet-F S F I T) (z : TL) → At set_layer_eq bare_set_layer (plain_set y) z
+  set_layers y z =
+      let n = name_at y.ty z.ty in let s = list_at selection_eq bare_selection (λ (e : S). e.0) (λ e z. e.1 z) y.selections z.selections in (
+        λ h. let p = both_true (name_eq y.ty z.ty) _ h in let pn = n.0 p.0 in let ps = s.0 p.1 in λ i. record { ty = pn i; selections = ps i },
+        λ h. and_true _ _ (n.1 (λ i. (h i).ty)) (s.1 (λ i. (h i).selections)),
+      )
 
-inline_met : (x : IL) (y : InlineFragment-F S F I T) → plain_inline y ≡ x → OfInline (roll-InlineFragment x)
-inline_met x y is b = subst (λ c. At inline_eq bare_inline_fragment (roll-InlineFragment x) c) (roll-out-InlineFragment b)
-    (rolled inline_eq bare_inline_fragment roll-InlineFragment out-InlineFragment inline_layer_eq bare_inline_layer inline-roll bare-inline out-roll-InlineFragment x (out-InlineFragment b) (subst (λ l. At inline_layer_eq bare_inline_layer l (out-InlineFragment b)) is (inline_layers y (out-InlineFragment b))))
+  selection_met : (x : SL) (y : Selection-F S F I T) → plain_selection y ≡ x → OfSelection (roll-Selection x)
+  selection_met x y is b = subst (λ c. At selection_eq bare_selection (roll-Selection x) c) (roll-out-Selection b)
+      (rolled selection_eq bare_selection roll-Selection out-Selection selection_layer_eq bare_selection_layer selection-roll bare-selection out-roll-Selection x (out-Selection b) (subst (λ l. At selection_layer_eq bare_selection_layer l (out-Selection b)) is (selection_layers y (out-Selection b))))
 
-set_met : (x : TL) (y : SelectionSet-F S F I T) → plain_set y ≡ x → OfSet (roll-SelectionSet x)
-set_met x y is b = subst (λ c. At set_eq bare_selection_set (roll-SelectionSet x) c) (roll-out-SelectionSet b)
-    (rolled set_eq bare_selection_set roll-SelectionSet out-SelectionSet set_layer_eq bare_set_layer set-roll bare-set out-roll-SelectionSet x (out-SelectionSet b) (subst (λ l. At set_layer_eq bare_set_layer l (out-SelectionSet b)) is (set_layers y (out-SelectionSet b))))
+  field_met : (x : FL) (y : Field-F S F I T) → plain_field y ≡ x → OfField (roll-Field x)
+  field_met x y is b = subst (λ c. At field_eq bare_field (roll-Field x) c) (roll-out-Field b)
+      (rolled field_eq bare_field roll-Field out-Field field_layer_eq bare_field_layer field-roll bare-field out-roll-Field x (out-Field b) (subst (λ l. At field_layer_eq bare_field_layer l (out-Field b)) is (field_layers y (out-Field b))))
 
-pub selections : Compares impl.ghosts.eq bare_selection
-unfolding selection_eq
-selections = record { at = ind-Selection OfSelection OfField OfInline OfSet selection_met field_met inline_met set_met }
+  inline_met : (x : IL) (y : InlineFragment-F S F I T) → plain_inline y ≡ x → OfInline (roll-InlineFragment x)
+  inline_met x y is b = subst (λ c. At inline_eq bare_inline_fragment (roll-InlineFragment x) c) (roll-out-InlineFragment b)
+      (rolled inline_eq bare_inline_fragment roll-InlineFragment out-InlineFragment inline_layer_eq bare_inline_layer inline-roll bare-inline out-roll-InlineFragment x (out-InlineFragment b) (subst (λ l. At inline_layer_eq bare_inline_layer l (out-InlineFragment b)) is (inline_layers y (out-InlineFragment b))))
 
-pub fields : Compares field.ghosts.eq bare_field
-unfolding field_eq
-fields = record { at = ind-Field OfSelection OfField OfInline OfSet selection_met field_met inline_met set_met }
+  set_met : (x : TL) (y : SelectionSet-F S F I T) → plain_set y ≡ x → OfSet (roll-SelectionSet x)
+  set_met x y is b = subst (λ c. At set_eq bare_selection_set (roll-SelectionSet x) c) (roll-out-SelectionSet b)
+      (rolled set_eq bare_selection_set roll-SelectionSet out-SelectionSet set_layer_eq bare_set_layer set-roll bare-set out-roll-SelectionSet x (out-SelectionSet b) (subst (λ l. At set_layer_eq bare_set_layer l (out-SelectionSet b)) is (set_layers y (out-SelectionSet b))))
 
-pub inline_fragments : Compares inline.ghosts.eq bare_inline_fragment
-unfolding inline_eq
-inline_fragments = record { at = ind-InlineFragment OfSelection OfField OfInline OfSet selection_met field_met inline_met set_met }
+  pub selections : Compares impl.ghosts.eq bare_selection
+  unfolding selection_eq
+  selections = record { at = ind-Selection OfSelection OfField OfInline OfSet selection_met field_met inline_met set_met }
 
-pub selection_sets : Compares set.ghosts.eq bare_selection_set
-unfolding set_eq
-selection_sets = record { at = ind-SelectionSet OfSelection OfField OfInline OfSet selection_met field_met inline_met set_met }
+  pub fields : Compares field.ghosts.eq bare_field
+  unfolding field_eq
+  fields = record { at = ind-Field OfSelection OfField OfInline OfSet selection_met field_met inline_met set_met }
+
+  pub inline_fragments : Compares inline.ghosts.eq bare_inline_fragment
+  unfolding inline_eq
+  inline_fragments = record { at = ind-InlineFragment OfSelection OfField OfInline OfSet selection_met field_met inline_met set_met }
+
+  pub selection_sets : Compares set.ghosts.eq bare_selection_set
+  unfolding set_eq
+  selection_sets = record { at = ind-SelectionSet OfSelection OfField OfInline OfSet selection_met field_met inline_met set_met }

@@ -15,6 +15,8 @@ use crate::operation::{Fragment, Operation};
 use crate::operation_map::OperationMap;
 use crate::request_error::RequestError;
 use crate::selection::{Field, FragmentSpread, InlineFragment, Selection, SelectionSet};
+use apollo_schema::laws::equality_of_lookups;
+use graphql_ast::laws as syntax;
 
 /// Typed selections are equal exactly where they are one without their locations: definitions of fields and types of sets
 /// count. GraphQL specification of October 2021, sections 2.4 to 2.8.
@@ -24,7 +26,10 @@ pub fn equality_of_selections()
     ensures fragment_spread { ComparesBy ⟦<FragmentSpread as PartialEq>⟧.eq bare_fragment_spread }
     ensures inline_fragment { ComparesBy ⟦<InlineFragment as PartialEq>⟧.eq bare_inline_fragment }
     ensures selection_set { ComparesBy ⟦<SelectionSet as PartialEq>⟧.eq bare_selection_set }
-{}
+{
+    syntax::equality_of_values_and_directives();
+    syntax::equality_of_the_type_system();
+}
 
 /// Operations and fragments are equal exactly where they are one without their locations, and documents where they have
 /// equal operations and equal fragments under each name, in any order: the sources are left out. GraphQL specification of
@@ -34,7 +39,11 @@ pub fn equality_of_documents()
     ensures fragment { ComparesBy ⟦<Fragment as PartialEq>⟧.eq bare_fragment }
     ensures operation_map { ComparesBy ⟦<OperationMap as PartialEq>⟧.eq bare_operation_map }
     ensures document { ComparesBy ⟦<ExecutableDocument as PartialEq>⟧.eq bare_document }
-{}
+{
+    syntax::equality_of_values_and_directives();
+    syntax::equality_of_documents();
+    equality_of_selections();
+}
 
 /// Errors of requests are equal exactly where they are of one sort and their names have one text. Those of new fields are where
 /// their sorts and texts are the same, and their types are equal as `==` of types says: without locations and origins, and what
@@ -42,7 +51,9 @@ pub fn equality_of_documents()
 pub fn equality_of_errors<'a>()
     ensures request_error { ComparesBy ⟦<RequestError<'a> as PartialEq>⟧.eq bare_request_error }
     ensures new_field_error { ComparesBy ⟦<NewFieldError<'a> as PartialEq>⟧.eq bare_new_field_error }
-{}
+{
+    equality_of_lookups();
+}
 
 /// Each clone is the original, with its locations and the sources of a document.
 ///

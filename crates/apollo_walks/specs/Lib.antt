@@ -1,6 +1,7 @@
 pub mod Course
 pub mod Reachable
 pub mod Selections
+pub mod TurnByTurn
 pub mod Turns
 pub mod WalkOrder
 pub mod Whole

@@ -2,11 +2,12 @@
 //! call.
 //!
 //! `F` stands for the fields, whatever they are.
-ghost use Rattle.std.specs.Prelude.{◌≡◌, ◌≤◌, ◌+◌, ◌*◌, ◌↔◌, ◌∷◌, [], ℕ, List, true, codes};
+ghost use Rattle.std.specs.Prelude.{◌≡◌, ◌≤◌, ◌+◌, ◌*◌, ◌↔◌, ◌∷◌, [], ℕ, List, Some, true, codes};
 ghost use Rattle.std.specs.List.Sorted.{IsPermutation};
-ghost use Rattle.apollo_walks.specs.Selections.{Selections, Fragments, Names, no_names};
+ghost use Rattle.apollo_walks.specs.Selections.{Selections, Fragments, Names, no_names, fragment_of};
 ghost use Rattle.apollo_walks.specs.Reachable.{Among, Reachable, AreReachable, IsClosed, IsReached};
 ghost use Rattle.apollo_walks.specs.WalkOrder.{Order};
+ghost use Rattle.apollo_walks.specs.TurnByTurn.{AreTurnByTurn};
 ghost use Rattle.apollo_walks.specs.Turns.{AreAllTurns, AreWithinTurns, turns_in_reach, selections_in_reach};
 ghost use Rattle.apollo_walks.specs.Course.{course};
 ghost use Rattle.apollo_walks.specs.Whole.{IsWalk};
@@ -41,6 +42,19 @@ pub fn walks_give_what_is_reached<F>()
 /// fragment in it those which are spread in that fragment.
 pub fn reachable_names_are_the_fewest<F>()
     ensures { (fragments : Fragments F) (s : Selections F) (set : Names) → IsClosed fragments s set → (n : List ℕ) → Reachable fragments s n → set n ≡ true }
+{}
+
+/// A walk opens exactly the names that its selections lead to, and each of these has a fragment.
+pub fn walks_open_what_is_reached<F>()
+    ensures opens { (fragments : Fragments F) (s : Selections F) (n : List ℕ) → ((course fragments no_names s).opened n ≡ true) ↔ Reachable fragments s n }
+    ensures defined { (fragments : Fragments F) (s : Selections F) (n : List ℕ) → Reachable fragments s n → (set : Selections F) × (fragment_of fragments n ≡ Some set) }
+{}
+
+/// What a walk gives that has some lists open comes turn by turn: an empty list is closed; a field is given, and what is below it
+/// opened; the list of an inline fragment is opened; and a spread is passed over where its name is opened or has no fragment, and
+/// else opens both. There is a turn left while a list is open.
+pub fn walks_go_turn_by_turn<F>()
+    ensures { (fragments : Fragments F) (before : Names) → AreTurnByTurn fragments before }
 {}
 
 /// The turns of a walk over any selections: one, and one for each fragment that is reached, and those of the selections and

@@ -12,7 +12,6 @@ use Rattle.graphql_nodes.proofs.Texts.{same-true, same-is}
 use Rattle.apollo_walks.specs.Selections.{Names, no_names, with_name, fragment_of}
 use Rattle.apollo_walks.specs.Reachable.{Among, Reachable}
 use Rattle.apollo_walks.specs.Course.{course}
-use Rattle.apollo_walks.proofs.Courses.{whole-opens, reach-found}
 use Rattle.apollo_executable.specs.Walks.Plain.{Plain, plain, fragments_of}
 use Rattle.apollo_executable.specs.Walks.Left.{marked_names, opened_names}
 use Rattle.apollo_executable.specs.declared.operation.Fragment.{Fragment}
@@ -139,13 +138,15 @@ key-Among deep (e ∷ es) n set found = by (same n e.0.text) refl (key-Among dee
     by false other rest found = inr (rest found)
 
 -- the names that are opened at the end of a whole walk are those that it leads to
-pub opened_names-reached : (deep : Bool) (d : ExecutableDocument) (s : Plain) (names : Names) → names ≡ (course (fragments_of deep d) no_names s).opened
+pub opened_names-reached : (deep : Bool) (d : ExecutableDocument) (s : Plain)
+    → ((n : List ℕ) → ((course (fragments_of deep d) no_names s).opened n ≡ true) ↔ Reachable (fragments_of deep d) s n)
+    → ((n : List ℕ) → Reachable (fragments_of deep d) s n → (set : Plain) × (fragment_of (fragments_of deep d) n ≡ Some set))
+    → (names : Names) → names ≡ (course (fragments_of deep d) no_names s).opened
     → (n : List ℕ) → Among n (opened_names d names) ↔ Reachable (fragments_of deep d) s n
 unfolding fragments_of
-opened_names-reached deep d s names is n =
-    let keys = map (λ k. k.text) (keys_of d.fragments) in
-    let opens = whole-opens (fragments_of deep d) s n in (
-      λ h. opens.0 (sym (ap (λ (N : Names). N n) is) ∙ Among-filter names n keys h),
-      λ r. let found = reach-found (fragments_of deep d) s n r in
-          filter-Among names n keys (ap (λ (N : Names). N n) is ∙ opens.1 r) (key-Among deep d.fragments n found.0 found.1),
+opened_names-reached deep d s opens defined names is n =
+    let keys = map (λ k. k.text) (keys_of d.fragments) in (
+      λ h. (opens n).0 (sym (ap (λ (N : Names). N n) is) ∙ Among-filter names n keys h),
+      λ r. let found = defined n r in
+          filter-Among names n keys (ap (λ (N : Names). N n) is ∙ (opens n).1 r) (key-Among deep d.fragments n found.0 found.1),
     )

@@ -1,11 +1,9 @@
 -- Fields all of whose names stand at the root of queries of each schema.
-use Rattle.std.proofs.Common.{◌≡◌, inl, inr, false, List, [], ◌∷◌, sym, subst}
+use Rattle.std.proofs.Common.{◌≡◌, ◌↔◌, inl, inr, false, List, [], ◌∷◌, sym, subst}
 use Rattle.graphql_nodes.specs.NodeView.{NodeView}
 use Rattle.graphql_nodes.specs.declared.operation_type.OperationType.TheVariants.{Query}
-use Rattle.apollo_walks.specs.Reachable.{Among}
-use Rattle.apollo_walks.proofs.Reached.{in-walk, walk-has}
+use Rattle.apollo_walks.specs.Reachable.{Among, IsReached}
 use Rattle.apollo_executable.specs.Walks.Plain.{plain, fragments_of}
-use Rattle.apollo_executable.specs.Walks.WalkView.{AreWalked}
 use Rattle.apollo_executable.specs.Walks.Introspection.{IsMetaName, IsIntrospection}
 use Rattle.apollo_executable.specs.declared.selection.Field.{Field}
 use Rattle.apollo_executable.specs.declared.operation.Operation.{Operation}
@@ -24,10 +22,10 @@ meta-each : (ns : List (NodeView Field)) → ((n : NodeView Field) → Among n n
 meta-each [] each = tt
 meta-each (n ∷ ns) each = (each n (inl (λ _. n)), meta-each ns (λ m later. each m (inr later)))
 
-module _ (document : ExecutableDocument) (operation : Operation) (fields : List (NodeView Field)) (walked : AreWalked false document operation.selection_set fields) where
+module _ (document : ExecutableDocument) (operation : Operation) (fields : List (NodeView Field))
+    (given : (n : NodeView Field) → Among n fields ↔ IsReached (fragments_of false document) (plain false operation.selection_set.selections) n) where
   pub meta-introspection : operation.operation_type ≡ Query → AreMeta fields → IsIntrospection document operation
-  meta-introspection query all =
-      (query, λ n reached. each-meta fields all n (walk-has (fragments_of false document) n (plain false operation.selection_set.selections) fields walked reached))
+  meta-introspection query all = (query, λ n reached. each-meta fields all n ((given n).1 reached))
 
   pub introspection-meta : IsIntrospection document operation → AreMeta fields
-  introspection-meta is = meta-each fields (λ n h. is.1 n (in-walk (fragments_of false document) n (plain false operation.selection_set.selections) fields walked h))
+  introspection-meta is = meta-each fields (λ n h. is.1 n ((given n).0 h))

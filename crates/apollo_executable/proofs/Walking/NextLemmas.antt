@@ -4,6 +4,7 @@ use Rattle.std.specs.Borrow.{Bor}
 use Rattle.std.specs.declared.alloc.AllocError.{AllocError}
 use Rattle.graphql_nodes.specs.NodeView.{NodeView}
 use Rattle.apollo_walks.specs.Course.{Course}
+use Rattle.apollo_executable.specs.Walks.Plain.{plain, fragments_of}
 use Rattle.apollo_executable.specs.Walks.WalkView.{IsWithinTurns}
 use Rattle.apollo_executable.specs.Walks.NextItem.{IsNext, IsOver}
 use Rattle.apollo_executable.specs.Walks.Left.{walk_over, names_opened, IsTurn}
@@ -15,7 +16,7 @@ use Rattle.apollo_executable.specs.declared.walks.walk.Walk.{Walk}
 use Rattle.apollo_executable.specs.declared.walks.open_lists.Turn.{Turn}
 use Rattle.apollo_executable.specs.declared.walks.open_lists.Turn.TheVariants.{Gave, Moved, Refused}
 use Rattle.apollo_executable.proofs.Walking.WalkLemmas.{left_of-ended}
-use Rattle.apollo_executable.proofs.Walking.WholeLemmas.{within, all-turns, all-names}
+use Rattle.apollo_executable.proofs.Walking.WholeLemmas.{WholeWalkLaws, within, all-turns, all-names}
 
 -- what stays from one walk to a later one, where the turns between gave no field
 pub record IsLater (old now : Walk) : Type 0 where
@@ -37,58 +38,60 @@ pub record IsWalkTurn (now : Walk) (did : Turn) (new : Walk) : Type 0 where
   pub taken : new.taken.number ≡ now.taken.number + 1
   pub turn : IsTurn now.lists did new.lists
 
-bound : (w : Walk) (deep : Bool) → w.lists.deep ≡ deep → IsWithinTurns deep w.document.now w.start.now w.taken.number
-bound w deep is = subst (λ d. IsWithinTurns d w.document.now w.start.now w.taken.number) is (within w.lists.deep w.document.now w.start.now w.taken.number w.bounded)
-
-pub gives-field : (old now new : Walk) (field : Bor (NodeView Field)) → IsLater old now → now.lists.ended ≡ false → IsWalkTurn now (Gave field) new
-    → IsNext old.lists.deep (seen old) (Some (Ok field)) (seen new)
-gives-field old now new field later going t = record {
-  document = ap (λ (d : Bor ExecutableDocument). d.now) (t.document ∙ later.document);
-  start = ap (λ (s : Bor SelectionSet). s.now) (t.start ∙ later.start);
-  gives = (later.fields ∙ ap (λ (x : Course (NodeView Field)). x.fields) t.turn.0, later.goes_on going, t.turn.1);
-  takes = omega (arith, later.more, t.taken);
-  bound = bound new old.lists.deep (t.deep ∙ later.deep);
-  over = tt;
-}
-
 nothing-left : (w : Walk) → w.lists.ended ≡ true → (left w).fields ≡ []
 nothing-left w ended = rw ended refl
-
-pub gives-error : (old now new : Walk) (error : AllocError) → IsLater old now → now.lists.ended ≡ false → IsWalkTurn now Refused new
-    → IsNext old.lists.deep (seen old) (Some (Err error)) (seen new)
-gives-error old now new error later going t = record {
-  document = ap (λ (d : Bor ExecutableDocument). d.now) (t.document ∙ later.document);
-  start = ap (λ (s : Bor SelectionSet). s.now) (t.start ∙ later.start);
-  gives = (later.goes_on going, nothing-left new t.turn, t.turn);
-  takes = omega (arith, later.more, t.taken);
-  bound = bound new old.lists.deep (t.deep ∙ later.deep);
-  over = tt;
-}
 
 no-turn-left : (w : Walk) → w.lists.ended ≡ true → (left w).turns ≡ 0
 no-turn-left w ended = rw ended refl
 
-over-at : (old now : Walk) → IsLater old now → now.lists.ended ≡ true → old.lists.ended ≡ false → IsOver old.lists.deep (seen now)
-over-at old now later ended going =
-    let deep = old.lists.deep in
-    let document : now.document.now ≡ old.document.now = ap (λ (d : Bor ExecutableDocument). d.now) later.document in
-    let start : now.start.now ≡ old.start.now = ap (λ (s : Bor SelectionSet). s.now) later.start in
-    let all : walk_over deep old.document.now old.start.now ≡ walk_over deep now.document.now now.start.now = λ i. walk_over deep (sym document i) (sym start i) in
-    let taken : now.taken.number ≡ (walk_over deep old.document.now old.start.now).turns = omega (arith, later.turns, no-turn-left now ended, old.left_over going) in
-    let names : names_opened now.lists ≡ (walk_over deep old.document.now old.start.now).opened = sym (left_of-ended now.lists ended) ∙ sym later.opened ∙ old.left_open going in (
-      all-turns deep now.document.now now.start.now now.taken.number (taken ∙ ap (λ (x : Course (NodeView Field)). x.turns) all),
-      all-names deep now.document.now now.start.now (names_opened now.lists) (names ∙ ap (λ (x : Course (NodeView Field)). x.opened) all),
-    )
+module _ (laws : WholeWalkLaws) where
+  bound : (w : Walk) (deep : Bool) → w.lists.deep ≡ deep → IsWithinTurns deep w.document.now w.start.now w.taken.number
+  bound w deep is = subst (λ d. IsWithinTurns d w.document.now w.start.now w.taken.number) is
+      (within w.lists.deep w.document.now w.start.now (laws.few (fragments_of w.lists.deep w.document.now) (plain w.lists.deep w.start.now.selections)) w.taken.number w.bounded)
 
-pub gives-none : (old now : Walk) → IsLater old now → now.lists.ended ≡ true → IsNext old.lists.deep (seen old) None (seen now)
-gives-none old now later ended = record {
-  document = ap (λ (d : Bor ExecutableDocument). d.now) later.document;
-  start = ap (λ (s : Bor SelectionSet). s.now) later.start;
-  gives = (later.fields ∙ nothing-left now ended, nothing-left now ended, ended);
-  takes = later.stands;
-  bound = bound now old.lists.deep later.deep;
-  over = over-at old now later ended;
-}
+  pub gives-field : (old now new : Walk) (field : Bor (NodeView Field)) → IsLater old now → now.lists.ended ≡ false → IsWalkTurn now (Gave field) new
+      → IsNext old.lists.deep (seen old) (Some (Ok field)) (seen new)
+  gives-field old now new field later going t = record {
+    document = ap (λ (d : Bor ExecutableDocument). d.now) (t.document ∙ later.document);
+    start = ap (λ (s : Bor SelectionSet). s.now) (t.start ∙ later.start);
+    gives = (later.fields ∙ ap (λ (x : Course (NodeView Field)). x.fields) t.turn.0, later.goes_on going, t.turn.1);
+    takes = omega (arith, later.more, t.taken);
+    bound = bound new old.lists.deep (t.deep ∙ later.deep);
+    over = tt;
+  }
+
+  pub gives-error : (old now new : Walk) (error : AllocError) → IsLater old now → now.lists.ended ≡ false → IsWalkTurn now Refused new
+      → IsNext old.lists.deep (seen old) (Some (Err error)) (seen new)
+  gives-error old now new error later going t = record {
+    document = ap (λ (d : Bor ExecutableDocument). d.now) (t.document ∙ later.document);
+    start = ap (λ (s : Bor SelectionSet). s.now) (t.start ∙ later.start);
+    gives = (later.goes_on going, nothing-left new t.turn, t.turn);
+    takes = omega (arith, later.more, t.taken);
+    bound = bound new old.lists.deep (t.deep ∙ later.deep);
+    over = tt;
+  }
+
+  over-at : (old now : Walk) → IsLater old now → now.lists.ended ≡ true → old.lists.ended ≡ false → IsOver old.lists.deep (seen now)
+  over-at old now later ended going =
+      let deep = old.lists.deep in
+      let document : now.document.now ≡ old.document.now = ap (λ (d : Bor ExecutableDocument). d.now) later.document in
+      let start : now.start.now ≡ old.start.now = ap (λ (s : Bor SelectionSet). s.now) later.start in
+      let all : walk_over deep old.document.now old.start.now ≡ walk_over deep now.document.now now.start.now = λ i. walk_over deep (sym document i) (sym start i) in
+      let taken : now.taken.number ≡ (walk_over deep old.document.now old.start.now).turns = omega (arith, later.turns, no-turn-left now ended, old.left_over going) in
+      let names : names_opened now.lists ≡ (walk_over deep old.document.now old.start.now).opened = sym (left_of-ended now.lists ended) ∙ sym later.opened ∙ old.left_open going in (
+        all-turns deep now.document.now now.start.now laws now.taken.number (taken ∙ ap (λ (x : Course (NodeView Field)). x.turns) all),
+        all-names deep now.document.now now.start.now laws (names_opened now.lists) (names ∙ ap (λ (x : Course (NodeView Field)). x.opened) all),
+      )
+
+  pub gives-none : (old now : Walk) → IsLater old now → now.lists.ended ≡ true → IsNext old.lists.deep (seen old) None (seen now)
+  gives-none old now later ended = record {
+    document = ap (λ (d : Bor ExecutableDocument). d.now) later.document;
+    start = ap (λ (s : Bor SelectionSet). s.now) later.start;
+    gives = (later.fields ∙ nothing-left now ended, nothing-left now ended, ended);
+    takes = later.stands;
+    bound = bound now old.lists.deep later.deep;
+    over = over-at old now later ended;
+  }
 
 -- a turn that gives no field leaves a later walk
 pub turns-later : (old now new : Walk) → IsLater old now → now.lists.ended ≡ false → IsWalkTurn now Moved new → IsLater old new

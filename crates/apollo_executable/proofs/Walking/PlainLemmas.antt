@@ -2,7 +2,7 @@
 use Rattle.std.proofs.Common.{◌≡◌, Bool, true, false, List, [], ◌∷◌, map, refl, sym, ap, subst, ◌∙◌}
 use Rattle.graphql_nodes.specs.NodeView.{NodeView}
 use Rattle.apollo_walks.specs.Selections.{none, field, spread, inline}
-use Rattle.apollo_walks.proofs.Steps.{over}
+use Rattle.apollo_walks.specs.TurnByTurn.{over}
 use Rattle.apollo_executable.specs.Walks.Plain.{Plain, PS, PF, PI, PL, when_deep, put_before, selection_step, field_step, inline_step, set_step, seen_selection, plain, below_of}
 use Rattle.apollo_executable.specs.declared.selection.Selection.{Selection, roll-Selection, out-Selection, fold-roll-Selection, fold_out-Selection}
 use Rattle.apollo_executable.specs.declared.selection.Selection.TheVariants as variant

@@ -3,7 +3,7 @@ use Rattle.std.proofs.Common.{◌≡◌, ◌<◌, Bool, true, false, List, [], �
 use Rattle.graphql_nodes.specs.NodeView.{NodeView}
 use Rattle.apollo_walks.specs.Selections.{Names, spread, with_name, fragment_of}
 use Rattle.apollo_walks.specs.Course.{Course, no_course, course, course_of_all, a_turn_before, a_field_before}
-use Rattle.apollo_walks.proofs.Steps.{over, close, give, go_inside, pass_opened, pass_undefined, open_first, course_of_one, course_of_all-positive}
+use Rattle.apollo_walks.specs.TurnByTurn.{over, AreTurnByTurn}
 use Rattle.apollo_executable.specs.Walks.Plain.{Plain, plain, below_of, fragments_of}
 use Rattle.apollo_executable.specs.Walks.Left.{left_in}
 use Rattle.apollo_executable.specs.declared.selection.Selection.{Selection}
@@ -14,16 +14,16 @@ use Rattle.apollo_executable.specs.declared.selection.FragmentSpread.{FragmentSp
 use Rattle.apollo_executable.specs.declared.document.ExecutableDocument.{ExecutableDocument}
 use Rattle.apollo_executable.proofs.Walking.PlainLemmas.{plain-none, plain-field, plain-spread, plain-inline, over-cons}
 
-module _ (deep : Bool) (document : ExecutableDocument) (names : Names) where
+module _ (deep : Bool) (document : ExecutableDocument) (names : Names) (steps : AreTurnByTurn (fragments_of deep document) names) where
   pub turn-end : left_in deep document names [] [] ≡ a_turn_before (no_course names)
   unfolding left_in
-  turn-end = ap (λ s. course_of_all (fragments_of deep document) names (s ∷ [])) (plain-none deep) ∙ close (fragments_of deep document) names []
+  turn-end = ap (λ s. course_of_all (fragments_of deep document) names (s ∷ [])) (plain-none deep) ∙ steps.closes []
 
   pub turn-close : (list : List Selection) (lists : List (List Selection)) → left_in deep document names [] (list ∷ lists) ≡ a_turn_before (left_in deep document names list lists)
   unfolding left_in
   turn-close list lists =
       let others = plain deep list ∷ map (plain deep) lists in
-      ap (λ s. course_of_all (fragments_of deep document) names (s ∷ others)) (plain-none deep) ∙ close (fragments_of deep document) names others
+      ap (λ s. course_of_all (fragments_of deep document) names (s ∷ others)) (plain-none deep) ∙ steps.closes others
 
   pub turn-leaf : (n : NodeView Field) (list : List Selection) (lists : List (List Selection)) → below_of deep n.value ≡ [] →
       left_in deep document names (variant.Field n ∷ list) lists ≡ a_field_before n (left_in deep document names list lists)
@@ -32,7 +32,7 @@ module _ (deep : Bool) (document : ExecutableDocument) (names : Names) where
       let others = map (plain deep) lists in
       let all : List Plain → Course (NodeView Field) = λ l. course_of_all (fragments_of deep document) names l in
       ap (λ s. all (s ∷ others)) (plain-field deep n list)
-      ∙ give (fragments_of deep document) names n (plain deep (below_of deep n.value)) (plain deep list) others
+      ∙ steps.gives n (plain deep (below_of deep n.value)) (plain deep list) others
       ∙ ap (λ s. a_field_before n (all (over s (plain deep list ∷ others)))) (ap (plain deep) leaf ∙ plain-none deep)
 
   pub turn-field : (n : NodeView Field) (s : Selection) (below list : List Selection) (lists : List (List Selection)) → below_of deep n.value ≡ s ∷ below →
@@ -42,7 +42,7 @@ module _ (deep : Bool) (document : ExecutableDocument) (names : Names) where
       let others = plain deep list ∷ map (plain deep) lists in
       let all : List Plain → Course (NodeView Field) = λ l. course_of_all (fragments_of deep document) names l in
       ap (λ s. all (s ∷ map (plain deep) lists)) (plain-field deep n list)
-      ∙ give (fragments_of deep document) names n (plain deep (below_of deep n.value)) (plain deep list) (map (plain deep) lists)
+      ∙ steps.gives n (plain deep (below_of deep n.value)) (plain deep list) (map (plain deep) lists)
       ∙ ap (λ l. a_field_before n (all l)) (ap (λ l. over (plain deep l) others) is ∙ over-cons deep s below others ∙ ap (λ l. plain deep l ∷ others) (sym is))
 
   pub turn-inline : (n : NodeView InlineFragment) (list : List Selection) (lists : List (List Selection)) →
@@ -50,7 +50,7 @@ module _ (deep : Bool) (document : ExecutableDocument) (names : Names) where
   unfolding left_in
   turn-inline n list lists =
       ap (λ s. course_of_all (fragments_of deep document) names (s ∷ map (plain deep) lists)) (plain-inline deep n list)
-      ∙ go_inside (fragments_of deep document) names (plain deep n.value.selection_set.selections) (plain deep list) (map (plain deep) lists)
+      ∙ steps.goes_inside (plain deep n.value.selection_set.selections) (plain deep list) (map (plain deep) lists)
 
   -- a spread is of its name
   by-name : (n : NodeView FragmentSpread) (list : List Selection) (lists : List (List Selection)) →
@@ -62,27 +62,27 @@ module _ (deep : Bool) (document : ExecutableDocument) (names : Names) where
       left_in deep document names (variant.FragmentSpread n ∷ list) lists ≡ a_turn_before (left_in deep document names list lists)
   unfolding left_in
   turn-opened n list lists opened =
-      by-name n list lists ∙ pass_opened (fragments_of deep document) names n.value.fragment_name.text (plain deep list) (map (plain deep) lists) opened
+      by-name n list lists ∙ steps.passes_opened n.value.fragment_name.text (plain deep list) (map (plain deep) lists) opened
 
   pub turn-undefined : (n : NodeView FragmentSpread) (list : List Selection) (lists : List (List Selection)) → names n.value.fragment_name.text ≡ false →
       fragment_of (fragments_of deep document) n.value.fragment_name.text ≡ None →
       left_in deep document names (variant.FragmentSpread n ∷ list) lists ≡ a_turn_before (left_in deep document names list lists)
   unfolding left_in
   turn-undefined n list lists closed missing =
-      by-name n list lists ∙ pass_undefined (fragments_of deep document) names n.value.fragment_name.text (plain deep list) (map (plain deep) lists) closed missing
+      by-name n list lists ∙ steps.passes_undefined n.value.fragment_name.text (plain deep list) (map (plain deep) lists) closed missing
 
   pub turn-fragment : (n : NodeView FragmentSpread) (set list : List Selection) (lists : List (List Selection)) → names n.value.fragment_name.text ≡ false →
       fragment_of (fragments_of deep document) n.value.fragment_name.text ≡ Some (plain deep set) →
       left_in deep document names (variant.FragmentSpread n ∷ list) lists ≡ a_turn_before (left_in deep document (with_name n.value.fragment_name.text names) set (list ∷ lists))
   unfolding left_in
   turn-fragment n set list lists closed found =
-      by-name n list lists ∙ open_first (fragments_of deep document) names n.value.fragment_name.text (plain deep set) (plain deep list) (map (plain deep) lists) closed found
+      by-name n list lists ∙ steps.opens n.value.fragment_name.text (plain deep set) (plain deep list) (map (plain deep) lists) closed found
 
   -- there is a turn left where a list is open
   pub left_in-positive : (list : List Selection) (lists : List (List Selection)) → 0 < (left_in deep document names list lists).turns
   unfolding left_in
-  left_in-positive list lists = course_of_all-positive (fragments_of deep document) names (plain deep list) (map (plain deep) lists)
+  left_in-positive list lists = steps.goes_on (plain deep list) (map (plain deep) lists)
 
   pub left_in-start : (list : List Selection) → left_in deep document names list [] ≡ course (fragments_of deep document) names (plain deep list)
   unfolding left_in
-  left_in-start list = course_of_one (fragments_of deep document) names (plain deep list)
+  left_in-start list = steps.begins (plain deep list)

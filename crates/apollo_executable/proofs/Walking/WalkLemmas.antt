@@ -5,6 +5,8 @@ use Rattle.std.specs.Prelude.{nat_eq}
 use Rattle.std.specs.Borrow.{Bor}
 use Rattle.graphql_nodes.specs.NodeView.{NodeView}
 use Rattle.apollo_walks.specs.Course.{Course}
+use Rattle.apollo_walks.specs.TurnByTurn.{AreTurnByTurn}
+use Rattle.apollo_executable.specs.Walks.Plain.{fragments_of}
 use Rattle.apollo_executable.specs.Walks.Left.{waiting_lists, names_opened, left_in, left_of, IsTurn}
 use Rattle.apollo_executable.specs.declared.selection.Selection.{Selection}
 use Rattle.apollo_executable.specs.declared.selection.Field.{Field}
@@ -42,13 +44,13 @@ pub left_of-ended : (w : OpenLists) → w.ended ≡ true → (left_of w).opened 
 left_of-ended w ended = rw ended refl
 
 -- what a turn leaves of the turns, where so many were taken of all
-pub turn-counts : (old new : OpenLists) (turn : Turn) → IsTurn old turn new → old.ended ≡ false → (n all : ℕ) → n + (left_of old).turns ≡ all →
+pub turn-counts : (old new : OpenLists) (turn : Turn) → AreTurnByTurn (fragments_of old.deep old.document.now) (names_opened old) → IsTurn old turn new → old.ended ≡ false → (n all : ℕ) → n + (left_of old).turns ≡ all →
     (n + 1 ≤ all) × (new.ended ≡ false → (n + 1) + (left_of new).turns ≡ all)
-turn-counts old new (Gave field) is goes_on n all sum = let e = ap (λ (s : Course (NodeView Field)). s.turns) is.0 in (omega arith, λ _. omega arith)
-turn-counts old new Moved is goes_on n all sum = let e = ap (λ (s : Course (NodeView Field)). s.turns) is in (omega arith, λ _. omega arith)
-turn-counts old new Refused is goes_on n all sum =
+turn-counts old new (Gave field) steps is goes_on n all sum = let e = ap (λ (s : Course (NodeView Field)). s.turns) is.0 in (omega arith, λ _. omega arith)
+turn-counts old new Moved steps is goes_on n all sum = let e = ap (λ (s : Course (NodeView Field)). s.turns) is in (omega arith, λ _. omega arith)
+turn-counts old new Refused steps is goes_on n all sum =
     let e = ap (λ (s : Course (NodeView Field)). s.turns) (left_of-open old goes_on) in
-    let some = left_in-positive old.deep old.document.now (names_opened old) old.current.now (waiting_lists old.waiting.items) in
+    let some = left_in-positive old.deep old.document.now (names_opened old) steps old.current.now (waiting_lists old.waiting.items) in
     (omega arith, λ still. absurd (cc))
 
 -- and of the names

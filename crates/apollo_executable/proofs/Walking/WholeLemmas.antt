@@ -1,27 +1,42 @@
 -- What a whole walk over a set gives.
-use Rattle.std.proofs.Common.{◌≡◌, ◌≤◌, Bool, ℕ, ◌∙◌, arith}
-use Rattle.apollo_walks.specs.Selections.{Names}
-use Rattle.apollo_walks.proofs.Courses.{whole, whole-turns, whole-within}
-use Rattle.apollo_executable.specs.Walks.Plain.{plain, fragments_of}
+use Rattle.std.proofs.Common.{◌≡◌, ◌≤◌, ◌↔◌, Bool, ℕ, List, true, Some, ◌∙◌, arith}
+use Rattle.graphql_nodes.specs.NodeView.{NodeView}
+use Rattle.apollo_walks.specs.Selections.{Fragments, Names, no_names, fragment_of}
+use Rattle.apollo_walks.specs.Reachable.{Reachable}
+use Rattle.apollo_walks.specs.Turns.{AreAllTurns, AreWithinTurns}
+use Rattle.apollo_walks.specs.Whole.{IsWalk}
+use Rattle.apollo_walks.specs.Course.{course}
+use Rattle.apollo_executable.specs.Walks.Plain.{Plain, plain, fragments_of}
 use Rattle.apollo_executable.specs.Walks.Left.{walk_over, opened_names}
 use Rattle.apollo_executable.specs.Walks.WalkView.{AreWalked, IsWithinTurns, TakesAllTurns, AreReachedNames}
+use Rattle.apollo_executable.specs.declared.selection.Field.{Field}
 use Rattle.apollo_executable.specs.declared.selection.SelectionSet.{SelectionSet}
 use Rattle.apollo_executable.specs.declared.document.ExecutableDocument.{ExecutableDocument}
 use Rattle.apollo_executable.proofs.Walking.FlagLemmas.{opened_names-reached}
 
+-- what the laws of walks say of the turns and the names of a whole one
+pub record WholeWalkLaws : Type 0 where
+  pub all : (fragments : Fragments (NodeView Field)) (s : Plain) → AreAllTurns fragments s (course fragments no_names s).turns
+  pub few : (fragments : Fragments (NodeView Field)) (s : Plain) → AreWithinTurns fragments s (course fragments no_names s).turns
+  pub opens : (fragments : Fragments (NodeView Field)) (s : Plain) (n : List ℕ) → ((course fragments no_names s).opened n ≡ true) ↔ Reachable fragments s n
+  pub defined : (fragments : Fragments (NodeView Field)) (s : Plain) (n : List ℕ) → Reachable fragments s n → (set : Plain) × (fragment_of fragments n ≡ Some set)
+
 module _ (deep : Bool) (document : ExecutableDocument) (set : SelectionSet) where
-  pub walked : AreWalked deep document set (walk_over deep document set).fields
+  pub walked : IsWalk (fragments_of deep document) (plain deep set.selections) (course (fragments_of deep document) no_names (plain deep set.selections)).fields
+      → AreWalked deep document set (walk_over deep document set).fields
   unfolding walk_over
-  walked = whole (fragments_of deep document) (plain deep set.selections)
+  walked whole = whole
 
-  pub within : (turns : ℕ) → turns ≤ (walk_over deep document set).turns → IsWithinTurns deep document set turns
+  pub within : AreWithinTurns (fragments_of deep document) (plain deep set.selections) (course (fragments_of deep document) no_names (plain deep set.selections)).turns
+      → (turns : ℕ) → turns ≤ (walk_over deep document set).turns → IsWithinTurns deep document set turns
   unfolding walk_over
-  within turns few = let all = whole-within (fragments_of deep document) (plain deep set.selections) in (all.0, all.1, omega (arith, all.2, few))
+  within all turns few = (all.0, all.1, omega (arith, all.2, few))
 
-  pub all-turns : (turns : ℕ) → turns ≡ (walk_over deep document set).turns → TakesAllTurns deep document set turns
+  pub all-turns : WholeWalkLaws → (turns : ℕ) → turns ≡ (walk_over deep document set).turns → TakesAllTurns deep document set turns
   unfolding walk_over
-  all-turns turns is = let all = whole-turns (fragments_of deep document) (plain deep set.selections) in (all.0, all.1, is ∙ all.2)
+  all-turns laws turns is = let all = laws.all (fragments_of deep document) (plain deep set.selections) in (all.0, all.1, is ∙ all.2)
 
-  pub all-names : (names : Names) → names ≡ (walk_over deep document set).opened → AreReachedNames deep document set (opened_names document names)
+  pub all-names : WholeWalkLaws → (names : Names) → names ≡ (walk_over deep document set).opened → AreReachedNames deep document set (opened_names document names)
   unfolding walk_over
-  all-names names is = opened_names-reached deep document (plain deep set.selections) names is
+  all-names laws names is = let s = plain deep set.selections in
+      opened_names-reached deep document s (laws.opens (fragments_of deep document) s) (laws.defined (fragments_of deep document) s) names is

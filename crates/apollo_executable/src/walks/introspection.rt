@@ -5,6 +5,9 @@ ghost use Rattle.apollo_executable.specs.Walks.Introspection.{IsIntrospection, I
 
 use crate::document::ExecutableDocument;
 use crate::operation::Operation;
+use crate::selection::Field;
+use apollo_walks::laws::walks_give_what_is_reached;
+use graphql_nodes::node::Node;
 use std::alloc::{AllocError, Global};
 
 /// Whether a field of this name stands at the root of queries of each schema.
@@ -28,6 +31,7 @@ impl Operation {
         if !self.is_query() {
             return Ok(false);
         }
+        walks_give_what_is_reached::<Node<Field>>();
         let mut walk = self.root_fields(alloc, document);
         while let Some(field) = walk.next() {
             if !is_meta_name(field?.name.as_str()) {

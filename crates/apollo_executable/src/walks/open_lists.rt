@@ -4,6 +4,7 @@ ghost use Rattle.std.specs.Prelude.{◌≡◌, [], ◌∷◌, ◌++◌, OnOk, fa
 use crate::document::ExecutableDocument;
 use crate::selection::{Field, FragmentSpread, Selection, SelectionSet};
 use crate::walks::flags;
+use apollo_walks::laws::walks_go_turn_by_turn;
 use graphql_nodes::node::Node;
 use std::alloc::{AllocError, Global};
 
@@ -45,6 +46,7 @@ impl<'doc> OpenLists<'doc> {
         ensures left { left_of result ≡ walk_over deep document.now set.now }
         ensures opened { opened_names document.now (names_opened result) ≡ [] }
     {
+        walks_go_turn_by_turn::<Node<Field>>();
         OpenLists {
             document,
             current: set.selections.as_slice(),
@@ -76,6 +78,7 @@ impl<'doc> OpenLists<'doc> {
         ensures ended { self.new.ended ≡ self.old.ended }
         ensures turn { OnOk result (IsSpreadTurn self.old spread.now self.new) }
     {
+        walks_go_turn_by_turn::<Node<Field>>();
         let fragments = &self.document.fragments;
         let Some((place, _, fragment)) = fragments.get_full(&spread.fragment_name) else {
             return Ok(());
@@ -105,6 +108,7 @@ impl<'doc> OpenLists<'doc> {
         ensures deep { self.new.deep ≡ self.old.deep }
         ensures turn { IsTurn self.old result self.new }
     {
+        walks_go_turn_by_turn::<Node<Field>>();
         match self.current.split_first() {
             None => {
                 match self.waiting.pop() {

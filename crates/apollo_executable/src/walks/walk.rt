@@ -6,6 +6,10 @@ ghost use Rattle.apollo_executable.specs.Walks.WalkView.{IsNewWalk, IsWithinTurn
 use crate::document::ExecutableDocument;
 use crate::selection::{Field, SelectionSet};
 use crate::walks::open_lists::{OpenLists, Turn};
+use apollo_walks::laws::{
+    walks_go_turn_by_turn, walks_open_what_is_reached, walks_reach_each_field_once,
+    walks_take_few_turns,
+};
 use apollo_walks::turn_count::TurnCount;
 use graphql_nodes::node::Node;
 use std::alloc::{AllocError, Global};
@@ -40,6 +44,7 @@ impl<'doc> Walk<'doc> {
         ensures deep { result.lists.deep ≡ deep }
         ensures new { IsNewWalk deep document.now set.now (seen result) }
     {
+        walks_reach_each_field_once::<Node<Field>>();
         Walk {
             document,
             start: set,
@@ -54,6 +59,7 @@ impl<'doc> Walk<'doc> {
         ensures turns { result ≡ min self.now.taken.number (2 ^ 64 - 1) }
         ensures few { IsWithinTurns self.now.lists.deep self.now.document.now self.now.start.now self.now.taken.number }
     {
+        walks_take_few_turns::<Node<Field>>();
         self.turns
     }
 
@@ -66,6 +72,7 @@ impl<'doc> Walk<'doc> {
         ensures taken { self.new.taken.number ≡ self.old.taken.number + 1 }
         ensures turn { IsTurn self.old.lists result self.new.lists }
     {
+        walks_go_turn_by_turn::<Node<Field>>();
         let turn = self.lists.turn();
         self.turns = self.turns.saturating_add(1);
         self.taken = TurnCount::after(&self.taken);
@@ -77,6 +84,8 @@ impl<'doc> Walk<'doc> {
         ensures deep { self.new.lists.deep ≡ self.old.lists.deep }
         ensures next { IsNext self.old.lists.deep (seen self.old) result (seen self.new) }
     {
+        walks_take_few_turns::<Node<Field>>();
+        walks_open_what_is_reached::<Node<Field>>();
         while !self.lists.ended {
             match self.turn() {
                 Turn::Gave(field) => return Some(Ok(field)),

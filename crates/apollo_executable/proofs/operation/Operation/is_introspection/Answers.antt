@@ -16,7 +16,7 @@ returns-then-not-is_meta_name-clause-answer c =
     let named = c.as_str.ensures ∙ ap (λ (f : Field). f.name.text) c.deref.ensures in (
       λ no. absurd (true≢false (sym no)),
       λ is.
-          let all = c.loop-field.invariant.0 (introspection-meta c.args.document.now c.args.self.now walk.result.coming walk.ensures.coming is) in
+          let all = c.loop-field.invariant.0 (introspection-meta c.args.document.now c.args.self.now walk.result.coming (λ n. c.walks_give_what_is_reached.ensures _ _ _ n walk.ensures.coming) is) in
           let head = (subst AreMeta first.0 all).0 in
           sym c.if-not-is_meta_name.true ∙ c.is_meta_name.ensures.1 (subst IsMetaName (sym named) head),
     )
@@ -24,7 +24,7 @@ returns-then-not-is_meta_name-clause-answer c =
 pub returns-clause-answer : goal.returns-clause-answer
 returns-clause-answer c =
     let walk = c.root_fields-walk in (
-      λ _. meta-introspection c.args.document.now c.args.self.now walk.result.coming walk.ensures.coming (c.is_query.ensures.0 c.if-not-is_query.false)
+      λ _. meta-introspection c.args.document.now c.args.self.now walk.result.coming (λ n. c.walks_give_what_is_reached.ensures _ _ _ n walk.ensures.coming) (c.is_query.ensures.0 c.if-not-is_query.false)
           (c.loop-field.invariant.1 (subst AreMeta (sym c.in_default.ensures.steps.gives.0) tt)),
       λ _. refl,
     )

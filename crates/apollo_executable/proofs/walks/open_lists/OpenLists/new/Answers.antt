@@ -10,7 +10,7 @@ unfolding walk_over
 returns-clause-left c =
     let names = marked_names-empty c.args.document.now c.new-2.result.items c.new-2.ensures.items in
     let lists = ap waiting_lists c.new.ensures.items ∙ waiting-empty in
-    rw (names, lists, c.as_slice.ensures) (left_in-start c.args.deep c.args.document.now _ _)
+    rw (names, lists, c.as_slice.ensures) (left_in-start c.args.deep c.args.document.now _ (c.walks_go_turn_by_turn.ensures _ _) _)
 
 pub returns-clause-opened : goal.returns-clause-opened
 returns-clause-opened c =

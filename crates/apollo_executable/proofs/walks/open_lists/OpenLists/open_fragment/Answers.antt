@@ -23,7 +23,7 @@ pub returns-in_default-clause-turn : goal.returns-in_default-clause-turn
 returns-in_default-clause-turn c =
     let w = c.args.self.now in
     let n = c.args.spread.now in
-    turn-undefined w.deep w.document.now (marked_names w.document.now w.opened.items) n w.current.now (waiting_lists w.waiting.items)
+    turn-undefined w.deep w.document.now (marked_names w.document.now w.opened.items) (c.walks_go_turn_by_turn.ensures _ _) n w.current.now (waiting_lists w.waiting.items)
     (marked_names-none w.document.now w.opened.items n.value.fragment_name.text (at_name w.document.now c.deref.result.now n.value c.deref.ensures ∙ sym c.in_default.ensures.place))
     (found-none w.deep w.document.now n.value.fragment_name.text (under_name w.document.now c.deref.result.now n.value c.deref.ensures ∙ sym c.in_default.ensures.value))
 
@@ -31,7 +31,7 @@ pub returns-then-is_marked-clause-turn : goal.returns-then-is_marked-clause-turn
 returns-then-is_marked-clause-turn c =
     let w = c.args.self.now in
     let n = c.args.spread.now in
-    turn-opened w.deep w.document.now (marked_names w.document.now w.opened.items) n w.current.now (waiting_lists w.waiting.items)
+    turn-opened w.deep w.document.now (marked_names w.document.now w.opened.items) (c.walks_go_turn_by_turn.ensures _ _) n w.current.now (waiting_lists w.waiting.items)
     (marked_names-at w.document.now w.opened.items n.value.fragment_name.text c.in-Some.place true (at_name w.document.now c.deref.result.now n.value c.deref.ensures ∙ sym c.in-Some.ensures.place)
     (ap (λ (l : List Bool). slice_index_or l c.in-Some.place false) (sym c.as_slice.ensures.value) ∙ sym c.is_marked.ensures ∙ c.if-is_marked.true))
 
@@ -47,7 +47,7 @@ returns-clause-turn c =
     let found = found-some w.deep w.document.now text c.in-Some.fragment.now (under_name w.document.now c.deref.result.now n.value c.deref.ensures ∙ sym c.in-Some.ensures.value) in
     let closed = marked_names-at w.document.now w.opened.items text c.in-Some.place false place
     (ap (λ (l : List Bool). slice_index_or l c.in-Some.place false) (sym c.as_slice.ensures.value) ∙ sym c.is_marked.ensures ∙ c.if-is_marked.false) in
-    let opens = turn-fragment w.deep w.document.now (marked_names w.document.now w.opened.items) n set w.current.now (waiting_lists w.waiting.items) closed found in
+    let opens = turn-fragment w.deep w.document.now (marked_names w.document.now w.opened.items) (c.walks_go_turn_by_turn.ensures _ _) n set w.current.now (waiting_lists w.waiting.items) closed found in
     let names : marked_names v.document.now v.opened.items ≡ with_name text (marked_names w.document.now w.opened.items) =
     rw (c.open.ensures.document, c.open.ensures.opened) (marked_names-mark w.document.now w.opened.items c.mark.new.flags.items text c.in-Some.place place c.in_ok-mark.ensures) in
     let lists = ap waiting_lists is_waiting ∙ waiting-push w.waiting.items w.current in

@@ -18,11 +18,11 @@ returns-after-pop-clause-turn c =
       | in-None-pop w ↦
           let stack : v.waiting.items ≡ [] = nil_from_length v.waiting.items (omega (arith, v.waiting.ok.0, w.in-None-pop.ensures.cases.0)) in
           let lists : waiting_lists v.waiting.items ≡ [] = ap waiting_lists stack ∙ waiting-empty in
-          rw (w.self-is, c.requires, current, lists) (turn-end v.deep v.document.now names)
+          rw (w.self-is, c.requires, current, lists) (turn-end v.deep v.document.now names (c.walks_go_turn_by_turn.ensures _ _))
       | in-Some-pop w ↦
           let list = w.in-Some-pop.list in
           let lists = ap waiting_lists w.in-Some-pop.ensures.items ∙ waiting-push c.pop.new.self.items list in
-          rw (w.self-is, c.requires, current, lists) (turn-close v.deep v.document.now names list.now (waiting_lists c.pop.new.self.items))
+          rw (w.self-is, c.requires, current, lists) (turn-close v.deep v.document.now names (c.walks_go_turn_by_turn.ensures _ _) list.now (waiting_lists c.pop.new.self.items))
     ]
 
 pub returns-then-is_ok-clause-turn : goal.returns-then-is_ok-clause-turn
@@ -35,7 +35,7 @@ returns-then-is_ok-clause-turn c =
     elim c.if-is_empty.branch [
       | then-is_empty w ↦
           let empty = sym below ∙ nil_from_length c.below-below.result.now (eqb-true _ _ (sym w.if-is_empty.ensures)) in
-          (rw (w.self-is, c.requires, first, c.in-Field.is) (turn-leaf v.deep v.document.now names n c.in-Some.rest.now (waiting_lists v.waiting.items) empty), rw (w.self-is) c.requires)
+          (rw (w.self-is, c.requires, first, c.in-Field.is) (turn-leaf v.deep v.document.now names (c.walks_go_turn_by_turn.ensures _ _) n c.in-Some.rest.now (waiting_lists v.waiting.items) empty), rw (w.self-is) c.requires)
       | else-is_empty w ↦
           let r = w.open.new.self in
           let ok = sym w.is_ok.ensures.value ∙ sym w.value-is ∙ c.if-is_ok.true in
@@ -44,7 +44,7 @@ returns-then-is_ok-clause-turn c =
           let lists = ap waiting_lists stack ∙ waiting-push v.waiting.items c.in-Some.rest in
           let more = cons-by-length c.below-below.result.now (sym w.if-is_empty.ensures) in (
             rw (w.self-is, w.open.ensures.ended, w.open.ensures.document, w.open.ensures.opened, w.open.ensures.deep, c.requires, current, lists, first, c.in-Field.is)
-                (turn-field v.deep v.document.now names n more.0 more.1 c.in-Some.rest.now (waiting_lists v.waiting.items) (sym below ∙ more.2)),
+                (turn-field v.deep v.document.now names (c.walks_go_turn_by_turn.ensures _ _) n more.0 more.1 c.in-Some.rest.now (waiting_lists v.waiting.items) (sym below ∙ more.2)),
             rw (w.self-is, w.open.ensures.ended) c.requires,
           )
     ]
@@ -62,4 +62,4 @@ returns-then-is_ok-2-clause-turn c =
     let stack = OnOk-when (r.waiting.items ≡ v.waiting.items ++ (c.in-Some.rest ∷ [])) c.open-in-InlineFragment.result ok e.waiting in
     let lists = ap waiting_lists stack ∙ waiting-push v.waiting.items c.in-Some.rest in
     rw (e.ended, e.document, e.opened, e.deep, c.requires, current, lists, first, c.in-InlineFragment.is)
-    (turn-inline v.deep v.document.now (names_opened v) n c.in-Some.rest.now (waiting_lists v.waiting.items))
+    (turn-inline v.deep v.document.now (names_opened v) (c.walks_go_turn_by_turn.ensures _ _) n c.in-Some.rest.now (waiting_lists v.waiting.items))

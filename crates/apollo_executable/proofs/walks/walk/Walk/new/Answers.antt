@@ -14,7 +14,7 @@ returns-clause-new c =
     record {
       document_is = refl;
       start_is = refl;
-      coming = subst (λ (l : List (NodeView Field)). AreWalked c.args.deep document set l) (sym fields) (walked c.args.deep document set);
+      coming = subst (λ (l : List (NodeView Field)). AreWalked c.args.deep document set l) (sym fields) (walked c.args.deep document set (c.walks_reach_each_field_once.ensures _ _));
       opened = c.new.ensures.opened;
       goes_on = c.new.ensures.ended;
       taken = c.zero.ensures;

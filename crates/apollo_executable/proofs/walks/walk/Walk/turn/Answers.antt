@@ -7,7 +7,7 @@ pub invariant_of-self : goal.invariant_of-self
 invariant_of-self c =
     let w = c.args.self.now in
     let all = (walk_over w.lists.deep w.document.now w.start.now).turns in
-    let counts = turn-counts w.lists c.turn-turn.new.self c.turn-turn.result c.turn-turn.ensures.turn c.requires w.taken.number all (w.left_over c.requires) in
+    let counts = turn-counts w.lists c.turn-turn.new.self c.turn-turn.result (c.walks_go_turn_by_turn.ensures _ _) c.turn-turn.ensures.turn c.requires w.taken.number all (w.left_over c.requires) in
     let turns = ap (λ (d : Bool). (walk_over d w.document.now w.start.now).turns) c.turn-turn.ensures.deep in
     let opened = ap (λ (d : Bool). (walk_over d w.document.now w.start.now).opened) c.turn-turn.ensures.deep in
     record {
