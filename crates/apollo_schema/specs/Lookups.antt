@@ -15,6 +15,7 @@ use Rattle.graphql_ast.specs.declared.type_system.FieldDefinition.{FieldDefiniti
 use Rattle.apollo_component.specs.declared.component.Component.{Component}
 use Rattle.apollo_component.specs.declared.component.ComponentName.{ComponentName}
 use Rattle.apollo_types.specs.SchemaRoots.{root_of}
+use Rattle.apollo_types.specs.TypeKinds.{is_composite}
 use Rattle.apollo_types.specs.declared.scalar_type.ScalarType.{ScalarType}
 use Rattle.apollo_types.specs.declared.object_type.ObjectType.{ObjectType}
 use Rattle.apollo_types.specs.declared.interface_type.InterfaceType.{InterfaceType}
@@ -77,20 +78,14 @@ declared_field (Object n) f = lookup (same_text f) n.value.fields
 declared_field (Interface n) f = lookup (same_text f) n.value.fields
 declared_field _ f = None
 
--- a type that is an object, an interface or a union has `__typename`
-abbrev pub has_typename : ExtendedType → Bool
-has_typename (Object n) = true
-has_typename (Interface n) = true
-has_typename (Union n) = true
-has_typename _ = false
-
 -- the name is that of the root type of queries
 abbrev pub is_query_root : Schema → NameView → Bool
 is_query_root s t = option_map_or (λ root. same_text t root.name) (root_of s.schema_definition.value Query) false
 
--- the fields that the type of this name has without declaring them: whatever its kind, the root type of queries has two
+-- the fields that the type of this name has without declaring them: an object, interface or union has `__typename`, and the root
+-- type of queries has two, whatever its kind
 abbrev pub meta_fields : Schema → NameView → ExtendedType → List (Component FieldDefinition)
-meta_fields s t type = (if has_typename type then typename_field ∷ [] else []) ++ (if is_query_root s t then schema_field ∷ type_by_name_field ∷ [] else [])
+meta_fields s t type = (if is_composite type then typename_field ∷ [] else []) ++ (if is_query_root s t then schema_field ∷ type_by_name_field ∷ [] else [])
 
 abbrev pub meta_field : Schema → NameView → ExtendedType → NameView → Option (Component FieldDefinition)
 meta_field s t type f = find (λ field. same_text f field.node.value.name) (meta_fields s t type)

@@ -67,6 +67,10 @@ is_input_object t = is_some (as_input_object t)
 abbrev pub is_leaf : ExtendedType → Bool
 is_leaf t = is_scalar t || is_enum t
 
+-- it is an object, interface or union type: selections are from such a type
+abbrev pub is_composite : ExtendedType → Bool
+is_composite t = is_object t || is_interface t || is_union t
+
 -- it can be the type of an input: it is a scalar, enum or input object type
 abbrev pub is_input_type : ExtendedType → Bool
 is_input_type t = is_scalar t || is_enum t || is_input_object t

@@ -50,7 +50,7 @@ impl Clone for ExtendedType {
 
 impl ExtendedType {
     ghost use Rattle.graphql_nodes.specs.BuiltIn.{is_built_in};
-    ghost use Rattle.apollo_types.specs.TypeKinds.{as_scalar, as_object, as_interface, as_union, as_enum, as_input_object, is_scalar, is_object, is_interface, is_union, is_enum, is_input_object, is_leaf, is_input_type, is_output_type};
+    ghost use Rattle.apollo_types.specs.TypeKinds.{as_scalar, as_object, as_interface, as_union, as_enum, as_input_object, is_scalar, is_object, is_interface, is_union, is_enum, is_input_object, is_leaf, is_composite, is_input_type, is_output_type};
     ghost use Rattle.apollo_types.specs.TypeWriteOut.{write_type, type_kind, type_name, type_location, type_directives, type_description, type_components};
     ghost use Rattle.apollo_types.specs.Components.{ComponentsInOrder, OriginsInOrder};
     ghost use Rattle.apollo_component.specs.WriteOut.{origins_in, identities};
@@ -176,6 +176,16 @@ impl ExtendedType {
         ensures { result ≡ is_leaf self.now }
     {
         matches!(self, ExtendedType::Scalar(_) | ExtendedType::Enum(_))
+    }
+
+    /// Whether it is an object, interface or union type: selections are from such a type.
+    pub fn is_composite(&self) -> bool
+        ensures { result ≡ is_composite self.now }
+    {
+        matches!(
+            self,
+            ExtendedType::Object(_) | ExtendedType::Interface(_) | ExtendedType::Union(_)
+        )
     }
 
     /// Whether an input can be of the type: it is a scalar, enum or input object type (section 3.4.2).

@@ -1,7 +1,7 @@
 //! Fields by name, with the meta-fields: GraphQL specification of October 2021, sections 3.6, 3.7, 4.1 and 4.2.
 ghost use Rattle.std.specs.Prelude.{◌≡◌, None, Some, IfOk, IfErr, OnErr};
 ghost use Rattle.std.specs.Option.{option_copied};
-ghost use Rattle.apollo_schema.specs.Lookups.{declared_field, has_typename, is_query_root, meta_field, field_in, field_at, IsMissingIn};
+ghost use Rattle.apollo_schema.specs.Lookups.{declared_field, is_query_root, meta_field, field_in, field_at, IsMissingIn};
 
 use super::Schema;
 use crate::field_lookup_error::FieldLookupError;
@@ -19,16 +19,6 @@ fn declared_field<'a>(ty: &'a ExtendedType, name: &Name) -> Option<&'a Component
         ExtendedType::Interface(interface) => interface.fields.get(name),
         _ => None,
     }
-}
-
-/// Whether values of the type are of object types, and so tell their type's name.
-fn has_typename(ty: &ExtendedType) -> bool
-    ensures { result ≡ has_typename ty.now }
-{
-    matches!(
-        ty,
-        ExtendedType::Object(_) | ExtendedType::Interface(_) | ExtendedType::Union(_)
-    )
 }
 
 impl Schema {
@@ -52,7 +42,7 @@ impl Schema {
         ensures { option_copied result ≡ meta_field self.now type_name.now ty.now field_name.now }
     {
         let typename = self.meta_fields.typename();
-        if has_typename(ty) && *field_name == typename.name {
+        if ty.is_composite() && *field_name == typename.name {
             return Some(typename);
         }
         if !self.is_query_root(type_name) {
