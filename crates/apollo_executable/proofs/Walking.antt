@@ -1,3 +1,4 @@
+pub mod FieldsInLemmas
 pub mod FlagLemmas
 pub mod IntrospectionLemmas
 pub mod NextLemmas

@@ -1,3 +1,4 @@
+pub mod FieldsIn
 pub mod Introspection
 pub mod Left
 pub mod NextItem
