@@ -1,0 +1,120 @@
+//! The leaf faults of documents: GraphQL specification of October 2021, section 5.3.3.
+//!
+//! Each set is looked at once, as deep as it is nested. Memory is taken for faults alone.
+ghost use Rattle.std.specs.Prelude.{◌≡◌, ◌∷◌, ◌++◌, [], IfOk, OnOk};
+ghost use Rattle.std.specs.List.{cons_option};
+ghost use Rattle.leafcheck.specs.LeafFaults as spec;
+ghost use Rattle.leafcheck.specs.LeafFaults.{faults_in};
+
+use crate::leaf_fault::{LeafFault, LeafKind};
+use apollo_executable::document::ExecutableDocument;
+use apollo_executable::laws::fields_in::fields_by_kind_of_selection;
+use apollo_executable::selection::{Field, Selection, SelectionSet};
+use apollo_schema::schema::Schema;
+use graphql_nodes::collections::items::Items;
+use graphql_nodes::node::Node;
+use std::alloc::{AllocError, Global};
+
+/// The fields of a document that are at fault over a schema: those of scalar or enum types that have subselections, and
+/// those of object, interface or union types that have none. A field of an input object type is never at fault, and neither
+/// is one of a type that the schema lacks.
+///
+/// The faults of operations come first, in the order of
+/// [`iter`](apollo_executable::operation_map::OperationMap::iter), then those of fragments, in the order of the map. Of each
+/// it is the field before those below it, through inline fragments, but not through spreads: a fragment is looked at once,
+/// wherever it is spread, or nowhere.
+///
+/// The schema need not be the one that the document was built over. The error is want of memory.
+pub fn leaf_faults(
+    alloc: Global,
+    schema: &Schema,
+    document: &ExecutableDocument,
+) -> Result<Vec<LeafFault>, AllocError>
+    ensures { IfOk result (λ faults. faults.items ≡ spec.leaf_faults schema.now document.now) }
+{
+    let mut faults = Items::new(alloc);
+    for operation in document.operations.iter() {
+        note_set(schema, &operation.selection_set, &mut faults)?;
+    }
+    for fragment in document.fragments.values() {
+        note_set(schema, &fragment.selection_set, &mut faults)?;
+    }
+    Ok(faults.into_vec())
+}
+
+/// Notes the faults of a set.
+#[cycle(note)]
+fn note_set(
+    schema: &Schema,
+    set: &SelectionSet,
+    faults: &mut Items<LeafFault>,
+) -> Result<(), AllocError>
+    ensures { OnOk result (faults.new ≡ faults.old ++ faults_in schema.now set.now.selections) }
+{
+    fields_by_kind_of_selection();
+    for selection in &set.selections {
+        note_selection(schema, selection, faults)?;
+    }
+    Ok(())
+}
+
+/// Notes the faults of a selection. What is behind a spread is no part of it.
+#[cycle(note)]
+fn note_selection(
+    schema: &Schema,
+    selection: &Selection,
+    faults: &mut Items<LeafFault>,
+) -> Result<(), AllocError>
+    ensures { OnOk result (faults.new ≡ faults.old ++ faults_in schema.now (selection.now ∷ [])) }
+{
+    fields_by_kind_of_selection();
+    match selection {
+        Selection::Field(node) => note_field(schema, node, faults),
+        Selection::FragmentSpread(_) => Ok(()),
+        Selection::InlineFragment(node) => note_set(schema, &node.selection_set, faults),
+    }
+}
+
+/// Notes the fault of a field, if it has one, and those of the fields below it.
+#[cycle(note)]
+fn note_field(
+    schema: &Schema,
+    node: &Node<Field>,
+    faults: &mut Items<LeafFault>,
+) -> Result<(), AllocError>
+    ensures { OnOk result (faults.new ≡ faults.old ++ cons_option (spec.fault_at schema.now node.now) (faults_in schema.now node.now.value.selection_set.selections)) }
+{
+    if let Some(fault) = fault_at(schema, node)? {
+        faults.push(fault)?;
+    }
+    note_set(schema, &node.selection_set, faults)
+}
+
+/// The fault of a field, if it has one.
+fn fault_at(schema: &Schema, node: &Node<Field>) -> Result<Option<LeafFault>, AllocError>
+    ensures { IfOk result (λ fault. fault ≡ spec.fault_at schema.now node.now) }
+{
+    let Some(kind) = kind_over(schema, node) else {
+        return Ok(None);
+    };
+    Ok(Some(LeafFault {
+        location: node.location(),
+        response_key: node.response_key().clone()?,
+        kind,
+    }))
+}
+
+/// In which way a field is at fault, if it is.
+fn kind_over(schema: &Schema, field: &Field) -> Option<LeafKind>
+    ensures { result ≡ spec.kind_over schema.now field.now }
+{
+    let ty = field.inner_type_def(schema)?;
+    let is_bare = field.selection_set.is_empty();
+    if is_bare && ty.is_composite() {
+        return Some(LeafKind::MissingSubselection);
+    }
+    if !is_bare && ty.is_leaf() {
+        return Some(LeafKind::SubselectionOnLeaf);
+    }
+    None
+}

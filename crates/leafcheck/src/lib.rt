@@ -1,0 +1,16 @@
+//! Leaf field selections: whether each field of a typed document has subselections exactly where its type asks for them.
+//! GraphQL specification of October 2021, section 5.3.3.
+//!
+//! It stands on public contracts of schemas and typed documents alone, as a validator of another house would.
+#![tactic(auto)]
+
+pub mod checking;
+pub mod laws;
+pub mod leaf_fault;
+
+pub use crate::checking::leaf_faults;
+pub use crate::leaf_fault::{LeafFault, LeafKind};
+pub use apollo_executable::document::ExecutableDocument;
+pub use apollo_schema::schema::Schema;
+pub use graphql_nodes::name::Name;
+pub use graphql_nodes::source::SourceSpan;
