@@ -2,4 +2,5 @@ pub mod AgainLemmas
 pub mod Equations
 pub mod ErasureLemmas
 pub mod ErrorEquality
+pub mod LeafLemmas
 pub mod TypingLemmas

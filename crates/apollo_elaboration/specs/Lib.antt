@@ -1,4 +1,5 @@
 pub mod BareErrors
+pub mod BareLeaves
 pub mod Elaborated
 pub mod FieldSets
 pub mod Parents

@@ -2,12 +2,16 @@
 //! of these errors are.
 //!
 //! Each law is a function that does nothing. A proof cites it by a call, and finds its clauses there.
-ghost use Rattle.std.specs.Prelude.{◌≡◌, List, [], Option};
+ghost use Rattle.std.specs.Prelude.{◌≡◌, true, List, [], Option, Some};
+ghost use Rattle.std.specs.List.{AllByRecursion};
 ghost use Rattle.graphql_nodes.specs.Clones.{IsExact};
 ghost use Rattle.graphql_nodes.specs.Comparing.{ComparesBy};
 ghost use Rattle.graphql_nodes.specs.NameView.{NameView};
+ghost use Rattle.graphql_nodes.specs.NodeView.{NodeView};
 ghost use Rattle.apollo_executable.specs.Erasure.{erased_set};
+ghost use Rattle.apollo_executable.specs.Walks.FieldsIn.{fields_in};
 ghost use Rattle.apollo_elaboration.specs.BareErrors.{bare_root, bare_path, bare_build_error};
+ghost use Rattle.apollo_elaboration.specs.BareLeaves.{IsBareOnLeaf};
 ghost use Rattle.apollo_elaboration.specs.Elaborated.{elaborated};
 ghost use Rattle.apollo_elaboration.specs.SelectionFaults.{faults_of};
 ghost use Rattle.apollo_elaboration.specs.Stripped.{stripped};
@@ -15,7 +19,8 @@ ghost use Rattle.apollo_elaboration.specs.TypedSelections.{IsTypedSet};
 
 use crate::build_error::BuildError;
 use crate::selection_path::{ExecutableDefinitionName, SelectionPath};
-use apollo_executable::selection::SelectionSet;
+use apollo_executable::laws::fields_in::fields_by_kind_of_selection;
+use apollo_executable::selection::{Field, SelectionSet};
 use apollo_schema::schema::Schema;
 use graphql_ast::selection::Selection;
 
@@ -35,6 +40,14 @@ pub fn elaborated_sets()
     ensures unique { (schema : Option Schema) (ty : NameView) (xs : List Selection) (set : SelectionSet) → erased_set set ≡ stripped schema ty xs → IsTypedSet schema ty set
         → set ≡ elaborated schema ty xs }
 {}
+
+/// In a set that is typed over a schema no field has subselections whose type is a scalar or enum of that schema. GraphQL
+/// specification of October 2021, section 5.3.3.
+pub fn leaves_of_typed_sets()
+    ensures { (schema : Schema) (ty : NameView) (set : SelectionSet) → IsTypedSet (Some schema) ty set → AllByRecursion (λ (n : NodeView Field). IsBareOnLeaf schema n.value) (fields_in true set.selections) }
+{
+    fields_by_kind_of_selection();
+}
 
 /// Paths and the errors of a build are equal exactly where they are one without the locations of names. GraphQL specification of
 /// October 2021, sections 2.2 to 2.8.
