@@ -1,9 +1,11 @@
 -- What is answered where nothing is at fault; that what is asked has no refused text; and which words are refused.
 use Rattle.std.proofs.Common.{◌≡◌, ℕ, ◌==◌, ◌&&◌, Bool, true, false, not, List, [], ◌∷◌, ◌++◌, Option, inl, inr, codes, length, sym, ap, subst, ◌∙◌, arith}
-use Rattle.std.proofs.lemmas.Bool.{true≢false}
-use Rattle.std.proofs.lemmas.List.{append-nil}
+use Rattle.std.proofs.lemmas.Bool.{eqb-true, true≢false}
+use Rattle.std.proofs.lemmas.List.{append-nil, nil_from_length}
+use Rattle.std.specs.List.{flat_map}
 use Rattle.graphql_nodes.specs.declared.source.SourceSpan.{SourceSpan}
 use Rattle.apollo_executable.specs.Erasure.{erased_definitions}
+use Rattle.leafcheck.specs.LeafFaults.{leaf_faults}
 use Rattle.apollo_coordinate.specs.CoordinateText.{IsCoordinateText, Says}
 use Rattle.apollo_coordinate.specs.declared.coordinates.SchemaCoordinate.{SchemaCoordinate}
 use Rattle.apollo_coordinate.specs.declared.lookup_answers.SchemaCoordinateLookup.{SchemaCoordinateLookup}
@@ -19,6 +21,7 @@ use Rattle.gqltool_run.specs.declared.task.Task.TheVariants as tasks
 use Rattle.gqltool_run.specs.Commands.{AreRefused, IsAnswerOf, IsPrintOf}
 use Rattle.gqltool_run.specs.CoordCommand.{IsFindingLine, coordinate_line, found_line}
 use Rattle.gqltool_run.specs.FaultLines.{AreFaultLines}
+use Rattle.gqltool_run.specs.LeafCommand.{leaf_line}
 use Rattle.gqltool_run.specs.SchemaOptions.{AreSchemaWords}
 use Rattle.gqltool_run.specs.WalkCommand.{AreWalksText}
 use Rattle.gqltool_run.specs.Status.{status_of}
@@ -57,6 +60,12 @@ faultless_print tasks.Walk input text has_faults is none =
     let empty = both-true (length is.schema_faults == 0) (length is.faults == 0) (sym is.any ∙ none) in
     let print : text ≡ is.walks = is.prints ∙ no_fault_lines is.walks is.schema_faults is.faults is.schema_lines is.lines empty.0 empty.1 is.schema_tells is.tells in
     (is.document, subst (AreWalksText is.document) (sym print) is.walk)
+faultless_print tasks.Leaf input text has_faults is none =
+    let leaves = leaf_faults is.schema is.document in
+    let apart = both-true (length leaves == 0) ((length is.schema_faults == 0) && (length is.faults == 0)) (sym is.any ∙ none) in
+    let empty = both-true (length is.schema_faults == 0) (length is.faults == 0) (ap not apart.1) in
+    let no : leaves ≡ [] = nil_from_length leaves (eqb-true (length leaves) 0 apart.0) in
+    is.prints ∙ no_fault_lines (flat_map leaf_line leaves) is.schema_faults is.faults is.schema_lines is.lines empty.0 empty.1 is.schema_tells is.tells ∙ ap (flat_map leaf_line) no
 
 -- the words of the two commands begin with other letters
 other_letters : ◌≡◌ {A = ℕ} 99 115 → ⊥
@@ -74,6 +83,7 @@ asked_apart in_grammar words (tasks.Coord c) asked refused =
     refused.1.1 (subst IsCoordinateText same (in_grammar asked.0 c asked.1.1))
 asked_apart in_grammar words tasks.Doc asked refused = let same : codes "doc" ∷ [] ≡ codes "coord" ∷ refused.0 ∷ [] = sym asked ∙ refused.1.0 in cc
 asked_apart in_grammar words tasks.Walk asked refused = let same : codes "walk" ∷ [] ≡ codes "coord" ∷ refused.0 ∷ [] = sym asked ∙ refused.1.0 in cc
+asked_apart in_grammar words tasks.Leaf asked refused = let same : codes "leaf" ∷ [] ≡ codes "coord" ∷ refused.0 ∷ [] = sym asked ∙ refused.1.0 in cc
 
 -- words that ask for something are a command
 pub asked_command : (words : List (List ℕ)) (task : Task) → Ask words task → AreNoCommand words → ⊥
@@ -81,6 +91,7 @@ asked_command words (tasks.Schema options) asked none = none.no_schema options a
 asked_command words (tasks.Coord c) asked none = none.no_coord asked.0 asked.1.0
 asked_command words tasks.Doc asked none = none.no_document.no_doc asked
 asked_command words tasks.Walk asked none = none.no_document.no_walk asked
+asked_command words tasks.Leaf asked none = none.no_document.no_leaf asked
 
 -- words whose refusal ends a run as refused are no command, or have a text of no coordinate
 pub refused_words : (words : List (List ℕ)) (input : List ℕ) (failure : Failure) → IsRefusalOf words failure → status_of failure ≡ statuses.Refused → AreRefused words input

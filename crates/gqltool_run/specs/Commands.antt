@@ -1,5 +1,5 @@
 -- The commands of the program: what each answers, and what is written of it.
-use Rattle.std.specs.Prelude.{◌≡◌, ◌⊎◌, ◌++◌, ℕ, Bool, List, Option}
+use Rattle.std.specs.Prelude.{◌≡◌, ◌⊎◌, ◌++◌, ℕ, Bool, List, [], Option}
 use Rattle.std.specs.Io.KnownBytes.{Appends}
 use Rattle.graphql_ast.specs.declared.definition.Definition.{Definition}
 use Rattle.bench_notation.specs.Text.{definitions_text}
@@ -14,6 +14,7 @@ use Rattle.gqltool_run.specs.Building.{IsCause}
 use Rattle.gqltool_run.specs.CoordCommand.{IsCoordAnswer, coordinate_line, found_line}
 use Rattle.gqltool_run.specs.DocCommand.{IsDocAnswer}
 use Rattle.gqltool_run.specs.DocumentBuilding.{IsDocumentCause}
+use Rattle.gqltool_run.specs.LeafCommand.{IsLeafAnswer}
 use Rattle.gqltool_run.specs.SchemaCommand.{IsAnswer}
 use Rattle.gqltool_run.specs.Status.{status_of}
 use Rattle.gqltool_run.specs.Tasks.{AreNoCommand, Ask, AskNoCoordinate}
@@ -25,14 +26,16 @@ IsAnswerOf (tasks.Schema options) input text has_faults = IsAnswer options input
 IsAnswerOf (tasks.Coord coordinate) input text has_faults = IsCoordAnswer coordinate input text has_faults
 IsAnswerOf tasks.Doc input text has_faults = IsDocAnswer input text has_faults
 IsAnswerOf tasks.Walk input text has_faults = IsWalkAnswer input text has_faults
+IsAnswerOf tasks.Leaf input text has_faults = IsLeafAnswer input text has_faults
 
 -- the text is such as is answered where nothing is at fault: of `schema` and `doc` the print of definitions, of `coord` the lines
--- of the coordinate and of something found, of `walk` the walks over a document
+-- of the coordinate and of something found, of `walk` the walks over a document, of `leaf` nothing
 abbrev pub IsPrintOf : Task → List ℕ → Type 0
 IsPrintOf (tasks.Schema options) text = (definitions : List Definition) × (text ≡ definitions_text definitions)
 IsPrintOf (tasks.Coord coordinate) text = (found : SchemaCoordinateLookup) × (text ≡ coordinate_line coordinate ++ found_line found)
 IsPrintOf tasks.Doc text = (definitions : List Definition) × (text ≡ definitions_text definitions)
 IsPrintOf tasks.Walk text = (document : ExecutableDocument) × AreWalksText document text
+IsPrintOf tasks.Leaf text = text ≡ []
 
 -- why there is no answer to what was asked and an input
 abbrev pub IsCauseOf : Task → List ℕ → Failure → Type 0
@@ -40,6 +43,7 @@ IsCauseOf (tasks.Schema options) input failure = IsCause options input failure
 IsCauseOf (tasks.Coord coordinate) input failure = IsCause no_options input failure
 IsCauseOf tasks.Doc input failure = IsDocumentCause input failure
 IsCauseOf tasks.Walk input failure = IsDocumentCause input failure
+IsCauseOf tasks.Leaf input failure = IsDocumentCause input failure
 
 -- what was asked refuses this input
 abbrev pub IsRefusedInput : Task → List ℕ → Type 0

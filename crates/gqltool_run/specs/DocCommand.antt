@@ -3,6 +3,7 @@ use Rattle.std.specs.Prelude.{◌≡◌, ◌&&◌, ◌==◌, ◌++◌, ℕ, Bool
 use Rattle.apollo_executable.specs.Erasure.{erased_document}
 use Rattle.apollo_executable.specs.declared.document.ExecutableDocument.{ExecutableDocument}
 use Rattle.apollo_meaning.specs.Faults.Collisions.{Fault}
+use Rattle.apollo_schema.specs.declared.schema.Schema.{Schema}
 use Rattle.apollo_elaboration.specs.Typable.{Fault as DocumentFault}
 use Rattle.bench_notation.specs.Text.{definitions_text}
 use Rattle.gqltool_run.specs.DocumentBuilding.{IsBuiltDocument}
@@ -10,10 +11,11 @@ use Rattle.gqltool_run.specs.FaultLines.{AreFaultLines}
 
 -- the text is the print of the write-out of the typed document that the input means, and then of its schema's faults and its own
 pub record IsDocAnswer (input text : List ℕ) (has_faults : Bool) : Type 0 where
+  pub schema : Schema
   pub document : ExecutableDocument
   pub schema_faults : List Fault
   pub faults : List DocumentFault
-  pub means : IsBuiltDocument input document schema_faults faults
+  pub means : IsBuiltDocument input schema document schema_faults faults
   pub schema_lines : List ℕ
   pub lines : List ℕ
   pub prints : text ≡ definitions_text (erased_document document).definitions ++ (schema_lines ++ lines)

@@ -17,13 +17,12 @@ use Rattle.bench_notation.specs.declared.refusal.ReadError.TheVariants as readin
 use Rattle.gqltool_run.specs.declared.failure.Failure.{Failure}
 use Rattle.gqltool_run.specs.declared.failure.Failure.TheVariants as failures
 
--- the typed document that the input means, the faults of its schema, which has no options, and those of the document, in which
--- definitions of the type system are at fault
-pub record IsBuiltDocument (input : List ℕ) (document : ExecutableDocument) (schema_faults : List Fault) (faults : List DocumentFault) : Type 0 where
+-- the schema that the input means, which has no options, its typed document over that, the faults of the schema, and those of the
+-- document, in which definitions of the type system are at fault
+pub record IsBuiltDocument (input : List ℕ) (schema : Schema) (document : ExecutableDocument) (schema_faults : List Fault) (faults : List DocumentFault) : Type 0 where
   pub schema_documents : List Document
   pub executable_documents : List Document
   pub says : AreDividedDocumentsOf input schema_documents executable_documents
-  pub schema : Schema
   pub means : MeansSchema 0 false (schema_list no_options schema_documents) schema
   pub schema_are : schema_faults ≡ faults_of false (schema_list no_options schema_documents)
   pub typed : IsDocumentOf (Some schema) (executable_list true executable_documents) document

@@ -4,6 +4,7 @@ pub mod CoordCommand
 pub mod DocCommand
 pub mod DocumentBuilding
 pub mod FaultLines
+pub mod LeafCommand
 pub mod SchemaCommand
 pub mod SchemaOptions
 pub mod Status

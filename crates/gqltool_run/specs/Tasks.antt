@@ -13,17 +13,21 @@ use Rattle.gqltool_run.specs.SchemaOptions.{AreSchemaWords}
 abbrev pub AreCoordWords : List (List ℕ) → List ℕ → Type 0
 AreCoordWords words text = words ≡ codes "coord" ∷ text ∷ []
 
--- these words are the command `doc`, or `walk`
+-- these words are the command `doc`, or `walk`, or `leaf`
 abbrev pub AreDocWords : List (List ℕ) → Type 0
 AreDocWords words = words ≡ codes "doc" ∷ []
 
 abbrev pub AreWalkWords : List (List ℕ) → Type 0
 AreWalkWords words = words ≡ codes "walk" ∷ []
 
--- these words are neither
+abbrev pub AreLeafWords : List (List ℕ) → Type 0
+AreLeafWords words = words ≡ codes "leaf" ∷ []
+
+-- these words are none of them
 pub record AreNoDocumentWords (words : List (List ℕ)) : Type 0 where
   pub no_doc : ¬ AreDocWords words
   pub no_walk : ¬ AreWalkWords words
+  pub no_leaf : ¬ AreLeafWords words
 
 -- these words ask for this
 abbrev pub Ask : List (List ℕ) → Task → Type 0
@@ -31,6 +35,7 @@ Ask words (tasks.Schema options) = AreSchemaWords words options
 Ask words (tasks.Coord coordinate) = (text : List ℕ) × (AreCoordWords words text × Says text coordinate)
 Ask words tasks.Doc = AreDocWords words
 Ask words tasks.Walk = AreWalkWords words
+Ask words tasks.Leaf = AreLeafWords words
 
 -- these words are no command
 pub record AreNoCommand (words : List (List ℕ)) : Type 0 where

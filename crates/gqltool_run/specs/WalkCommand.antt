@@ -13,6 +13,7 @@ use Rattle.apollo_executable.specs.declared.operation.Fragment.{Fragment}
 use Rattle.apollo_executable.specs.declared.selection.Field.{Field}
 use Rattle.apollo_executable.specs.declared.selection.SelectionSet.{SelectionSet}
 use Rattle.apollo_meaning.specs.Faults.Collisions.{Fault}
+use Rattle.apollo_schema.specs.declared.schema.Schema.{Schema}
 use Rattle.apollo_elaboration.specs.Typable.{Fault as DocumentFault}
 use Rattle.bench_notation.specs.HeaderWords.{name_word}
 use Rattle.gqltool_run.specs.DocumentBuilding.{IsBuiltDocument}
@@ -72,10 +73,11 @@ AreWalksText document text =
 
 -- the text is that of the walks over the typed document that the input means, and then of its schema's faults and its own
 pub record IsWalkAnswer (input text : List ℕ) (has_faults : Bool) : Type 0 where
+  pub schema : Schema
   pub document : ExecutableDocument
   pub schema_faults : List Fault
   pub faults : List DocumentFault
-  pub means : IsBuiltDocument input document schema_faults faults
+  pub means : IsBuiltDocument input schema document schema_faults faults
   pub walks : List ℕ
   pub walk : AreWalksText document walks
   pub schema_lines : List ℕ

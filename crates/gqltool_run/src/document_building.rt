@@ -30,7 +30,7 @@ pub fn has_faults(compiled: &Compiled) -> bool
 /// There is no other error.
 pub fn compile_documents(alloc: Global, keys: HashKeys, input: &str) -> Result<Compiled, Failure>
     ensures read { OnOk result (All IsLine (lines_of input.now)) }
-    ensures means { IfOk result (λ compiled. IsBuiltDocument input.now compiled.document compiled.schema_faults.items compiled.document_faults.items) }
+    ensures means { IfOk result (λ compiled. IsBuiltDocument input.now compiled.schema compiled.document compiled.schema_faults.items compiled.document_faults.items) }
     ensures erased { IfOk result (λ compiled. compiled.erased ≡ erased_document compiled.document) }
     ensures causes { IfErr result (IsDocumentCause input.now) }
 {

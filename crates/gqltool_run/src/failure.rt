@@ -12,7 +12,7 @@ use thiserror::Error;
 #[derive(Debug, Drop, Error)]
 pub enum Failure {
     /// The words are none that the program takes.
-    #[error("usage: gqltool schema [--adopt] [--ignore-builtin] | doc | walk | coord TEXT")]
+    #[error("usage: gqltool schema [--adopt] [--ignore-builtin] | doc | walk | leaf | coord TEXT")]
     Usage,
     /// The text of `coord` is of no coordinate.
     #[error(transparent)]

@@ -37,7 +37,11 @@ fn push_fault<E: Display>(
 }
 
 /// Adds the line where a fault stands.
-fn push_place(alloc: Global, text: &mut String, place: Option<SourceSpan>) -> Result<(), AllocError>
+pub(crate) fn push_place(
+    alloc: Global,
+    text: &mut String,
+    place: Option<SourceSpan>,
+) -> Result<(), AllocError>
     ensures { OnOk result (string_bytes text.new ≡ string_bytes text.old ++ place_text place) }
 {
     match place {

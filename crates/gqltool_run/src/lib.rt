@@ -10,6 +10,7 @@ pub mod document_building;
 pub mod failure;
 mod fault_printing;
 pub mod input;
+pub mod leaf_command;
 mod leaving;
 mod output_line;
 pub mod running;

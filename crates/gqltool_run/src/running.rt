@@ -11,6 +11,7 @@ use crate::coord_command::coord_answer;
 use crate::doc_command::doc_answer;
 use crate::failure::Failure;
 use crate::input::read_all;
+use crate::leaf_command::leaf_answer;
 use crate::schema_command::schema_answer;
 use crate::status::Status;
 use crate::task::{Task, read_task};
@@ -158,7 +159,7 @@ fn run_task<O: Write, E: Write>(
 
 /// The answer to what was asked and an input.
 ///
-/// The errors are those of [`build_input`](crate::building::build_input), and of `doc` and `walk` those of
+/// The errors are those of [`build_input`](crate::building::build_input), and of `doc`, `walk` and `leaf` those of
 /// [`compile_documents`](crate::document_building::compile_documents).
 fn answer_task(alloc: Global, keys: HashKeys, task: &Task, input: &str) -> Result<Answer, Failure>
     ensures read { OnOk result (All IsLine (lines_of input.now)) }
@@ -170,6 +171,7 @@ fn answer_task(alloc: Global, keys: HashKeys, task: &Task, input: &str) -> Resul
         Task::Coord(coordinate) => coord_answer(alloc, keys, coordinate, input),
         Task::Doc => doc_answer(alloc, keys, input),
         Task::Walk => walk_answer(alloc, keys, input),
+        Task::Leaf => leaf_answer(alloc, keys, input),
     }
 }
 

@@ -24,6 +24,8 @@ pub enum Task {
     Doc,
     /// `walk`: what walks over the operations and fragments of that document give, and the same faults.
     Walk,
+    /// `leaf`: the leaf faults of that document over its schema, and the same faults.
+    Leaf,
 }
 
 /// What these words ask for.
@@ -50,13 +52,14 @@ pub fn read_task(alloc: Global, words: &[&str]) -> Result<Task, Failure>
     }
 }
 
-/// The task of `doc` or `walk`, where the words are one of these commands.
+/// The task of `doc`, `walk` or `leaf`, where the words are one of these commands.
 fn document_task(words: &[&str]) -> Option<Task>
     ensures { MatchOption result (AreNoDocumentWords (texts_of words.now)) (Ask (texts_of words.now)) }
 {
     match words {
         ["doc"] => Some(Task::Doc),
         ["walk"] => Some(Task::Walk),
+        ["leaf"] => Some(Task::Leaf),
         _ => None,
     }
 }

@@ -13,6 +13,7 @@ returns-clause-means c =
     let print = c.in_ok-text.ensures ∙ ap definitions_text (c.as_slice.ensures ∙ ap (λ d. d.definitions) c.in_ok-compiled.ensures.erased) in
     let first = c.in_ok-push_faults.ensures.1.0 ∙ ap (λ l. l ++ schema_lines) print in
     record {
+      schema = compiled.schema;
       document = compiled.document;
       schema_faults = compiled.schema_faults.items;
       faults = compiled.document_faults.items;

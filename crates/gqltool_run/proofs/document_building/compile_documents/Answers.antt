@@ -22,7 +22,6 @@ returns-clause-means c =
       schema_documents = documents.schema.items;
       executable_documents = documents.executable.items;
       says = c.in_ok-documents.ensures.said;
-      schema = compiled.schema;
       means = is.schema;
       schema_are = is.schema_faults;
       typed = is.document;

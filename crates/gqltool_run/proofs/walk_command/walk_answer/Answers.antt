@@ -14,6 +14,7 @@ returns-clause-means c =
     let text = walks.1.0 ∙ ap (λ l. l ++ walks.0) none in
     let first = c.in_ok-push_faults.ensures.1.0 ∙ ap (λ l. l ++ schema_lines) text in
     record {
+      schema = compiled.schema;
       document = compiled.document;
       schema_faults = compiled.schema_faults.items;
       faults = compiled.document_faults.items;
