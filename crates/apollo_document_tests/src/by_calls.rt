@@ -32,7 +32,8 @@ fn selected<'schema>(
 }
 
 /// The document of one anonymous query of these selections.
-fn document_of(
+/// No clause: it serves tests.
+pub fn document_of(
     alloc: Global,
     selection_set: SelectionSet,
 ) -> Result<ExecutableDocument, AllocError> {

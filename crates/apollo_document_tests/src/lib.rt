@@ -1,6 +1,6 @@
-//! Tests of typed trees, of walks over them, of elaboration and of the builder of documents, of what no clause says: that calls
-//! succeed with memory, on worked documents, and the texts of faults and paths. Most compare a text that tells all that is
-//! looked at.
+//! Tests of typed trees, of walks over them, of elaboration, of the builder of documents and of leaf faults, of what no clause
+//! says: that calls succeed with memory, on worked documents, and the texts of faults and paths. Most compare a text that tells
+//! all that is looked at.
 #![tactic(auto)]
 
 #[cfg(test)]
@@ -19,6 +19,8 @@ mod field_sets;
 mod hash_keys;
 #[cfg(test)]
 mod inputs;
+#[cfg(test)]
+mod leaf_faults;
 #[cfg(test)]
 mod operations;
 #[cfg(test)]
