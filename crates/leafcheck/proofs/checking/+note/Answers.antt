@@ -1,4 +1,4 @@
-use Rattle.std.proofs.Common.{◌≡◌, ◌∙◌, ap, sym, true, List, [], ◌∷◌, ◌++◌, map}
+use Rattle.std.proofs.Common.{◌∙◌, ap, sym, true, List, [], ◌∷◌, ◌++◌, map}
 use Rattle.std.proofs.lemmas.List.{map-append}
 use Rattle.std.specs.Borrow.{Bor}
 use Rattle.apollo_executable.specs.declared.selection.Selection.{Selection}
