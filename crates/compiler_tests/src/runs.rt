@@ -157,7 +157,7 @@ is_subtype     min            7 median            7 mean            7 ns
 
 #[test]
 fn reports_on_both_sides_of_a_division(rt: HostRuntime) {
-    let rows: [(&[&str], &[&str], &str); 2] = [
+    let rows: [(&[&str], &[&str], &str); 3] = [
         (
             &["doc", "2"],
             &["doc", "--random-keys", "2"],
@@ -175,6 +175,22 @@ drop           min            7 median            7 mean            7 ns
 1 operations, 2 fragments, 4 root fields, 8 fields in all
 root-walks     min            7 median            7 mean            7 ns
 all-walks      min            7 median            7 mean            7 ns
+",
+        ),
+        (
+            &["compile", "--adopt", "2"],
+            &["compile", "--random-keys", "--adopt", "2"],
+            "\
+14 types, 1 definitions out, 0 faults; 1 operations, 2 fragments, 3 faults
+compile        min            7 median            7 mean            7 ns
+all-phases     min           91 median           91 mean           91 ns
+schema-build   min            7 median            7 mean            7 ns
+to_ast         min            7 median            7 mean            7 ns
+rebuild        min            7 median            7 mean            7 ns
+rebuild-to_ast min            7 median            7 mean            7 ns
+doc-build      min            7 median            7 mean            7 ns
+doc-to_ast     min            7 median            7 mean            7 ns
+drop           min            7 median            7 mean            7 ns
 ",
         ),
     ];
@@ -200,7 +216,7 @@ fn words_that_are_no_command(rt: HostRuntime) {
         &["document", "3"],
     ];
     let usage =
-        "usage: gqlbench schema|lookups|doc|walk [--random-keys] [--adopt] [--ignore-builtin] REPEAT (without --random-keys tables hash by fixed keys)\n";
+        "usage: gqlbench schema|lookups|doc|walk|compile [--random-keys] [--adopt] [--ignore-builtin] REPEAT (without --random-keys tables hash by fixed keys)\n";
     for words in rows {
         expect(
             &rt,
@@ -264,15 +280,24 @@ fn inputs_and_clocks_that_cannot_be_read(rt: HostRuntime) {
         DIVIDED,
         stopped,
     );
+    expect(
+        &rt,
+        &StoppedClock,
+        &EmptySource,
+        &["compile", "1"],
+        DIVIDED,
+        stopped,
+    );
 }
 
 #[test]
 fn keys_that_cannot_be_drawn(rt: HostRuntime) {
-    let rows: [&[&str]; 4] = [
+    let rows: [&[&str]; 5] = [
         &["schema", "--random-keys", "1"],
         &["lookups", "--random-keys", "1"],
         &["doc", "--random-keys", "1"],
         &["walk", "--random-keys", "1"],
+        &["compile", "--random-keys", "1"],
     ];
     let not_drawn = Outcome {
         status: Status::Exhausted,

@@ -1,4 +1,5 @@
 pub mod Commands
+pub mod CompileReports
 pub mod DocumentReports
 pub mod LookupQuestions
 pub mod PhaseLines

@@ -11,6 +11,7 @@ use Rattle.apollo_compiler.specs.Lists.{schema_list}
 use Rattle.apollo_compiler.specs.declared.compile_options.CompileOptions.{CompileOptions}
 use Rattle.gqlbench_run.specs.Commands.{AreWordsOf}
 use Rattle.gqlbench_run.specs.LookupQuestions.{field_questions, subtype_questions, has_field, has_subtype}
+use Rattle.gqlbench_run.specs.CompileReports.{IsCompileReport}
 use Rattle.gqlbench_run.specs.DocumentReports.{IsDocumentReport}
 use Rattle.gqlbench_run.specs.WalkReports.{IsWalkReport}
 use Rattle.gqlbench_run.specs.PhaseLines.{ArePhaseLines}
@@ -95,6 +96,7 @@ IsReportOfWork w.Schema command = IsReportOnDocuments (IsSchemaReport command)
 IsReportOfWork w.Lookups command = IsReportOnDocuments (IsLookupReport command)
 IsReportOfWork w.Documents command = IsReportOnBoth (IsDocumentReport command)
 IsReportOfWork w.Walks command = IsReportOnBoth (IsWalkReport command)
+IsReportOfWork w.Compilation command = IsReportOnBoth (IsCompileReport command)
 
 abbrev pub IsReportOf : Command → List ℕ → List ℕ → Type 0
 IsReportOf command = IsReportOfWork command.work command

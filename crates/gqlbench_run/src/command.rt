@@ -20,6 +20,8 @@ pub enum Work {
     Documents,
     /// `walk`: walks over a typed document that is built once.
     Walks,
+    /// `compile`: documents compiled in one call, and beside it each phase of that.
+    Compilation,
 }
 
 /// A command of the program, which is what the words after its name say: what is timed, under which keys and options of a
@@ -56,6 +58,7 @@ fn read_work(word: &str) -> Option<Work>
         "lookups" => Some(Work::Lookups),
         "doc" => Some(Work::Documents),
         "walk" => Some(Work::Walks),
+        "compile" => Some(Work::Compilation),
         _ => None,
     }
 }

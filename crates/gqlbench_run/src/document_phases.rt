@@ -36,7 +36,7 @@ impl Drop for DocumentTimes {
 }
 
 /// Times a build.
-fn time_build<C: Clock>(
+pub(crate) fn time_build<C: Clock>(
     alloc: Global,
     clock: &C,
     schema: &Schema,
@@ -52,7 +52,7 @@ fn time_build<C: Clock>(
 }
 
 /// Times a write-out.
-fn time_write_out<C: Clock>(
+pub(crate) fn time_write_out<C: Clock>(
     alloc: Global,
     clock: &C,
     document: &ExecutableDocument,

@@ -2,6 +2,7 @@
 #![tactic(auto)]
 
 pub mod command;
+mod compile_phases;
 mod document_phases;
 pub mod failure;
 pub mod keys;

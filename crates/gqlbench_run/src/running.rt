@@ -7,6 +7,7 @@ ghost use Rattle.gqlbench_run.specs.Commands.{AreNoCommand};
 ghost use Rattle.gqlbench_run.specs.Reports.{AppendReport, HaveReport, IsReportOf, IsReportTo};
 
 use crate::command::{Command, Work, read_command};
+use crate::compile_phases::compile_report;
 use crate::document_phases::document_report;
 use crate::failure::Failure;
 use crate::keys::chosen_keys;
@@ -141,6 +142,10 @@ fn report_on<C: Clock, E: Write>(
         Work::Walks => {
             let documents = read_both(alloc, input)?;
             walk_report(alloc, clock, keys, command, &documents, errors)
+        }
+        Work::Compilation => {
+            let documents = read_both(alloc, input)?;
+            compile_report(alloc, clock, keys, command, &documents, errors)
         }
     }
 }

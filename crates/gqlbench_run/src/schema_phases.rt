@@ -21,7 +21,7 @@ use std::slice;
 use std::time::{Clock, Instant};
 
 /// The options under which a write-out is built again: what extends no definition of it gets one.
-const REBUILDING: CompileOptions = CompileOptions {
+pub(crate) const REBUILDING: CompileOptions = CompileOptions {
     adopt_orphan_extensions: true,
     ignore_builtin_redefinitions: false,
 };
@@ -49,7 +49,7 @@ impl Drop for SchemaTimes {
 }
 
 /// Times a build.
-fn time_build<C: Clock>(
+pub(crate) fn time_build<C: Clock>(
     alloc: Global,
     clock: &C,
     keys: HashKeys,
@@ -66,7 +66,7 @@ fn time_build<C: Clock>(
 }
 
 /// Times a write-out.
-fn time_write_out<C: Clock>(
+pub(crate) fn time_write_out<C: Clock>(
     alloc: Global,
     clock: &C,
     schema: &Schema,
