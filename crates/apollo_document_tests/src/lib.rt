@@ -20,6 +20,8 @@ mod hash_keys;
 #[cfg(test)]
 mod inputs;
 #[cfg(test)]
+mod large;
+#[cfg(test)]
 mod leaf_faults;
 #[cfg(test)]
 mod operations;

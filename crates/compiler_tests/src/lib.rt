@@ -24,3 +24,5 @@ mod sources;
 mod streams;
 #[cfg(test)]
 mod summaries;
+#[cfg(test)]
+mod unchecked;

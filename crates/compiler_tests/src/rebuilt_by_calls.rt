@@ -9,7 +9,9 @@ use std::alloc::{AllocError, Global};
 use std::slice;
 use std::test::Fail;
 
-fn name(alloc: Global, text: &str) -> Result<Name, AllocError> {
+/// A name that is not checked.
+/// No clause: it serves tests.
+pub fn name(alloc: Global, text: &str) -> Result<Name, AllocError> {
     Name::new_unchecked(alloc, text)
 }
 
@@ -40,7 +42,8 @@ fn in_stock(alloc: Global) -> Result<Node<FieldDefinition>, AllocError> {
 }
 
 /// The definition of an object type of this name with this field.
-fn object(
+/// No clause: it serves tests.
+pub fn object(
     alloc: Global,
     text: &str,
     field: Node<FieldDefinition>,
@@ -81,8 +84,9 @@ fn extension(alloc: Global) -> Result<Node<ObjectTypeExtension>, AllocError> {
     Node::new(alloc, extension)
 }
 
-/// That extension, and the definition of the type behind it.
-fn unchecked_names(alloc: Global) -> Result<Document, AllocError> {
+/// That extension, and the definition of the type behind it, whose field `→` is of a type of two words.
+/// No clause: it serves tests.
+pub fn unchecked_names(alloc: Global) -> Result<Document, AllocError> {
     let arrow = Node::new(alloc, field(alloc, "→", "a b")?)?;
     let mut document = Document::new(alloc);
     document.definitions.push(extension(alloc)?.into())?;
