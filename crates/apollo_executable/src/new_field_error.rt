@@ -4,7 +4,7 @@ use apollo_schema::field_lookup_error::FieldLookupError;
 use std::alloc::AllocError;
 
 /// Why [`SelectionSet::new_field`](crate::selection::SelectionSet::new_field) answers no field.
-#[derive(Drop, PartialEq, Eq)]
+#[derive(Debug, Drop, PartialEq, Eq)]
 pub enum NewFieldError<'schema> {
     /// The schema has no such type, or the type no such field.
     Lookup(FieldLookupError<'schema>),

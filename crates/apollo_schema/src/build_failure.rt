@@ -2,7 +2,6 @@
 
 use crate::schema::Schema;
 use apollo_meaning::build_error::Faults;
-use thiserror::Error;
 
 /// What could be built, and the faults. `{:?}` prints the faults alone.
 #[derive(Drop)]
@@ -14,14 +13,14 @@ pub struct WithErrors<T> {
 }
 
 /// Why a build answers no schema without faults.
-#[derive(Debug, Drop, Error)]
+#[derive(Debug, Drop)]
 pub enum BuildFailure {
-    #[error("the schema has faults")]
+    /// The schema has faults; the schema that could be built stands beside them.
     Faults(WithErrors<Schema>),
-    #[error("out of memory")]
+    /// Want of memory.
     Memory,
-    #[error("extension identities spent")]
+    /// The documents fold more extensions than there are identities.
     ExtensionIds,
-    #[error("builder has failed")]
+    /// A call of the builder had been refused before.
     Failed,
 }

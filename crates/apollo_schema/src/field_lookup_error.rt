@@ -4,7 +4,7 @@ use apollo_types::extended_type::ExtendedType;
 use graphql_nodes::name::NamedType;
 
 /// Why [`Schema::type_field`](crate::schema::Schema::type_field) answers no field.
-#[derive(Clone, Copy, PartialEq, Eq)]
+#[derive(Clone, Copy, Debug, PartialEq, Eq)]
 pub enum FieldLookupError<'schema> {
     /// The schema has no type of the name.
     NoSuchType,
