@@ -3,11 +3,13 @@
 #![tactic(auto)]
 
 pub mod building;
+pub mod collections;
 pub mod compile_error;
 pub mod compile_options;
 pub mod compiled;
 pub mod compiling;
 pub mod document_building;
+pub mod executable;
 pub mod laws;
 mod rebuilding;
 mod typing;
@@ -16,8 +18,15 @@ pub use crate::compile_error::CompileError;
 pub use crate::compile_options::CompileOptions;
 pub use crate::compiled::Compiled;
 pub use crate::compiling::{compile, compile_with_keys};
+pub use apollo_coordinate as coordinate;
 pub use apollo_executable::document::ExecutableDocument;
+pub use apollo_schema as schema;
 pub use apollo_schema::schema::Schema;
+pub use graphql_ast as ast;
 pub use graphql_ast::definition::Definition;
 pub use graphql_ast::document::Document;
 pub use graphql_nodes::collections::hash_keys::HashKeys;
+pub use graphql_nodes::name::{InvalidNameError, Name, NameError, NamedType};
+pub use graphql_nodes::node::Node;
+pub use graphql_nodes::node_str::NodeStr;
+pub use graphql_nodes::source::{FileId, SourceFile, SourceMap, SourceSpan};
