@@ -5,7 +5,7 @@ use Rattle.std.proofs.lemmas.List.Sorted.{IsPermutation-refl, IsPermutation-tran
 use Rattle.apollo_walks.specs.Selections.{Selections, Fragments, Names, fragment_of, spread_names}
 use Rattle.apollo_walks.specs.Reachable.{Among, occurrences_in}
 use Rattle.apollo_walks.specs.Turns.{size, own_turns, total}
-use Rattle.apollo_walks.specs.Course.{Course}
+use Rattle.apollo_walks.specs.Course.{Course, followed_by}
 use Rattle.apollo_walks.proofs.Names.{Among-left, Among-right, Among-split, with_names, with_names-append, with_names-keeps, Fresh, Fresh-append}
 use Rattle.apollo_walks.proofs.Totals.{total-append, occurrences_in-append, shuffle}
 
@@ -32,7 +32,7 @@ pub record Account {F : Type 0} (fragments : Fragments F) (before : Names) (fiel
 
 module _ {F : Type 0} (fragments : Fragments F) where
   -- nothing is opened
-  pub account-no_course : (before : Names) (t cap : ℕ) → t ≤ cap → Account fragments before [] t cap [] (record { fields = []; opened = before; turns = t })
+  pub account-no_course : (before : Names) (t cap : ℕ) → t ≤ cap → Account fragments before [] t cap [] (record { fields = []; due = λ t. []; opened = before; turns = t })
   account-no_course before t cap le = record {
     news = [];
     opened = refl;
@@ -47,7 +47,7 @@ module _ {F : Type 0} (fragments : Fragments F) where
 
   pub account-join : (before : Names) (fs gs : List F) (a b c d : ℕ) (ms ns : List (List ℕ)) (x y : Course F) →
       Account fragments before fs a c ms x → Account fragments x.opened gs b d ns y →
-      Account fragments before (fs ++ gs) (a + b) (c + d) (ms ++ ns) (record { fields = x.fields ++ y.fields; opened = y.opened; turns = x.turns + y.turns })
+      Account fragments before (fs ++ gs) (a + b) (c + d) (ms ++ ns) (followed_by x y)
   account-join before fs gs a b c d ms ns x y p q =
       let opened : y.opened ≡ with_names (p.news ++ q.news) before =
       q.opened ∙ ap (with_names q.news) p.opened ∙ sym (with_names-append p.news q.news before) in

@@ -1,9 +1,9 @@
 -- A walk is never deeper than there are unopened fragments, so going deeper gives the same.
-use Rattle.std.proofs.Common.{◌≡◌, ℕ, zero, suc, ◌+◌, ◌<◌, ◌≤◌, Bool, true, false, ◌||◌, cond, List, [], ◌∷◌, ◌++◌, length, Option, None, Some, refl, sym, ap, ◌∙◌, arith}
+use Rattle.std.proofs.Common.{◌≡◌, ℕ, zero, suc, ◌+◌, ◌<◌, ◌≤◌, Bool, true, false, ◌||◌, cond, List, [], ◌∷◌, length, Option, None, Some, refl, sym, ap, ◌∙◌, arith}
 use Rattle.graphql_nodes.specs.SameText.{same}
 use Rattle.graphql_nodes.proofs.Texts.{same-true}
 use Rattle.apollo_walks.specs.Selections.{Selections, none, field, spread, inline, Fragments, Names, with_name, fragment_of}
-use Rattle.apollo_walks.specs.Course.{Course, no_course, turns_below, course_with, course_of_spread, course_of_name, course_within}
+use Rattle.apollo_walks.specs.Course.{Course, no_course, course_below, followed_by, a_turn_before, a_field_before, course_with, course_of_spread, course_of_name, course_within}
 
 -- how many fragments are not opened
 abbrev pub unopened : {F : Type 0} → Fragments F → Names → ℕ
@@ -77,19 +77,19 @@ module _ {F : Type 0} (fragments : Fragments F) where
       let small = course_with-shrinks p shrinks before below in
       let second : course_with p (course_with p before below).opened rest ≡ course_with q (course_with p before below).opened rest = course_with-same k p q shrinks same (course_with p before below).opened rest (omega arith) in
       let third : course_with p (course_with p before below).opened rest ≡ course_with q (course_with q before below).opened rest = second ∙ ap (λ x. course_with q x.opened rest) first in
-      λ i. record { fields = f ∷ ((first i).fields ++ (third i).fields); opened = (third i).opened; turns = suc (turns_below below (first i).turns + (third i).turns) }
+      λ i. a_field_before f (followed_by (course_below below (first i)) (third i))
   course_with-same k p q shrinks same before (spread n rest) le =
       let first : p before n ≡ q before n = same before n le in
       let small = shrinks before n in
       let second : course_with p (p before n).opened rest ≡ course_with q (p before n).opened rest = course_with-same k p q shrinks same (p before n).opened rest (omega arith) in
       let third : course_with p (p before n).opened rest ≡ course_with q (q before n).opened rest = second ∙ ap (λ x. course_with q x.opened rest) first in
-      λ i. record { fields = (first i).fields ++ (third i).fields; opened = (third i).opened; turns = suc ((first i).turns + (third i).turns) }
+      λ i. a_turn_before (followed_by (first i) (third i))
   course_with-same k p q shrinks same before (inline inner rest) le =
       let first : course_with p before inner ≡ course_with q before inner = course_with-same k p q shrinks same before inner le in
       let small = course_with-shrinks p shrinks before inner in
       let second : course_with p (course_with p before inner).opened rest ≡ course_with q (course_with p before inner).opened rest = course_with-same k p q shrinks same (course_with p before inner).opened rest (omega arith) in
       let third : course_with p (course_with p before inner).opened rest ≡ course_with q (course_with q before inner).opened rest = second ∙ ap (λ x. course_with q x.opened rest) first in
-      λ i. record { fields = (first i).fields ++ (third i).fields; opened = (third i).opened; turns = suc ((first i).turns + (third i).turns) }
+      λ i. a_turn_before (followed_by (first i) (third i))
 
   -- what a spread gives is the same at two levels that agree on smaller sets
   course_of_spread-same : (lower higher : Names → Selections F → Course F) (before : Names) (n : List ℕ) (k : ℕ) → unopened fragments before ≤ suc k →

@@ -1,4 +1,5 @@
 pub mod Course
+pub mod OrderInTurns
 pub mod Reachable
 pub mod Selections
 pub mod TurnByTurn

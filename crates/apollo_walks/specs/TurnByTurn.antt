@@ -1,5 +1,5 @@
 -- What a walk gives that has some lists open, turn by turn: what its next turn does, by what the innermost list begins with.
-use Rattle.std.specs.Prelude.{◌≡◌, ◌<◌, ℕ, true, false, List, [], ◌∷◌, None, Some}
+use Rattle.std.specs.Prelude.{◌≡◌, ◌<◌, ◌≤◌, ◌+◌, ℕ, true, false, List, [], ◌∷◌, None, Some}
 use Rattle.apollo_walks.specs.Selections.{Selections, none, field, spread, inline, Fragments, Names, with_name, fragment_of}
 use Rattle.apollo_walks.specs.Course.{course, course_of_all, a_turn_before, a_field_before}
 
@@ -7,6 +7,11 @@ use Rattle.apollo_walks.specs.Course.{course, course_of_all, a_turn_before, a_fi
 abbrev pub over : {F : Type 0} → Selections F → List (Selections F) → List (Selections F)
 over none ss = ss
 over s ss = s ∷ ss
+
+-- the turn is no later than the first of these, if there is one
+abbrev pub IsNoLater : ℕ → List ℕ → Type 0
+IsNoLater turn [] = Unit {0}
+IsNoLater turn (first ∷ others) = turn ≤ first
 
 -- where these names are opened
 pub record AreTurnByTurn {F : Type 0} (fragments : Fragments F) (before : Names) : Type 0 where
@@ -31,3 +36,5 @@ pub record AreTurnByTurn {F : Type 0} (fragments : Fragments F) (before : Names)
       → course_of_all fragments before (spread n rest ∷ ss) ≡ a_turn_before (course_of_all fragments (with_name n before) (set ∷ rest ∷ ss))
   -- there is a turn left while a list is open
   pub goes_on : (s : Selections F) (ss : List (Selections F)) → 0 < (course_of_all fragments before (s ∷ ss)).turns
+  -- no field comes before the next turn
+  pub no_sooner : (ss : List (Selections F)) (taken : ℕ) → IsNoLater (taken + 1) ((course_of_all fragments before ss).due taken)

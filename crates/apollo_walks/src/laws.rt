@@ -6,6 +6,7 @@ ghost use Rattle.std.specs.Prelude.{◌≡◌, ◌≤◌, ◌+◌, ◌*◌, ◌�
 ghost use Rattle.std.specs.List.Sorted.{IsPermutation};
 ghost use Rattle.apollo_walks.specs.Selections.{Selections, Fragments, Names, no_names, fragment_of};
 ghost use Rattle.apollo_walks.specs.Reachable.{Among, Reachable, AreReachable, IsClosed, IsReached};
+ghost use Rattle.apollo_walks.specs.OrderInTurns.{OrderInTurns, AreDue};
 ghost use Rattle.apollo_walks.specs.WalkOrder.{Order};
 ghost use Rattle.apollo_walks.specs.TurnByTurn.{AreTurnByTurn};
 ghost use Rattle.apollo_walks.specs.Turns.{AreAllTurns, AreWithinTurns, turns_in_reach, selections_in_reach};
@@ -64,6 +65,16 @@ pub fn walks_take_few_turns<F>()
     ensures few { (fragments : Fragments F) (s : Selections F) → AreWithinTurns fragments s (course fragments no_names s).turns }
 {}
 
+/// A walk over any selections gives each field in its turn. These turns leave no choice, what comes in them is a whole walk, and
+/// the turns at their end are all turns of it.
+pub fn walks_give_each_field_in_its_turn<F>()
+    ensures due { (fragments : Fragments F) (s : Selections F) → AreDue fragments s (course fragments no_names s).fields ((course fragments no_names s).due 0) }
+    ensures one { (fragments : Fragments F) (s : Selections F) (fs gs : List F) (ds es : List ℕ) → AreDue fragments s fs ds → AreDue fragments s gs es → (fs ≡ gs) × (ds ≡ es) }
+    ensures walk { (fragments : Fragments F) (s : Selections F) (fields : List F) (due : List ℕ) → AreDue fragments s fields due → IsWalk fragments s fields }
+    ensures all { (fragments : Fragments F) (s : Selections F) (fields : List F) (due : List ℕ) (opened : Names) (turns : ℕ)
+        → OrderInTurns fragments no_names 0 s fields due opened turns → AreAllTurns fragments s turns }
+{}
+
 /// The names that selections lead to are one list but for their order, so the turns of a walk over them are one number, and
 /// it is at most two for each selection in reach, and one.
 pub fn reachable_names_are_one_list<F>()
@@ -77,6 +88,7 @@ pub fn reachable_names_are_one_list<F>()
 pub fn worked_walks()
     ensures outside { (course worked_fragments no_names worked_start).fields ≡ codes "b" ∷ codes "a" ∷ codes "c" ∷ [] }
     ensures turns_outside { (course worked_fragments no_names worked_start).turns ≡ 13 }
+    ensures due_outside { (course worked_fragments no_names worked_start).due 0 ≡ 5 ∷ 9 ∷ 10 ∷ [] }
     ensures selections_outside { selections_in_reach worked_fragments worked_start (codes "F" ∷ codes "G" ∷ []) ≡ 8 }
     ensures inside { (course worked_fragments no_names worked_first).fields ≡ codes "a" ∷ codes "c" ∷ codes "b" ∷ codes "a" ∷ codes "c" ∷ [] }
 {}

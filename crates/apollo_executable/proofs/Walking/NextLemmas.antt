@@ -1,9 +1,10 @@
 -- What a call of `next` gives, by the last turn that it takes.
-use Rattle.std.proofs.Common.{◌≡◌, ◌≤◌, ◌+◌, Bool, true, false, [], None, Some, Ok, Err, refl, sym, ap, subst, ◌∙◌, arith, true≢false}
+use Rattle.std.proofs.Common.{◌≡◌, ◌≤◌, ◌+◌, Bool, true, false, [], ◌∷◌, None, Some, Ok, Err, refl, sym, ap, subst, ◌∙◌, arith, true≢false}
 use Rattle.std.specs.Borrow.{Bor}
 use Rattle.std.specs.declared.alloc.AllocError.{AllocError}
 use Rattle.graphql_nodes.specs.NodeView.{NodeView}
 use Rattle.apollo_walks.specs.Course.{Course}
+use Rattle.apollo_walks.specs.TurnByTurn.{IsNoLater}
 use Rattle.apollo_executable.specs.Walks.Plain.{plain, fragments_of}
 use Rattle.apollo_executable.specs.Walks.WalkView.{IsWithinTurns}
 use Rattle.apollo_executable.specs.Walks.NextItem.{IsNext, IsOver}
@@ -15,12 +16,13 @@ use Rattle.apollo_executable.specs.declared.document.ExecutableDocument.{Executa
 use Rattle.apollo_executable.specs.declared.walks.walk.Walk.{Walk}
 use Rattle.apollo_executable.specs.declared.walks.open_lists.Turn.{Turn}
 use Rattle.apollo_executable.specs.declared.walks.open_lists.Turn.TheVariants.{Gave, Moved, Refused}
-use Rattle.apollo_executable.proofs.Walking.WalkLemmas.{left_of-ended}
+use Rattle.apollo_executable.proofs.Walking.WalkLemmas.{left_of-ended, left_of-no_sooner}
 use Rattle.apollo_executable.proofs.Walking.WholeLemmas.{WholeWalkLaws, within, all-turns, all-names}
 
 -- what stays from one walk to a later one, where the turns between gave no field
 pub record IsLater (old now : Walk) : Type 0 where
   pub fields : (left old).fields ≡ (left now).fields
+  pub due : (left old).due old.taken.number ≡ (left now).due now.taken.number
   pub opened : (left old).opened ≡ (left now).opened
   pub document : now.document ≡ old.document
   pub start : now.start ≡ old.start
@@ -55,7 +57,10 @@ module _ (laws : WholeWalkLaws) where
     document = ap (λ (d : Bor ExecutableDocument). d.now) (t.document ∙ later.document);
     start = ap (λ (s : Bor SelectionSet). s.now) (t.start ∙ later.start);
     gives = (later.fields ∙ ap (λ (x : Course (NodeView Field)). x.fields) t.turn.0, later.goes_on going, t.turn.1);
-    takes = omega (arith, later.more, t.taken);
+    takes = (
+      omega (arith, later.more, t.taken),
+      later.due ∙ ap (λ (x : Course (NodeView Field)). x.due now.taken.number) t.turn.0 ∙ ap (λ n. n ∷ (left new).due n) (sym t.taken),
+    );
     bound = bound new old.lists.deep (t.deep ∙ later.deep);
     over = tt;
   }
@@ -66,7 +71,11 @@ module _ (laws : WholeWalkLaws) where
     document = ap (λ (d : Bor ExecutableDocument). d.now) (t.document ∙ later.document);
     start = ap (λ (s : Bor SelectionSet). s.now) (t.start ∙ later.start);
     gives = (later.goes_on going, nothing-left new t.turn, t.turn);
-    takes = omega (arith, later.more, t.taken);
+    takes = (
+      omega (arith, later.more, t.taken),
+      (let next = left_of-no_sooner now.lists (laws.steps (fragments_of now.lists.deep now.lists.document.now) (names_opened now.lists)) going now.taken.number in
+          subst (λ n. IsNoLater n (seen old).due) (sym t.taken) (subst (λ l. IsNoLater (now.taken.number + 1) l) (sym later.due) next)),
+    );
     bound = bound new old.lists.deep (t.deep ∙ later.deep);
     over = tt;
   }
@@ -97,6 +106,7 @@ module _ (laws : WholeWalkLaws) where
 pub turns-later : (old now new : Walk) → IsLater old now → now.lists.ended ≡ false → IsWalkTurn now Moved new → IsLater old new
 turns-later old now new later going t = record {
   fields = later.fields ∙ ap (λ (x : Course (NodeView Field)). x.fields) t.turn;
+  due = later.due ∙ ap (λ (x : Course (NodeView Field)). x.due now.taken.number) t.turn ∙ ap (λ n. (left new).due n) (sym t.taken);
   opened = later.opened ∙ ap (λ (x : Course (NodeView Field)). x.opened) t.turn;
   document = t.document ∙ later.document;
   start = t.start ∙ later.start;
@@ -108,4 +118,4 @@ turns-later old now new later going t = record {
 }
 
 pub later-itself : (w : Walk) → IsLater w w
-later-itself w = record { fields = refl; opened = refl; document = refl; start = refl; deep = refl; goes_on = λ going. going; stands = λ _. refl; turns = refl; more = omega arith }
+later-itself w = record { fields = refl; due = refl; opened = refl; document = refl; start = refl; deep = refl; goes_on = λ going. going; stands = λ _. refl; turns = refl; more = omega arith }

@@ -1,9 +1,9 @@
 -- One turn of a walk, by what the open list begins with.
-use Rattle.std.proofs.Common.{◌≡◌, ◌<◌, Bool, true, false, List, [], ◌∷◌, map, None, Some, sym, ap, ◌∙◌}
+use Rattle.std.proofs.Common.{◌≡◌, ◌<◌, ◌+◌, ℕ, Bool, true, false, List, [], ◌∷◌, map, None, Some, sym, ap, ◌∙◌}
 use Rattle.graphql_nodes.specs.NodeView.{NodeView}
 use Rattle.apollo_walks.specs.Selections.{Names, spread, with_name, fragment_of}
 use Rattle.apollo_walks.specs.Course.{Course, no_course, course, course_of_all, a_turn_before, a_field_before}
-use Rattle.apollo_walks.specs.TurnByTurn.{over, AreTurnByTurn}
+use Rattle.apollo_walks.specs.TurnByTurn.{over, IsNoLater, AreTurnByTurn}
 use Rattle.apollo_executable.specs.Walks.Plain.{Plain, plain, below_of, fragments_of}
 use Rattle.apollo_executable.specs.Walks.Left.{left_in}
 use Rattle.apollo_executable.specs.declared.selection.Selection.{Selection}
@@ -82,6 +82,11 @@ module _ (deep : Bool) (document : ExecutableDocument) (names : Names) (steps : 
   pub left_in-positive : (list : List Selection) (lists : List (List Selection)) → 0 < (left_in deep document names list lists).turns
   unfolding left_in
   left_in-positive list lists = steps.goes_on (plain deep list) (map (plain deep) lists)
+
+  -- and no field comes before it
+  pub left_in-no_sooner : (list : List Selection) (lists : List (List Selection)) (taken : ℕ) → IsNoLater (taken + 1) ((left_in deep document names list lists).due taken)
+  unfolding left_in
+  left_in-no_sooner list lists taken = steps.no_sooner (plain deep list ∷ map (plain deep) lists) taken
 
   pub left_in-start : (list : List Selection) → left_in deep document names list [] ≡ course (fragments_of deep document) names (plain deep list)
   unfolding left_in

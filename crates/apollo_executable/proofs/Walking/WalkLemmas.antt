@@ -1,11 +1,11 @@
 -- What the parts of a walk say of what is left of it.
-use Rattle.std.proofs.Common.{◌≡◌, ◌≤◌, ◌+◌, ℕ, true, false, List, [], ◌∷◌, ◌++◌, map, reverse, Result, Ok, Err, OnOk, is_ok, length, arith, refl, ap, ◌∙◌}
+use Rattle.std.proofs.Common.{◌≡◌, ◌≤◌, ◌+◌, ℕ, true, false, List, [], ◌∷◌, ◌++◌, map, reverse, Result, Ok, Err, OnOk, is_ok, length, arith, refl, sym, ap, subst, ◌∙◌}
 use Rattle.std.proofs.lemmas.List.{reverse-append, map-append}
 use Rattle.std.specs.Prelude.{nat_eq}
 use Rattle.std.specs.Borrow.{Bor}
 use Rattle.graphql_nodes.specs.NodeView.{NodeView}
 use Rattle.apollo_walks.specs.Course.{Course}
-use Rattle.apollo_walks.specs.TurnByTurn.{AreTurnByTurn}
+use Rattle.apollo_walks.specs.TurnByTurn.{IsNoLater, AreTurnByTurn}
 use Rattle.apollo_executable.specs.Walks.Plain.{fragments_of}
 use Rattle.apollo_executable.specs.Walks.Left.{waiting_lists, names_opened, left_in, left_of, IsTurn}
 use Rattle.apollo_executable.specs.declared.selection.Selection.{Selection}
@@ -13,7 +13,7 @@ use Rattle.apollo_executable.specs.declared.selection.Field.{Field}
 use Rattle.apollo_executable.specs.declared.walks.open_lists.OpenLists.{OpenLists}
 use Rattle.apollo_executable.specs.declared.walks.open_lists.Turn.{Turn}
 use Rattle.apollo_executable.specs.declared.walks.open_lists.Turn.TheVariants.{Gave, Moved, Refused}
-use Rattle.apollo_executable.proofs.Walking.TurnLemmas.{left_in-positive}
+use Rattle.apollo_executable.proofs.Walking.TurnLemmas.{left_in-positive, left_in-no_sooner}
 
 pub waiting-push : (lists : List (Bor (List Selection))) (l : Bor (List Selection)) → waiting_lists (lists ++ l ∷ []) ≡ l.now ∷ waiting_lists lists
 unfolding waiting_lists
@@ -42,6 +42,11 @@ left_of-open w goes_on = rw goes_on refl
 
 pub left_of-ended : (w : OpenLists) → w.ended ≡ true → (left_of w).opened ≡ names_opened w
 left_of-ended w ended = rw ended refl
+
+pub left_of-no_sooner : (w : OpenLists) → AreTurnByTurn (fragments_of w.deep w.document.now) (names_opened w) → w.ended ≡ false → (taken : ℕ) → IsNoLater (taken + 1) ((left_of w).due taken)
+left_of-no_sooner w steps goes_on taken =
+    subst (λ (x : Course (NodeView Field)). IsNoLater (taken + 1) (x.due taken)) (sym (left_of-open w goes_on))
+    (left_in-no_sooner w.deep w.document.now (names_opened w) steps w.current.now (waiting_lists w.waiting.items) taken)
 
 -- what a turn leaves of the turns, where so many were taken of all
 pub turn-counts : (old new : OpenLists) (turn : Turn) → AreTurnByTurn (fragments_of old.deep old.document.now) (names_opened old) → IsTurn old turn new → old.ended ≡ false → (n all : ℕ) → n + (left_of old).turns ≡ all →

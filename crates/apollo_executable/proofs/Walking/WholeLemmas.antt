@@ -2,20 +2,23 @@
 use Rattle.std.proofs.Common.{◌≡◌, ◌≤◌, ◌↔◌, Bool, ℕ, List, true, Some, ◌∙◌, arith}
 use Rattle.graphql_nodes.specs.NodeView.{NodeView}
 use Rattle.apollo_walks.specs.Selections.{Fragments, Names, no_names, fragment_of}
+use Rattle.apollo_walks.specs.OrderInTurns.{AreDue}
 use Rattle.apollo_walks.specs.Reachable.{Reachable}
+use Rattle.apollo_walks.specs.TurnByTurn.{AreTurnByTurn}
 use Rattle.apollo_walks.specs.Turns.{AreAllTurns, AreWithinTurns}
 use Rattle.apollo_walks.specs.Whole.{IsWalk}
 use Rattle.apollo_walks.specs.Course.{course}
 use Rattle.apollo_executable.specs.Walks.Plain.{Plain, plain, fragments_of}
 use Rattle.apollo_executable.specs.Walks.Left.{walk_over, opened_names}
-use Rattle.apollo_executable.specs.Walks.WalkView.{AreWalked, IsWithinTurns, TakesAllTurns, AreReachedNames}
+use Rattle.apollo_executable.specs.Walks.WalkView.{AreWalked, AreDueIn, IsWithinTurns, TakesAllTurns, AreReachedNames}
 use Rattle.apollo_executable.specs.declared.selection.Field.{Field}
 use Rattle.apollo_executable.specs.declared.selection.SelectionSet.{SelectionSet}
 use Rattle.apollo_executable.specs.declared.document.ExecutableDocument.{ExecutableDocument}
 use Rattle.apollo_executable.proofs.Walking.FlagLemmas.{opened_names-reached}
 
--- what the laws of walks say of the turns and the names of a whole one
+-- what the laws of walks say of their turns and names
 pub record WholeWalkLaws : Type 0 where
+  pub steps : (fragments : Fragments (NodeView Field)) (names : Names) → AreTurnByTurn fragments names
   pub all : (fragments : Fragments (NodeView Field)) (s : Plain) → AreAllTurns fragments s (course fragments no_names s).turns
   pub few : (fragments : Fragments (NodeView Field)) (s : Plain) → AreWithinTurns fragments s (course fragments no_names s).turns
   pub opens : (fragments : Fragments (NodeView Field)) (s : Plain) (n : List ℕ) → ((course fragments no_names s).opened n ≡ true) ↔ Reachable fragments s n
@@ -26,6 +29,12 @@ module _ (deep : Bool) (document : ExecutableDocument) (set : SelectionSet) wher
       → AreWalked deep document set (walk_over deep document set).fields
   unfolding walk_over
   walked whole = whole
+
+  pub in-turns : AreDue (fragments_of deep document) (plain deep set.selections) (course (fragments_of deep document) no_names (plain deep set.selections)).fields
+      ((course (fragments_of deep document) no_names (plain deep set.selections)).due 0)
+      → AreDueIn deep document set (walk_over deep document set).fields ((walk_over deep document set).due 0)
+  unfolding walk_over
+  in-turns due = due
 
   pub within : AreWithinTurns (fragments_of deep document) (plain deep set.selections) (course (fragments_of deep document) no_names (plain deep set.selections)).turns
       → (turns : ℕ) → turns ≤ (walk_over deep document set).turns → IsWithinTurns deep document set turns

@@ -3,6 +3,7 @@ use Rattle.std.specs.Prelude.{◌≡◌, ◌<◌, ℕ, suc, Bool, true, false, [
 use Rattle.std.specs.Borrow.{Bor}
 use Rattle.std.specs.declared.alloc.AllocError.{AllocError}
 use Rattle.graphql_nodes.specs.NodeView.{NodeView}
+use Rattle.apollo_walks.specs.TurnByTurn.{IsNoLater}
 use Rattle.apollo_executable.specs.Walks.WalkView.{WalkView, IsWithinTurns, TakesAllTurns, AreReachedNames}
 use Rattle.apollo_executable.specs.declared.selection.Field.{Field}
 
@@ -20,7 +21,10 @@ GivesFirst old (Some (Err error)) new = (old.ended ≡ false) × (new.coming ≡
 -- after the end nothing changes any more, and each item takes a turn or more
 abbrev pub TakesTurns : WalkView → Option Item → WalkView → Type 0
 TakesTurns old None new = old.ended ≡ true → new ≡ old
-TakesTurns old (Some item) new = old.taken < new.taken
+-- a field is given in its turn
+TakesTurns old (Some (Ok field)) new = (old.taken < new.taken) × (old.due ≡ new.taken ∷ new.due)
+-- the error comes no later than the next field would
+TakesTurns old (Some (Err error)) new = (old.taken < new.taken) × IsNoLater new.taken old.due
 
 -- a whole walk is over
 abbrev pub IsOver : Bool → WalkView → Type 0

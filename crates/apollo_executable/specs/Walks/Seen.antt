@@ -15,6 +15,7 @@ seen w = record {
   document = w.document.now;
   start = w.start.now;
   coming = (left w).fields;
+  due = (left w).due w.taken.number;
   opened = opened_names w.document.now (names_opened w.lists);
   ended = w.lists.ended;
   taken = w.taken.number;

@@ -72,7 +72,7 @@ impl<'doc> Iterator for RootFields<'doc> {
 
     ghost remaining = { λ walk. at_most (most_items walk) };
 
-    /// The next field, or the one error. After that or the end there is none for good.
+    /// The next field, in its turn, or the one error, no later than that turn. After that or the end there is none for good.
     fn next(&mut self) -> Option<Result<&'doc Node<Field>, AllocError>> {
         self.walk.advance()
     }

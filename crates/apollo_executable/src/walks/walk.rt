@@ -7,8 +7,8 @@ use crate::document::ExecutableDocument;
 use crate::selection::{Field, SelectionSet};
 use crate::walks::open_lists::{OpenLists, Turn};
 use apollo_walks::laws::{
-    walks_go_turn_by_turn, walks_open_what_is_reached, walks_reach_each_field_once,
-    walks_take_few_turns,
+    walks_give_each_field_in_its_turn, walks_go_turn_by_turn, walks_open_what_is_reached,
+    walks_reach_each_field_once, walks_take_few_turns,
 };
 use apollo_walks::turn_count::TurnCount;
 use graphql_nodes::node::Node;
@@ -44,6 +44,7 @@ impl<'doc> Walk<'doc> {
         ensures deep { result.lists.deep ≡ deep }
         ensures new { IsNewWalk deep document.now set.now (seen result) }
     {
+        walks_give_each_field_in_its_turn::<Node<Field>>();
         walks_reach_each_field_once::<Node<Field>>();
         Walk {
             document,
@@ -84,6 +85,7 @@ impl<'doc> Walk<'doc> {
         ensures deep { self.new.lists.deep ≡ self.old.lists.deep }
         ensures next { IsNext self.old.lists.deep (seen self.old) result (seen self.new) }
     {
+        walks_go_turn_by_turn::<Node<Field>>();
         walks_take_few_turns::<Node<Field>>();
         walks_open_what_is_reached::<Node<Field>>();
         while !self.lists.ended {

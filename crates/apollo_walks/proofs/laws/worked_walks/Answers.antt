@@ -14,3 +14,7 @@ returns-clause-turns_outside c = refl
 pub returns-clause-inside : goal.returns-clause-inside
 unfolding course with_name
 returns-clause-inside c = refl
+
+pub returns-clause-due_outside : goal.returns-clause-due_outside
+unfolding course with_name
+returns-clause-due_outside c = refl
