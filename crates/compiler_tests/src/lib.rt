@@ -1,5 +1,5 @@
-//! Tests of documents that are compiled, of what no clause says: that calls succeed with memory; and of the programs `gqltool` and
-//! `gqlbench`, of what rows can't say.
+//! Tests of documents that are compiled, of what no clause says: that calls succeed with memory; and of the programs `gqltool`,
+//! `gqlrows` and `gqlbench`, of what rows can't say.
 #![tactic(auto)]
 
 #[cfg(test)]
@@ -16,6 +16,8 @@ mod many_extensions;
 mod rebuilt;
 #[cfg(test)]
 mod rebuilt_by_calls;
+#[cfg(test)]
+mod row_streams;
 #[cfg(test)]
 mod runs;
 #[cfg(test)]

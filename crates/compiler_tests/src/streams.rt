@@ -8,9 +8,9 @@ use std::process::Abort;
 
 /// A reader that gives its bytes and then fails.
 #[derive(Drop)]
-struct FailingReader<'a> {
-    bytes: &'a [u8],
-    kind: ErrorKind,
+pub struct FailingReader<'a> {
+    pub bytes: &'a [u8],
+    pub kind: ErrorKind,
 }
 
 impl<'a> Read for FailingReader<'a> {
@@ -24,9 +24,9 @@ impl<'a> Read for FailingReader<'a> {
 
 /// A writer that takes so many bytes, and then fails.
 #[derive(Drop)]
-struct FailingWriter {
-    room: usize,
-    fails_at_flush: bool,
+pub struct FailingWriter {
+    pub room: usize,
+    pub fails_at_flush: bool,
 }
 
 impl Write for FailingWriter {
