@@ -11,8 +11,8 @@ pub fn lines_of(alloc: Global, text: &str) -> Result<Vec<&str>, AllocError>
     text.split('\n').collect(alloc)
 }
 
-/// Takes the words of a line, which stand between its spaces, in place of those that were there.
-pub fn take_words<'a>(words: &mut Vec<&'a str>, line: &'a str) -> Result<(), AllocError>
+/// Takes the words of a line, which stand between its spaces, in place of those that were there. The error is want of memory.
+pub(crate) fn take_words<'a>(words: &mut Vec<&'a str>, line: &'a str) -> Result<(), AllocError>
     ensures { OnOk result (texts_of words.new.items ≡ words_of line.now) }
 {
     words.clear();
