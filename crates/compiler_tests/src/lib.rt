@@ -11,6 +11,8 @@ mod failures;
 #[cfg(test)]
 mod hash_keys;
 #[cfg(test)]
+mod inputs;
+#[cfg(test)]
 mod many_extensions;
 #[cfg(test)]
 mod rebuilt;
