@@ -9,6 +9,8 @@ mod compiled;
 #[cfg(test)]
 mod failures;
 #[cfg(test)]
+mod field_definitions;
+#[cfg(test)]
 mod hash_keys;
 #[cfg(test)]
 mod inputs;
