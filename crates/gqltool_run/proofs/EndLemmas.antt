@@ -1,5 +1,5 @@
 -- Why there is no answer to words and an input, and how a run ends with an answer and without one.
-use Rattle.std.proofs.Common.{◌≡◌, ◌⊎◌, ℕ, Bool, false, List, All, Option, Some, None, Result, Ok, Err, IfSome, inl, inr, refl, ap, subst}
+use Rattle.std.proofs.Common.{◌≡◌, ◌⊎◌, ℕ, Bool, false, List, All, Option, Some, None, Result, Ok, Err, IfSome, inl, inr, refl, ap, subst, ◌∙◌}
 use Rattle.std.proofs.lemmas.Option.{IfSome_then}
 use Rattle.std.specs.Io.KnownBytes.{Appends}
 use Rattle.bench_notation.specs.Line.{IsLine, lines_of}
@@ -15,6 +15,10 @@ use Rattle.gqltool_run.specs.Commands.{AppendAnswer, IsAnswerTo, IsCauseOf, IsPr
 use Rattle.gqltool_run.specs.Inputs.{IsInputCause}
 use Rattle.gqltool_run.specs.Runs.{IsCauseOver, IsCauseTo, IsWritten, MayEnd}
 use Rattle.gqltool_run.specs.Status.{Writes, failure_of_input, status_of}
+
+-- what was read is the input, and so is the text that is handed on
+pub handed_on : (held : Option (List ℕ)) (read text : List ℕ) → text ≡ read → IfSome held (λ input. read ≡ input) → IfSome held (λ input. text ≡ input)
+handed_on held read text same is = IfSome_then held {P = λ input. read ≡ input} {Q = λ input. text ≡ input} is (λ input there. same ∙ there)
 
 -- why an input is not read is why nothing has an answer over it
 pub input_cause : (task : Task) (held : Option (List ℕ)) (may_fail : Type 0) (error : InputError) → IsInputCause held may_fail error → IsCauseOver task held may_fail (failure_of_input error)
