@@ -1,19 +1,30 @@
 -- Why there is no answer to words and an input, and how a run ends with an answer and without one.
-use Rattle.std.proofs.Common.{◌≡◌, ◌⊎◌, ℕ, Bool, false, List, All, Option, Some, None, Result, Ok, Err, IfSome, inl, inr, refl, ap, subst}
+use Rattle.std.proofs.Common.{◌≡◌, ◌⊎◌, ℕ, Bool, false, List, All, Option, Some, None, Result, Ok, Err, IfSome, inl, inr, refl, ap, subst, ◌∙◌}
 use Rattle.std.proofs.lemmas.Option.{IfSome_then}
 use Rattle.std.specs.Io.KnownBytes.{Appends}
 use Rattle.bench_notation.specs.Line.{IsLine, lines_of}
 use Rattle.gqltool_run.specs.declared.failure.Failure.{Failure}
 use Rattle.gqltool_run.specs.declared.failure.Failure.TheVariants as failures
+use Rattle.gqltool_run.specs.declared.input.InputError.{InputError}
+use Rattle.gqltool_run.specs.declared.input.InputError.TheVariants as errors
 use Rattle.gqltool_run.specs.declared.status.Status.{Status}
 use Rattle.gqltool_run.specs.declared.status.Status.TheVariants as s
 use Rattle.gqltool_run.specs.declared.task.Task.{Task}
 use Rattle.gqltool_run.specs.declared.task.Task.TheVariants as tasks
 use Rattle.gqltool_run.specs.Commands.{AppendAnswer, IsAnswerTo, IsCauseOf, IsPrintTo}
+use Rattle.gqltool_run.specs.Inputs.{IsInputCause}
 use Rattle.gqltool_run.specs.Runs.{IsCauseOver, IsCauseTo, IsWritten, MayEnd}
-use Rattle.gqltool_run.specs.Status.{Writes, status_of}
+use Rattle.gqltool_run.specs.Status.{Writes, failure_of_input, status_of}
 
--- the same of a text that was read and of the input
+-- what was read is the input, and so is the text that is handed on
+pub handed_on : (held : Option (List ℕ)) (read text : List ℕ) → text ≡ read → IfSome held (λ input. read ≡ input) → IfSome held (λ input. text ≡ input)
+handed_on held read text same is = IfSome_then held {P = λ input. read ≡ input} {Q = λ input. text ≡ input} is (λ input there. same ∙ there)
+
+-- why an input is not read is why nothing has an answer over it
+pub input_cause : (task : Task) (held : Option (List ℕ)) (may_fail : Type 0) (error : InputError) → IsInputCause held may_fail error → IsCauseOver task held may_fail (failure_of_input error)
+input_cause task held may_fail errors.CannotRead cause = cause
+input_cause task held may_fail errors.Memory cause = tt
+
 over_input : (task : Task) (held : Option (List ℕ)) (text : List ℕ) (failure : Failure) → IfSome held (λ input. text ≡ input) → IsCauseOf task text failure → IfSome held (λ input. IsCauseOf task input failure)
 over_input task held text failure is cause = IfSome_then held {P = λ input. text ≡ input} {Q = λ input. IsCauseOf task input failure} is (λ input same. subst (λ (i : List ℕ). IsCauseOf task i failure) same cause)
 
