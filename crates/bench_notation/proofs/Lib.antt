@@ -1,3 +1,4 @@
 pub mod DepthWords
 pub mod LineWords
+pub mod PieceWords
 pub mod TypeWords
