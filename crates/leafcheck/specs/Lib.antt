@@ -1,1 +1,2 @@
+pub mod BareFaults
 pub mod LeafFaults
