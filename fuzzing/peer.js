@@ -1,19 +1,15 @@
 // Says what graphql-js makes of documents: reads a request of JSON on each line of standard input, and answers in a line.
 'use strict';
 const {
-  buildASTSchema, GraphQLSchema, isIntrospectionType, isSpecifiedScalarType, parse, specifiedScalarTypes, validate,
+  buildASTSchema, GraphQLSchema, isIntrospectionType, isSpecifiedScalarType, parse, specifiedScalarTypes, validate, validateSDL,
   validateSchema, version,
   FieldsOnCorrectTypeRule, KnownTypeNamesRule, LoneAnonymousOperationRule, LoneSchemaDefinitionRule,
   PossibleTypeExtensionsRule, ScalarLeafsRule, UniqueDirectiveNamesRule, UniqueEnumValueNamesRule,
   UniqueFieldDefinitionNamesRule, UniqueFragmentNamesRule, UniqueOperationNamesRule, UniqueOperationTypesRule,
   UniqueTypeNamesRule,
-} = require('graphql');
-const { validateSDL } = require('graphql/validation/validate');
+} = require('./graphql_js');
+const { kindWord, notation } = require('./notation');
 
-const KINDS = {
-  ObjectTypeDefinition: 'object', InterfaceTypeDefinition: 'interface', UnionTypeDefinition: 'union',
-  EnumTypeDefinition: 'enum', InputObjectTypeDefinition: 'input', ScalarTypeDefinition: 'scalar',
-};
 const lineOf = (node) => node.loc.startToken.line;
 const named = (rule) => rule.name.replace(/Rule$/, '');
 const applied = (node) => node.directives.map((directive) => directive.name.value);
@@ -22,7 +18,7 @@ const argumentsOf = (field) => field.args.map((argument) => [argument.name, text
 
 function describedType(type) {
   const directives = [type.astNode, ...type.extensionASTNodes].flatMap(applied);
-  const described = { kind: KINDS[type.astNode.kind], directives };
+  const described = { kind: kindWord(type.astNode), directives };
   described.implements = (type.getInterfaces?.() ?? []).map((it) => it.name);
   described.members = (type.getTypes?.() ?? []).map((it) => it.name);
   described.values = (type.getValues?.() ?? []).map((it) => it.name);
@@ -118,6 +114,7 @@ const ANSWERS = {
   version: () => version,
   whole: ({ schema }) => described(buildASTSchema(parse(schema), { assumeValid: true })),
   twice: ({ schema }) => refusals(parse(schema)),
+  lines: ({ texts }) => notation(texts.map((it) => parse(it))).map((line) => line.text),
   document: ({ schema, document }) => errors(schemaOf(parse(schema)), parse(document)),
 };
 

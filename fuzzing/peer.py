@@ -5,7 +5,6 @@ docs/DIFFERENCES.md says more of each. Any other difference is wrong.
 """
 import collections
 import json
-import os
 import pathlib
 import random
 import re
@@ -18,8 +17,6 @@ from fuzzing.answers import described, divided, joined
 from fuzzing.graphql_text import as_graphql
 
 SCRIPT = pathlib.Path(__file__).with_name("peer.js")
-# Where Debian has the modules of its packages.
-MODULES = "/usr/share/nodejs"
 EXPLAINED = {
     "order": "types whose components are written out in another order",
     "implied": "faults of roots beside an implied schema definition",
@@ -46,10 +43,8 @@ class Peer:
     """A process that answers requests."""
 
     def __init__(self):
-        paths = [*filter(None, [os.environ.get("NODE_PATH")]), MODULES]
         streams = {"stdin": subprocess.PIPE, "stdout": subprocess.PIPE, "stderr": subprocess.DEVNULL}
-        environment = {**os.environ, "NODE_PATH": ":".join(paths)}
-        self.process = subprocess.Popen(["node", SCRIPT], env=environment, text=True, **streams)
+        self.process = subprocess.Popen(["node", SCRIPT], text=True, **streams)
 
     def ask(self, **request):
         self.process.stdin.write(json.dumps(request) + "\n")
@@ -82,6 +77,12 @@ def missing():
     return "" if version.startswith("16.") else f"graphql-js {version} is installed, and 16 is wanted"
 
 
+def compare_lines(lines, *texts):
+    """What is wrong with the lines that the peer has from texts that say these in GraphQL."""
+    back = ask(sort="lines", texts=texts)
+    return [] if back == lines else [f"lines: {lines}", f"peer's lines: {back}"]
+
+
 def ordered(said):
     """The same, with the components of each type in the order of their names."""
     for ty in said["types"].values():
@@ -93,12 +94,14 @@ def ordered(said):
 def compare_whole(chance, program):
     lines = [line for item in whole.Schema(chance).items for line in item]
     answered = program.run([b"schema"], joined(lines))
-    theirs = ask(sort="whole", schema=as_graphql(lines))
+    text = as_graphql(lines)
+    theirs = ask(sort="whole", schema=text)
     if answered.status != 0:
         return [f"status {answered.status}"], lines
     ours = described(answered.output.decode().splitlines())
     explain("order", ours["types"] != theirs["types"])
-    return ([] if ordered(ours) == ordered(theirs) else [f"ours: {ours}", f"peer: {theirs}"]), lines
+    wrong = [] if ordered(ours) == ordered(theirs) else [f"ours: {ours}", f"peer: {theirs}"]
+    return wrong + compare_lines(lines, text), lines
 
 
 # The rules by which the peer refuses what these faults say.
@@ -176,7 +179,8 @@ def compare_document(chance, program):
     document = whole.Document(chance, schema)
     before = [line for item in schema.items for line in item] + ["==="]
     lines = before + document.lines
-    said = ask(sort="document", schema=as_graphql(before[:-1]), document=as_graphql(document.lines))
+    texts = as_graphql(before[:-1]), as_graphql(document.lines)
+    said = ask(sort="document", schema=texts[0], document=texts[1])
     theirs = {(rule, line + len(before)) for rule, line in said}
     answered = program.run([b"doc"], joined(lines))
     answer, faults = divided(answered.output)
@@ -205,7 +209,7 @@ def compare_document(chance, program):
         skipped = {it for it in ours ^ theirs if it[1] in anonymous}
         explain("rootless", len(skipped))
         ours, theirs = ours - skipped, theirs - skipped
-    return difference(ours, theirs), lines
+    return difference(ours, theirs) + compare_lines(lines, *texts), lines
 
 
 def by_item(lines, refusal):

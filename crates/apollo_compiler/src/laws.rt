@@ -1,7 +1,9 @@
-//! What is promised of documents that are compiled, for those who ask what it comes to; and what clones of options and errors
-//! are.
+//! What is promised beside the calls' own contracts, under one roof: the laws of compiled documents, and those of each layer
+//! below, bottom up.
 //!
-//! Each law is a function that does nothing. A proof cites it by a call, and finds its clauses there.
+//! Each law is a function that does nothing. A proof cites it by a call, and finds its clauses there. A layer's module keeps the
+//! laws of its crate; those that say what the product is for stand here by name too. (A validator above has its own:
+//! `leafcheck::laws`.)
 ghost use Rattle.std.specs.Prelude.{◌≡◌, ◌↔◌, ℕ, Bool, List, Some, IsSome};
 ghost use Rattle.apollo_canonical.specs.WrittenAgain.{IsUnmarkedAndRooted};
 ghost use Rattle.apollo_executable.specs.declared.document.ExecutableDocument.{ExecutableDocument};
@@ -13,9 +15,57 @@ ghost use Rattle.apollo_compiler.specs.Headline.{HasOneWalk, IsFolded, all_items
 ghost use Rattle.apollo_compiler.specs.Lists.{executable_list, handed_in};
 ghost use Rattle.graphql_nodes.specs.Clones.{IsExact};
 
+// Names, nodes and containers: `==` compares text or value, without places, and tables and sets without order.
+pub use graphql_nodes::laws as nodes;
+
+// The syntax tree: `==` leaves out each location and nothing else, and each clone is the original.
+pub use graphql_ast::laws as ast;
+
+// Components: each place of a list is the first of its key or a later one; `==` leaves out origins, and clones keep them.
+pub use apollo_component::laws as component;
+
+// The types of a schema: `==` leaves out places, origins and the order of what stands under names.
+pub use apollo_types::laws as types;
+
+// What a list of definitions means: each type is its first definition with all its kind's extensions, in order; its faults, in
+// order; what is adopted, and which extensions have numbers; worked lists, computed.
+pub use apollo_meaning::laws as meaning;
+
+// Lists whose definitions change places: what each name means is equal, and the faults are the same in some order; and which
+// faults are of what is dropped.
+pub use apollo_rearrangement::laws as rearrangement;
+
+// Schemas and builders: a list means one schema; every builder stands for a list or has failed; subtypes are the implementers.
+pub use apollo_schema::laws as schema;
+pub use apollo_schema::laws::implementers;
+
+// The write-out: it builds again without fault to an equal schema with the same write-out, and folds no more extensions.
+pub use apollo_canonical::laws as write_out;
+pub use apollo_canonical::laws::canonical;
+
+// Builders of rearranged lists build equal schemas with the same faults, and documents one by one what one document would.
+pub use apollo_rearranged_builds::laws as rearranged_builds;
+pub use apollo_rearranged_builds::laws::{documents_one_by_one, rearranged};
+
+// Coordinates: what is printed of one is read as it, no text is that of two, and which texts are refused.
+pub use apollo_coordinate::laws as coordinate;
+pub use apollo_coordinate::laws::coordinates;
+
+// Walks over any selections: each field that is reached as often as it stands there, in one order, in at most 2N + 1 turns.
+pub use apollo_walks::laws as walks;
+
+// Typed documents: which fields stand in selections; `==` leaves out places and sources, and each clone is the original.
+pub use apollo_executable::laws as executable;
+
+// Untyped selections made into typed ones: a typed set is exactly what is typable, and each type in it is right.
+pub use apollo_elaboration::laws as elaboration;
+
+// Built documents: a write-out builds again to an equal document, and with which faults; every builder stands for a list or has
+// failed.
 use crate::compile_error::CompileError;
 use crate::compile_options::CompileOptions;
-use apollo_canonical::laws::canonical;
+pub use apollo_document::laws as document;
+pub use apollo_document::laws::document_again;
 use apollo_executable::selection::Field;
 use apollo_meaning::laws::folded_extensions;
 use apollo_walks::laws::{

@@ -1,5 +1,6 @@
 pub mod AppliedDirectives
 pub mod BareComponents
+pub mod Beginnings
 pub mod ComponentLending
 pub mod DirectivesLending
 pub mod EachAfter

@@ -1,6 +1,6 @@
 //! What stands among the parts of a definition or extension: GraphQL specification of October 2021, sections 3.3 and 3.5
 //! to 3.10.
-ghost use Rattle.std.specs.Prelude.{◌≡◌, OnOk};
+ghost use Rattle.std.specs.Prelude.{◌≡◌, OnOk, OnErr};
 ghost use Rattle.graphql_nodes.specs.NodeView.{NodeView};
 ghost use Rattle.graphql_ast.specs.DefinitionParts.{with_part};
 ghost use Rattle.graphql_ast.specs.declared.definition_parts.DefinitionPart.{DefinitionPart};
@@ -19,9 +19,10 @@ pub trait DefinitionItem: Drop {
     /// The part that it is.
     ghost part: { Self → DefinitionPart };
 
-    /// Adds it at the end of its list. The error is want of memory.
+    /// Adds it at the end of its list. The error is want of memory, after which the parts are as they were.
     fn push_to(self, parts: &mut DefinitionParts) -> Result<(), AllocError>
-        ensures { OnOk result (parts.new ≡ with_part (part self) parts.old) };
+        ensures added { OnOk result (parts.new ≡ with_part (part self) parts.old) }
+        ensures refused { OnErr result (parts.new ≡ parts.old) };
 }
 
 /// What stands in a node in one of the lists of a definition or extension.
@@ -29,9 +30,10 @@ pub trait NodePart: Drop {
     /// The part that a node of it is.
     ghost node_part: { NodeView Self → DefinitionPart };
 
-    /// Adds a node of it at the end of its list. The error is want of memory.
+    /// Adds a node of it at the end of its list. The error is want of memory, after which the parts are as they were.
     fn push_node(node: Node<Self>, parts: &mut DefinitionParts) -> Result<(), AllocError>
-        ensures { OnOk result (parts.new ≡ with_part (node_part node) parts.old) };
+        ensures added { OnOk result (parts.new ≡ with_part (node_part node) parts.old) }
+        ensures refused { OnErr result (parts.new ≡ parts.old) };
 
     /// Makes room at the end of its list for so many more. The error is want of memory.
     fn make_room(parts: &mut DefinitionParts, count: usize) -> Result<(), AllocError>
@@ -58,7 +60,8 @@ impl NodePart for Directive {
     ghost node_part = { sorts.Directive };
 
     fn push_node(node: Node<Self>, parts: &mut DefinitionParts) -> Result<(), AllocError>
-        ensures { OnOk result (parts.new ≡ with_part (sorts.Directive node) parts.old) }
+        ensures added { OnOk result (parts.new ≡ with_part (sorts.Directive node) parts.old) }
+        ensures refused { OnErr result (parts.new ≡ parts.old) }
     {
         parts.directives.push(node)
     }
@@ -72,7 +75,8 @@ impl NodePart for FieldDefinition {
     ghost node_part = { sorts.Field };
 
     fn push_node(node: Node<Self>, parts: &mut DefinitionParts) -> Result<(), AllocError>
-        ensures { OnOk result (parts.new ≡ with_part (sorts.Field node) parts.old) }
+        ensures added { OnOk result (parts.new ≡ with_part (sorts.Field node) parts.old) }
+        ensures refused { OnErr result (parts.new ≡ parts.old) }
     {
         parts.fields.push(node)
     }
@@ -86,7 +90,8 @@ impl NodePart for EnumValueDefinition {
     ghost node_part = { sorts.EnumValue };
 
     fn push_node(node: Node<Self>, parts: &mut DefinitionParts) -> Result<(), AllocError>
-        ensures { OnOk result (parts.new ≡ with_part (sorts.EnumValue node) parts.old) }
+        ensures added { OnOk result (parts.new ≡ with_part (sorts.EnumValue node) parts.old) }
+        ensures refused { OnErr result (parts.new ≡ parts.old) }
     {
         parts.values.push(node)
     }
@@ -100,7 +105,8 @@ impl NodePart for InputValueDefinition {
     ghost node_part = { sorts.InputField };
 
     fn push_node(node: Node<Self>, parts: &mut DefinitionParts) -> Result<(), AllocError>
-        ensures { OnOk result (parts.new ≡ with_part (sorts.InputField node) parts.old) }
+        ensures added { OnOk result (parts.new ≡ with_part (sorts.InputField node) parts.old) }
+        ensures refused { OnErr result (parts.new ≡ parts.old) }
     {
         parts.input_fields.push(node)
     }
@@ -114,7 +120,8 @@ impl NodePart for (OperationType, NamedType) {
     ghost node_part = { sorts.Root };
 
     fn push_node(node: Node<Self>, parts: &mut DefinitionParts) -> Result<(), AllocError>
-        ensures { OnOk result (parts.new ≡ with_part (sorts.Root node) parts.old) }
+        ensures added { OnOk result (parts.new ≡ with_part (sorts.Root node) parts.old) }
+        ensures refused { OnErr result (parts.new ≡ parts.old) }
     {
         parts.roots.push(node)
     }

@@ -1,6 +1,7 @@
 //! The parts of the extensions of a type or of a schema's definition.
 ghost use Rattle.std.specs.Prelude.{◌≡◌, [], ◌∷◌, ◌++◌, map, IfOk, OnOk};
 ghost use Rattle.graphql_ast.specs.DefinitionParts.{no_parts, with_part, type_extension, schema_extension};
+ghost use Rattle.apollo_component.specs.Beginnings.{Begins};
 ghost use Rattle.apollo_component.specs.Extensions.{place_of};
 ghost use Rattle.apollo_component.specs.ExtensionTables.{entries_held, with_extension_part};
 
@@ -77,7 +78,8 @@ impl ExtensionParts {
         name: &Name,
         written: &mut Vec<Definition>,
     ) -> Result<(), AllocError>
-        ensures { OnOk result (written.new.items ≡ written.old.items ++ map (λ e. type_extension kind name.now e.1 (place_of e.0)) self) }
+        ensures added { OnOk result (written.new.items ≡ written.old.items ++ map (λ e. type_extension kind name.now e.1 (place_of e.0)) self) }
+        ensures kept { Begins written.old.items written.new.items }
     {
         match self.held {
             HeldParts::Nothing => Ok(()),
@@ -166,7 +168,8 @@ fn write_types_of(
     name: &Name,
     written: &mut Vec<Definition>,
 ) -> Result<(), AllocError>
-    ensures { OnOk result (written.new.items ≡ written.old.items ++ map (λ e. type_extension kind name.now e.1 (place_of e.0)) extensions) }
+    ensures added { OnOk result (written.new.items ≡ written.old.items ++ map (λ e. type_extension kind name.now e.1 (place_of e.0)) extensions) }
+    ensures kept { Begins written.old.items written.new.items }
 {
     for (id, parts) in extensions.into_index_map() {
         written.push(parts.into_extension(alloc, kind, name.clone()?, id.location())?)?;

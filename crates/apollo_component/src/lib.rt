@@ -1,18 +1,21 @@
 //! Components of a schema: the parts of its types, each with the definition or extension that it comes from.
+//! The hidden modules serve the crates above, which write types out by them.
 #![tactic(auto)]
 
 pub mod component;
+#[doc(hidden)]
 pub mod definition_item;
 pub mod directive_list;
 pub mod extension;
+#[doc(hidden)]
 pub mod extension_parts;
 pub mod get_all;
 pub mod laws;
 pub mod named;
+#[doc(hidden)]
 pub mod parts_by_origin;
 
 pub use crate::component::{Component, ComponentName};
 pub use crate::directive_list::DirectiveList;
 pub use crate::extension::{ComponentOrigin, ExtensionId, ExtensionSource, IdsSpent};
 pub use crate::get_all::GetAll;
-pub use crate::parts_by_origin::PartsByOrigin;

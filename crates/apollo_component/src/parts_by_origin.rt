@@ -1,5 +1,6 @@
 //! The components of a type or of a schema's definition, put under their origins and written out.
 ghost use Rattle.std.specs.Prelude.{◌≡◌, List, [], ◌∷◌, ◌++◌, map, IfOk, OnOk};
+ghost use Rattle.apollo_component.specs.Beginnings.{Begins};
 ghost use Rattle.apollo_component.specs.WriteOut.{SourcedPart, sourced, sourced_name, by_origin, written_type, written_schema};
 
 use crate::component::{Component, ComponentName};
@@ -101,7 +102,7 @@ impl PartsByOrigin {
     }
 
     /// Adds a type of this kind as syntax at the end: its definition, at this place, then its extensions, each at its own.
-    /// The error is want of memory, after which nothing is said of `written`.
+    /// The error is want of memory, after which `written` begins with what it held.
     pub fn write_type(
         self,
         alloc: Global,
@@ -111,7 +112,8 @@ impl PartsByOrigin {
         location: Option<SourceSpan>,
         written: &mut Vec<Definition>,
     ) -> Result<(), AllocError>
-        ensures { OnOk result (written.new.items ≡ written.old.items ++ written_type kind description name.now self location) }
+        ensures added { OnOk result (written.new.items ≡ written.old.items ++ written_type kind description name.now self location) }
+        ensures kept { Begins written.old.items written.new.items }
     {
         let PartsByOrigin {
             definition,

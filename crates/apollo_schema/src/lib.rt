@@ -5,6 +5,8 @@ pub mod build_failure;
 pub mod field_lookup_error;
 pub mod implementers;
 pub mod laws;
+// Contracts of other crates name `Schema`, and so want the types of its fields exported.
+#[doc(hidden)]
 pub mod meta_fields;
 pub mod orphan_names;
 pub mod schema;
@@ -16,7 +18,6 @@ mod write_out;
 pub use crate::build_failure::{BuildFailure, WithErrors};
 pub use crate::field_lookup_error::FieldLookupError;
 pub use crate::implementers::{Implementers, ImplementersIter};
-pub use crate::meta_fields::MetaFields;
 pub use crate::orphan_names::OrphanNames;
 pub use crate::schema::Schema;
 pub use crate::schema_builder::SchemaBuilder;

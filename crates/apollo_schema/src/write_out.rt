@@ -11,8 +11,8 @@ use graphql_nodes::name::Name;
 use graphql_nodes::node::Node;
 use std::alloc::{AllocError, Global};
 
-/// Adds the directive definitions at the end, in order, without the built-in ones.
-pub fn write_directives(
+/// Adds the directive definitions at the end, in order, without the built-in ones. The error is want of memory.
+pub(crate) fn write_directives(
     definitions: &Table<Name, Node<DirectiveDefinition>>,
     written: &mut Vec<Definition>,
 ) -> Result<(), AllocError>
@@ -26,8 +26,9 @@ pub fn write_directives(
     Ok(())
 }
 
-/// Adds a type at the end: its definition, unless that is a built-in one, and then its extensions.
-pub fn write_type(
+/// Adds a type at the end: its definition, unless that is a built-in one, and then its extensions. The error is want of
+/// memory.
+pub(crate) fn write_type(
     alloc: Global,
     ty: &ExtendedType,
     written: &mut Vec<Definition>,

@@ -74,7 +74,9 @@ impl<'a> View for Comparison<'a> {
     }
 }
 
-fn add_all(builder: &mut SchemaBuilder, documents: &[Document]) {
+/// Adds each document.
+/// No clause: it serves tests.
+pub fn add_all(builder: &mut SchemaBuilder, documents: &[Document]) {
     for document in documents {
         // After a refusal no schema is built.
         let _ = builder.add_ast(document);
@@ -197,7 +199,8 @@ impl<'a> Account<'a> {
         match failure {
             BuildFailure::Faults(found) => self.push_faults(found.errors.as_slice()),
             BuildFailure::Failed => self.text.push_str("failed\n"),
-            BuildFailure::Memory | BuildFailure::ExtensionIds => self.text.push_str("not built\n"),
+            BuildFailure::ExtensionIds => self.text.push_str("no number is left\n"),
+            BuildFailure::Memory => self.text.push_str("not built\n"),
         }
     }
 }

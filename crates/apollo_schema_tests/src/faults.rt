@@ -1,8 +1,11 @@
 //! Faults of schema definitions, and refusals.
 
-use crate::building::{PLAIN, Settings, expect};
+use crate::building::{PLAIN, Settings, add_all, begun, expect};
 use apollo_component::extension::IdsSpent;
 use apollo_folding::builder_error::BuilderError;
+use bench_notation::reading::read;
+use graphql_ast::document::Document;
+use std::alloc::{AllocError, Global};
 use std::test::Fail;
 
 #[test]
@@ -20,31 +23,36 @@ fn a_schema_extension_alone(rt: HostRuntime) -> Result<(), Fail> {
     expect(&rt, PLAIN, "ext-schema\n@ d", account)
 }
 
-/// Two extensions in one document.
-const TOGETHER: &str = "ext scalar String\n@ from\next scalar String\n@ from";
+/// Two extensions of a type, in one document.
+const TOGETHER: &str = "def object T\next object T\nfield a Int\next object T\nfield b Int";
 
-/// Two extensions in two documents.
-const APART: &str = "ext scalar String\n@ from\n---\next scalar String\n@ from";
+/// An extension of a built-in type, and the same in a further document.
+const APART: &str =
+    "directive d\non SCALAR\next scalar String\n@ d\n---\ndirective d\non SCALAR\next scalar String\n@ d";
+
+/// No number is left to give.
+const SPENT: Settings = Settings {
+    first_number: u64::MAX,
+    adopts: false,
+};
+
+/// One number is left to give.
+const NEARLY_SPENT: Settings = Settings {
+    first_number: u64::MAX - 1,
+    adopts: false,
+};
 
 #[test]
 fn the_largest_number_is_not_given(rt: HostRuntime) -> Result<(), Fail> {
-    let settings = Settings {
-        first_number: u64::MAX,
-        adopts: false,
-    };
     let account =
         "extension identities spent\nbuilder has failed\nfailed\n18446744073709551615 is next\n";
-    expect(&rt, settings, APART, account)
+    expect(&rt, SPENT, APART, account)
 }
 
 #[test]
 fn a_refusal_leaves_the_source_where_it_stood(rt: HostRuntime) -> Result<(), Fail> {
-    let settings = Settings {
-        first_number: u64::MAX - 1,
-        adopts: false,
-    };
     let account = "extension identities spent\nfailed\n18446744073709551614 is next\n";
-    expect(&rt, settings, TOGETHER, account)
+    expect(&rt, NEARLY_SPENT, TOGETHER, account)
 }
 
 #[test]
@@ -54,8 +62,49 @@ fn a_source_is_handed_back(rt: HostRuntime) -> Result<(), Fail> {
         adopts: false,
     };
     let account =
-        "ext scalar String\n@ from\next scalar String\n@ from\nrebuilt equal: true\ncopied equal: true, true, true\n9 is next\n";
+        "a in extension 7 of line 2\nb in extension 8 of line 4\ndef object T\next object T\nfield a Int\next object T\nfield b Int\nrebuilt equal: true\ncopied equal: true, true, true\n9 is next\n";
     expect(&rt, settings, TOGETHER, account)
+}
+
+/// Whether documents are built with the one number that is left, and none is drawn after it.
+fn is_spent_by(alloc: Global, documents: &[Document]) -> Result<bool, AllocError> {
+    let mut builder = begun(alloc, NEARLY_SPENT)?;
+    add_all(&mut builder, documents);
+    let (built, mut source) = builder.build_with_source();
+    Ok(built.is_ok() && source.draw(None) == Err(IdsSpent))
+}
+
+#[test]
+fn after_the_last_number_none_is_drawn(rt: HostRuntime) -> Result<(), Fail> {
+    let documents = read(rt.alloc(), "def object T\next object T\nfield a Int")?;
+    let is_spent = is_spent_by(rt.alloc(), documents.as_slice())?;
+    assert!(rt; is_spent);
+    Ok(())
+}
+
+#[test]
+fn an_extension_that_is_not_folded_takes_no_number(rt: HostRuntime) -> Result<(), Fail> {
+    let account =
+        "T waits\n1:1-1 type extension for undefined type `T`\nfaults copied equal: true\nrebuilt equal: true\ncopied equal: true, true, true\n18446744073709551615 is next\n";
+    expect(&rt, SPENT, "ext object T", account)?;
+    let account =
+        "1:1-1 adding an enum type extension, but `T` is an object type\nfaults copied equal: true\nx in the definition\ndef object T\nfield x Int\nrebuilt equal: true\ncopied equal: true, true, true\n18446744073709551615 is next\n";
+    expect(
+        &rt,
+        SPENT,
+        "ext enum T\nvalue A\ndef object T\nfield x Int",
+        account,
+    )
+}
+
+#[test]
+fn an_adopted_extension_takes_a_number(rt: HostRuntime) -> Result<(), Fail> {
+    let settings = Settings {
+        first_number: u64::MAX,
+        adopts: true,
+    };
+    let account = "T waits\nno number is left\n18446744073709551615 is next\n";
+    expect(&rt, settings, "ext object T", account)
 }
 
 #[test]

@@ -210,6 +210,27 @@ fn fields_are_those_of_types_and_meta_fields(rt: HostRuntime) -> Result<(), Fail
     )
 }
 
+/// A query for an identity and a user, and the users' identities.
+const IDENTITIES: &str =
+    "def object Query\nfield id ID\nfield user User\ndef object User\nfield id ID\n";
+
+#[test]
+fn the_schema_field_is_that_of_the_root_of_queries_alone(rt: HostRuntime) -> Result<(), Fail> {
+    let names = [
+        ("Query", "__schema"),
+        ("User", "__typename"),
+        ("User", "__schema"),
+        ("ID", "__typename"),
+        ("Gone", "id"),
+    ];
+    expect(
+        &rt,
+        &Fields { names: &names },
+        IDENTITIES,
+        "Query __schema is __Schema!\nUser __typename is String!\nUser __schema: no such field under User, which is User\nID __typename: no such field under ID, which is ID\nGone id: no such type\n",
+    )
+}
+
 #[test]
 fn a_declared_field_comes_first_and_any_root_of_queries_has_meta_fields(
     rt: HostRuntime,

@@ -53,6 +53,7 @@ impl ExtendedType {
     ghost use Rattle.apollo_types.specs.TypeKinds.{as_scalar, as_object, as_interface, as_union, as_enum, as_input_object, is_scalar, is_object, is_interface, is_union, is_enum, is_input_object, is_leaf, is_composite, is_input_type, is_output_type};
     ghost use Rattle.apollo_types.specs.TypeWriteOut.{write_type, type_kind, type_name, type_location, type_directives, type_description, type_components};
     ghost use Rattle.apollo_types.specs.Components.{ComponentsInOrder, OriginsInOrder};
+    ghost use Rattle.apollo_component.specs.Beginnings.{Begins};
     ghost use Rattle.apollo_component.specs.WriteOut.{origins_in, identities};
 
     /// The kind of the type.
@@ -314,9 +315,10 @@ impl ExtendedType {
     }
 
     /// Adds the type as syntax at the end, as [`to_ast`](ExtendedType::to_ast) answers it. The error is want of memory, after
-    /// which nothing is said of `written`.
+    /// which `written` begins with what it held.
     pub fn write_to(&self, alloc: Global, written: &mut Vec<Definition>) -> Result<(), AllocError>
-        ensures { OnOk result (written.new.items ≡ written.old.items ++ write_type self.now) }
+        ensures added { OnOk result (written.new.items ≡ written.old.items ++ write_type self.now) }
+        ensures kept { Begins written.old.items written.new.items }
     {
         add_type(
             alloc,

@@ -1,6 +1,7 @@
 //! Types, and the schema's definition, as syntax.
 ghost use Rattle.std.specs.Prelude.{◌≡◌, List, ◌∷◌, [], ◌++◌, IfOk, OnOk};
 ghost use Rattle.std.specs.Option.{option_copied};
+ghost use Rattle.apollo_component.specs.Beginnings.{Begins};
 ghost use Rattle.apollo_component.specs.WriteOut.{identities, by_origin, written_type};
 ghost use Rattle.apollo_component.specs.declared.extension.ComponentOrigin.{ComponentOrigin as Origin};
 
@@ -41,7 +42,7 @@ pub(crate) fn identities_of(
 }
 
 /// Adds the type that these components make as syntax at the end: its definition, at this place, then its extensions. The
-/// error is want of memory.
+/// error is want of memory, after which `written` begins with what it held.
 pub(crate) fn add_type(
     alloc: Global,
     kind: TypeKind,
@@ -51,7 +52,8 @@ pub(crate) fn add_type(
     location: Option<SourceSpan>,
     written: &mut Vec<Definition>,
 ) -> Result<(), AllocError>
-    ensures { OnOk result (written.new.items ≡ written.old.items ++ written_type kind (option_copied description.entry) name.now (by_origin components.entry) location) }
+    ensures added { OnOk result (written.new.items ≡ written.old.items ++ written_type kind (option_copied description.entry) name.now (by_origin components.entry) location) }
+    ensures kept { Begins written.old.items written.new.items }
 {
     let parts = components.by_origin(alloc)?;
     let copy = description.cloned()?;

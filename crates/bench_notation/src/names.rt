@@ -1,5 +1,5 @@
 //! Names, each of which shares its text with one that was read before, where that is still at hand.
-ghost use Rattle.std.specs.Prelude.{◌≡◌, IfErr, IfOk};
+ghost use Rattle.std.specs.Prelude.{◌≡◌, IfErr, IfOk, OnOk};
 ghost use Rattle.graphql_nodes.specs.NameSyntax.{IsName};
 ghost use Rattle.bench_notation.specs.Line.{IsNameAt};
 ghost use Rattle.bench_notation.specs.Refusals.{WhenRefused};
@@ -16,6 +16,7 @@ const MOST_NAMES: usize = 1024;
 struct Kept {
     hash: u32,
     name: Name,
+    ghost is_name: { ¬ ¬ IsName name.text },
 }
 
 impl Drop for Kept {
@@ -57,27 +58,28 @@ impl Names {
         ensures name { IfOk result (IsNameAt place) }
         ensures refused { IfErr result (WhenRefused (¬ IsName word.now)) }
     {
-        if !Name::is_valid_syntax(word) {
-            return Err(LineError::Refused(Reason::BadWord));
-        }
         Ok(self.shared(word)?.with_location(place))
     }
 
-    /// A name of this text, which is at hand from now on if its place is free.
-    fn shared(&mut self, word: &str) -> Result<Name, AllocError>
-        ensures { IfOk result (λ name. name.text ≡ word.now) }
+    /// The name that a word is, which is at hand from now on if its place is free. What is at hand was looked at before.
+    fn shared(&mut self, word: &str) -> Result<Name, LineError>
+        ensures text { IfOk result (λ name. name.text ≡ word.now) }
+        ensures name { OnOk result (IsName word.now) }
+        ensures refused { IfErr result (WhenRefused (¬ IsName word.now)) }
     {
         let alloc = self.alloc();
         let hash = hash_of(word);
         let index = index_of(hash, self.places.len());
         let Some(place) = self.places.get_mut(index) else {
-            return Name::new_unchecked(alloc, word);
+            return new_name(alloc, word);
         };
         match place {
-            Some(kept) if kept.hash == hash && kept.name.as_str() == word => kept.name.clone(),
-            Some(_) => Name::new_unchecked(alloc, word),
+            Some(kept) if kept.hash == hash && kept.name.as_str() == word => {
+                Ok(kept.name.clone()?)
+            }
+            Some(_) => new_name(alloc, word),
             None => {
-                let name = Name::new_unchecked(alloc, word)?;
+                let name = new_name(alloc, word)?;
                 *place = Some(Kept {
                     hash,
                     name: name.clone()?,
@@ -86,6 +88,18 @@ impl Names {
             }
         }
     }
+}
+
+/// The name that a word is, with a text of its own. A word that is no name is a bad word.
+fn new_name(alloc: Global, word: &str) -> Result<Name, LineError>
+    ensures text { IfOk result (λ name. name.text ≡ word.now) }
+    ensures name { OnOk result (IsName word.now) }
+    ensures refused { IfErr result (WhenRefused (¬ IsName word.now)) }
+{
+    if !Name::is_valid_syntax(word) {
+        return Err(LineError::Refused(Reason::BadWord));
+    }
+    Ok(Name::new_unchecked(alloc, word)?)
 }
 
 /// A hash of a word (FNV-1a).

@@ -63,7 +63,7 @@ fn body_of<'a>(word: &'a str) -> (&'a str, bool)
     }
 }
 
-/// Adds a type to a text.
+/// Adds a type to a text. The error is want of memory, after which nothing is said of the text: drop it.
 pub fn push_type(text: &mut String, ty: &Type) -> Result<(), AllocError>
     ensures { OnOk result (string_bytes text.new ≡ string_bytes text.old ++ type_text ty.now) }
 {

@@ -1,5 +1,6 @@
 //! The lines of a text, the words of a line, and what a word begins or ends with.
-ghost use Rattle.std.specs.Prelude.{◌≡◌, ◌≢◌, ◌++◌, ℕ, List, IfOk, MatchOption, OnOk};
+ghost use Rattle.std.specs.Prelude.{◌≡◌, ◌≢◌, ◌<◌, ◌==◌, ◌++◌, ℕ, List, IfOk, MatchOption, OnOk};
+ghost use Rattle.std.specs.List.{slice_split};
 ghost use Rattle.bench_notation.specs.Line.{lines_of, texts_of, words_of};
 
 use std::alloc::{AllocError, Global};
@@ -8,15 +9,33 @@ use std::alloc::{AllocError, Global};
 pub fn lines_of(alloc: Global, text: &str) -> Result<Vec<&str>, AllocError>
     ensures { IfOk result (λ lines. texts_of lines.items ≡ lines_of text.now) }
 {
-    text.split('\n').collect(alloc)
+    let mut lines = Vec::new(alloc);
+    push_pieces(&mut lines, text, b'\n')?;
+    Ok(lines)
 }
 
-/// Takes the words of a line, which stand between its spaces, in place of those that were there.
-pub fn take_words<'a>(words: &mut Vec<&'a str>, line: &'a str) -> Result<(), AllocError>
+/// Takes the words of a line, which stand between its spaces, in place of those that were there. The error is want of memory.
+pub(crate) fn take_words<'a>(words: &mut Vec<&'a str>, line: &'a str) -> Result<(), AllocError>
     ensures { OnOk result (texts_of words.new.items ≡ words_of line.now) }
 {
     words.clear();
-    words.extend(line.split(' '))
+    push_pieces(words, line, b' ')
+}
+
+/// Adds the pieces of a text that stand between the bytes of this value, which is an ASCII character.
+fn push_pieces<'a>(pieces: &mut Vec<&'a str>, text: &'a str, between: u8) -> Result<(), AllocError>
+    requires { between < 128 }
+    ensures { OnOk result (texts_of pieces.new.items ≡ texts_of pieces.old.items ++ slice_split (λ b. b == between) text.now) }
+{
+    let mut start = 0;
+    for (at, byte) in text.as_bytes().iter().enumerate() {
+        if *byte == between {
+            pieces.push(&text[start..at])?;
+            start = at + 1;
+        }
+    }
+    pieces.push(&text[start..])?;
+    Ok(())
 }
 
 /// What follows `prefix` in a text that begins with it, and none in any other.

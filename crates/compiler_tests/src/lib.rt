@@ -9,7 +9,11 @@ mod compiled;
 #[cfg(test)]
 mod failures;
 #[cfg(test)]
+mod field_definitions;
+#[cfg(test)]
 mod hash_keys;
+#[cfg(test)]
+mod inputs;
 #[cfg(test)]
 mod many_extensions;
 #[cfg(test)]

@@ -54,7 +54,8 @@ pub fn object(
 }
 
 /// An object type whose field has a directive with an argument, and the type `Query`.
-fn products(alloc: Global) -> Result<Document, AllocError> {
+/// No clause: it serves tests.
+pub fn products(alloc: Global) -> Result<Document, AllocError> {
     let top = Node::new(alloc, field(alloc, "topProducts", "Product")?)?;
     let mut document = Document::new(alloc);
     document

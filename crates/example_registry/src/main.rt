@@ -9,15 +9,7 @@ use apollo_compiler::compiled::Compiled;
 use apollo_compiler::{CompileOptions, Document, HashKeys, compile_with_keys};
 use bench_notation::reading::read;
 use std::process::ExitCode;
-use std::random::RandomSource;
 use std::{env, fs};
-
-/// Keys that nobody can foretell: uploads come from strangers, who could make names that all collide under known ones.
-fn drawn_keys(rt: &HostRuntime) -> Result<HashKeys> {
-    let mut bytes = [0; 16];
-    rt.fill_bytes(&mut bytes).context("drawing keys")?;
-    Ok(HashKeys::from_bytes(bytes))
-}
 
 /// The documents of the files, in the order of the command line.
 fn documents(rt: &HostRuntime) -> Result<Vec<Document>> {
@@ -56,7 +48,8 @@ fn main(rt: HostRuntime) -> Result<ExitCode> {
         adopt_orphan_extensions: true,
         ignore_builtin_redefinitions: false,
     };
-    let keys = drawn_keys(&rt)?;
+    // Uploads come from strangers, who could make names that all collide under keys that they know.
+    let keys = HashKeys::drawn(&rt).context("drawing keys")?;
     let compiled = compile_with_keys(rt.alloc(), keys, options, documents.as_slice(), &[], true)?;
     print_report(&rt, &compiled)?;
     match compiled.schema_faults.is_empty() {

@@ -23,12 +23,6 @@ pub fn chosen_keys<S: RandomSource>(source: &S, choice: KeyChoice) -> Result<Has
 {
     match choice {
         KeyChoice::Fixed => Ok(HashKeys::FIXED),
-        KeyChoice::Random => {
-            let mut bytes = [0; 16];
-            match source.fill_bytes(&mut bytes) {
-                Ok(()) => Ok(HashKeys::from_bytes(bytes)),
-                Err(_) => Err(Failure::Randomness),
-            }
-        }
+        KeyChoice::Random => HashKeys::drawn(source).map_err(|_| Failure::Randomness),
     }
 }

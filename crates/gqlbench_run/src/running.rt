@@ -17,7 +17,7 @@ use crate::schema_phases::schema_report;
 use crate::walk_phases::walk_report;
 use bench_notation::reading::{DividedDocuments, read, read_divided};
 use gqltool_run::failure::Failure as InputFailure;
-use gqltool_run::input::read_all;
+use gqltool_run::input::Input;
 use gqltool_run::running::write_out;
 use gqltool_run::status::Status;
 use graphql_ast::document::Document;
@@ -96,7 +96,7 @@ fn report<C: Clock, S: RandomSource, R: Read, E: Write>(
 fn read_input<R: Read>(alloc: Global, reader: &mut R) -> Result<String, InputFailure>
     ensures { IfOk result (λ text. IfSome (R.remaining reader.old) (λ input. string_bytes text ≡ input)) }
 {
-    Ok(read_all(alloc, reader)?)
+    Ok(reader.read_all(alloc)?)
 }
 
 /// The documents of an input that nothing divides.

@@ -1,5 +1,5 @@
 -- Runs of rows, and the report on them.
-use Rattle.std.proofs.Common.{◌≡◌, ℕ, ◌+◌, ◌<◌, Bool, true, false, not, ◌&&◌, cond, List, [], ◌∷◌, ◌++◌, All, get_or, length, map, take, refl, sym, ap, ◌∙◌, arith, eqb, zero-add}
+use Rattle.std.proofs.Common.{◌≡◌, ℕ, ◌+◌, ◌<◌, Bool, true, false, not, ◌&&◌, cond, List, [], ◌∷◌, ◌++◌, All, IfSome, Option, Some, get_or, length, map, take, refl, sym, ap, subst, ◌∙◌, arith, eqb, zero-add}
 use Rattle.std.specs.List.{flat_map, count_by}
 use Rattle.std.specs.Cmp.Lexicographic.{same_text}
 use Rattle.std.proofs.lemmas.Bool.{eqb-true, true≢false}
@@ -7,12 +7,17 @@ use Rattle.std.proofs.lemmas.Grind.{common_steps, flat_map-append}
 use Rattle.std.proofs.lemmas.List.{append-nil, length-map, take_more}
 use Rattle.std.proofs.lemmas.List.Elements.{All-append, All-cons, All-nil}
 use Rattle.std.proofs.lemmas.List.Sums.{sum_by-append, sum_by-cons}
+use Rattle.std.proofs.lemmas.Option.{IfSome_then}
+use Rattle.bench_notation.specs.Line.{lines_of}
 use Rattle.gqltool_run.specs.Status.{exit_code}
 use Rattle.gqlrows_run.specs.declared.row.Row.{Row}
 use Rattle.gqlrows_run.specs.Rows.{row_view, rows_of}
 use Rattle.gqlrows_run.specs.Runs.{Ran, IsRun, AreRunsOf, IsAsExpected, AllAgree}
 use Rattle.graphql_nodes.specs.SameText.{same}
-use Rattle.gqlrows_run.specs.Report.{differs, report_on, count_text, IsReportOn}
+use Rattle.gqlrows_run.specs.FileLines.{IsReadError, refused_of}
+use Rattle.gqlrows_run.specs.Report.{differs, report_on, count_text, IsFileCause, IsReportOn}
+use Rattle.gqlrows_run.specs.declared.refusal.ReadError.{ReadError}
+use Rattle.gqlrows_run.specs.declared.refusal.ReadError.TheVariants as errors
 
 pub one_more_run : (rows : List Row) (i : ℕ) (row : Row) (runs : List Ran) (ran : Ran) → i < length rows → row ≡ get_or rows i row → AreRunsOf (map row_view (take i rows)) runs → ran.row ≡ row_view row → IsRun ran
     → AreRunsOf (map row_view (take (i + 1) rows)) (runs ++ ran ∷ [])
@@ -72,3 +77,10 @@ agreement lines text differing none is =
       record { runs = is.runs; are = is.are; agree = agree.0 },
       is.tells ∙ ap (λ t. t ++ count_text (length is.runs) (count_by differs is.runs)) agree.1 ∙ counted,
     )
+
+-- why the lines of a text that was read give no rows is why the file's give none
+pub file_cause : (held : Option (List ℕ)) (may_fail : Type 0) (text : List ℕ) (error : ReadError) → IfSome held (λ input. text ≡ input) → IsReadError (lines_of text) error → IsFileCause held may_fail error
+file_cause held may_fail text (errors.Refused refused) is cause =
+    IfSome_then held {P = λ input. text ≡ input} {Q = λ input. refused_of (lines_of input) ≡ Some refused} is (λ input same. subst (λ (t : List ℕ). refused_of (lines_of t) ≡ Some refused) same cause)
+file_cause held may_fail text errors.CannotRead is cause = absurd cause
+file_cause held may_fail text errors.Memory is cause = tt

@@ -1,9 +1,10 @@
 -- The report on rows that ran.
-use Rattle.std.specs.Prelude.{◌≡◌, ◌<◌, ℕ, Bool, true, not, Option, None, List, [], ◌∷◌, ◌++◌, ◌==◌, ◌&&◌, if◌then◌else◌, codes, decimal, length}
+use Rattle.std.specs.Prelude.{◌≡◌, ◌<◌, ℕ, Bool, true, not, Option, None, Some, IfSome, List, [], ◌∷◌, ◌++◌, ◌==◌, ◌&&◌, if◌then◌else◌, codes, decimal, length}
 use Rattle.std.specs.List.{flat_map, count_by}
 use Rattle.std.specs.Io.KnownBytes.{Appends}
 use Rattle.graphql_nodes.specs.SameText.{same}
 use Rattle.bench_notation.specs.Line.{lines_of}
+use Rattle.gqltool_run.specs.Inputs.{CannotBeRead}
 use Rattle.gqltool_run.specs.Status.{exit_code}
 use Rattle.gqltool_run.specs.declared.input.InputError.{InputError}
 use Rattle.gqltool_run.specs.declared.input.InputError.TheVariants as i
@@ -76,3 +77,14 @@ abbrev pub ending_of : ReadError → Status
 ending_of (e.Refused refused) = s.Refused
 ending_of e.CannotRead = s.Refused
 ending_of e.Memory = s.Exhausted
+
+-- why the rows of a file are not read that holds these bytes, if they are known, and may fail for this: it can't be read, or a
+-- line says nothing, the first such; want of memory says nothing
+abbrev pub IsFileCause : Option (List ℕ) → Type 0 → ReadError → Type 0
+IsFileCause held may_fail (e.Refused refused) = IfSome held (λ input. refused_of (lines_of input) ≡ Some refused)
+IsFileCause held may_fail e.CannotRead = CannotBeRead held may_fail
+IsFileCause held may_fail e.Memory = Unit {0}
+
+-- there is such a cause, and it ends a run so
+abbrev pub HasFileCause : Option (List ℕ) → Type 0 → Status → Type 0
+HasFileCause held may_fail status = (error : ReadError) × ((ending_of error ≡ status) × IsFileCause held may_fail error)

@@ -1,20 +1,19 @@
 -- What comes of running a row.
-use Rattle.std.specs.Prelude.{◌≡◌, ℕ, Bool, true, false, List, [], All, map}
+use Rattle.std.specs.Prelude.{◌≡◌, ℕ, Bool, true, false, List, [], All, Some, map}
 use Rattle.gqltool_run.specs.declared.status.Status.{Status}
 use Rattle.gqltool_run.specs.declared.status.Status.TheVariants as s
-use Rattle.gqltool_run.specs.Commands.{AreRefused, IsAnswerTo}
+use Rattle.gqltool_run.specs.Commands.{IsAnswerTo}
+use Rattle.gqltool_run.specs.Runs.{HaveCause}
 use Rattle.gqltool_run.specs.Status.{exit_code}
-use Rattle.gqltool_run.specs.Tasks.{AreNoCommand}
 use Rattle.gqlrows_run.specs.Rows.{RowView}
 
 -- this status, output and standard error may come of a run with these words and this input: the output is the answer to them,
--- and nothing is said beside it; or there is none, since they are refused or memory was wanting
+-- and nothing is said beside it; or there is none, for a cause that ends a run so
 abbrev pub IsOutcome : List (List ℕ) → List ℕ → Status → List ℕ → List ℕ → Type 0
 IsOutcome words input s.Done output errors = IsAnswerTo words input output false × (errors ≡ [])
 IsOutcome words input s.Faults output errors = IsAnswerTo words input output true × (errors ≡ [])
-IsOutcome words input s.Refused output errors = (output ≡ []) × AreRefused words input
--- words that are no command are refused
-IsOutcome words input s.Exhausted output errors = (output ≡ []) × ¬ AreNoCommand words
+IsOutcome words input s.Refused output errors = (output ≡ []) × HaveCause words (Some input) ⊥ s.Refused
+IsOutcome words input s.Exhausted output errors = (output ≡ []) × HaveCause words (Some input) ⊥ s.Exhausted
 IsOutcome words input s.NotWritten output errors = (text : List ℕ) × ((has_faults : Bool) × IsAnswerTo words input text has_faults)
 
 -- a row, and what came of its run

@@ -2,7 +2,8 @@
 ghost use Rattle.std.specs.Prelude.{map};
 ghost use Rattle.gqlrows_run.specs.Runs.{IsOutcome};
 
-use gqltool_run::running::run_on_text;
+use gqltool_run::input::BytesAtHand;
+use gqltool_run::running::run;
 use gqltool_run::status::Status;
 use std::alloc::Global;
 
@@ -27,9 +28,10 @@ impl Drop for Outcome {
 pub fn outcome_of(alloc: Global, words: &[&str], input: &str) -> Outcome
     ensures { IsOutcome (map (λ word. word.now) words.now) input.now result.status result.output.items result.errors.items }
 {
+    let mut reader = BytesAtHand(input.as_bytes());
     let mut output = Vec::new(alloc);
     let mut errors = Vec::new(alloc);
-    let status = run_on_text(alloc, words, input, &mut output, &mut errors);
+    let status = run(alloc, words, &mut reader, &mut output, &mut errors);
     Outcome {
         status,
         output,

@@ -1,37 +1,37 @@
 //! The whole run over a file of rows.
-ghost use Rattle.std.specs.Prelude.{◌≡◌, ◌<◌, None, IfOk, IfSome, OnOk};
+ghost use Rattle.std.specs.Prelude.{◌≡◌, ◌<◌, None, IfErr, IfOk, IfSome, OnOk};
 ghost use Rattle.std.specs.Io.KnownBytes.{Appends};
 ghost use Rattle.gqltool_run.specs.Status.{Writes};
 ghost use Rattle.bench_notation.specs.Line.{lines_of};
 ghost use Rattle.gqlrows_run.specs.FileLines.{refused_of};
-ghost use Rattle.gqlrows_run.specs.Report.{HaveReport, IsReportOn, TellsDifferences, TellsNone, ending_of};
+ghost use Rattle.gqlrows_run.specs.Report.{HasFileCause, HaveReport, IsFileCause, IsReportOn, TellsDifferences, TellsNone, ending_of};
 
 use crate::reading::read_rows;
 use crate::refusal::ReadError;
 use crate::report::{Report, run_all};
-use gqltool_run::input::read_all;
+use gqltool_run::input::Input;
 use gqltool_run::status::Status;
 use std::alloc::Global;
-use std::io::{self, Read, Write};
+use std::io::{self, Write};
 
 /// Reads a file of rows, runs each, and writes which differ from what they expect, and how many.
 ///
-/// `Done` is the answer where none differs, `Faults` where one does, `Refused` where the file is refused, `Exhausted`
-/// where memory is wanting, and `NotWritten` where the report cannot be written. What is wrong with the file is said on
-/// `errors`, in one line; that it cannot be said there changes nothing.
-pub fn run_rows<R: Read, O: Write, E: Write>(
+/// `Done` is the answer where none differs, `Faults` where one does, `Refused` where the file can't be read or one of its
+/// lines says nothing where it stands, `Exhausted` where memory is wanting, and `NotWritten` where the report cannot be
+/// written. What is wrong with the file is said on `errors`, in one line; that it cannot be said there changes nothing.
+pub fn run_rows<R: Input, O: Write, E: Write>(
     alloc: Global,
     reader: &mut R,
     output: &mut O,
     errors: &mut E,
 ) -> Status
-    ensures refused { result ≡ Status.Refused → output.new ≡ output.old }
+    ensures refused { result ≡ Status.Refused → (output.new ≡ output.old) × HasFileCause (R.holds reader.old) (R.may_fail reader.old) Status.Refused }
     ensures exhausted { result ≡ Status.Exhausted → output.new ≡ output.old }
     ensures quiet { Writes result → errors.new ≡ errors.old }
-    ensures says { Writes result → IfSome (R.remaining reader.old) (λ input. refused_of (lines_of input) ≡ None) }
-    ensures agree { result ≡ Status.Done → IfSome (R.remaining reader.old) (λ input. TellsNone input (O.contents output.old) (O.contents output.new)) }
-    ensures differ { result ≡ Status.Faults → IfSome (R.remaining reader.old) (λ input. TellsDifferences input (O.contents output.old) (O.contents output.new)) }
-    ensures not_written { result ≡ Status.NotWritten → IfSome (R.remaining reader.old) HaveReport }
+    ensures says { Writes result → IfSome (R.holds reader.old) (λ input. refused_of (lines_of input) ≡ None) }
+    ensures agree { result ≡ Status.Done → IfSome (R.holds reader.old) (λ input. TellsNone input (O.contents output.old) (O.contents output.new)) }
+    ensures differ { result ≡ Status.Faults → IfSome (R.holds reader.old) (λ input. TellsDifferences input (O.contents output.old) (O.contents output.new)) }
+    ensures not_written { result ≡ Status.NotWritten → IfSome (R.holds reader.old) HaveReport }
 {
     let report = match answer(alloc, reader) {
         Ok(report) => report,
@@ -61,10 +61,11 @@ fn status_of(error: ReadError) -> Status
 }
 
 /// The report on the rows that the whole input says.
-fn answer<R: Read>(alloc: Global, reader: &mut R) -> Result<Report, ReadError>
-    ensures { IfOk result (λ report. IfSome (R.remaining reader.old) (λ input. IsReportOn (lines_of input) report.text.items report.differing)) }
+fn answer<R: Input>(alloc: Global, reader: &mut R) -> Result<Report, ReadError>
+    ensures report { IfOk result (λ report. IfSome (R.holds reader.old) (λ input. IsReportOn (lines_of input) report.text.items report.differing)) }
+    ensures causes { IfErr result (IsFileCause (R.holds reader.old) (R.may_fail reader.old)) }
 {
-    let text = read_all(alloc, reader)?;
+    let text = reader.read_all(alloc)?;
     let rows = read_rows(alloc, text.as_str())?;
     Ok(run_all(alloc, rows.as_slice())?)
 }

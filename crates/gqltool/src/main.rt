@@ -7,15 +7,10 @@ use gqltool_run::status::Status;
 use graphql_nodes::collections::hash_keys::HashKeys;
 use std::io;
 use std::process::ExitCode;
-use std::random::RandomSource;
 
 /// Keys of the system's randomness, so that nobody can make names that collide, or fixed ones where it gives none.
 fn drawn_keys(rt: &HostRuntime) -> HashKeys {
-    let mut bytes = [0; 16];
-    match rt.fill_bytes(&mut bytes) {
-        Ok(()) => HashKeys::from_bytes(bytes),
-        Err(_) => HashKeys::FIXED,
-    }
+    HashKeys::drawn(rt).unwrap_or(HashKeys::FIXED)
 }
 
 fn run_on_streams(rt: &HostRuntime) -> io::Result<Status> {

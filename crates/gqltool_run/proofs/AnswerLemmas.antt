@@ -1,5 +1,5 @@
--- What is answered where nothing is at fault; that what is asked has no refused text; and which words are refused.
-use Rattle.std.proofs.Common.{◌≡◌, ℕ, ◌==◌, ◌&&◌, Bool, true, false, not, List, [], ◌∷◌, ◌++◌, Option, inl, inr, codes, length, sym, ap, subst, ◌∙◌, arith}
+-- What is answered where nothing is at fault; that what is asked has no refused text, and is a command.
+use Rattle.std.proofs.Common.{◌≡◌, ℕ, ◌==◌, ◌&&◌, Bool, true, false, not, List, [], ◌∷◌, ◌++◌, Option, codes, length, sym, ap, subst, ◌∙◌, arith}
 use Rattle.std.proofs.lemmas.Bool.{eqb-true, true≢false}
 use Rattle.std.proofs.lemmas.List.{append-nil, nil_from_length}
 use Rattle.std.specs.List.{flat_map}
@@ -13,19 +13,15 @@ use Rattle.apollo_meaning.specs.Faults.Collisions.{Fault}
 use Rattle.apollo_schema.specs.declared.schema.Schema.{Schema}
 use Rattle.apollo_schema.specs.SchemaWriteOut.{write_schema}
 use Rattle.bench_notation.specs.Text.{definitions_text}
-use Rattle.gqltool_run.specs.declared.failure.Failure.{Failure}
-use Rattle.gqltool_run.specs.declared.failure.Failure.TheVariants as failures
-use Rattle.gqltool_run.specs.declared.status.Status.TheVariants as statuses
 use Rattle.gqltool_run.specs.declared.task.Task.{Task}
 use Rattle.gqltool_run.specs.declared.task.Task.TheVariants as tasks
-use Rattle.gqltool_run.specs.Commands.{AreRefused, IsAnswerOf, IsPrintOf}
+use Rattle.gqltool_run.specs.Commands.{IsAnswerOf, IsPrintOf}
 use Rattle.gqltool_run.specs.CoordCommand.{IsFindingLine, coordinate_line, found_line}
 use Rattle.gqltool_run.specs.FaultLines.{AreFaultLines}
 use Rattle.gqltool_run.specs.LeafCommand.{leaf_line}
 use Rattle.gqltool_run.specs.SchemaOptions.{AreSchemaWords}
 use Rattle.gqltool_run.specs.WalkCommand.{AreWalksText}
-use Rattle.gqltool_run.specs.Status.{status_of}
-use Rattle.gqltool_run.specs.Tasks.{AreNoCommand, Ask, AskNoCoordinate, IsRefusalOf}
+use Rattle.gqltool_run.specs.Tasks.{AreNoCommand, Ask, AskNoCoordinate}
 use Rattle.gqltool_run.proofs.FaultLineLemmas.{both-true, no-lines, not-false}
 
 -- where something is found and nothing is at fault, there are two lines
@@ -92,14 +88,3 @@ asked_command words (tasks.Coord c) asked none = none.no_coord asked.0 asked.1.0
 asked_command words tasks.Doc asked none = none.no_document.no_doc asked
 asked_command words tasks.Walk asked none = none.no_document.no_walk asked
 asked_command words tasks.Leaf asked none = none.no_document.no_leaf asked
-
--- words whose refusal ends a run as refused are no command, or have a text of no coordinate
-pub refused_words : (words : List (List ℕ)) (input : List ℕ) (failure : Failure) → IsRefusalOf words failure → status_of failure ≡ statuses.Refused → AreRefused words input
-refused_words words input failure (inl is) ends = inl is.0
-refused_words words input (failures.NoCoordinate error) (inr is) ends = inr (inl (is.0, (is.1.0, is.1.1.0)))
-refused_words words input failures.Memory (inr is) ends = let other : statuses.Exhausted ≡ statuses.Refused = ends in cc
-refused_words words input failures.Usage (inr is) ends = absurd is.1.1
-refused_words words input failures.CannotRead (inr is) ends = absurd is.1.1
-refused_words words input (failures.RefusedLine line) (inr is) ends = absurd is.1.1
-refused_words words input failures.NoDivision (inr is) ends = absurd is.1.1
-refused_words words input failures.ExtensionIds (inr is) ends = absurd is.1.1

@@ -1,12 +1,11 @@
 -- The commands of the program: what each answers, and what is written of it.
-use Rattle.std.specs.Prelude.{◌≡◌, ◌⊎◌, ◌++◌, ℕ, Bool, List, [], Option}
+use Rattle.std.specs.Prelude.{◌≡◌, ◌++◌, ℕ, Bool, List, [], Option}
 use Rattle.std.specs.Io.KnownBytes.{Appends}
 use Rattle.graphql_ast.specs.declared.definition.Definition.{Definition}
 use Rattle.bench_notation.specs.Text.{definitions_text}
 use Rattle.apollo_executable.specs.declared.document.ExecutableDocument.{ExecutableDocument}
 use Rattle.apollo_coordinate.specs.declared.lookup_answers.SchemaCoordinateLookup.{SchemaCoordinateLookup}
 use Rattle.gqltool_run.specs.declared.failure.Failure.{Failure}
-use Rattle.gqltool_run.specs.declared.status.Status.TheVariants as statuses
 use Rattle.gqltool_run.specs.declared.task.Task.{Task}
 use Rattle.gqltool_run.specs.declared.task.Task.TheVariants as tasks
 use Rattle.apollo_compiler.specs.Lists.{no_options}
@@ -16,8 +15,7 @@ use Rattle.gqltool_run.specs.DocCommand.{IsDocAnswer}
 use Rattle.gqltool_run.specs.DocumentBuilding.{IsDocumentCause}
 use Rattle.gqltool_run.specs.LeafCommand.{IsLeafAnswer}
 use Rattle.gqltool_run.specs.SchemaCommand.{IsAnswer}
-use Rattle.gqltool_run.specs.Status.{status_of}
-use Rattle.gqltool_run.specs.Tasks.{AreNoCommand, Ask, AskNoCoordinate}
+use Rattle.gqltool_run.specs.Tasks.{Ask}
 use Rattle.gqltool_run.specs.WalkCommand.{AreWalksText, IsWalkAnswer}
 
 -- the text is the answer to what was asked and an input, with faults or without
@@ -44,22 +42,6 @@ IsCauseOf (tasks.Coord coordinate) input failure = IsCause no_options input fail
 IsCauseOf tasks.Doc input failure = IsDocumentCause input failure
 IsCauseOf tasks.Walk input failure = IsDocumentCause input failure
 IsCauseOf tasks.Leaf input failure = IsDocumentCause input failure
-
--- what was asked refuses this input
-abbrev pub IsRefusedInput : Task → List ℕ → Type 0
-IsRefusedInput task input = (failure : Failure) × ((status_of failure ≡ statuses.Refused) × IsCauseOf task input failure)
-
--- these words refuse this input, or are refused themselves
-abbrev pub AreRefused : List (List ℕ) → List ℕ → Type 0
-AreRefused words input = AreNoCommand words ⊎ (AskNoCoordinate words ⊎ ((task : Task) × (Ask words task × IsRefusedInput task input)))
-
--- there is an answer to what was asked and an input
-abbrev pub HasAnswer : Task → List ℕ → Type 0
-HasAnswer task input = (text : List ℕ) × ((has_faults : Bool) × IsAnswerOf task input text has_faults)
-
--- the answer to what was asked and an input is appended
-abbrev pub AppendAnswerOf : Task → Bool → Option (List ℕ) → Option (List ℕ) → List ℕ → Type 0
-AppendAnswerOf task has_faults old new input = (text : List ℕ) × (IsAnswerOf task input text has_faults × Appends old new text)
 
 -- the text is the answer to these words and this input
 abbrev pub IsAnswerTo : List (List ℕ) → List ℕ → List ℕ → Bool → Type 0

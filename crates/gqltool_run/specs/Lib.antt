@@ -4,7 +4,9 @@ pub mod CoordCommand
 pub mod DocCommand
 pub mod DocumentBuilding
 pub mod FaultLines
+pub mod Inputs
 pub mod LeafCommand
+pub mod Runs
 pub mod SchemaCommand
 pub mod SchemaOptions
 pub mod Status

@@ -2,6 +2,7 @@
 #![tactic(auto)]
 
 pub mod answer;
+pub mod answering;
 pub mod arguments;
 pub mod building;
 pub mod coord_command;

@@ -1,5 +1,6 @@
 pub mod Comparisons
 pub mod KeySetClones
+pub mod LineColumnLemmas
 pub mod NameEquality
 pub mod PlaceEquality
 pub mod TableEquality

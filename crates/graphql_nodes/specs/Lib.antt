@@ -6,6 +6,7 @@ pub mod ItemsLending
 pub mod KeySets
 pub mod KeyedHash
 pub mod KindTexts
+pub mod LineColumns
 pub mod LocationTexts
 pub mod NameRefusal
 pub mod NameSyntax

@@ -7,6 +7,7 @@
 pub mod collections;
 pub mod directive_location;
 pub mod laws;
+pub mod line_column;
 pub mod name;
 pub mod named;
 pub mod node;
@@ -24,6 +25,7 @@ pub use crate::collections::static_text::StaticText;
 pub use crate::collections::table::Table;
 pub use crate::collections::text::Text;
 pub use crate::directive_location::DirectiveLocation;
+pub use crate::line_column::LineColumn;
 pub use crate::name::{InvalidNameError, Name, NameError, NamedType};
 pub use crate::named::Named;
 pub use crate::node::Node;

@@ -5,6 +5,8 @@ use graphql_nodes::collections::key_set::KeySet;
 use graphql_nodes::collections::table::Table;
 use likeness::is_so;
 use std::alloc::{AllocError, Global};
+use std::io::{self, Error, ErrorKind};
+use std::random::RandomSource;
 use std::test::Fail;
 
 /// Bytes that a system may have drawn.
@@ -62,6 +64,42 @@ fn keys_are_told_by_each_of_their_bytes(rt: HostRuntime) {
         bytes[place] = 1;
         assert!(rt; HashKeys::from_bytes(bytes) != none);
     }
+}
+
+/// A source that gives the drawn bytes.
+#[derive(Drop)]
+struct KnownSource;
+
+impl RandomSource for KnownSource {
+    fn fill_bytes(&self, buf: &mut [u8]) -> io::Result<()> {
+        for (to, from) in buf.iter_mut().zip(DRAWN) {
+            *to = from;
+        }
+        Ok(())
+    }
+}
+
+/// A source that gives nothing.
+#[derive(Drop)]
+struct EmptySource;
+
+impl RandomSource for EmptySource {
+    fn fill_bytes(&self, _buf: &mut [u8]) -> io::Result<()> {
+        Err(Error::from(ErrorKind::PermissionDenied))
+    }
+}
+
+#[test]
+fn drawn_keys_are_those_of_the_bytes_of_the_source(rt: HostRuntime) -> Result<(), Fail> {
+    let keys = HashKeys::drawn(&KnownSource)?;
+    assert!(rt; keys == HashKeys::from_bytes(DRAWN));
+    Ok(())
+}
+
+#[test]
+fn the_error_of_a_source_is_handed_on(rt: HostRuntime) {
+    let kind = HashKeys::drawn(&EmptySource).map_err(|error| error.kind());
+    assert!(rt; kind == Err(ErrorKind::PermissionDenied));
 }
 
 /// Whether a set of 5 and its copy hash by these keys.

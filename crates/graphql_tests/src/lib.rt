@@ -16,6 +16,8 @@ mod documents;
 #[cfg(test)]
 mod hash_keys;
 #[cfg(test)]
+mod line_columns;
+#[cfg(test)]
 mod lists;
 #[cfg(test)]
 mod names;

@@ -7,14 +7,16 @@ use graphql_nodes::source::{FileId, SourceFile, SourceMap, merge_sources};
 use std::alloc::{AllocError, Global};
 
 /// A file of this text.
-fn file(alloc: Global, text: &str) -> Result<SourceFile, AllocError> {
+/// No clause: it serves tests.
+pub fn file(alloc: Global, text: &str) -> Result<SourceFile, AllocError> {
     let path = Text::from_str(alloc, "a.graphql")?;
     let text = Text::from_str(alloc, text)?;
     Ok(SourceFile { path, text })
 }
 
 /// The sources of one file of this text, under this number.
-fn one(alloc: Global, number: u64, text: &str) -> Result<SourceMap, AllocError> {
+/// No clause: it serves tests.
+pub fn one(alloc: Global, number: u64, text: &str) -> Result<SourceMap, AllocError> {
     let file = Shared::new(alloc, file(alloc, text)?)?;
     let mut sources = Table::new(alloc);
     sources.insert(FileId(number), file)?;

@@ -17,7 +17,8 @@ pub fn equality_of_faults()
     equality_of_places_and_kinds();
 }
 
-/// Each clone of a fault is the original, with the location of its key.
+/// Each clone of a fault is the original, with the location of its key, and so is each clone of its kind.
 pub fn clones_are_exact()
-    ensures { IsExact ⟦<LeafFault as Clone>⟧.is_clone }
+    ensures fault { IsExact ⟦<LeafFault as Clone>⟧.is_clone }
+    ensures kind { IsExact ⟦<LeafKind as Clone>⟧.is_clone }
 {}

@@ -9,8 +9,9 @@ ghost use Rattle.std.specs.Prelude.{◌≡◌, ◌+◌, ◌≤◌, length};
 ghost use Rattle.std.specs.Hash.FoldHasher as folding;
 ghost use Rattle.graphql_nodes.specs.KeyedHash as keyed;
 
-use std::fmt;
 use std::hash::{BuildHasher, Hasher};
+use std::random::RandomSource;
+use std::{fmt, io};
 
 /// What a table or set hashes by, and keeps through clones. Answers and orders never depend on it, and what contracts see of
 /// a table or set leaves it out.
@@ -21,14 +22,26 @@ pub struct HashKeys {
 }
 
 impl HashKeys {
-    /// The keys of a table that is given none: the same in each run.
+    /// The keys of a table that is given none: the same in each run. They serve wherever names are one's own.
     pub const FIXED: HashKeys = HashKeys {
         start: 0x243f_6a88_85a3_08d3,
         factor: 0x9e37_79b9_7f4a_7c15,
     };
 
-    /// The keys that these bytes are, eight for each of the two words, the lowest first. Where names come from strangers,
-    /// the bytes are random ones of the system.
+    /// The keys of sixteen bytes that the source gives, as the runtime does. They serve servers and whoever else takes names
+    /// from strangers: nobody can foretell them.
+    ///
+    /// The error is the source's own, where it gives no bytes. Whoever then goes on with [`HashKeys::FIXED`] goes on
+    /// without protection.
+    /// No clause: the trait of sources promises nothing of the bytes, nor of when it fails.
+    pub fn drawn<S: RandomSource>(source: &S) -> io::Result<HashKeys> {
+        let mut bytes = [0; 16];
+        source.fill_bytes(&mut bytes)?;
+        Ok(HashKeys::from_bytes(bytes))
+    }
+
+    /// The keys that these bytes are, eight for each of the two words, the lowest first. They serve keys that are known
+    /// beforehand, as in tests; where names come from strangers, [`HashKeys::drawn`] serves.
     pub fn from_bytes(bytes: [u8; 16]) -> HashKeys
         ensures start { result.start ≡ folding.read_u64 bytes 0 }
         ensures factor { result.factor ≡ folding.read_u64 bytes 8 }

@@ -15,7 +15,7 @@ returns-in-Some g c =
     let parts = c.in-Some.parts.now in
     let there : lookup (same_id id) es ≡ Some parts = sym c.get_mut.ensures.value ∙ ap option_copied_mut c.in-Some.is in
     c.get_mut.follows.holds c.push_to.new.parts
-    ∙ ap (set_value (same_id id) es) c.in_ok-push_to.ensures
+    ∙ ap (set_value (same_id id) es) c.in_ok-push_to.ensures.added
     ∙ insert_entry-found same_id es id parts (with_part p parts) there
     ∙ ap (λ o. insert_entry same_id es id (with_part p (unwrap_or o no_parts))) (sym there)
 

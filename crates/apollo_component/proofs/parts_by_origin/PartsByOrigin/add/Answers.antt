@@ -10,7 +10,7 @@ use Rattle.apollo_component.proofs.parts_by_origin.PartsByOrigin.add.Goals as go
 pub returns-in_ok-push_to-in-Definition : goal.returns-in_ok-push_to-in-Definition
 returns-in_ok-push_to-in-Definition g c = λ cs was.
     let p = g.P.DefinitionItem.part c.args.part in
-    let more : c.push_to.new.parts ≡ with_part p (of_origin Definition cs) = c.in_ok-push_to-in-Definition.ensures ∙ ap (λ (b : PartsByOrigin). with_part p b.definition) was in
+    let more : c.push_to.new.parts ≡ with_part p (of_origin Definition cs) = c.in_ok-push_to-in-Definition.ensures.added ∙ ap (λ (b : PartsByOrigin). with_part p b.definition) was in
     let start : ◌≡◌ {A = PartsByOrigin} record { definition = c.push_to.new.parts; extensions = c.args.self.now.extensions } record { definition = with_part p (of_origin Definition cs); extensions = of_extensions cs } =
     (λ i. record { definition = more i; extensions = (was i).extensions }) in
     start ∙ by_origin-definition cs p ∙ ap (λ o. by_origin (cs ++ (o, p) ∷ [])) (sym c.in-Definition.is)

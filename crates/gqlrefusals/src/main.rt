@@ -1,0 +1,24 @@
+//! `gqlrefusals`: calls that can want memory, and what they answer where it is refused.
+#![tactic(auto)]
+
+use gqlrefusals_run::running::run;
+use gqltool_run::arguments::words;
+use gqltool_run::status::Status;
+use std::io;
+use std::process::ExitCode;
+
+fn run_on_streams(rt: &HostRuntime) -> io::Result<Status> {
+    let alloc = rt.alloc();
+    let owned = words(rt, alloc)?;
+    let words: Vec<&str> = owned.iter().map(|word| word.as_str()).collect(alloc)?;
+    Ok(run(alloc, words.as_slice(), &mut rt.stdout(), &mut rt.stderr()))
+}
+
+fn main(rt: HostRuntime) -> ExitCode {
+    let status = match run_on_streams(&rt) {
+        Ok(status) => status,
+        // The words are all that can fail here, and only for want of memory.
+        Err(_) => Status::Exhausted,
+    };
+    ExitCode::from(status.code())
+}

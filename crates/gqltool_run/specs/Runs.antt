@@ -1,0 +1,54 @@
+-- How a run ends.
+use Rattle.std.specs.Prelude.{◌≡◌, ◌⊎◌, ℕ, Bool, true, false, List, All, Option, IfSome}
+use Rattle.std.specs.Io.KnownBytes.{Appends}
+use Rattle.bench_notation.specs.Line.{IsLine, lines_of}
+use Rattle.gqltool_run.specs.declared.failure.Failure.{Failure}
+use Rattle.gqltool_run.specs.declared.failure.Failure.TheVariants as failures
+use Rattle.gqltool_run.specs.declared.status.Status.{Status}
+use Rattle.gqltool_run.specs.declared.status.Status.TheVariants as s
+use Rattle.gqltool_run.specs.declared.task.Task.{Task}
+use Rattle.gqltool_run.specs.Commands.{AppendAnswer, AppendPrint, HaveAnswer, IsCauseOf}
+use Rattle.gqltool_run.specs.Inputs.{CannotBeRead}
+use Rattle.gqltool_run.specs.Status.{Writes, status_of}
+use Rattle.gqltool_run.specs.Tasks.{AreNoCommand, Ask, AskNoCoordinate, IsRefusalOf}
+
+-- In all of this an input holds `held`, if its bytes are known, and may fail for `may_fail`.
+
+-- why there is no answer to what was asked and an input: it can't be read, or what was read has none; want of memory says nothing
+abbrev pub IsCauseOver : Task → Option (List ℕ) → Type 0 → Failure → Type 0
+IsCauseOver task held may_fail failures.CannotRead = CannotBeRead held may_fail
+IsCauseOver task held may_fail failures.Memory = Unit {0}
+IsCauseOver task held may_fail failure = IfSome held (λ input. IsCauseOf task input failure)
+
+-- why there is no answer to these words and an input: the words are refused, or there is none to what they ask for
+abbrev pub IsCauseTo : List (List ℕ) → Option (List ℕ) → Type 0 → Failure → Type 0
+IsCauseTo words held may_fail failure = IsRefusalOf words failure ⊎ ((task : Task) × (Ask words task × IsCauseOver task held may_fail failure))
+
+-- there is such a cause, and it ends a run so
+abbrev pub HaveCause : List (List ℕ) → Option (List ℕ) → Type 0 → Status → Type 0
+HaveCause words held may_fail status = (failure : Failure) × ((status_of failure ≡ status) × IsCauseTo words held may_fail failure)
+
+-- a run that has an answer ends so: the text is appended, and whether there are faults decides; or not all could be written
+abbrev pub IsWritten : List ℕ → Bool → Option (List ℕ) → Option (List ℕ) → Status → Type 0
+IsWritten text has_faults old new s.Done = (has_faults ≡ false) × Appends old new text
+IsWritten text has_faults old new s.Faults = (has_faults ≡ true) × Appends old new text
+IsWritten text has_faults old new s.NotWritten = Unit {0}
+IsWritten text has_faults old new _ = ⊥
+
+-- a run on these words and an input may end so: what it writes is their answer, or there is a cause for which it writes none
+abbrev pub MayEnd : List (List ℕ) → Option (List ℕ) → Type 0 → Option (List ℕ) → Option (List ℕ) → Status → Type 0
+MayEnd words held may_fail old new s.Done = IfSome held (λ input. All IsLine (lines_of input) × AppendAnswer words false old new input) × AppendPrint words old new
+MayEnd words held may_fail old new s.Faults = IfSome held (λ input. All IsLine (lines_of input) × AppendAnswer words true old new input)
+MayEnd words held may_fail old new s.Refused = HaveCause words held may_fail s.Refused
+MayEnd words held may_fail old new s.Exhausted = HaveCause words held may_fail s.Exhausted
+MayEnd words held may_fail old new s.NotWritten = IfSome held (HaveAnswer words)
+
+-- a run on these words and an input that ended so, with its reader and its writers before it and after it
+pub record IsRun {R O E : Type 0} (words : List (List ℕ)) (held : Option (List ℕ)) (may_fail : Type 0) (contents : O → Option (List ℕ)) (reader reader_after : R) (output output_after : O) (errors errors_after : E) (status : Status) : Type 0 where
+  pub ends : MayEnd words held may_fail (contents output) (contents output_after) status
+  pub refused : status ≡ s.Refused → output_after ≡ output
+  pub exhausted : status ≡ s.Exhausted → output_after ≡ output
+  pub quiet : Writes status → errors_after ≡ errors
+  -- words that are no command are refused before anything is read, and so is a text of no coordinate, but for want of memory
+  pub usage : AreNoCommand words → (status ≡ s.Refused) × (reader_after ≡ reader)
+  pub no_coordinate : AskNoCoordinate words → ((status ≡ s.Refused) ⊎ (status ≡ s.Exhausted)) × (reader_after ≡ reader)

@@ -1,0 +1,64 @@
+//! The answer to the words of the command line and an input.
+ghost use Rattle.std.specs.Prelude.{◌≡◌, All, Err, IfErr, IfOk, IfSome, IsErr, OnOk, false, string_bytes};
+ghost use Rattle.bench_notation.specs.Line.{IsLine, lines_of, texts_of};
+ghost use Rattle.gqltool_run.specs.Commands.{IsAnswerOf, IsAnswerTo, IsCauseOf, IsPrintTo};
+ghost use Rattle.gqltool_run.specs.Runs.{IsCauseTo};
+ghost use Rattle.gqltool_run.specs.Tasks.{AreNoCommand, AskNoCoordinate};
+
+use crate::answer::Answer;
+use crate::coord_command::coord_answer;
+use crate::doc_command::doc_answer;
+use crate::failure::Failure;
+use crate::input::Input;
+use crate::leaf_command::leaf_answer;
+use crate::schema_command::schema_answer;
+use crate::task::{Task, read_task};
+use crate::walk_command::walk_answer;
+use apollo_coordinate::laws::coordinates;
+use graphql_nodes::collections::hash_keys::HashKeys;
+use std::alloc::Global;
+
+/// The answer to these words and all that there is to read.
+///
+/// `Usage` and `NoCoordinate` come for words that [`read_task`] refuses, and nothing is read then. `CannotRead` comes where
+/// the input can't be read as a text. `RefusedLine` tells the first line of it that says nothing where it stands, and
+/// `NoDivision` that none divides it, for `doc`, `walk` and `leaf`. `ExtensionIds` comes only where the numbers don't suffice
+/// for the extensions of the input; `Memory` is want of memory. There is no other error.
+pub fn answer_to<R: Input>(
+    alloc: Global,
+    keys: HashKeys,
+    words: &[&str],
+    reader: &mut R,
+) -> Result<Answer, Failure>
+    ensures read { OnOk result (IfSome (R.holds reader.old) (λ input. All IsLine (lines_of input))) }
+    ensures means { IfOk result (λ answer. IfSome (R.holds reader.old) (λ input. IsAnswerTo (texts_of words.now) input (string_bytes answer.text) answer.has_faults)) }
+    ensures prints { IfOk result (λ answer. answer.has_faults ≡ false → IsPrintTo (texts_of words.now) (string_bytes answer.text)) }
+    ensures causes { IfErr result (IsCauseTo (texts_of words.now) (R.holds reader.old) (R.may_fail reader.old)) }
+
+    // Words that are no command are refused before anything is read, and so is a text of no coordinate, but for want of memory.
+    ensures usage { AreNoCommand (texts_of words.now) → (result ≡ Err Failure.Usage) × (reader.new ≡ reader.old) }
+    ensures no_coordinate { AskNoCoordinate (texts_of words.now) → IsErr result × (reader.new ≡ reader.old) }
+{
+    coordinates();
+    let task = read_task(alloc, words)?;
+    let input = reader.read_all(alloc)?;
+    answer_task(alloc, keys, &task, input.as_str())
+}
+
+/// The answer to what was asked and an input.
+///
+/// The errors are those of [`build_input`](crate::building::build_input), and of `doc`, `walk` and `leaf` those of
+/// [`compile_documents`](crate::document_building::compile_documents).
+fn answer_task(alloc: Global, keys: HashKeys, task: &Task, input: &str) -> Result<Answer, Failure>
+    ensures read { OnOk result (All IsLine (lines_of input.now)) }
+    ensures means { IfOk result (λ answer. IsAnswerOf task.now input.now (string_bytes answer.text) answer.has_faults) }
+    ensures causes { IfErr result (IsCauseOf task.now input.now) }
+{
+    match task {
+        Task::Schema(options) => schema_answer(alloc, keys, *options, input),
+        Task::Coord(coordinate) => coord_answer(alloc, keys, coordinate, input),
+        Task::Doc => doc_answer(alloc, keys, input),
+        Task::Walk => walk_answer(alloc, keys, input),
+        Task::Leaf => leaf_answer(alloc, keys, input),
+    }
+}

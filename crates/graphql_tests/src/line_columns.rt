@@ -1,0 +1,86 @@
+//! Lines and columns of places in texts.
+
+use crate::sources::{file, one};
+use graphql_nodes::line_column::LineColumn;
+use graphql_nodes::source::{FileId, SourceFile, SourceMap, SourceSpan};
+use likeness::is_so;
+
+/// Texts, and the line and column of each offset up to the end: of none, of each line terminator, of two that touch, and of
+/// characters of two, three and four bytes.
+const EXAMPLES: [(&str, &[(usize, usize)]); 7] = [
+    ("", &[(1, 1)]),
+    ("a\nb", &[(1, 1), (1, 2), (2, 1), (2, 2)]),
+    ("a\rb", &[(1, 1), (1, 2), (2, 1), (2, 2)]),
+    ("a\r\nb", &[(1, 1), (1, 2), (1, 3), (2, 1), (2, 2)]),
+    ("\n\r", &[(1, 1), (2, 1), (3, 1)]),
+    ("\r\r\n", &[(1, 1), (2, 1), (2, 2), (3, 1)]),
+    (
+        "é€😀",
+        &[
+            (1, 1),
+            (1, 2),
+            (1, 2),
+            (1, 3),
+            (1, 3),
+            (1, 3),
+            (1, 4),
+            (1, 4),
+            (1, 4),
+            (1, 4),
+        ],
+    ),
+];
+
+fn at(line: usize, column: usize) -> LineColumn {
+    LineColumn { line, column }
+}
+
+/// Whether the offsets of the text have these lines and columns, and the one after its end has none.
+fn are_places(file: &SourceFile, places: &[(usize, usize)]) -> bool {
+    let are_so = places.iter().enumerate().all(|(offset, place)| file.get_line_column(offset)
+        == Some(at(place.0, place.1)));
+    are_so && file.get_line_column(places.len()).is_none()
+}
+
+#[test]
+fn lines_and_columns_of_offsets(rt: HostRuntime) {
+    for (text, places) in EXAMPLES.iter() {
+        assert!(rt; is_so(file(rt.alloc(), text), |file| are_places(file, places)));
+    }
+}
+
+fn span(file: u64, start: usize, end: usize) -> SourceSpan {
+    SourceSpan {
+        file: FileId(file),
+        start,
+        end,
+    }
+}
+
+/// Whether a span within the text has its places.
+fn are_found(sources: &SourceMap) -> bool {
+    let span = span(1, 1, 3);
+    span.line_column(sources) == Some(at(1, 2))
+        && span.line_column_range(sources) == Some(at(1, 2)..at(2, 1))
+}
+
+/// Whether a span of another file has no place, and one that ends beyond the text no range.
+fn are_missing(sources: &SourceMap) -> bool {
+    let (other, long) = (span(2, 0, 1), span(1, 4, 5));
+    let is_missing = other.line_column(sources).is_none()
+        && other.line_column_range(sources).is_none();
+    is_missing
+        && long.line_column(sources) == Some(at(2, 2))
+        && long.line_column_range(sources).is_none()
+}
+
+#[test]
+fn lines_and_columns_of_spans(rt: HostRuntime) {
+    let sources = one(rt.alloc(), 1, "a\r\nb");
+    assert!(rt;
+        is_so(
+            sources,
+            |sources| are_found(sources) && are_missing(sources)
+        )
+    );
+}
