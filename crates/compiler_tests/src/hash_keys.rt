@@ -49,12 +49,14 @@ fn schemas_are_written_the_same_under_any_keys(rt: HostRuntime) {
     expect_same(&rt, &["coord", "User.node(to:)"], SCHEMA, Status::Faults);
 }
 
-/// Operations and fragments behind a schema, which lead to one another, with names that are there already.
+/// Operations and fragments behind a schema, which lead to one another, with names that are there already and a field that
+/// lacks subselections.
 const DIVIDED: &str =
-    "def object Query\nfield a Int\nfield b Query\n===\noperation query One\nsel 0 field b\nsel 1 spread F\nsel 1 field a first\nsel 1 field gone\noperation query Two\nsel 0 spread G\nsel 0 spread F\n---\noperation query One\nfragment F Query\nsel 0 field a\nsel 0 field b\nsel 1 spread G\nfragment G Query\nsel 0 inline Query\nsel 1 field b\nsel 2 spread F\nfragment H Query\nsel 0 field a\nfragment G Query\nsel 0 spread H\n";
+    "def object Query\nfield a Int\nfield b Query\n===\noperation query One\nsel 0 field b\nsel 1 spread F\nsel 1 field a first\nsel 1 field gone\noperation query Two\nsel 0 spread G\nsel 0 spread F\n---\noperation query One\nfragment F Query\nsel 0 field a\nsel 0 field b\nsel 1 spread G\nfragment G Query\nsel 0 inline Query\nsel 1 field b\nsel 2 spread F\nfragment H Query\nsel 0 field a\nsel 0 field b\nfragment G Query\nsel 0 spread H\n";
 
 #[test]
-fn documents_and_walks_are_written_the_same_under_any_keys(rt: HostRuntime) {
+fn documents_walks_and_leaf_faults_are_written_the_same_under_any_keys(rt: HostRuntime) {
     expect_same(&rt, &["doc"], DIVIDED, Status::Faults);
     expect_same(&rt, &["walk"], DIVIDED, Status::Faults);
+    expect_same(&rt, &["leaf"], DIVIDED, Status::Faults);
 }

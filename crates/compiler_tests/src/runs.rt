@@ -21,7 +21,7 @@ member Query
 ";
 
 /// Two documents behind a schema: a query whose fragment leads back to itself, a mutation without a root, and a fragment that
-/// nothing spreads.
+/// nothing spreads, with a field that lacks subselections.
 const DIVIDED: &str = "def object Query
 field a Int
 field q Query
@@ -36,7 +36,7 @@ sel 1 spread F
 ---
 operation mutation M
 fragment G Query
-sel 0 field a
+sel 0 field q
 sel 0 field zz
 ";
 
@@ -157,7 +157,7 @@ is_subtype     min            7 median            7 mean            7 ns
 
 #[test]
 fn reports_on_both_sides_of_a_division(rt: HostRuntime) {
-    let rows: [(&[&str], &[&str], &str); 3] = [
+    let rows: [(&[&str], &[&str], &str); 4] = [
         (
             &["doc", "2"],
             &["doc", "--random-keys", "2"],
@@ -175,6 +175,14 @@ drop           min            7 median            7 mean            7 ns
 1 operations, 2 fragments, 4 root fields, 8 fields in all
 root-walks     min            7 median            7 mean            7 ns
 all-walks      min            7 median            7 mean            7 ns
+",
+        ),
+        (
+            &["leaf", "--ignore-builtin", "2"],
+            &["leaf", "--random-keys", "--ignore-builtin", "2"],
+            "\
+1 operations, 2 fragments, 1 leaf faults
+leaf_faults    min            7 median            7 mean            7 ns
 ",
         ),
         (
@@ -216,7 +224,7 @@ fn words_that_are_no_command(rt: HostRuntime) {
         &["document", "3"],
     ];
     let usage =
-        "usage: gqlbench schema|lookups|doc|walk|compile [--random-keys] [--adopt] [--ignore-builtin] REPEAT (without --random-keys tables hash by fixed keys)\n";
+        "usage: gqlbench schema|lookups|doc|walk|leaf|compile [--random-keys] [--adopt] [--ignore-builtin] REPEAT (without --random-keys tables hash by fixed keys)\n";
     for words in rows {
         expect(
             &rt,
@@ -284,6 +292,14 @@ fn inputs_and_clocks_that_cannot_be_read(rt: HostRuntime) {
         &rt,
         &StoppedClock,
         &EmptySource,
+        &["leaf", "1"],
+        DIVIDED,
+        stopped,
+    );
+    expect(
+        &rt,
+        &StoppedClock,
+        &EmptySource,
         &["compile", "1"],
         DIVIDED,
         stopped,
@@ -292,11 +308,12 @@ fn inputs_and_clocks_that_cannot_be_read(rt: HostRuntime) {
 
 #[test]
 fn keys_that_cannot_be_drawn(rt: HostRuntime) {
-    let rows: [&[&str]; 5] = [
+    let rows: [&[&str]; 6] = [
         &["schema", "--random-keys", "1"],
         &["lookups", "--random-keys", "1"],
         &["doc", "--random-keys", "1"],
         &["walk", "--random-keys", "1"],
+        &["leaf", "--random-keys", "1"],
         &["compile", "--random-keys", "1"],
     ];
     let not_drawn = Outcome {

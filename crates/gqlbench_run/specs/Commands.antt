@@ -20,6 +20,7 @@ work_word w.Schema = codes "schema"
 work_word w.Lookups = codes "lookups"
 work_word w.Documents = codes "doc"
 work_word w.Walks = codes "walk"
+work_word w.LeafFaults = codes "leaf"
 work_word w.Compilation = codes "compile"
 
 -- the word is this number of times, in decimal: at least one, and of 64 bits; a plus may stand first

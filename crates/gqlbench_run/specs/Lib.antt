@@ -1,8 +1,10 @@
 pub mod Commands
 pub mod CompileReports
 pub mod DocumentReports
+pub mod LeafReports
 pub mod LookupQuestions
 pub mod PhaseLines
 pub mod Reports
 pub mod Summaries
+pub mod TypedBuilds
 pub mod WalkReports

@@ -13,6 +13,7 @@ use Rattle.gqlbench_run.specs.Commands.{AreWordsOf}
 use Rattle.gqlbench_run.specs.LookupQuestions.{field_questions, subtype_questions, has_field, has_subtype}
 use Rattle.gqlbench_run.specs.CompileReports.{IsCompileReport}
 use Rattle.gqlbench_run.specs.DocumentReports.{IsDocumentReport}
+use Rattle.gqlbench_run.specs.LeafReports.{IsLeafReport}
 use Rattle.gqlbench_run.specs.WalkReports.{IsWalkReport}
 use Rattle.gqlbench_run.specs.PhaseLines.{ArePhaseLines}
 use Rattle.gqlbench_run.specs.declared.command.Command.{Command}
@@ -96,6 +97,7 @@ IsReportOfWork w.Schema command = IsReportOnDocuments (IsSchemaReport command)
 IsReportOfWork w.Lookups command = IsReportOnDocuments (IsLookupReport command)
 IsReportOfWork w.Documents command = IsReportOnBoth (IsDocumentReport command)
 IsReportOfWork w.Walks command = IsReportOnBoth (IsWalkReport command)
+IsReportOfWork w.LeafFaults command = IsReportOnBoth (IsLeafReport command)
 IsReportOfWork w.Compilation command = IsReportOnBoth (IsCompileReport command)
 
 abbrev pub IsReportOf : Command → List ℕ → List ℕ → Type 0

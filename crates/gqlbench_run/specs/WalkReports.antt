@@ -1,10 +1,9 @@
 -- What the report of the command `walk` says.
-use Rattle.std.specs.Prelude.{◌≡◌, ◌+◌, ◌-◌, ◌^◌, ℕ, Bool, true, false, List, [], ◌∷◌, ◌++◌, Some, codes, decimal, length, map, min}
+use Rattle.std.specs.Prelude.{◌≡◌, ◌+◌, ◌-◌, ◌^◌, ℕ, Bool, true, false, List, [], ◌∷◌, ◌++◌, codes, decimal, length, map, min}
 use Rattle.graphql_ast.specs.declared.document.Document.{Document}
 use Rattle.graphql_nodes.specs.NodeView.{NodeView}
 use Rattle.graphql_nodes.specs.Tables.{values_of}
 use Rattle.apollo_schema.specs.declared.schema.Schema.{Schema}
-use Rattle.apollo_schema.specs.MeantSchema.{MeansSchema}
 use Rattle.apollo_executable.specs.declared.document.ExecutableDocument.{ExecutableDocument}
 use Rattle.apollo_executable.specs.declared.operation.Fragment.{Fragment}
 use Rattle.apollo_executable.specs.declared.operation.Operation.{Operation}
@@ -12,11 +11,10 @@ use Rattle.apollo_executable.specs.declared.selection.Field.{Field}
 use Rattle.apollo_executable.specs.declared.selection.SelectionSet.{SelectionSet}
 use Rattle.apollo_executable.specs.Operations.{all_operations}
 use Rattle.apollo_executable.specs.Walks.WalkView.{AreWalked}
-use Rattle.apollo_document.specs.Documents.{IsDocumentOf}
-use Rattle.apollo_compiler.specs.Lists.{executable_list, schema_list}
 use Rattle.gqlbench_run.specs.declared.command.Command.{Command}
 use Rattle.gqlbench_run.specs.declared.walk_phases.WalkTimes.{WalkTimes}
 use Rattle.gqlbench_run.specs.PhaseLines.{ArePhaseLines}
+use Rattle.gqlbench_run.specs.TypedBuilds.{AreBuiltFrom}
 
 -- the phases of the command `walk`
 abbrev pub walk_phases : List (List ℕ)
@@ -65,9 +63,8 @@ walk_counts operations fragments root_fields all_fields = decimal operations ++ 
 -- walks over its operations and fragments give, and has a line for each phase
 pub record IsWalkReport (command : Command) (before behind : List Document) (text : List ℕ) : Type 0 where
   pub schema : Schema
-  pub means : MeansSchema 0 command.options.adopt_orphan_extensions (schema_list command.options before) schema
   pub document : ExecutableDocument
-  pub built : IsDocumentOf (Some schema) (executable_list true behind) document
+  pub built : AreBuiltFrom command.options before behind schema document
   pub root_fields : ℕ
   pub root : IsCountOver false document (sets_of document) root_fields
   pub all_fields : ℕ

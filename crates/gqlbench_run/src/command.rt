@@ -20,6 +20,8 @@ pub enum Work {
     Documents,
     /// `walk`: walks over a typed document that is built once.
     Walks,
+    /// `leaf`: the leaf faults of a typed document that is built once.
+    LeafFaults,
     /// `compile`: documents compiled in one call, and beside it each phase of that.
     Compilation,
 }
@@ -58,6 +60,7 @@ fn read_work(word: &str) -> Option<Work>
         "lookups" => Some(Work::Lookups),
         "doc" => Some(Work::Documents),
         "walk" => Some(Work::Walks),
+        "leaf" => Some(Work::LeafFaults),
         "compile" => Some(Work::Compilation),
         _ => None,
     }

@@ -7,7 +7,7 @@ use crate::command::Command;
 use crate::document_phases;
 use crate::failure::Failure;
 use crate::phase::{push_phase, push_time};
-use crate::progress::Progress;
+use crate::repetition::{Timed, take_times};
 use crate::schema_phases::{REBUILDING, time_build, time_write_out};
 use apollo_compiler::compile_options::CompileOptions;
 use apollo_compiler::compiled::Compiled;
@@ -216,42 +216,6 @@ impl CompileTimes {
         push_time(clock, began, &mut self.all)
     }
 
-    /// Takes a time of the whole call, and then of each phase.
-    fn repetition<C: Clock>(
-        &mut self,
-        alloc: Global,
-        clock: &C,
-        keys: HashKeys,
-        options: CompileOptions,
-        documents: &DividedDocuments,
-    ) -> Result<(), Failure>
-        ensures { OnOk result ((n : ℕ) → HaveCompileTimes n self.old → HaveCompileTimes (n + 1) self.new) }
-    {
-        let compiled = time_compile(alloc, clock, keys, options, documents, &mut self.whole)?;
-        time_free(clock, compiled, &mut self.free)?;
-        self.phase_by_phase(alloc, clock, keys, options, documents)
-    }
-
-    /// Takes so many times of each phase, and says on `errors` how far it is.
-    fn take<C: Clock, E: Write>(
-        &mut self,
-        alloc: Global,
-        clock: &C,
-        keys: HashKeys,
-        command: Command,
-        documents: &DividedDocuments,
-        errors: &mut E,
-    ) -> Result<(), Failure>
-        ensures { OnOk result (HaveCompileTimes 0 self.old → HaveCompileTimes command.repeat self.new) }
-    {
-        let mut progress = Progress::new(clock)?;
-        for done in 0..command.repeat {
-            self.repetition(alloc, clock, keys, command.options, documents)?;
-            progress.tell(clock, errors, done + 1, command.repeat)?;
-        }
-        Ok(())
-    }
-
     /// Adds the line of each phase.
     fn push_lines(&mut self, alloc: Global, text: &mut String) -> Result<(), AllocError>
         ensures { OnOk result ((lines : List ℕ) × ((string_bytes text.new ≡ string_bytes text.old ++ lines) × ((n : ℕ) → HaveCompileTimes n self.old → ArePhaseLines compile_phases n lines))) }
@@ -266,6 +230,39 @@ impl CompileTimes {
         push_phase(alloc, text, "doc-to_ast", &mut self.erasure)?;
         push_phase(alloc, text, "drop", &mut self.free)?;
         Ok(())
+    }
+}
+
+/// Documents that are compiled, and what they are compiled under.
+#[derive(Clone, Copy)]
+struct CompileWork<'a> {
+    keys: HashKeys,
+    options: CompileOptions,
+    documents: &'a DividedDocuments,
+}
+
+impl Timed for CompileWork<'_> {
+    ghost use Rattle.gqlbench_run.specs.CompileReports.{HaveCompileTimes};
+
+    type Times = CompileTimes;
+
+    ghost have = { λ _ n times. HaveCompileTimes n times };
+
+    /// Takes a time of the whole call, and then of each phase.
+    fn repetition<C: Clock>(
+        &self,
+        alloc: Global,
+        clock: &C,
+        times: &mut CompileTimes,
+    ) -> Result<(), Failure> {
+        let Self {
+            keys,
+            options,
+            documents,
+        } = *self;
+        let compiled = time_compile(alloc, clock, keys, options, documents, &mut times.whole)?;
+        time_free(clock, compiled, &mut times.free)?;
+        times.phase_by_phase(alloc, clock, keys, options, documents)
     }
 }
 
@@ -334,9 +331,15 @@ pub fn compile_report<C: Clock, E: Write>(
 ) -> Result<String, Failure>
     ensures { IfOk result (λ text. IsCompileReport command documents.now.schema.items documents.now.executable.items (string_bytes text)) }
 {
-    let mut text = counts(alloc, keys, command.options, documents)?;
+    let options = command.options;
+    let mut text = counts(alloc, keys, options, documents)?;
+    let work = CompileWork {
+        keys,
+        options,
+        documents,
+    };
     let mut times = CompileTimes::new(alloc);
-    times.take(alloc, clock, keys, command, documents, errors)?;
+    take_times(alloc, clock, &work, command.repeat, &mut times, errors)?;
     times.push_lines(alloc, &mut text)?;
     Ok(text)
 }

@@ -5,7 +5,7 @@ ghost use Rattle.gqlbench_run.specs.DocumentReports.{AreDocumentCounts, IsDocume
 use crate::command::Command;
 use crate::failure::Failure;
 use crate::phase::{push_phase, push_time};
-use crate::progress::Progress;
+use crate::repetition::{Timed, take_times};
 use apollo_compiler::building::build_schema;
 use apollo_compiler::document_building::build_executable_document;
 use apollo_document::Faults;
@@ -95,41 +95,6 @@ impl DocumentTimes {
         }
     }
 
-    /// Takes a time of each phase.
-    fn repetition<C: Clock>(
-        &mut self,
-        alloc: Global,
-        clock: &C,
-        schema: &Schema,
-        documents: &[Document],
-    ) -> Result<(), Failure>
-        ensures { OnOk result ((n : ℕ) → HaveDocumentTimes n self.old → HaveDocumentTimes (n + 1) self.new) }
-    {
-        let built = time_build(alloc, clock, schema, documents, &mut self.build)?;
-        let written = time_write_out(alloc, clock, &built.0, &mut self.write_out)?;
-        time_free(clock, built, written, &mut self.free)
-    }
-
-    /// Takes so many times of each phase, and says on `errors` how far it is.
-    fn take<C: Clock, E: Write>(
-        &mut self,
-        alloc: Global,
-        clock: &C,
-        schema: &Schema,
-        documents: &[Document],
-        repeat: usize,
-        errors: &mut E,
-    ) -> Result<(), Failure>
-        ensures { OnOk result (HaveDocumentTimes 0 self.old → HaveDocumentTimes repeat self.new) }
-    {
-        let mut progress = Progress::new(clock)?;
-        for done in 0..repeat {
-            self.repetition(alloc, clock, schema, documents)?;
-            progress.tell(clock, errors, done + 1, repeat)?;
-        }
-        Ok(())
-    }
-
     /// Adds the line of each phase.
     fn push_lines(&mut self, alloc: Global, text: &mut String) -> Result<(), AllocError>
         ensures { OnOk result ((lines : List ℕ) × ((string_bytes text.new ≡ string_bytes text.old ++ lines) × ((n : ℕ) → HaveDocumentTimes n self.old → ArePhaseLines document_phases n lines))) }
@@ -138,6 +103,32 @@ impl DocumentTimes {
         push_phase(alloc, text, "doc-to_ast", &mut self.write_out)?;
         push_phase(alloc, text, "drop", &mut self.free)?;
         Ok(())
+    }
+}
+
+/// Documents of which a typed document is built, over a schema.
+#[derive(Clone, Copy)]
+struct DocumentWork<'a> {
+    schema: &'a Schema,
+    documents: &'a [Document],
+}
+
+impl Timed for DocumentWork<'_> {
+    ghost use Rattle.gqlbench_run.specs.DocumentReports.{HaveDocumentTimes};
+
+    type Times = DocumentTimes;
+
+    ghost have = { λ _ n times. HaveDocumentTimes n times };
+
+    fn repetition<C: Clock>(
+        &self,
+        alloc: Global,
+        clock: &C,
+        times: &mut DocumentTimes,
+    ) -> Result<(), Failure> {
+        let built = time_build(alloc, clock, self.schema, self.documents, &mut times.build)?;
+        let written = time_write_out(alloc, clock, &built.0, &mut times.write_out)?;
+        time_free(clock, built, written, &mut times.free)
     }
 }
 
@@ -181,8 +172,12 @@ pub fn document_report<C: Clock, E: Write>(
     )?;
     let executable = documents.executable.as_slice();
     let mut text = counts(alloc, &schema, executable)?;
+    let work = DocumentWork {
+        schema: &schema,
+        documents: executable,
+    };
     let mut times = DocumentTimes::new(alloc);
-    times.take(alloc, clock, &schema, executable, command.repeat, errors)?;
+    take_times(alloc, clock, &work, command.repeat, &mut times, errors)?;
     times.push_lines(alloc, &mut text)?;
     Ok(text)
 }

@@ -9,7 +9,7 @@ use crate::lookup_questions::{
     Question, count_fields, count_subtypes, field_questions, subtype_questions,
 };
 use crate::phase::{push_phase, push_time};
-use crate::progress::Progress;
+use crate::repetition::{Timed, take_times};
 use apollo_compiler::building::build_schema;
 use apollo_schema::schema::Schema;
 use graphql_ast::document::Document;
@@ -100,47 +100,40 @@ impl LookupTimes {
         }
     }
 
-    /// Takes a time of each phase.
-    fn repetition<C: Clock>(
-        &mut self,
-        clock: &C,
-        schema: &Schema,
-        questions: &Questions,
-    ) -> Result<(), Failure>
-        ensures { OnOk result ((n : ℕ) → HaveLookedUp schema.now questions.now n self.old → HaveLookedUp schema.now questions.now (n + 1) self.new) }
-    {
-        let fields = questions.fields.as_slice();
-        self.fields = time_fields(clock, schema, fields, &mut self.type_field)?;
-        let subtypes = questions.subtypes.as_slice();
-        self.subtypes = time_subtypes(clock, schema, subtypes, &mut self.is_subtype)?;
-        Ok(())
-    }
-
-    /// Takes so many times of each phase, and says on `errors` how far it is.
-    fn take<C: Clock, E: Write>(
-        &mut self,
-        clock: &C,
-        schema: &Schema,
-        questions: &Questions,
-        repeat: usize,
-        errors: &mut E,
-    ) -> Result<(), Failure>
-        ensures { OnOk result (HaveLookedUp schema.now questions.now 0 self.old → HaveLookedUp schema.now questions.now repeat self.new) }
-    {
-        let mut progress = Progress::new(clock)?;
-        for done in 0..repeat {
-            self.repetition(clock, schema, questions)?;
-            progress.tell(clock, errors, done + 1, repeat)?;
-        }
-        Ok(())
-    }
-
     /// Adds the line of each phase.
     fn push_lines(&mut self, alloc: Global, text: &mut String) -> Result<(), AllocError>
         ensures { OnOk result ((lines : List ℕ) × ((string_bytes text.new ≡ string_bytes text.old ++ lines) × ((n : ℕ) → HaveLookupTimes n self.old → ArePhaseLines lookup_phases n lines))) }
     {
         push_phase(alloc, text, "type_field", &mut self.type_field)?;
         push_phase(alloc, text, "is_subtype", &mut self.is_subtype)?;
+        Ok(())
+    }
+}
+
+/// A schema, and what is asked of it.
+#[derive(Clone, Copy)]
+struct LookupWork<'a> {
+    schema: &'a Schema,
+    questions: &'a Questions,
+}
+
+impl Timed for LookupWork<'_> {
+    ghost use Rattle.gqlbench_run.specs.Reports.{HaveLookedUp};
+
+    type Times = LookupTimes;
+
+    ghost have = { λ work n times. HaveLookedUp work.schema.now work.questions.now n times };
+
+    fn repetition<C: Clock>(
+        &self,
+        _alloc: Global,
+        clock: &C,
+        times: &mut LookupTimes,
+    ) -> Result<(), Failure> {
+        let fields = self.questions.fields.as_slice();
+        times.fields = time_fields(clock, self.schema, fields, &mut times.type_field)?;
+        let subtypes = self.questions.subtypes.as_slice();
+        times.subtypes = time_subtypes(clock, self.schema, subtypes, &mut times.is_subtype)?;
         Ok(())
     }
 }
@@ -185,7 +178,11 @@ pub fn lookup_report<C: Clock, E: Write>(
         subtypes: subtype_questions(alloc, &schema)?,
     };
     let mut times = LookupTimes::new(alloc, &schema, &questions);
-    times.take(clock, &schema, &questions, command.repeat, errors)?;
+    let work = LookupWork {
+        schema: &schema,
+        questions: &questions,
+    };
+    take_times(alloc, clock, &work, command.repeat, &mut times, errors)?;
     let mut text = calls(alloc, &questions, &times)?;
     times.push_lines(alloc, &mut text)?;
     Ok(text)

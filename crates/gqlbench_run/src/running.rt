@@ -11,6 +11,7 @@ use crate::compile_phases::compile_report;
 use crate::document_phases::document_report;
 use crate::failure::Failure;
 use crate::keys::chosen_keys;
+use crate::leaf_phases::leaf_report;
 use crate::lookup_phases::lookup_report;
 use crate::schema_phases::schema_report;
 use crate::walk_phases::walk_report;
@@ -142,6 +143,10 @@ fn report_on<C: Clock, E: Write>(
         Work::Walks => {
             let documents = read_both(alloc, input)?;
             walk_report(alloc, clock, keys, command, &documents, errors)
+        }
+        Work::LeafFaults => {
+            let documents = read_both(alloc, input)?;
+            leaf_report(alloc, clock, keys, command, &documents, errors)
         }
         Work::Compilation => {
             let documents = read_both(alloc, input)?;

@@ -6,7 +6,7 @@ ghost use Rattle.gqlbench_run.specs.Reports.{IsCountsText, IsSchemaReport, count
 use crate::command::Command;
 use crate::failure::Failure;
 use crate::phase::{push_phase, push_time};
-use crate::progress::Progress;
+use crate::repetition::{Timed, take_times};
 use apollo_compiler::building::build_schema;
 use apollo_compiler::compile_options::CompileOptions;
 use apollo_meaning::build_error::Faults;
@@ -129,46 +129,6 @@ impl SchemaTimes {
         }
     }
 
-    /// Takes a time of each phase.
-    fn repetition<C: Clock>(
-        &mut self,
-        alloc: Global,
-        clock: &C,
-        keys: HashKeys,
-        options: CompileOptions,
-        documents: &[Document],
-    ) -> Result<(), Failure>
-        ensures { OnOk result ((n : ℕ) → HaveTimes n self.old → HaveTimes (n + 1) self.new) }
-    {
-        let built = time_build(alloc, clock, keys, options, documents, &mut self.build)?;
-        let definitions = time_write_out(alloc, clock, &built.0, &mut self.write_out)?;
-        let mut written = Document::new(alloc);
-        written.definitions = Items::from_vec(definitions);
-        let is_equal = time_rebuild(alloc, clock, keys, &built.0, &written, &mut self.rebuild)?;
-        self.all_equal = self.all_equal && is_equal;
-        time_free(clock, built, written, &mut self.free)
-    }
-
-    /// Takes so many times of each phase, and says on `errors` how far it is.
-    fn take<C: Clock, E: Write>(
-        &mut self,
-        alloc: Global,
-        clock: &C,
-        keys: HashKeys,
-        command: Command,
-        documents: &[Document],
-        errors: &mut E,
-    ) -> Result<(), Failure>
-        ensures { OnOk result (HaveTimes 0 self.old → HaveTimes command.repeat self.new) }
-    {
-        let mut progress = Progress::new(clock)?;
-        for done in 0..command.repeat {
-            self.repetition(alloc, clock, keys, command.options, documents)?;
-            progress.tell(clock, errors, done + 1, command.repeat)?;
-        }
-        Ok(())
-    }
-
     /// Adds the line of each phase.
     fn push_lines(&mut self, alloc: Global, text: &mut String) -> Result<(), AllocError>
         ensures { OnOk result ((lines : List ℕ) × ((string_bytes text.new ≡ string_bytes text.old ++ lines) × ((n : ℕ) → HaveTimes n self.old → ArePhaseLines schema_phases n lines))) }
@@ -178,6 +138,51 @@ impl SchemaTimes {
         push_phase(alloc, text, "rebuild+eq", &mut self.rebuild)?;
         push_phase(alloc, text, "drop", &mut self.free)?;
         Ok(())
+    }
+}
+
+/// Documents of which a schema is built, and what it is built under.
+#[derive(Clone, Copy)]
+struct SchemaWork<'a> {
+    keys: HashKeys,
+    options: CompileOptions,
+    documents: &'a [Document],
+}
+
+impl Timed for SchemaWork<'_> {
+    ghost use Rattle.gqlbench_run.specs.Reports.{HaveTimes};
+
+    type Times = SchemaTimes;
+
+    ghost have = { λ _ n times. HaveTimes n times };
+
+    fn repetition<C: Clock>(
+        &self,
+        alloc: Global,
+        clock: &C,
+        times: &mut SchemaTimes,
+    ) -> Result<(), Failure> {
+        let built = time_build(
+            alloc,
+            clock,
+            self.keys,
+            self.options,
+            self.documents,
+            &mut times.build,
+        )?;
+        let definitions = time_write_out(alloc, clock, &built.0, &mut times.write_out)?;
+        let mut written = Document::new(alloc);
+        written.definitions = Items::from_vec(definitions);
+        let is_equal = time_rebuild(
+            alloc,
+            clock,
+            self.keys,
+            &built.0,
+            &written,
+            &mut times.rebuild,
+        )?;
+        times.all_equal = times.all_equal && is_equal;
+        time_free(clock, built, written, &mut times.free)
     }
 }
 
@@ -229,9 +234,15 @@ pub fn schema_report<C: Clock, E: Write>(
 ) -> Result<String, Failure>
     ensures { IfOk result (λ text. IsSchemaReport command documents.now (string_bytes text)) }
 {
-    let mut text = counts(alloc, keys, command.options, documents)?;
+    let options = command.options;
+    let mut text = counts(alloc, keys, options, documents)?;
+    let work = SchemaWork {
+        keys,
+        options,
+        documents,
+    };
     let mut times = SchemaTimes::new(alloc);
-    times.take(alloc, clock, keys, command, documents, errors)?;
+    take_times(alloc, clock, &work, command.repeat, &mut times, errors)?;
     text.push_str(rebuilt_text(times.all_equal))?;
     times.push_lines(alloc, &mut text)?;
     Ok(text)

@@ -6,9 +6,8 @@ ghost use Rattle.gqlbench_run.specs.WalkReports.{IsCountedOn, IsCountOver, IsWal
 use crate::command::Command;
 use crate::failure::Failure;
 use crate::phase::{push_phase, push_time};
-use crate::progress::Progress;
-use apollo_compiler::building::build_schema;
-use apollo_compiler::document_building::build_executable_document;
+use crate::repetition::{Timed, take_times};
+use crate::typed_building::build_typed;
 use apollo_executable::document::ExecutableDocument;
 use apollo_executable::selection::SelectionSet;
 use bench_notation::reading::DividedDocuments;
@@ -146,45 +145,37 @@ impl WalkTimes {
         })
     }
 
-    /// Takes a time of each phase.
-    fn repetition<C: Clock>(
-        &mut self,
-        alloc: Global,
-        clock: &C,
-        document: &ExecutableDocument,
-    ) -> Result<(), Failure>
-        ensures { OnOk result ((n : ℕ) → HaveWalked document.now n self.old → HaveWalked document.now (n + 1) self.new) }
-    {
-        self.root_fields = time_root(alloc, clock, document, &mut self.root)?;
-        self.all_fields = time_all(alloc, clock, document, &mut self.all)?;
-        Ok(())
-    }
-
-    /// Takes so many times of each phase, and says on `errors` how far it is.
-    fn take<C: Clock, E: Write>(
-        &mut self,
-        alloc: Global,
-        clock: &C,
-        document: &ExecutableDocument,
-        repeat: usize,
-        errors: &mut E,
-    ) -> Result<(), Failure>
-        ensures { OnOk result (HaveWalked document.now 0 self.old → HaveWalked document.now repeat self.new) }
-    {
-        let mut progress = Progress::new(clock)?;
-        for done in 0..repeat {
-            self.repetition(alloc, clock, document)?;
-            progress.tell(clock, errors, done + 1, repeat)?;
-        }
-        Ok(())
-    }
-
     /// Adds the line of each phase.
     fn push_lines(&mut self, alloc: Global, text: &mut String) -> Result<(), AllocError>
         ensures { OnOk result ((lines : List ℕ) × ((string_bytes text.new ≡ string_bytes text.old ++ lines) × ((n : ℕ) → HaveWalkTimes n self.old → ArePhaseLines walk_phases n lines))) }
     {
         push_phase(alloc, text, "root-walks", &mut self.root)?;
         push_phase(alloc, text, "all-walks", &mut self.all)?;
+        Ok(())
+    }
+}
+
+/// A typed document whose operations and fragments are walked over.
+#[derive(Clone, Copy)]
+struct WalkWork<'a> {
+    document: &'a ExecutableDocument,
+}
+
+impl Timed for WalkWork<'_> {
+    ghost use Rattle.gqlbench_run.specs.WalkReports.{HaveWalked};
+
+    type Times = WalkTimes;
+
+    ghost have = { λ work n times. HaveWalked work.document.now n times };
+
+    fn repetition<C: Clock>(
+        &self,
+        alloc: Global,
+        clock: &C,
+        times: &mut WalkTimes,
+    ) -> Result<(), Failure> {
+        times.root_fields = time_root(alloc, clock, self.document, &mut times.root)?;
+        times.all_fields = time_all(alloc, clock, self.document, &mut times.all)?;
         Ok(())
     }
 }
@@ -233,17 +224,12 @@ pub fn walk_report<C: Clock, E: Write>(
 ) -> Result<String, Failure>
     ensures { IfOk result (λ text. IsWalkReport command documents.now.schema.items documents.now.executable.items (string_bytes text)) }
 {
-    let schema_documents = documents.schema.as_slice();
-    let (schema, _schema_faults) = build_schema(alloc, keys, command.options, schema_documents)?;
-    let (document, _faults) = build_executable_document(
-        alloc,
-        &schema,
-        documents.executable.as_slice(),
-        true,
-    )?;
-    let mut times = WalkTimes::new(alloc, &document)?;
-    times.take(alloc, clock, &document, command.repeat, errors)?;
-    let mut text = counts(alloc, &document, &times)?;
+    let typed = build_typed(alloc, keys, command.options, documents)?;
+    let document = &typed.document;
+    let mut times = WalkTimes::new(alloc, document)?;
+    let work = WalkWork { document };
+    take_times(alloc, clock, &work, command.repeat, &mut times, errors)?;
+    let mut text = counts(alloc, document, &times)?;
     times.push_lines(alloc, &mut text)?;
     Ok(text)
 }

@@ -3,7 +3,7 @@ use Rattle.gqlbench_run.proofs.compile_phases.compile_report.Goals as goal
 
 pub returns : goal.returns
 returns g c =
-    let have = c.in_ok-take.ensures c.new-times.ensures in
+    let have = c.in_ok-take_times.ensures c.new-times.ensures in
     record {
       counts = string_bytes c.in_ok-text.text;
       counted = c.in_ok-text.ensures;

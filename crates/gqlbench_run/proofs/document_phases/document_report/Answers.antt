@@ -10,7 +10,7 @@ returns g c =
     let options = c.args.command.options in
     let schema = c.in_ok-schema.schema in
     let counts = string_bytes c.in_ok-text.text in
-    let have = c.in_ok-take.ensures c.new-times.ensures in
+    let have = c.in_ok-take_times.ensures c.new-times.ensures in
     record {
       schema = schema;
       means = subst (λ (ds : List Document). MeansSchema 0 options.adopt_orphan_extensions (schema_list options ds) schema) c.as_slice.ensures.value c.in_ok-schema.ensures.means;

@@ -7,7 +7,7 @@ pub returns : goal.returns
 returns g c =
     let schema = c.in_ok-schema.schema in
     let lines = c.in_ok-push_lines.ensures.0 in
-    let have = c.in_ok-take.ensures c.new-times.ensures in
+    let have = c.in_ok-take_times.ensures c.new-times.ensures in
     let fields = c.in_ok-field_questions.ensures in
     let subtypes = c.in_ok-subtype_questions.ensures in
     let found = have.fields ∙ ap (count_by (has_field schema)) fields in
