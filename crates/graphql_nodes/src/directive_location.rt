@@ -1,10 +1,10 @@
-//! The places where a directive may be applied: GraphQL specification of October 2021, section 3.13.
+//! The locations where a directive may be applied: GraphQL specification of October 2021, section 3.13.
 ghost use Rattle.std.specs.Prelude.{◌≡◌, ◌≢◌, MatchOption, Some};
 ghost use Rattle.graphql_nodes.specs.LocationTexts.{location_text};
 
 use std::fmt;
 
-/// A place where a directive may be applied.
+/// A location where a directive may be applied, which is no location in a source. `Display` is its name.
 #[derive(Clone, Copy, Debug, PartialEq, Eq, Hash)]
 pub enum DirectiveLocation {
     Query,
@@ -29,7 +29,7 @@ pub enum DirectiveLocation {
 }
 
 impl DirectiveLocation {
-    /// Every place, in the order of the specification.
+    /// Every location, in the order of the specification.
     pub const ALL: [DirectiveLocation; 19] = [
         DirectiveLocation::Query,
         DirectiveLocation::Mutation,
@@ -52,7 +52,7 @@ impl DirectiveLocation {
         DirectiveLocation::InputFieldDefinition,
     ];
 
-    /// The place of this name, and none for a text that names no place.
+    /// The location of this name, and none for a text that names no location. Capitals count.
     pub fn from_name(name: &str) -> Option<DirectiveLocation>
         ensures { MatchOption result ((location : DirectiveLocation) → location_text location ≢ name.now) (λ location. location_text location ≡ name.now) }
     {

@@ -49,7 +49,7 @@ pub fn equality_of_names()
     ensures static_text { ComparesBy ⟦<StaticText as PartialEq>⟧.eq (λ t. t) }
 {}
 
-/// Places, source files, kinds and keys are equal exactly where they are one.
+/// Locations, source files, kinds and keys are equal exactly where they are one.
 pub fn equality_of_places_and_kinds()
     ensures file_id { ComparesBy ⟦<FileId as PartialEq>⟧.eq (λ id. id) }
     ensures source_span { ComparesBy ⟦<SourceSpan as PartialEq>⟧.eq (λ span. span) }

@@ -1,4 +1,4 @@
-//! Lines and columns of places in texts: the GraphQL specification of October 2021, section 2.1.2.
+//! Lines and columns of offsets in texts. Lines end as the GraphQL specification of October 2021 says, section 2.1.3.
 //!
 //! (The bench notation puts numbers of lines in its spans, so these calls are for spans of other texts.)
 ghost use Rattle.std.specs.Prelude.{◌≡◌, ◌<◌, ◌≤◌, length};
@@ -56,8 +56,9 @@ fn counted(text: &[u8], offset: usize) -> LineColumn
 impl SourceFile {
     /// The line and column of a byte offset of the text, and none for an offset beyond the end of the text.
     ///
-    /// A line feed, a carriage return, and both in this order are one line terminator each. An offset between the two of
-    /// one is still on the line that they end, and one within a character has the column of the place after it.
+    /// A line feed, a carriage return, and a carriage return with a line feed after it are one line terminator each
+    /// (section 2.1.3). An offset between those two is still on the line that they end. An offset within a character has the
+    /// column after that character's.
     pub fn get_line_column(&self, offset: usize) -> Option<LineColumn>
         ensures { result ≡ line_column_of self.now.text offset }
     {

@@ -21,9 +21,9 @@ use std::marker::Model;
 use std::rc::RcStr;
 use thiserror::Error;
 
-/// A text that is no GraphQL name, and the place where it stands, if it is known.
+/// A text that is no GraphQL name (section 2.1.9), and its location, if it is known.
 ///
-/// Such errors are equal by their texts: the place is left out.
+/// Such errors are equal by their texts: the location is left out.
 #[derive(Debug, Drop, Clone, Error)]
 #[derive_where(PartialEq, Eq)]
 #[error("`{name}` is not a valid GraphQL name")]
@@ -33,7 +33,7 @@ pub struct InvalidNameError {
     pub location: Option<SourceSpan>,
 }
 
-/// Why [`Name::new`] answers no name.
+/// Why [`Name::new`] answers no name: `Invalid`, the text is none; `Memory`, want of memory, which says nothing of the text.
 #[derive(Debug, Drop, Error)]
 pub enum NameError {
     #[error(transparent)]
@@ -47,6 +47,7 @@ impl From<InvalidNameError> for NameError {
 
     ghost from_gives = { λ refusal error. error ≡ Invalid refusal };
 
+    /// `Invalid` of this refusal.
     fn from(refusal: InvalidNameError) -> NameError {
         NameError::Invalid(refusal)
     }
@@ -57,14 +58,15 @@ impl From<AllocError> for NameError {
 
     ghost from_gives = { λ _ error. error ≡ Memory };
 
+    /// `Memory`.
     fn from(_: AllocError) -> NameError {
         NameError::Memory
     }
 }
 
-/// A GraphQL name, and the place where it stands. Copies share the text.
+/// A GraphQL name (section 2.1.9), and its location, if it is known. Copies share the text, and have the location.
 ///
-/// Names are equal, and are ordered and hashed, by their texts: the place is left out.
+/// Names are equal, and are ordered and hashed, by their texts: the location is left out. `Display` is the text.
 pub struct Name {
     shared: RcStr,
     place: Option<SourceSpan>,
@@ -109,7 +111,7 @@ impl Name {
     /// A name with this text, and no location.
     ///
     /// A text that is no GraphQL name is refused with [`NameError::Invalid`], which carries it without a location.
-    /// [`NameError::Memory`] is want of memory.
+    /// [`NameError::Memory`] is want of memory, and says nothing of the text.
     pub fn new(alloc: Global, text: &str) -> Result<Name, NameError>
         ensures ok { IfOk result (λ n. n ≡ record { text = text.now; location = None }) }
         ensures valid { OnOk result (IsName text.now) }
@@ -124,7 +126,8 @@ impl Name {
         Ok(Name::new_unchecked(alloc, text)?)
     }
 
-    /// Whether the text is a GraphQL name: a letter or `_`, then any number of letters, digits and `_`.
+    /// Whether the text is a GraphQL name (section 2.1.9): an ASCII letter or `_`, then any number of ASCII letters,
+    /// digits and `_`.
     pub fn is_valid_syntax(text: &str) -> bool
         ensures { IsTrue result ↔ IsName text.now }
     {
@@ -146,7 +149,7 @@ impl Name {
         })
     }
 
-    /// The same name at another place.
+    /// The same name at this location.
     pub fn with_location(mut self, location: SourceSpan) -> Name
         ensures { result ≡ record self { location = Some location } }
     {
@@ -161,7 +164,7 @@ impl Name {
         self.shared.as_str()
     }
 
-    /// The place where the name stands, if it is known.
+    /// Where the name stands in a source, if it is known.
     pub fn location(&self) -> Option<SourceSpan>
         ensures { result ≡ self.now.location }
     {
@@ -172,6 +175,7 @@ impl Name {
 impl Clone for Name {
     ghost is_clone = { λ a b. b ≡ a };
 
+    /// The same name, with its location. The error is want of memory.
     fn clone(&self) -> Result<Name, AllocError> {
         Ok(Name {
             shared: self.shared.clone()?,

@@ -36,9 +36,9 @@ impl<T: Clone + Drop> Clone for Held<T> {
     }
 }
 
-/// A value that copies share, and the place in a source where it stands.
+/// A value that copies share, and its location in a source, if it is known.
 ///
-/// Nodes are equal and hashed by their values: the place is left out. A node is one pointer wide.
+/// Nodes are equal and hashed by their values: the location is left out. A node is one pointer wide.
 pub struct Node<T> {
     shared: Rc<Held<T>>,
 }
@@ -60,7 +60,7 @@ impl<T> Model for Node<T> {
 }
 
 impl<T> Node<T> {
-    /// A node with no location. The error is want of memory.
+    /// A node with no location. The error is want of memory, and drops the value.
     pub fn new(alloc: Global, value: T) -> Result<Node<T>, AllocError>
     where
         T: Drop,
@@ -69,7 +69,7 @@ impl<T> Node<T> {
         Node::new_opt_location(alloc, value, None)
     }
 
-    /// A node that stands at this place, if one is given. The error is want of memory.
+    /// A node at this location, if one is given. The error is want of memory, and drops the value.
     pub fn new_opt_location(
         alloc: Global,
         value: T,
@@ -88,14 +88,14 @@ impl<T> Node<T> {
         })
     }
 
-    /// The place where the node stands, if it is known.
+    /// Where the node stands in a source, if it is known.
     pub fn location(&self) -> Option<SourceSpan>
         ensures { result ≡ self.now.location }
     {
         self.shared.place
     }
 
-    /// Whether the node stands in the file of built-in definitions.
+    /// Whether the node has a location in the file of the built-in definitions, [`FileId::BUILT_IN`].
     pub fn is_built_in(&self) -> bool
         ensures { result ≡ is_built_in self.now.location }
     {
@@ -105,7 +105,7 @@ impl<T> Node<T> {
         }
     }
 
-    /// A node with another value at the same place. The error is want of memory.
+    /// A node with another value at this node's location. The error is want of memory, and drops the value.
     pub fn same_location<U: Drop>(&self, alloc: Global, value: U) -> Result<Node<U>, AllocError>
         ensures { IfOk result (λ n. n ≡ record { value = value; location = self.now.location }) }
     {
@@ -116,8 +116,11 @@ impl<T> Node<T> {
 impl<T: Drop + Clone> Node<T> {
     ghost use Rattle.graphql_nodes.specs.NodeLending.{LendsValue};
 
-    /// The value, to write to. Where it is shared, this node gets a copy of its own first, so that the nodes
-    /// that shared it keep what they have. The location stays. After want of memory the node is as it was.
+    /// The value, to write to. When the loan ends, the node holds what was written, and its location stays.
+    ///
+    /// Where the value is shared, this node gets a copy of its own first, so the nodes that shared it keep what they have.
+    /// Premise: a clone of a `T` is the original, which holds of each type of the syntax tree. The error is want of memory,
+    /// and leaves the node as it was.
     pub fn make_mut(&mut self) -> Result<&mut T, AllocError>
         requires { (x y : T) → T.Clone.is_clone x y → y ≡ x }
         ensures* writes_back { sem 𝓛 (LendsValue T.row self.entry result) }
@@ -163,6 +166,7 @@ impl<T: Hash> Hash for Node<T> {
 impl<T: Drop> Clone for Node<T> {
     ghost is_clone = { λ a b. b ≡ a };
 
+    /// A node that shares the value, at the same location. The error is want of memory.
     fn clone(&self) -> Result<Node<T>, AllocError> {
         Ok(Node {
             shared: self.shared.clone()?,
@@ -175,6 +179,7 @@ impl<T> Deref for Node<T> {
 
     ghost deref_gives = { λ n x. x ≡ n.value };
 
+    /// The value.
     fn deref(&self) -> &T
         ensures { result.now ≡ self.now.value }
     {

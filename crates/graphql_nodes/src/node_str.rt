@@ -16,7 +16,7 @@ use std::hash::{Hash, Hasher};
 use std::marker::Model;
 use std::rc::RcStr;
 
-/// A shared text, and the place where this copy of it stands.
+/// A shared text, and the location of this copy of it.
 struct Placed {
     shared: RcStr,
     place: Option<SourceSpan>,
@@ -31,9 +31,9 @@ impl Drop for Placed {
     }
 }
 
-/// A text, and the place where it stands. Copies share the text.
+/// A text, and its location, if it is known. Copies share the text, and have the location.
 ///
-/// Texts are equal and hashed without their places. A text is one pointer wide, since most definitions have none.
+/// Texts are equal and hashed without their locations. A text is one pointer wide, since most definitions have none.
 pub struct NodeStr {
     placed: Boxed<Placed>,
 }
@@ -69,7 +69,7 @@ impl NodeStr {
         })
     }
 
-    /// The same text at another place.
+    /// The same text at this location.
     pub fn with_location(mut self, location: SourceSpan) -> NodeStr
         ensures { result ≡ record self { location = Some location } }
     {
@@ -84,7 +84,7 @@ impl NodeStr {
         self.placed.shared.as_str()
     }
 
-    /// The place where the text stands, if it is known.
+    /// Where the text stands in a source, if it is known.
     pub fn location(&self) -> Option<SourceSpan>
         ensures { result ≡ self.now.location }
     {
@@ -95,6 +95,7 @@ impl NodeStr {
 impl Clone for NodeStr {
     ghost is_clone = { λ a b. b ≡ a };
 
+    /// The same text, with its location. The error is want of memory.
     fn clone(&self) -> Result<NodeStr, AllocError> {
         let placed = Placed {
             shared: self.placed.shared.clone()?,

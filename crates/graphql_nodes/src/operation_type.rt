@@ -6,7 +6,7 @@ use crate::name::NamedType;
 use std::alloc::{AllocError, Global};
 use std::fmt;
 
-/// The kind of an operation.
+/// The kind of an operation (section 2.3). `Display` is its keyword.
 #[derive(Clone, Copy, Debug, PartialEq, Eq, Hash)]
 pub enum OperationType {
     Query,

@@ -1,4 +1,4 @@
-//! Source files, and places in them.
+//! Source files, and locations in them.
 ghost use Rattle.std.specs.Prelude.{◌≡◌, IfOk, OnOk, OnErr};
 ghost use Rattle.graphql_nodes.specs.Sources.{merged};
 
@@ -16,8 +16,8 @@ impl FileId {
     pub const BUILT_IN: FileId = FileId(0);
 }
 
-/// A place in a source file: from the byte `start` up to, and without, the byte `end`. (The bench notation puts the number of
-/// a line in both.)
+/// A location in a source file: from the byte `start` up to, and without, the byte `end`. (The bench notation puts the number
+/// of a line in both.)
 #[derive(Clone, Copy, Debug, PartialEq, Eq, Hash)]
 pub struct SourceSpan {
     pub file: FileId,
@@ -41,9 +41,9 @@ impl Drop for SourceFile {
 /// The source files of a document, by their numbers.
 pub type SourceMap = Table<FileId, Shared<SourceFile>>;
 
-/// Adds the files of other sources, in order. A later file of a number takes the place of the earlier.
+/// Adds the files of other sources, in order. Of two files of one number the later stays, where the earlier stood.
 ///
-/// After want of memory the sources are as they were.
+/// The error is want of memory, and leaves the sources as they were.
 pub fn merge_sources(sources: &mut SourceMap, more: &SourceMap) -> Result<(), AllocError>
     ensures merged { OnOk result (sources.new ≡ merged sources.old more.now) }
     ensures err { OnErr result (sources.new ≡ sources.old) }

@@ -10,7 +10,7 @@ use std::hash::{Hash, Hasher};
 use std::marker::Model;
 use std::ops::{Deref, DerefMut};
 
-/// A `Box` that contracts see as its value.
+/// A `Box` that contracts see as its value. Equality and hash are the value's.
 pub struct Boxed<T> {
     inner: Box<T>,
 }
@@ -55,14 +55,14 @@ impl<T> Boxed<T> {
 }
 
 impl<T: Drop> Boxed<T> {
-    /// Puts another value into a box of the same allocator. The error is want of memory.
+    /// Puts another value into a box of the same allocator. The error is want of memory, and drops the value.
     pub fn same_allocator(&self, value: T) -> Result<Boxed<T>, AllocError>
         ensures { IfOk result (λ b. b ≡ value) }
     {
         Boxed::new(*Box::allocator(&self.inner), value)
     }
 
-    /// Puts a value into a box. The error is want of memory.
+    /// Puts a value into a box. The error is want of memory, and drops the value.
     pub fn new(alloc: Global, value: T) -> Result<Boxed<T>, AllocError>
         ensures { IfOk result (λ b. b ≡ value) }
     {
@@ -77,6 +77,7 @@ impl<T> Deref for Boxed<T> {
 
     ghost deref_gives = { λ b x. x ≡ b };
 
+    /// The value.
     fn deref(&self) -> &T
         ensures { result.now ≡ self.now }
     {
@@ -89,6 +90,7 @@ impl<T> DerefMut for Boxed<T> {
 
     ghost deref_mut_gives = { λ b x. x ≡ b };
 
+    /// The value, to write to. When the loan ends, the box holds what was written.
     fn deref_mut(&mut self) -> &mut T
         ensures* writes_back { sem 𝓛 (LendsInner T.row self.entry result) }
         ensures value { result.now ≡ self.old }
@@ -100,6 +102,7 @@ impl<T> DerefMut for Boxed<T> {
 impl<T: Clone + Drop> Clone for Boxed<T> {
     ghost is_clone = { T.is_clone };
 
+    /// A box of a clone of the value. The error is want of memory.
     fn clone(&self) -> Result<Boxed<T>, AllocError> {
         let value = (*self.inner).clone()?;
         self.same_allocator(value)

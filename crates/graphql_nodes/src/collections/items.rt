@@ -21,7 +21,7 @@ use std::ops::{Deref, DerefMut, Index, IndexMut};
 use std::slice::{Iter, IterMut};
 use std::vec::IntoIter;
 
-/// A `Vec` that contracts see as the list of its elements.
+/// A `Vec` that contracts see as the list of its elements. Lists are equal, and hashed, by their elements in order.
 pub struct Items<T> {
     items: Vec<T>,
 }
@@ -119,7 +119,7 @@ impl<T> Items<T> {
         self.as_slice().iter()
     }
 
-    /// Adds an element at the end. After want of memory the list is as it was.
+    /// Adds an element at the end. The error is want of memory: the list is as it was, and the element is dropped.
     pub fn push(&mut self, item: T) -> Result<(), AllocError>
     where
         T: Drop,
@@ -132,7 +132,7 @@ impl<T> Items<T> {
 
     /// Moves all elements of the other list to the end. The other list is then empty.
     ///
-    /// After want of memory both lists are as they were.
+    /// The error is want of memory, and leaves both lists as they were.
     pub fn append(&mut self, other: &mut Items<T>) -> Result<(), AllocError>
         ensures ok { OnOk result (self.new ≡ self.old ++ other.old) }
         ensures emptied { OnOk result (other.new ≡ []) }
@@ -178,6 +178,7 @@ impl<T: Hash> Hash for Items<T> {
 impl<T: Clone + Drop> Clone for Items<T> {
     ghost is_clone = { AllZip T.is_clone };
 
+    /// A clone of each element, in order. The error is want of memory.
     fn clone(&self) -> Result<Items<T>, AllocError> {
         let items = self.items.clone()?;
         Ok(Items { items })
@@ -189,6 +190,7 @@ impl<T> Deref for Items<T> {
 
     ghost deref_gives = { λ it v. v.items ≡ it };
 
+    /// The elements as a `Vec`.
     fn deref(&self) -> &Vec<T>
         ensures { result.now.items ≡ self.now }
     {
@@ -201,6 +203,7 @@ impl<T> DerefMut for Items<T> {
 
     ghost deref_mut_gives = { λ it v. v.items ≡ it };
 
+    /// The elements as a `Vec`, to write to. When the loan ends, the list has the elements that were written.
     fn deref_mut(&mut self) -> &mut Vec<T>
         ensures* writes_back { sem 𝓛 (LendsVec T.row self.entry result) }
         ensures value { result.now.items ≡ self.old }
@@ -216,6 +219,7 @@ impl<T> Index<usize> for Items<T> {
 
     ghost index_gives = { λ it i x. slice_get it i ≡ Some x };
 
+    /// The element at a place. Premise: the list has that place, which [`get`](Items::get) doesn't ask.
     fn index(&self, index: usize) -> &T {
         &self.items[index]
     }
@@ -224,6 +228,8 @@ impl<T> Index<usize> for Items<T> {
 impl<T> IndexMut<usize> for Items<T> {
     ghost use Rattle.graphql_nodes.specs.ItemsLending.{LendsItem};
 
+    /// The element at a place, to write to. Premise: the list has that place. When the loan ends, this element is what was
+    /// written, and all others are as they were.
     fn index_mut(&mut self, index: usize) -> &mut T
         requires { index < length self.old }
         ensures* writes_back { sem 𝓛 (LendsItem T.row self.entry index result) }
@@ -236,6 +242,9 @@ impl<T> IndexMut<usize> for Items<T> {
 impl<T: Drop> Extend<T> for Items<T> {
     ghost extend_gives = { λ it xs all. all ≡ it ++ xs };
 
+    /// Adds what the iterator gives at the end, in order. Premise: the iterator may be called, and ends.
+    ///
+    /// The error is want of memory: the list then has what it had and, at the end, what the iterator gave before.
     fn extend<U: IntoIterator<Item = T>>(&mut self, iter: U) -> Result<(), AllocError> {
         self.items.extend(iter)
     }
@@ -246,6 +255,8 @@ impl<T: Drop> FromIterator<T> for Items<T> {
 
     ghost from_iter_gives = { λ xs it. it ≡ xs };
 
+    /// What the iterator gives, in order, as `collect` answers it. Premise: the iterator may be called, and ends. The error is
+    /// want of memory, and drops what was given.
     fn from_iter<U: IntoIterator<Item = T>>(
         alloc: Global,
         iter: U,
@@ -265,6 +276,7 @@ impl<T: Drop> IntoIterator for Items<T> {
     ghost into_iter_gives = { λ it r. (into_iter_items r ≡ it) × (into_iter_len r ≡ length it) × (into_iter_len r < 2 ^ 64)
         × EveryRun (into_iter_steps {X = T} {Z = Global}) (λ p. ItemsAre p (into_iter_items p.from)) };
 
+    /// The elements themselves, one by one, in order.
     fn into_iter(self) -> IntoIter<T> {
         self.into_vec().into_iter()
     }
@@ -278,6 +290,7 @@ impl<'a, T> IntoIterator for &'a Items<T> {
     ghost into_iter_gives = { λ it r. (iter_rest r ≡ it.now) × (length (iter_rest r) < 2 ^ 64)
         × EveryRun (iter_steps {A = T}) (λ p. ItemsMapTo p (λ y. y.now) (iter_rest p.from)) };
 
+    /// The elements, one by one, in order, as [`iter`](Items::iter) gives them.
     fn into_iter(self) -> Iter<'a, T> {
         self.iter()
     }
@@ -293,6 +306,7 @@ impl<'a, T> IntoIterator for &'a mut Items<T> {
     ghost into_iter_gives = { λ it r. (iter_mut_rest r ≡ it.now) × (length (iter_mut_rest r) < 2 ^ 64)
         × EveryRun (iter_mut_steps {A = T}) (λ p. ItemsMapTo p (λ y. y.now) (iter_mut_rest p.from)) };
 
+    /// The elements, to write to, one by one, in order. When the walk ends, the list has what was written.
     fn into_iter(self) -> IterMut<'a, T>
         ensures* writes_back { sem 𝓛 (LendsEach T.row self.entry result) }
         ensures into_iter_gives { (iter_mut_rest result ≡ self.old) × (length (iter_mut_rest result) < 2 ^ 64)

@@ -16,6 +16,8 @@ use std::marker::Model;
 
 /// A set in the order of insertion, which contracts see as the list of its keys. They see nothing of the keys that it
 /// hashes by.
+///
+/// Sets are equal where they have the same keys, in any order.
 pub struct KeySet<T: Eq + Hash> {
     set: IndexSet<T, HashKeys>,
 }
@@ -158,7 +160,7 @@ impl<T: Eq + Hash> KeySet<T> {
 impl<T: Eq + Hash + Drop> KeySet<T> {
     /// Puts the key last, or leaves the equal one that is there. Answers whether there was none.
     ///
-    /// After want of memory the set is as it was, and the error gives the key back.
+    /// The error is want of memory, which only a new key meets. It gives the key back, and leaves the set as it was.
     pub fn insert(&mut self, key: T) -> Result<bool, AllocFailed<T>>
         ensures added { IfOk result (λ added. added ≡ not (has_key (T.eq key) self.old)) }
         ensures keys { OnOk result (self.new ≡ insert_key T.eq self.old key) }
@@ -203,6 +205,8 @@ impl<T: Eq + Hash> Eq for KeySet<T> {
 impl<T: Eq + Hash + Clone + Drop> Clone for KeySet<T> {
     ghost is_clone = { IsSetClone T.is_clone };
 
+    /// A set of clones. Where clones of the keys are the originals, it has the same keys in the same order. The error is want
+    /// of memory.
     #[tactic(auto, using(crate::proofs::KeySetClones::exact_keys))]
     fn clone(&self) -> Result<KeySet<T>, AllocError> {
         let set = self.set.clone()?;

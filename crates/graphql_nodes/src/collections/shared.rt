@@ -10,7 +10,7 @@ use std::marker::Model;
 use std::ops::Deref;
 use std::rc::Rc;
 
-/// An `Rc` that contracts see as its value. Copies share the value.
+/// An `Rc` that contracts see as its value. Copies share the value. Equality and hash are the value's.
 pub struct Shared<T> {
     inner: Rc<T>,
 }
@@ -47,7 +47,7 @@ impl<T> Shared<T> {
 }
 
 impl<T: Drop> Shared<T> {
-    /// Puts a value where copies share it. The error is want of memory.
+    /// Puts a value where copies share it. The error is want of memory, and drops the value.
     pub fn new(alloc: Global, value: T) -> Result<Shared<T>, AllocError>
         ensures { IfOk result (λ s. s ≡ value) }
     {
@@ -62,6 +62,7 @@ impl<T> Deref for Shared<T> {
 
     ghost deref_gives = { λ s x. x ≡ s };
 
+    /// The value.
     fn deref(&self) -> &T
         ensures { result.now ≡ self.now }
     {
@@ -104,6 +105,7 @@ impl<T: Hash> Hash for Shared<T> {
 impl<T: Drop> Clone for Shared<T> {
     ghost is_clone = { λ a b. b ≡ a };
 
+    /// A copy that shares the value. The error is want of memory.
     fn clone(&self) -> Result<Shared<T>, AllocError> {
         Ok(Shared {
             inner: self.inner.clone()?,

@@ -12,7 +12,7 @@ use std::fmt;
 use std::hash::{Hash, Hasher};
 use std::marker::Model;
 
-/// A `&'static str` that contracts see as its bytes.
+/// A `&'static str` that contracts see as its bytes. Texts are equal and hashed by these. `Display` is the text.
 #[derive(Drop)]
 pub struct StaticText {
     inner: &'static str,
@@ -27,7 +27,7 @@ impl Model for StaticText {
 }
 
 impl StaticText {
-    /// The text.
+    /// This text. It takes no memory.
     pub fn new(inner: &'static str) -> StaticText
         ensures { result ≡ inner.now }
     {
@@ -53,6 +53,7 @@ impl From<&'static str> for StaticText {
 impl Clone for StaticText {
     ghost is_clone = { λ a b. b ≡ a };
 
+    /// The same text. It takes no memory.
     fn clone(&self) -> Result<StaticText, AllocError> {
         Ok(StaticText { inner: self.inner })
     }

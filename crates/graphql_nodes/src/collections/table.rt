@@ -18,6 +18,8 @@ use std::marker::Model;
 
 /// A map in the order of insertion, which contracts see as the list of its entries. They see nothing of the keys that
 /// it hashes by.
+///
+/// Tables are equal where they have equal values under the same keys, in any order.
 pub struct Table<K: Eq + Hash, V> {
     map: IndexMap<K, V, HashKeys>,
 }
@@ -125,7 +127,8 @@ impl<K: Eq + Hash, V> Table<K, V> {
         self.map.contains_key(key)
     }
 
-    /// The value at the key, to write to, if there is one. The rest of the table stays.
+    /// The value at the key, to write to, if there is one. When the loan ends, the entry has what was written, and its key
+    /// and the rest of the table are as they were.
     #[tactic(auto, using(crate::proofs::TableLemmas::as_found))]
     pub fn get_mut(&mut self, key: &K) -> Option<&mut V>
         ensures* writes_back { sem 𝓛 (LendsEntry K.row V.row K.Hash self.entry (K.eq key.now) result) }
@@ -159,7 +162,8 @@ impl<K: Eq + Hash, V> Table<K, V> {
         self.map.get_index(index)
     }
 
-    /// The value at a place, to write to, if there is an entry. Its key and the rest of the table stay.
+    /// The value at a place, to write to, if there is an entry. When the loan ends, the entry has what was written, and its
+    /// key and the rest of the table are as they were.
     #[tactic(auto, using(crate::proofs::TableLemmas::as_found_at))]
     pub fn get_index_mut(&mut self, index: usize) -> Option<&mut V>
         ensures* writes_back { sem 𝓛 (LendsPlace K.row V.row K.Hash self.entry index result) }
@@ -208,10 +212,11 @@ impl<K: Eq + Hash, V> Table<K, V> {
 }
 
 impl<K: Eq + Hash + Drop, V> Table<K, V> {
-    /// Puts the value at the key. A key that is there keeps its place, and a new one goes last. Answers the value
-    /// that stood there.
+    /// Puts the value at the key. An equal key that is there stays, in its place, and a new one goes last. Answers the value
+    /// that stood there, if one did.
     ///
-    /// After want of memory the table is as it was, and the error gives the key and value back.
+    /// The error is want of memory, which only a new key meets. It gives the key and the value back, and leaves the table as
+    /// it was.
     pub fn insert(&mut self, key: K, value: V) -> Result<Option<V>, AllocFailed<(K, V)>>
         ensures old { IfOk result (λ old. old ≡ lookup (K.eq key) self.old) }
         ensures entries { OnOk result (self.new ≡ insert_entry K.eq self.old key value) }
@@ -225,7 +230,7 @@ impl<K: Eq + Hash + Drop, V> Table<K, V> {
 
     /// Inserts each entry of the other table in turn, as [`insert`](Table::insert) does. The other table is then empty.
     ///
-    /// After want of memory both tables are as they were.
+    /// The error is want of memory, and leaves both tables as they were.
     pub fn append(&mut self, other: &mut Table<K, V>) -> Result<(), AllocError>
     where
         V: Drop,
@@ -238,7 +243,7 @@ impl<K: Eq + Hash + Drop, V> Table<K, V> {
         self.map.append(&mut other.map)
     }
 
-    /// Takes out the entry with the key. Those after it move up. Answers its value.
+    /// Takes out the entry with the key, if there is one. Those after it move up. Answers its value.
     pub fn shift_remove(&mut self, key: &K) -> Option<V>
         ensures value { result ≡ lookup (K.eq key.now) self.old }
         ensures entries { self.new ≡ remove_entry (K.eq key.now) self.old }
@@ -271,6 +276,8 @@ impl<K: Eq + Hash, V: Eq> Eq for Table<K, V> {
 impl<K: Eq + Hash + Clone + Drop, V: Clone + Drop> Clone for Table<K, V> {
     ghost is_clone = { IsTableClone K.is_clone V.is_clone };
 
+    /// A table of clones. Where clones of the keys and the values are the originals, it has the same entries in the same order.
+    /// The error is want of memory.
     #[tactic(auto, using(crate::proofs::TableLemmas::exact_clones))]
     fn clone(&self) -> Result<Table<K, V>, AllocError> {
         let map = self.map.clone()?;

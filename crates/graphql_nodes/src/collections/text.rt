@@ -12,7 +12,7 @@ use std::fmt;
 use std::hash::{Hash, Hasher};
 use std::marker::Model;
 
-/// A `String` that contracts see as its bytes.
+/// A `String` that contracts see as its bytes. Texts are equal and hashed by these. `Display` is the text.
 pub struct Text {
     inner: String,
 }
@@ -81,6 +81,7 @@ impl Text {
 impl Clone for Text {
     ghost is_clone = { λ a b. b ≡ a };
 
+    /// A copy of the text. The error is want of memory.
     fn clone(&self) -> Result<Text, AllocError> {
         Ok(Text {
             inner: self.inner.clone()?,
