@@ -9,19 +9,19 @@ use graphql_nodes::name::Name;
 use graphql_nodes::named::{Named, first_of_name};
 use graphql_nodes::node::Node;
 
-/// Why an argument has no value.
+/// Why an argument has no value: a value that is given for it is always its value.
 #[derive(Clone, Copy, Debug, PartialEq, Eq)]
 pub enum ArgumentByNameError {
-    /// The definition has a non-null type and no default value, and no value is specified.
+    /// No value is specified, and the definition has a non-null type and no default value.
     RequiredArgumentNotSpecified,
-    /// There is no definition of the argument.
+    /// No value is specified, and there is no definition of the argument.
     NoSuchArgument,
 }
 
 impl FieldDefinition {
     ghost use Rattle.graphql_ast.specs.ArgumentsByName.{defined_argument};
 
-    /// The first argument definition of the name, if there is one.
+    /// The first argument definition that has the name's text, if there is one. It takes no memory.
     pub fn argument_by_name(&self, name: &Name) -> Option<&Node<InputValueDefinition>>
         ensures { option_copied result ≡ defined_argument self.now.arguments name.now }
     {
@@ -32,7 +32,7 @@ impl FieldDefinition {
 impl DirectiveDefinition {
     ghost use Rattle.graphql_ast.specs.ArgumentsByName.{defined_argument};
 
-    /// The first argument definition of the name, if there is one.
+    /// The first argument definition that has the name's text, if there is one. It takes no memory.
     pub fn argument_by_name(&self, name: &Name) -> Option<&Node<InputValueDefinition>>
         ensures { option_copied result ≡ defined_argument self.now.arguments name.now }
     {
@@ -44,7 +44,7 @@ impl Argument {
     ghost use Rattle.graphql_ast.specs.ArgumentsByName.{specified_value, argument_value};
     ghost use Rattle.graphql_ast.specs.ArgumentAnswer.{Answers};
 
-    /// The value of the first argument of the name, if there is one.
+    /// The value of the first argument that has the name's text, if there is one. It takes no memory.
     pub fn specified_argument_by_name<'a>(
         arguments: &'a [Node<Argument>],
         name: &Name,
@@ -54,7 +54,8 @@ impl Argument {
         first_of_name(arguments, name).map(|given| &given.value)
     }
 
-    /// The value of the argument of the name: the specified one, else the default one of its definition, else none.
+    /// The value of the argument of the name: the specified one, else the default one of its definition, else none. It takes no
+    /// memory.
     ///
     /// Where no value is specified, an argument without a definition is
     /// [`NoSuchArgument`](ArgumentByNameError::NoSuchArgument), and one of a non-null type without a default value is

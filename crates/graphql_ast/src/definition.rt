@@ -15,7 +15,7 @@ use graphql_nodes::source::SourceSpan;
 use graphql_nodes::type_kind::TypeKind;
 use std::alloc::AllocError;
 
-/// A definition or extension of a document.
+/// A definition or extension of a document. `From` of a node is the variant of its kind, which holds this node.
 #[derive(Debug, Drop, PartialEq, Eq, Hash)]
 pub enum Definition {
     OperationDefinition(Node<OperationDefinition>),
@@ -47,6 +47,7 @@ fn copied<T: Drop, D: From<Node<T>>>(node: &Node<T>) -> Result<D, AllocError>
 impl Clone for Definition {
     ghost is_clone = { λ a b. b ≡ a };
 
+    /// The same definition, with every location. The node is shared. The error is want of memory.
     fn clone(&self) -> Result<Definition, AllocError> {
         match self {
             Definition::OperationDefinition(node) => copied(node),
@@ -99,7 +100,7 @@ impl Definition {
         }
     }
 
-    /// The place where the definition stands, if it is known.
+    /// Where the definition stands in a source, if it is known.
     pub fn location(&self) -> Option<SourceSpan>
         ensures { result ≡ location_of self.now }
     {

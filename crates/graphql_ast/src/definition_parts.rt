@@ -78,7 +78,8 @@ impl DefinitionParts {
         }
     }
 
-    /// Adds a part at the end of its list. After want of memory the parts are as they were.
+    /// Adds a part at the end of the list of its sort. The error is want of memory: the parts are as they were, and this one is
+    /// dropped.
     pub fn push(&mut self, part: DefinitionPart) -> Result<(), AllocError>
         ensures added { OnOk result (self.new ≡ with_part part self.old) }
         ensures refused { OnErr result (self.new ≡ self.old) }
@@ -93,7 +94,10 @@ impl DefinitionParts {
         }
     }
 
-    /// The definition of a type of this kind, with these parts. The error is want of memory.
+    /// The definition of a type of this kind, description and name, at this location, with these parts: each list that the kind
+    /// has, in order. The others are left out.
+    ///
+    /// The error is want of memory, and drops the parts.
     pub fn into_definition(
         self,
         alloc: Global,
@@ -171,7 +175,10 @@ impl DefinitionParts {
         }
     }
 
-    /// The extension of a type of this kind, with these parts. The error is want of memory.
+    /// The extension of a type of this kind and name, at this location, with these parts: each list that the kind has, in order.
+    /// The others are left out.
+    ///
+    /// The error is want of memory, and drops the parts.
     pub fn into_extension(
         self,
         alloc: Global,
@@ -239,7 +246,8 @@ impl DefinitionParts {
         }
     }
 
-    /// The definition of the schema with these parts. The error is want of memory.
+    /// The definition of the schema with this description, at this location, with the directives and roots of these parts, in
+    /// order. The others are left out. The error is want of memory, and drops the parts.
     pub fn into_schema_definition(
         self,
         alloc: Global,
@@ -264,7 +272,8 @@ impl DefinitionParts {
         placed(alloc, value, location)
     }
 
-    /// The extension of the schema with these parts. The error is want of memory.
+    /// The extension of the schema at this location, with the directives and roots of these parts, in order. The others are left
+    /// out. The error is want of memory, and drops the parts.
     pub fn into_schema_extension(
         self,
         alloc: Global,
@@ -288,7 +297,7 @@ impl DefinitionParts {
     }
 }
 
-/// What a value becomes that stands at a place. The error is want of memory.
+/// What a value becomes that stands at a location, if one is given. The error is want of memory.
 fn placed<T: Drop, D: From<Node<T>>>(
     alloc: Global,
     value: T,

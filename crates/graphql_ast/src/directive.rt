@@ -8,7 +8,7 @@ use graphql_nodes::node::Node;
 use std::alloc::{AllocError, Global};
 use std::ops::Deref;
 
-/// An argument: a name with a value.
+/// An argument: a name with a value (section 2.6).
 #[derive(Debug, PartialEq, Eq, Hash, Clone)]
 pub struct Argument {
     pub name: Name,
@@ -30,7 +30,7 @@ impl Argument {
     }
 }
 
-/// An applied directive.
+/// An applied directive (section 2.12).
 #[derive(Debug, PartialEq, Eq, Hash, Clone)]
 pub struct Directive {
     pub name: Name,
@@ -58,7 +58,7 @@ impl Directive {
     }
 }
 
-/// The directives applied to a definition, in order.
+/// The directives applied to a definition or to a selection, in order.
 #[derive(Debug, PartialEq, Eq, Hash, Clone)]
 pub struct DirectiveList(pub Items<Node<Directive>>);
 
@@ -76,7 +76,7 @@ impl DirectiveList {
         DirectiveList(Items::new(alloc))
     }
 
-    /// Adds a directive at the end. After want of memory the list is as it was.
+    /// Adds a directive at the end. The error is want of memory: the list is as it was, and the directive is dropped.
     pub fn push(&mut self, directive: Node<Directive>) -> Result<(), AllocError>
         ensures ok { OnOk result (self.new.0 ≡ self.old.0 ++ directive ∷ []) }
         ensures err { OnErr result (self.new ≡ self.old) }
@@ -90,6 +90,7 @@ impl Deref for DirectiveList {
 
     ghost deref_gives = { λ list items. items ≡ list.0 };
 
+    /// The directives, in order.
     fn deref(&self) -> &Items<Node<Directive>>
         ensures { result.now ≡ self.now.0 }
     {

@@ -9,7 +9,7 @@ use std::alloc::Global;
 
 /// The definitions of a document, in order, and the files that they come from.
 ///
-/// Documents are equal where their definitions are: the sources are left out.
+/// Documents are equal where their definitions are, in order: the sources are left out.
 #[derive(Debug, Drop, Clone)]
 #[derive_where(PartialEq, Eq)]
 pub struct Document {
@@ -19,7 +19,7 @@ pub struct Document {
 }
 
 impl Document {
-    /// A document without definitions and sources.
+    /// A document without definitions and sources. It takes no memory.
     pub fn new(alloc: Global) -> Document
         ensures definitions { result.definitions ≡ [] }
         ensures sources { result.sources ≡ [] }

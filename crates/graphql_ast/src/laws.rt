@@ -94,7 +94,7 @@ pub fn clones_of_containers_are_exact<T: Eq + Hash + Clone, V: Clone>()
 {}
 
 /// Each clone of a part of a tree is the original, with its locations and the sources of a document; and so is each clone of
-/// a place, a kind, keys or an error.
+/// a location, a kind, keys or an error.
 ///
 /// The `Clone` of the other types says so itself.
 pub fn clones_are_exact()

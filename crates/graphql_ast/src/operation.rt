@@ -11,7 +11,7 @@ use graphql_nodes::node::Node;
 use graphql_nodes::operation_type::OperationType;
 use std::alloc::Global;
 
-/// A query, mutation or subscription, anonymous where it has no name.
+/// A query, mutation or subscription, anonymous where it has no name (section 2.3).
 #[derive(Debug, PartialEq, Eq, Hash, Clone)]
 pub struct OperationDefinition {
     pub operation_type: OperationType,
@@ -48,7 +48,7 @@ impl OperationDefinition {
     }
 }
 
-/// A variable of an operation.
+/// A variable of an operation (section 2.10).
 #[derive(Debug, PartialEq, Eq, Hash, Clone)]
 pub struct VariableDefinition {
     pub name: Name,
@@ -82,7 +82,7 @@ impl VariableDefinition {
     }
 }
 
-/// A named fragment.
+/// A named fragment (section 2.8).
 #[derive(Debug, PartialEq, Eq, Hash, Clone)]
 pub struct FragmentDefinition {
     pub name: Name,

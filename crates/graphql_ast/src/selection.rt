@@ -7,7 +7,7 @@ use graphql_nodes::name::{Name, NamedType};
 use graphql_nodes::node::Node;
 use std::alloc::{AllocError, Global};
 
-/// One entry of a selection set.
+/// One entry of a selection set (section 2.4). `From` of a node is the variant of its kind, which holds this node.
 #[cycle(selection)]
 #[derive(Debug, Drop, PartialEq, Eq, Hash)]
 pub enum Selection {
@@ -16,7 +16,7 @@ pub enum Selection {
     InlineFragment(Node<InlineFragment>),
 }
 
-/// A selected field.
+/// A selected field (section 2.5).
 #[cycle(selection)]
 #[derive(Debug, PartialEq, Eq, Hash)]
 pub struct Field {
@@ -55,7 +55,7 @@ impl Field {
     }
 }
 
-/// The selections of a named fragment.
+/// The selections of a named fragment (section 2.8).
 #[derive(Debug, PartialEq, Eq, Hash, Clone)]
 pub struct FragmentSpread {
     pub fragment_name: Name,
@@ -83,7 +83,7 @@ impl FragmentSpread {
     }
 }
 
-/// Selections under a type condition, if there is one, and directives of their own.
+/// Selections under a type condition, if there is one, and directives of their own (section 2.8.2).
 #[cycle(selection)]
 #[derive(Debug, PartialEq, Eq, Hash)]
 pub struct InlineFragment {
@@ -130,6 +130,7 @@ impl InlineFragment {
 impl Clone for Selection {
     ghost is_clone = { λ a b. b ≡ a };
 
+    /// The same selection, with every location. The node is shared. The error is want of memory.
     fn clone(&self) -> Result<Selection, AllocError> {
         match self {
             Selection::Field(node) => Ok(Selection::Field(node.clone()?)),
@@ -142,6 +143,7 @@ impl Clone for Selection {
 impl Clone for Field {
     ghost is_clone = { λ a b. b ≡ a };
 
+    /// The same field, with every location. The error is want of memory.
     fn clone(&self) -> Result<Field, AllocError> {
         Ok(Field {
             alias: self.alias.clone()?,
@@ -156,6 +158,7 @@ impl Clone for Field {
 impl Clone for InlineFragment {
     ghost is_clone = { λ a b. b ≡ a };
 
+    /// The same fragment, with every location. The error is want of memory.
     fn clone(&self) -> Result<InlineFragment, AllocError> {
         Ok(InlineFragment {
             type_condition: self.type_condition.clone()?,

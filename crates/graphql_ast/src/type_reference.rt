@@ -25,14 +25,14 @@ impl Type {
         Type::Named(name)
     }
 
-    /// The type of lists of this type. The error is want of memory.
+    /// The type of lists of this type. The error is want of memory, and drops the type.
     pub fn list(self, alloc: Global) -> Result<Type, AllocError>
         ensures { IfOk result (λ list. list ≡ ListOf self) }
     {
         Ok(Type::List(Boxed::new(alloc, self)?))
     }
 
-    /// The same type without null.
+    /// The same type without null: its name or outermost list, made non-null. A type that is non-null stays as it is.
     pub fn non_null(self) -> Type
         ensures { result ≡ made_non_null self }
     {
@@ -43,7 +43,7 @@ impl Type {
         }
     }
 
-    /// The name inside all lists.
+    /// The name inside all lists, non-null or not.
     pub fn inner_named_type(&self) -> &NamedType
         ensures { result.now ≡ inner_name self.now }
     {
@@ -55,7 +55,7 @@ impl Type {
         }
     }
 
-    /// Whether null is no value of the type.
+    /// Whether null is no value of the type. What is inside its lists makes no difference.
     pub fn is_non_null(&self) -> bool
         ensures { result ≡ is_required self.now }
     {
@@ -66,6 +66,7 @@ impl Type {
 impl Clone for Type {
     ghost is_clone = { λ a b. b ≡ a };
 
+    /// The same type, with the location of its name. The error is want of memory.
     fn clone(&self) -> Result<Type, AllocError> {
         match self {
             Type::Named(name) => Ok(Type::Named(name.clone()?)),
