@@ -18,7 +18,7 @@ use std::ops::{Deref, DerefMut};
 
 /// A part of a type, and the definition or extension that it comes from.
 ///
-/// Components are equal and hashed by their values: origins and places are left out.
+/// Components are equal and hashed by their values: origins and locations are left out.
 #[derive(Debug)]
 pub struct Component<T> {
     pub origin: ComponentOrigin,
@@ -32,7 +32,7 @@ impl<T: Drop> Drop for Component<T> {
 }
 
 impl<T> Component<T> {
-    /// A component of the definition, at no place. The error is want of memory.
+    /// A component of the definition, without a location. The error is want of memory, and drops the value.
     pub fn new(alloc: Global, value: T) -> Result<Component<T>, AllocError>
     where
         T: Drop,
@@ -44,7 +44,7 @@ impl<T> Component<T> {
         })
     }
 
-    /// A component that this node holds, of this origin.
+    /// A component that this node holds, of this origin. It takes no memory.
     pub fn with_origin(node: Node<T>, origin: ComponentOrigin) -> Component<T>
         ensures { result ≡ record { origin = origin; node = node } }
     {
@@ -58,6 +58,7 @@ impl<T> From<Node<T>> for Component<T> {
 
     ghost from_gives = { λ node component. component ≡ record { origin = Definition; node = node } };
 
+    /// A component that this node holds, of the definition.
     fn from(node: Node<T>) -> Component<T> {
         Component {
             origin: ComponentOrigin::Definition,
@@ -71,6 +72,7 @@ impl<T> Deref for Component<T> {
 
     ghost deref_gives = { λ component node. node ≡ component.node };
 
+    /// The node.
     fn deref(&self) -> &Node<T>
         ensures { result.now ≡ self.now.node }
     {
@@ -83,6 +85,7 @@ impl<T> DerefMut for Component<T> {
 
     ghost deref_mut_gives = { λ component node. node ≡ component.node };
 
+    /// The node, to write to. When the loan ends, the component has the node that was written, of the origin that it had.
     fn deref_mut(&mut self) -> &mut Node<T>
         ensures* writes_back { sem 𝓛 (LendsNode T.row self.entry result) }
         ensures value { result.now ≡ self.old.node }
@@ -118,6 +121,7 @@ impl<T: Hash> Hash for Component<T> {
 impl<T: Drop> Clone for Component<T> {
     ghost is_clone = { λ a b. b ≡ a };
 
+    /// The same component, with its origin and location. The value is shared. The error is want of memory.
     fn clone(&self) -> Result<Component<T>, AllocError> {
         Ok(Component {
             origin: self.origin,
@@ -129,7 +133,7 @@ impl<T: Drop> Clone for Component<T> {
 /// A name that a type lists, as an interface or a union member, or that a schema has as a root, and the definition or extension
 /// that it comes from.
 ///
-/// Component names are equal and hashed by their texts: origins and places are left out.
+/// Component names are equal and hashed by their texts: origins and locations are left out. `Display` is the text.
 #[derive(Debug)]
 pub struct ComponentName {
     pub origin: ComponentOrigin,
@@ -143,7 +147,7 @@ impl Drop for ComponentName {
 }
 
 impl ComponentName {
-    /// This name, of this origin.
+    /// This name, of this origin. It takes no memory.
     pub fn with_origin(name: Name, origin: ComponentOrigin) -> ComponentName
         ensures { result ≡ record { origin = origin; name = name } }
     {
@@ -167,6 +171,7 @@ impl From<Name> for ComponentName {
 
     ghost from_gives = { λ name component. component ≡ record { origin = Definition; name = name } };
 
+    /// This name, of the definition.
     fn from(name: Name) -> ComponentName {
         ComponentName {
             origin: ComponentOrigin::Definition,
@@ -180,6 +185,7 @@ impl Deref for ComponentName {
 
     ghost deref_gives = { λ component name. name ≡ component.name };
 
+    /// The name.
     fn deref(&self) -> &Name
         ensures { result.now ≡ self.now.name }
     {
@@ -222,6 +228,7 @@ impl fmt::Display for ComponentName {
 impl Clone for ComponentName {
     ghost is_clone = { λ a b. b ≡ a };
 
+    /// The same component name, with its origin and location. The error is want of memory.
     fn clone(&self) -> Result<ComponentName, AllocError> {
         Ok(ComponentName {
             origin: self.origin,

@@ -48,9 +48,9 @@ impl ExtensionSource {
         self.next
     }
 
-    /// The identity of an extension that stands at this place: the source's next number, which then moves by one.
+    /// The identity of an extension at this location, with the source's next number, which then moves by one.
     ///
-    /// At `u64::MAX` it is refused, and the source stays.
+    /// At `u64::MAX`, and there alone, it is refused, and the source stays. So that number is never given.
     pub fn draw(&mut self, location: Option<SourceSpan>) -> Result<ExtensionId, IdsSpent>
         ensures drawn { IfOk result (λ id. (id ≡ extension_id (next_number self.old) location) × (self.new ≡ source_at (next_number self.old + 1))) }
         ensures spent { OnErr result (next_number self.old ≡ 2 ^ 64 - 1) }
@@ -65,9 +65,9 @@ impl ExtensionSource {
     }
 }
 
-/// The identity of an extension, and the place where that extension stands.
+/// The identity of an extension, and that extension's location, if it is known.
 ///
-/// Identities are equal and hashed by their numbers: the place is left out.
+/// Identities are equal and hashed by their numbers: the location is left out.
 #[derive(Clone, Copy, Debug)]
 pub struct ExtensionId {
     number: u64,
@@ -75,7 +75,8 @@ pub struct ExtensionId {
 }
 
 impl ExtensionId {
-    /// The next identity of the source, for the extension that this node holds. See [`ExtensionSource::draw`].
+    /// The next identity of the source, at the location of this node, which holds the extension. It is refused as
+    /// [`ExtensionSource::draw`] is.
     pub fn new<T>(
         source: &mut ExtensionSource,
         extension: &Node<T>,
@@ -94,14 +95,14 @@ impl ExtensionId {
         self.number
     }
 
-    /// The place where the extension stands, if it is known.
+    /// Where the extension stands in a source, if it is known.
     pub fn location(&self) -> Option<SourceSpan>
         ensures { result ≡ place_of self.now }
     {
         self.location
     }
 
-    /// A node at the place of the extension. The error is want of memory.
+    /// A node at the location of the extension. The error is want of memory, and drops the value.
     pub fn same_location<T: Drop>(&self, alloc: Global, value: T) -> Result<Node<T>, AllocError>
         ensures { IfOk result (λ n. n ≡ record { value = value; location = place_of self.now }) }
     {
@@ -133,7 +134,9 @@ impl Hash for ExtensionId {
     }
 }
 
-/// Where a component comes from: the definition of its type, or an extension.
+/// Where a component comes from: the definition, or an extension, of its type or of the schema (sections 3.3.2 and 3.4.3).
+///
+/// Origins are equal where both are the definition, or extensions of one number.
 #[derive(Clone, Copy, Debug, PartialEq, Eq, Hash)]
 pub enum ComponentOrigin {
     Definition,
@@ -141,7 +144,7 @@ pub enum ComponentOrigin {
 }
 
 impl ComponentOrigin {
-    /// The identity of the extension, if it is one.
+    /// The identity of the extension, if the origin is one.
     pub fn extension_id(&self) -> Option<&ExtensionId>
         ensures { option_copied result ≡ id_of self.now }
     {

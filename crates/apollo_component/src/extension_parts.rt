@@ -57,7 +57,8 @@ impl ExtensionParts {
         }
     }
 
-    /// Adds a part of the extension of this identity, the last of its sort there. The error is want of memory.
+    /// Adds a part of the extension of this identity, the last of its sort there. The error is want of memory, after which
+    /// nothing is said of the parts.
     pub(crate) fn add<P: DefinitionItem>(
         &mut self,
         alloc: Global,
@@ -69,8 +70,8 @@ impl ExtensionParts {
         self.held.add(alloc, id, part)
     }
 
-    /// Adds each, in order, as an extension of a type of this kind and name, where it stands. The error is want of
-    /// memory.
+    /// Adds each, in order, as an extension of a type of this kind and name, at its own location. The error is want of
+    /// memory, after which `written` begins with what it held.
     pub(crate) fn write_types(
         self,
         alloc: Global,
@@ -91,7 +92,7 @@ impl ExtensionParts {
         }
     }
 
-    /// Adds each, in order, as an extension of the schema, where it stands. The error is want of memory.
+    /// Adds each, in order, as an extension of the schema, at its own location. The error is want of memory.
     pub(crate) fn write_schemas(
         self,
         alloc: Global,

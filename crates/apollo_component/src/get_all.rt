@@ -55,7 +55,8 @@ impl<'a, 'n> Iterator for GetAll<'a, 'n> {
 
     ghost remaining = { λ left. at_most (length left) };
 
-    /// The next directive of the name, if there is one.
+    /// The first directive of the name that is left, after which the rest is left. Once none is left it answers none, from then
+    /// on too.
     fn next(&mut self) -> Option<&'a Component<Directive>> {
         while let Some(directive) = self.directives.next() {
             if directive.name == *self.name {

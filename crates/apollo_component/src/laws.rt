@@ -21,13 +21,13 @@ pub fn each_is_first_or_later<T>()
     ensures kept { (same : T → T → Bool) (xs : List T) → IsEquivalence same → All (λ x. is_some (find (same x) (first_of_each same xs)) ≡ true) (later_of_each same xs) }
 {}
 
-/// Components are equal exactly where their values are: origins and places are left out.
+/// Components are equal exactly where their values are: origins and locations are left out.
 pub fn equality_of_components<T: PartialEq>()
     ensures { (f : T → T) → ComparesBy T.eq f → ComparesBy ⟦<Component<T> as PartialEq>⟧.eq (bare_component f) }
 {}
 
 /// Component names are equal where their texts are, sets of them where they have the same texts, and lists of directives
-/// where the directives are, in order: origins and places are left out. Identities of extensions are equal by their
+/// where the directives are, in order: origins and locations are left out. Identities of extensions are equal by their
 /// numbers, and origins where both are the definition or extensions of one number.
 pub fn equality_of_names_and_origins()
     ensures component_name { ComparesBy ⟦<ComponentName as PartialEq>⟧.eq bare_component_name }

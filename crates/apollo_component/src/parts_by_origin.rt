@@ -43,7 +43,7 @@ impl PartsByOrigin {
         }
     }
 
-    /// Adds a part of this origin, the last of its sort there. The error is want of memory.
+    /// Adds a part of this origin, the last of its sort there. The error is want of memory: drop the parts then.
     pub fn add<P: DefinitionItem>(
         &mut self,
         alloc: Global,
@@ -59,7 +59,8 @@ impl PartsByOrigin {
         Ok(())
     }
 
-    /// Adds each of these components, in order, as [`add`](PartsByOrigin::add) does. The error is want of memory.
+    /// Adds each of these components, in order, as [`add`](PartsByOrigin::add) does. The error is want of memory: drop the
+    /// parts then.
     pub fn add_components<T: NodePart>(
         &mut self,
         alloc: Global,
@@ -74,8 +75,8 @@ impl PartsByOrigin {
         Ok(())
     }
 
-    /// Adds each of the components that stand under names, in order, as [`add`](PartsByOrigin::add) does. The error is
-    /// want of memory.
+    /// Adds each of the components that are left of a table's values, in order, as [`add`](PartsByOrigin::add) does. The error
+    /// is want of memory: drop the parts then.
     pub fn add_named_components<T: NodePart>(
         &mut self,
         alloc: Global,
@@ -90,7 +91,8 @@ impl PartsByOrigin {
         Ok(())
     }
 
-    /// Adds each of these names, in order, as [`add`](PartsByOrigin::add) does. The error is want of memory.
+    /// Adds each of these names, in order, as [`add`](PartsByOrigin::add) does. The error is want of memory: drop the parts
+    /// then.
     pub fn add_names(&mut self, alloc: Global, names: &[ComponentName]) -> Result<(), AllocError>
         ensures { OnOk result ((cs : List SourcedPart) → self.old ≡ by_origin cs → self.new ≡ by_origin (cs ++ map sourced_name names.now)) }
     {
@@ -101,8 +103,10 @@ impl PartsByOrigin {
         Ok(())
     }
 
-    /// Adds a type of this kind as syntax at the end: its definition, at this place, then its extensions, each at its own.
-    /// The error is want of memory, after which `written` begins with what it held.
+    /// Adds a type of this kind, description and name as syntax at the end: its definition, at this location, with the parts of
+    /// the definition, and then each of its extensions, in order of first appearance, at its own location, with its parts.
+    ///
+    /// The error is want of memory: `written` then begins with what it held, and the parts are dropped.
     pub fn write_type(
         self,
         alloc: Global,
@@ -124,8 +128,9 @@ impl PartsByOrigin {
         extensions.write_types(alloc, kind, name, written)
     }
 
-    /// The schema's definition as syntax: the definition, at this place, if it is written, then its extensions, each at
-    /// its own. The error is want of memory.
+    /// The schema's definition as syntax: the definition with this description, at this location, if it is to be written, and
+    /// then each of its extensions, in order of first appearance, at its own location, with its parts. Without the definition
+    /// its description and parts are left out. The error is want of memory, and drops the parts.
     pub fn into_schema(
         self,
         alloc: Global,
