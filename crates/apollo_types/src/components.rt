@@ -93,7 +93,7 @@ impl<'a> Part<'a> {
         }
     }
 
-    /// Adds each component that is left, in order. The error is want of memory.
+    /// Adds each component that is left, in order. The error is want of memory, after which nothing is said of the parts.
     fn add_to(self, alloc: Global, parts: &mut PartsByOrigin) -> Result<(), AllocError>
         ensures { OnOk result ((cs : List SourcedPart) → parts.old ≡ by_origin cs → parts.new ≡ by_origin (cs ++ part_components self.entry)) }
     {
@@ -109,7 +109,7 @@ impl<'a> Part<'a> {
     }
 }
 
-/// Adds each root that is left, in order. A root stands where its name does.
+/// Adds each root that is left, in order. A root has the location of its name. The error is want of memory.
 fn add_roots(
     alloc: Global,
     roots: RootOperations<'_>,
@@ -186,7 +186,7 @@ impl<'a> Iterator for Components<'a> {
 
     ghost remaining = { λ left. at_most (length left) };
 
-    /// The next component, if there is one.
+    /// The first component that is left, after which the rest is left. Once none is left it answers none, from then on too.
     fn next(&mut self) -> Option<ComponentRef<'a>> {
         if let Some(directive) = self.directives.next() {
             return Some(ComponentRef::Directive(directive));
@@ -197,7 +197,7 @@ impl<'a> Iterator for Components<'a> {
         self.values.next()
     }
 
-    /// How many components are left, twice; without the second where a `usize` can't say it.
+    /// How many components are left, as both bounds; without an upper one where a `usize` can't say it.
     fn size_hint(&self) -> (usize, Option<usize>)
         ensures lower { IsWithinCount result.0 (at_most (length self.now)) }
         ensures upper { IfSome result.1 (UpTo (at_most (length self.now))) }

@@ -17,7 +17,9 @@ use graphql_nodes::source::SourceSpan;
 use graphql_nodes::type_kind::TypeKind;
 use std::alloc::{AllocError, Global};
 
-/// An enum type. Equality ignores places and origins, and the order of values.
+/// An enum type, with what its extensions add (section 3.9).
+///
+/// Equality leaves out locations and origins, and the order of values. Directives are compared in order.
 #[derive(Debug, PartialEq, Eq)]
 pub struct EnumType {
     pub description: Option<NodeStr>,
@@ -40,6 +42,7 @@ impl Drop for EnumType {
 impl Clone for EnumType {
     ghost is_clone = { λ a b. b ≡ a };
 
+    /// The same type, with every location and origin. The error is want of memory.
     fn clone(&self) -> Result<EnumType, AllocError> {
         Ok(EnumType {
             description: self.description.clone()?,
@@ -83,8 +86,8 @@ impl EnumType {
         identities_of(alloc, self.iter_origins())
     }
 
-    /// The type as syntax: its definition, at this place, with the components of the definition, then an extension
-    /// for each identity of [`extensions`](EnumType::extensions), with that identity's components and place. Each
+    /// The type as syntax: its definition, at this location, with the components of the definition, then an extension
+    /// for each identity of [`extensions`](EnumType::extensions), with that identity's components and location. Each
     /// list is in the type's own order. The error is want of memory.
     pub fn to_ast(
         &self,

@@ -22,7 +22,9 @@ use graphql_nodes::source::SourceSpan;
 use graphql_nodes::type_kind::TypeKind;
 use std::alloc::{AllocError, Global};
 
-/// A type of a schema, by its kind.
+/// A type of a schema, by its kind. `From` of a node is the type of its kind, which holds this node.
+///
+/// Equality is that of the kind and of the held type: locations and origins are left out.
 #[derive(Debug, Drop, PartialEq, Eq)]
 pub enum ExtendedType {
     Scalar(Node<ScalarType>),
@@ -36,6 +38,7 @@ pub enum ExtendedType {
 impl Clone for ExtendedType {
     ghost is_clone = { λ a b. b ≡ a };
 
+    /// The same type, with every location and origin. The node is shared. The error is want of memory.
     fn clone(&self) -> Result<ExtendedType, AllocError> {
         match self {
             ExtendedType::Scalar(node) => Ok(ExtendedType::Scalar(node.clone()?)),
@@ -172,7 +175,7 @@ impl ExtendedType {
         }
     }
 
-    /// Whether it is a leaf type: a scalar or enum type. Just the fields of other types have selections of their own.
+    /// Whether it is a leaf type: a scalar or enum type. Only fields of other types have selections of their own (section 5.3.3).
     pub fn is_leaf(&self) -> bool
         ensures { result ≡ is_leaf self.now }
     {
@@ -217,7 +220,7 @@ impl ExtendedType {
         }
     }
 
-    /// The place where the type is defined, if it is known.
+    /// Where the type is defined in a source, if it is known.
     pub fn location(&self) -> Option<SourceSpan>
         ensures { result ≡ type_location self.now }
     {
@@ -231,7 +234,7 @@ impl ExtendedType {
         }
     }
 
-    /// Whether the type is defined in the file of built-in definitions.
+    /// Whether the type's location is in the file of the built-in definitions.
     pub fn is_built_in(&self) -> bool
         ensures { result ≡ is_built_in (type_location self.now) }
     {
@@ -245,7 +248,7 @@ impl ExtendedType {
         }
     }
 
-    /// The directives applied to the type.
+    /// The directives applied to the type, those of its extensions included.
     pub fn directives(&self) -> &DirectiveList
         ensures { result.now ≡ type_directives self.now }
     {
@@ -305,7 +308,8 @@ impl ExtendedType {
         identities_of(alloc, self.iter_origins())
     }
 
-    /// The type as syntax: its definition, where the type stands, then its extensions. The error is want of memory.
+    /// The type as syntax: its definition, at the type's location, then its extensions, as `to_ast` of its kind writes them. The
+    /// error is want of memory.
     pub fn to_ast(&self, alloc: Global) -> Result<Vec<Definition>, AllocError>
         ensures { IfOk result (λ written. written.items ≡ write_type self.now) }
     {
@@ -315,7 +319,7 @@ impl ExtendedType {
     }
 
     /// Adds the type as syntax at the end, as [`to_ast`](ExtendedType::to_ast) answers it. The error is want of memory, after
-    /// which `written` begins with what it held.
+    /// which `written` begins with what it held, and may have more.
     pub fn write_to(&self, alloc: Global, written: &mut Vec<Definition>) -> Result<(), AllocError>
         ensures added { OnOk result (written.new.items ≡ written.old.items ++ write_type self.now) }
         ensures kept { Begins written.old.items written.new.items }

@@ -1,4 +1,4 @@
-//! What `==` answers at each type of this crate: whether the two are one with places, origins and the order of what
+//! What `==` answers at each type of this crate: whether the two are one with locations, origins and the order of what
 //! stands under names left out.
 //!
 //! Each law is a function that does nothing. A proof cites it by a call, and finds a clause for each type there.

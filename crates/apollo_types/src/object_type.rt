@@ -17,7 +17,9 @@ use graphql_nodes::source::SourceSpan;
 use graphql_nodes::type_kind::TypeKind;
 use std::alloc::{AllocError, Global};
 
-/// An object type. Equality ignores places and origins, and the order of interfaces and fields.
+/// An object type, with what its extensions add (section 3.6).
+///
+/// Equality leaves out locations and origins, and the order of interfaces and fields. Directives are compared in order.
 #[derive(Debug, PartialEq, Eq)]
 pub struct ObjectType {
     pub description: Option<NodeStr>,
@@ -42,6 +44,7 @@ impl Drop for ObjectType {
 impl Clone for ObjectType {
     ghost is_clone = { λ a b. b ≡ a };
 
+    /// The same type, with every location and origin. The error is want of memory.
     fn clone(&self) -> Result<ObjectType, AllocError> {
         Ok(ObjectType {
             description: self.description.clone()?,
@@ -86,8 +89,8 @@ impl ObjectType {
         identities_of(alloc, self.iter_origins())
     }
 
-    /// The type as syntax: its definition, at this place, with the components of the definition, then an extension
-    /// for each identity of [`extensions`](ObjectType::extensions), with that identity's components and place. Each
+    /// The type as syntax: its definition, at this location, with the components of the definition, then an extension
+    /// for each identity of [`extensions`](ObjectType::extensions), with that identity's components and location. Each
     /// list is in the type's own order. The error is want of memory.
     pub fn to_ast(
         &self,

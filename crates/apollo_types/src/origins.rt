@@ -49,12 +49,12 @@ impl<'a> Iterator for Origins<'a> {
 
     ghost remaining = { λ left. at_most (length left) };
 
-    /// The next origin, if there is one.
+    /// The first origin that is left, after which the rest is left. Once none is left it answers none, from then on too.
     fn next(&mut self) -> Option<&'a ComponentOrigin> {
         Some(self.components.next()?.origin())
     }
 
-    /// How many origins are left, twice; without the second where a `usize` can't say it.
+    /// How many origins are left, as both bounds; without an upper one where a `usize` can't say it.
     fn size_hint(&self) -> (usize, Option<usize>)
         ensures lower { IsWithinCount result.0 (at_most (length self.now)) }
         ensures upper { IfSome result.1 (UpTo (at_most (length self.now))) }

@@ -54,7 +54,7 @@ impl<'a> Iterator for RootOperations<'a> {
 
     ghost remaining = { λ left. at_most (length left) };
 
-    /// The next root, if there is one.
+    /// The first root that is left, after which the rest is left. Once none is left it answers none, from then on too.
     fn next(&mut self) -> Option<(OperationType, &'a ComponentName)> {
         while let Some(operation_type) = self.operation_types.next() {
             if let Some(root) = self.definition.root_operation(*operation_type) {
@@ -64,7 +64,7 @@ impl<'a> Iterator for RootOperations<'a> {
         None
     }
 
-    /// How many roots are left, twice.
+    /// How many roots are left, as both bounds.
     fn size_hint(&self) -> (usize, Option<usize>)
         ensures lower { IsWithinCount result.0 (at_most (length self.now)) }
         ensures upper { IfSome result.1 (UpTo (at_most (length self.now))) }

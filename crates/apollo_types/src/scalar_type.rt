@@ -15,7 +15,9 @@ use graphql_nodes::type_kind::TypeKind;
 use std::alloc::{AllocError, Global};
 use std::hash::Hash;
 
-/// A scalar type. Equality ignores places and origins.
+/// A scalar type, with what its extensions add (section 3.5).
+///
+/// Equality leaves out locations and origins. Directives are compared in order.
 #[derive(Debug, PartialEq, Eq, Hash)]
 pub struct ScalarType {
     pub description: Option<NodeStr>,
@@ -36,6 +38,7 @@ impl Drop for ScalarType {
 impl Clone for ScalarType {
     ghost is_clone = { λ a b. b ≡ a };
 
+    /// The same type, with every location and origin. The error is want of memory.
     fn clone(&self) -> Result<ScalarType, AllocError> {
         Ok(ScalarType {
             description: self.description.clone()?,
@@ -74,8 +77,8 @@ impl ScalarType {
         identities_of(alloc, self.iter_origins())
     }
 
-    /// The type as syntax: its definition, at this place, with the components of the definition, then an extension
-    /// for each identity of [`extensions`](ScalarType::extensions), with that identity's components and place. Each
+    /// The type as syntax: its definition, at this location, with the components of the definition, then an extension
+    /// for each identity of [`extensions`](ScalarType::extensions), with that identity's components and location. Each
     /// list is in the type's own order. The error is want of memory.
     pub fn to_ast(
         &self,

@@ -34,7 +34,8 @@ pub(crate) const OPERATION_TYPES: [OperationType; 3] = [
 ];
 
 /// The definition of a schema, and its extensions (section 3.3): the root of each operation type, which is to be the name of
-/// an object type, and may be any name. Equality ignores places and origins.
+/// an object type (section 3.3.1), and may be any name. Equality leaves out locations and origins, but directives are compared
+/// in order.
 #[derive(Debug, PartialEq, Eq)]
 pub struct SchemaDefinition {
     pub description: Option<NodeStr>,
@@ -59,6 +60,7 @@ impl Drop for SchemaDefinition {
 impl Clone for SchemaDefinition {
     ghost is_clone = { λ a b. b ≡ a };
 
+    /// The same definition, with every location and origin. The error is want of memory.
     fn clone(&self) -> Result<SchemaDefinition, AllocError> {
         Ok(SchemaDefinition {
             description: self.description.clone()?,
@@ -128,10 +130,10 @@ impl SchemaDefinition {
         identities_of(alloc, self.iter_origins())
     }
 
-    /// The definition as syntax: a schema definition, at this place, with the components of the definition, then an
+    /// The definition as syntax: a schema definition, at this location, with the components of the definition, then an
     /// extension for each identity of [`extensions`](SchemaDefinition::extensions), with that identity's components and
-    /// place. The directives are in order, and the roots in the order query, mutation, subscription. A root stands
-    /// where its name does.
+    /// location. The directives are in order, and the roots in the order query, mutation, subscription. A root has the
+    /// location of its name.
     ///
     /// The schema definition is left out where none of its roots is the definition's, and where it says nothing: it has
     /// no description, no directive and no extension, and each operation type has just the root that it would have

@@ -15,7 +15,9 @@ use graphql_nodes::source::SourceSpan;
 use graphql_nodes::type_kind::TypeKind;
 use std::alloc::{AllocError, Global};
 
-/// A union type. Equality ignores places and origins, and the order of members.
+/// A union type, with what its extensions add (section 3.8).
+///
+/// Equality leaves out locations and origins, and the order of members. Directives are compared in order.
 #[derive(Debug, PartialEq, Eq)]
 pub struct UnionType {
     pub description: Option<NodeStr>,
@@ -38,6 +40,7 @@ impl Drop for UnionType {
 impl Clone for UnionType {
     ghost is_clone = { λ a b. b ≡ a };
 
+    /// The same type, with every location and origin. The error is want of memory.
     fn clone(&self) -> Result<UnionType, AllocError> {
         Ok(UnionType {
             description: self.description.clone()?,
@@ -81,8 +84,8 @@ impl UnionType {
         identities_of(alloc, self.iter_origins())
     }
 
-    /// The type as syntax: its definition, at this place, with the components of the definition, then an extension
-    /// for each identity of [`extensions`](UnionType::extensions), with that identity's components and place. Each
+    /// The type as syntax: its definition, at this location, with the components of the definition, then an extension
+    /// for each identity of [`extensions`](UnionType::extensions), with that identity's components and location. Each
     /// list is in the type's own order. The error is want of memory.
     pub fn to_ast(
         &self,

@@ -17,7 +17,7 @@ use graphql_nodes::source::SourceSpan;
 use graphql_nodes::type_kind::TypeKind;
 use std::alloc::{AllocError, Global};
 
-/// Adds the identity of an origin, if it is an extension and new.
+/// Adds the identity of an origin, if it is an extension and new. The error is want of memory.
 fn add_origin(ids: &mut KeySet<ExtensionId>, origin: ComponentOrigin) -> Result<(), AllocError>
     ensures { OnOk result ((os : List Origin) → ids.old ≡ identities os → ids.new ≡ identities (os ++ origin ∷ [])) }
 {
@@ -27,7 +27,7 @@ fn add_origin(ids: &mut KeySet<ExtensionId>, origin: ComponentOrigin) -> Result<
     Ok(())
 }
 
-/// The identities of the extensions among these origins, by first appearance.
+/// The identities of the extensions among these origins, by first appearance. The error is want of memory.
 pub(crate) fn identities_of(
     alloc: Global,
     origins: Origins<'_>,
@@ -41,7 +41,7 @@ pub(crate) fn identities_of(
     Ok(ids)
 }
 
-/// Adds the type that these components make as syntax at the end: its definition, at this place, then its extensions. The
+/// Adds the type that these components make as syntax at the end: its definition, at this location, then its extensions. The
 /// error is want of memory, after which `written` begins with what it held.
 pub(crate) fn add_type(
     alloc: Global,
