@@ -251,8 +251,12 @@ fn add_introspection_types(
     Ok(())
 }
 
-/// The definitions that every schema has: scalars, directives and the types of introspection. The error is want of
-/// memory.
+/// The definitions that every schema has, in this order: the scalars `Int`, `Float`, `String`, `Boolean` and `ID` (section
+/// 3.5), the directives `@skip`, `@include`, `@deprecated` and `@specifiedBy` (section 3.13), and the types of introspection
+/// (section 4.2).
+///
+/// Each node and name is in file number 0, [`FileId::BUILT_IN`](graphql_nodes::source::FileId::BUILT_IN). None has a description.
+/// The error is want of memory.
 #[tactic(auto, unfolding(crate::specs::BuiltInTable::built_in_definitions))]
 pub fn built_in_definitions(alloc: Global) -> Result<Items<Definition>, AllocError>
     ensures { IfOk result (λ definitions. definitions ≡ table.built_in_definitions) }

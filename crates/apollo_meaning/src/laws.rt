@@ -53,7 +53,7 @@ pub fn folded_schema_extensions()
         → map (λ e. e.1) (schema_sourced start (folding_order xs)) ≡ schema_extensions xs }
 {}
 
-/// A type has the kind, the description, the name and the place of the definition that its parts begin with, and each kind
+/// A type has the kind, the description, the name and the location of the definition that its parts begin with, and each kind
 /// is the same as itself. Whether that definition is ignorable changes nothing of the type. GraphQL specification of October
 /// 2021, sections 3.5 to 3.10.
 pub fn types_are_headed_by_their_definitions()
@@ -97,14 +97,14 @@ pub fn adoption_leaves_no_orphan_names()
     ensures { (xs : List ListItem) → orphan_names (with_adopted true xs) ≡ [] }
 {}
 
-/// The definitions on a list with an extension on either side of the definition: the places of the extensions in folding
+/// The definitions on a list with an extension on either side of the definition: the locations of the extensions in folding
 /// order, and the write-out of the type that the name means, computed.
 pub fn extensions_on_either_side()
     ensures order { map folding_place (folding_order (whole false (added false extensions_around))) ≡ line 1 ∷ line 5 ∷ [] }
     ensures writes { option_map write_type (type_of 0 (folding_order (whole false (added false extensions_around))) (whole false (added false extensions_around)) (codes "Q")) ≡ Some written_around }
 {}
 
-/// The definitions on a list whose extensions wait for their definitions: the places of the extensions in folding order,
+/// The definitions on a list whose extensions wait for their definitions: the locations of the extensions in folding order,
 /// computed. One of a name that is never defined is not folded.
 pub fn extensions_that_wait()
     ensures { map folding_place (folding_order (whole false (added false extensions_that_wait))) ≡ line 3 ∷ line 6 ∷ line 1 ∷ line 11 ∷ [] }
@@ -151,7 +151,7 @@ pub fn later_components_of_a_type_are_at_fault()
 {}
 
 /// The roots of the schema that are at fault are those that have the operation of an earlier one, in order. Each fault is at
-/// its root, and has the place of the root that is kept, the first of its operation. Roots that join others are at fault
+/// its root, and has the location of the name that is kept, the first of its operation. Roots that join others are at fault
 /// as where all of them stand in one list, and so are those of a list of definitions, in the schema's first definition and
 /// then in its extensions. GraphQL specification of October 2021, sections 3.3.1 and 3.3.2.
 pub fn later_roots_are_at_fault()
@@ -227,7 +227,7 @@ pub fn built_in_scalar_redefined()
     ensures refused { faults_of false (added false built_in_int ++ added false int_again) ≡ redefinition_fault }
 {}
 
-/// Errors of a build are equal exactly where they are one without the locations of the names in them. The places of what
+/// Errors of a build are equal exactly where they are one without the locations of the names in them. The locations of what
 /// is kept are compared: `previous_location` and `def_location`.
 pub fn equality_of_build_errors()
     ensures { ComparesBy ⟦<BuildError as PartialEq>⟧.eq bare_build_error }
