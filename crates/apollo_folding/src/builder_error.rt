@@ -4,13 +4,16 @@ use apollo_component::extension::IdsSpent;
 use std::alloc::{AllocError, AllocFailed};
 use thiserror::Error;
 
-/// Why a builder stopped. It answers `Failed` from then on.
+/// Why a builder stopped. It answers [`Failed`](BuilderError::Failed) from then on.
 #[derive(Debug, Drop, PartialEq, Eq, Error)]
 pub enum BuilderError {
+    /// Want of memory.
     #[error("out of memory")]
     Memory,
+    /// The extensions that are to be folded need more numbers than the source has left.
     #[error("extension identities spent")]
     ExtensionIds,
+    /// A call of this builder was refused before, or of the one that it was cloned from.
     #[error("builder has failed")]
     Failed,
 }
@@ -22,6 +25,7 @@ impl From<AllocError> for BuilderError {
 
     ghost from_gives = { λ _ error. error ≡ Memory };
 
+    /// `Memory`.
     fn from(_error: AllocError) -> BuilderError {
         BuilderError::Memory
     }
@@ -34,6 +38,7 @@ impl<T: Drop> From<AllocFailed<T>> for BuilderError {
 
     ghost from_gives = { λ _ error. error ≡ Memory };
 
+    /// `Memory`. What the error gives back is dropped.
     fn from(_error: AllocFailed<T>) -> BuilderError {
         BuilderError::Memory
     }
@@ -46,6 +51,7 @@ impl From<IdsSpent> for BuilderError {
 
     ghost from_gives = { λ _ error. error ≡ ExtensionIds };
 
+    /// `ExtensionIds`.
     fn from(_error: IdsSpent) -> BuilderError {
         BuilderError::ExtensionIds
     }

@@ -100,8 +100,10 @@ fn fold_part(
     Ok(())
 }
 
-/// Folds an extension in under the source's next identity, if it has the type's kind. Each other is noted, and leaves
-/// the type and the source as they were.
+/// Folds an extension in under the source's next identity, if it has the type's kind (section 3.4.3): what is there already is
+/// left out, and its faults added at the end. One of another kind is a fault, and leaves the type and the source as they were.
+///
+/// `Memory` is want of memory. `ExtensionIds` comes only where the extension has the type's kind, and the source no number left.
 pub fn extend_type(
     ty: &mut ExtendedType,
     extension: &PartView<'_>,
@@ -160,7 +162,11 @@ fn extend_by_all(
     Ok(())
 }
 
-/// The type of a definition with these extensions folded in. Its tables hash by these keys.
+/// The type of a definition with these extensions folded in, in order, as [`extend_type`] does. Its tables hash by these keys.
+/// The faults of the definition are added at the end, and then those of the extensions.
+///
+/// `Memory` is want of memory. `ExtensionIds` comes only where the source has fewer numbers left than there are extensions of the
+/// definition's kind.
 pub fn begin_type(
     alloc: Global,
     keys: HashKeys,

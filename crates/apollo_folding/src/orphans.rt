@@ -40,7 +40,8 @@ fn note_orphans_of(extensions: &[Definition], errors: &mut Items<Fault>) -> Resu
     Ok(())
 }
 
-/// Notes all that still waits, by name.
+/// Adds the fault of each extension of a type that still waits (section 3.4.3) at the end: name by name, and of one name in
+/// order. The error is want of memory.
 pub fn note_orphans(
     waiting: &Table<Name, Items<Definition>>,
     errors: &mut Items<Fault>,
@@ -53,7 +54,8 @@ pub fn note_orphans(
     Ok(())
 }
 
-/// Notes extensions of a schema that has no definition, in order.
+/// Adds the fault of each of these extensions of a schema that has no definition (section 3.3.2) at the end, in order. The error
+/// is want of memory.
 pub fn note_schema_orphans(
     extensions: &[Node<SchemaExtension>],
     errors: &mut Items<Fault>,

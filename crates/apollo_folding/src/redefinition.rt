@@ -36,7 +36,8 @@ fn built_in_redefinition(
     Ok(fault)
 }
 
-/// Notes a further definition of a type's name, unless the type is built in and such definitions are ignored.
+/// Adds the fault of a further definition of a type's name at the end, unless the type is built-in and such definitions are
+/// ignored: then nothing is added. The error is want of memory.
 pub fn note_redefinition(
     previous: &ExtendedType,
     further: &PartView<'_>,

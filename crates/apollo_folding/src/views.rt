@@ -31,7 +31,7 @@ pub enum BodyView<'a> {
     InputObject(&'a Items<Node<InputValueDefinition>>),
 }
 
-/// A definition or extension of a type.
+/// A definition or extension of a type. An extension has no description.
 #[derive(Clone, Copy)]
 pub struct PartView<'a> {
     pub location: Option<SourceSpan>,
@@ -44,7 +44,7 @@ pub struct PartView<'a> {
 impl<'a> PartView<'a> {
     ghost use Rattle.apollo_folding.specs.Views.{part_seen};
 
-    /// A copy of the description.
+    /// A copy of the description, if there is one. The error is want of memory.
     pub fn description(&self) -> Result<Option<NodeStr>, AllocError>
         ensures { IfOk result (λ copy. copy ≡ option_copied self.now.description) }
     {

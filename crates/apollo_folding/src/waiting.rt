@@ -12,7 +12,7 @@ use graphql_nodes::name::Name;
 use std::alloc::Global;
 use std::mem;
 
-/// Takes out what waits under a name, and leaves nothing there.
+/// Takes out what waits under a name, in order, and leaves the name with nothing under it. It takes no memory.
 pub fn take_waiting(
     alloc: Global,
     waiting: &mut Table<Name, Items<Definition>>,
@@ -28,7 +28,8 @@ pub fn take_waiting(
     }
 }
 
-/// Lets an extension wait for the definition of its name.
+/// Lets a copy of an extension wait for the definition of this name, behind those that wait for it. A new name goes last. The
+/// error is `Memory`.
 pub fn wait(
     alloc: Global,
     waiting: &mut Table<Name, Items<Definition>>,

@@ -32,15 +32,15 @@ pub enum BuildError {
         previous_location: Option<SourceSpan>,
         name: Name,
     },
-    /// A further definition of a type's name, at its name, with the location of the first one's name (section 3.3). Where the first
-    /// one is built-in, it may be ignored, or be of the next sort.
+    /// A further definition of a type's name, at its name, with the location of the first one's name (section 3.3). Where the
+    /// first one is built-in, it may be ignored, or be of the next sort.
     #[error("the type `{name}` is defined multiple times in the schema")]
     TypeDefinitionCollision {
         previous_location: Option<SourceSpan>,
         name: Name,
     },
-    /// A further definition of a type's name that is of a scalar type, where the first one is built-in: at its node (section 3.5).
-    /// It may be ignored.
+    /// A further definition of a type's name that is of a scalar type, where the first one is built-in: at its node (section
+    /// 3.5). It may be ignored.
     #[error("built-in scalar definitions must be omitted")]
     BuiltInScalarTypeRedefinition,
     /// An extension of the schema where no schema definition is given or implied, at its node (section 3.3.2). Where extensions

@@ -38,7 +38,7 @@ fn make_room<T: Drop>(table: &mut Table<Name, Component<T>>, count: usize) -> Re
     Ok(())
 }
 
-/// Adds directives at the end, in order.
+/// Adds directives at the end, in order, each with this origin. The error is want of memory.
 pub fn fold_directives(
     list: &mut DirectiveList,
     directives: &[Node<Directive>],
@@ -91,7 +91,8 @@ fn fold_name(
     Ok(())
 }
 
-/// Adds names in order, each unless it is there, and notes a fault for each that is.
+/// Adds names in order, with this origin, each unless it is there, and a fault at the end for each that is. The error is want of
+/// memory.
 pub fn fold_names(
     set: &mut KeySet<ComponentName>,
     names: &[Name],
@@ -149,7 +150,8 @@ fn fold_entry<T: Named + Drop>(
     Ok(())
 }
 
-/// Adds definitions under their names in order, each unless its name is there, and notes a fault for each whose name is.
+/// Adds definitions under their names in order, with this origin, each unless its name is there, and a fault at the end for each
+/// whose name is. The error is want of memory.
 pub fn fold_named<T: Named + Drop>(
     table: &mut Table<Name, Component<T>>,
     nodes: &[Node<T>],

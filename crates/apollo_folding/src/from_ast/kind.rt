@@ -24,11 +24,12 @@ pub trait Kind: Clone + Drop {
     /// The type of parts, with the description and name of a head.
     ghost made: { TypePart → List Sourced → Self };
 
-    /// The type of a definition without its components, whose tables hash by these keys.
+    /// The type of a definition without its components, whose tables hash by these keys. The error is want of memory.
     fn bare(alloc: Global, keys: HashKeys, head: &PartView<'_>) -> Result<Self, AllocError>
         ensures { IfOk result (λ ty. ty ≡ made (part_seen head.now) []) };
 
-    /// Folds the components of a part in under an origin, each unless it is there, and notes a fault for each that is.
+    /// Folds the components of a part of the kind in under an origin, each unless it is there, and adds a fault at the end for
+    /// each that is. Of a part of another kind nothing is said. The error is want of memory.
     fn fold(
         &mut self,
         part: &PartView<'_>,
@@ -42,7 +43,8 @@ pub trait Kind: Clone + Drop {
     ghost copies: { (x y : Self) → Self.is_clone x y → y ≡ x };
 }
 
-/// The type of a definition alone. Components that are there already are noted.
+/// The type of a definition of the kind alone, at the definition's location. Components that are there already are left out, and
+/// their faults added at the end. The error is want of memory.
 pub fn type_of_definition<K: Kind>(
     alloc: Global,
     keys: HashKeys,
@@ -58,7 +60,8 @@ pub fn type_of_definition<K: Kind>(
     Node::new_opt_location(alloc, ty, head.location)
 }
 
-/// Folds the components of a part into a type. Components that are there already are noted.
+/// Folds the components of a part of the kind into a type, whose location stays. Components that are there already are left out,
+/// and their faults added at the end. The error is want of memory.
 pub fn fold_into<K: Kind>(
     node: &mut Node<K>,
     part: &PartView<'_>,
