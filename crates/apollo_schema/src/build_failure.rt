@@ -3,7 +3,7 @@
 use crate::schema::Schema;
 use apollo_meaning::build_error::Faults;
 
-/// What could be built, and the faults. `{:?}` prints the faults alone.
+/// What could be built, and the faults, of which there is at least one. `{:?}` prints the faults alone.
 #[derive(Drop)]
 #[derive_where(Debug)]
 pub struct WithErrors<T> {
@@ -15,12 +15,12 @@ pub struct WithErrors<T> {
 /// Why a build answers no schema without faults.
 #[derive(Debug, Drop)]
 pub enum BuildFailure {
-    /// The schema has faults; the schema that could be built stands beside them.
+    /// What was added has faults: these, and the schema that could be built, with its sources.
     Faults(WithErrors<Schema>),
     /// Want of memory.
     Memory,
-    /// The documents fold more extensions than there are identities.
+    /// The extensions that are folded would pass the largest number.
     ExtensionIds,
-    /// A call of the builder had been refused before.
+    /// A call of the builder was refused before, or of the one that it was cloned from.
     Failed,
 }

@@ -4,6 +4,8 @@ use apollo_types::extended_type::ExtendedType;
 use graphql_nodes::name::NamedType;
 
 /// Why [`Schema::type_field`](crate::schema::Schema::type_field) answers no field.
+///
+/// Errors are equal where both say that there is no type, or name one key, by its text, and equal types.
 #[derive(Clone, Copy, Debug, PartialEq, Eq)]
 pub enum FieldLookupError<'schema> {
     /// The schema has no type of the name.

@@ -12,7 +12,8 @@ use indexmap::set::Iter;
 use std::alloc::{AllocError, Global};
 use std::iter::FusedIterator;
 
-/// The names of the object types and of the interface types that declare an interface.
+/// The names of the object types and of the interface types that declare an interface. Equality leaves out the order of names,
+/// and their locations.
 #[derive(PartialEq, Eq)]
 pub struct Implementers {
     pub objects: KeySet<Name>,
@@ -31,6 +32,7 @@ impl Drop for Implementers {
 impl Clone for Implementers {
     ghost is_clone = { λ a b. b ≡ a };
 
+    /// The same names, in the same order, with their locations. The error is want of memory.
     fn clone(&self) -> Result<Implementers, AllocError> {
         Ok(Implementers {
             objects: self.objects.clone()?,
@@ -40,14 +42,14 @@ impl Clone for Implementers {
 }
 
 impl Implementers {
-    /// No name, in sets that hash by fixed keys.
+    /// No name, in sets that hash by fixed keys. It takes no memory.
     pub fn new(alloc: Global) -> Implementers
         ensures { result ≡ no_implementers }
     {
         Implementers::with_keys(alloc, HashKeys::FIXED)
     }
 
-    /// No name, in sets that hash by these keys.
+    /// No name, in sets that hash by these keys. It takes no memory.
     pub fn with_keys(alloc: Global, keys: HashKeys) -> Implementers
         ensures { result ≡ no_implementers }
     {
@@ -57,7 +59,7 @@ impl Implementers {
         }
     }
 
-    /// The names, one by one: those of object types, and then those of interface types.
+    /// The names, one by one: those of object types, in order, and then those of interface types, in order.
     pub fn iter(&self) -> ImplementersIter<'_>
         ensures { names_left result ≡ self.now.objects ++ self.now.interfaces }
     {
@@ -94,7 +96,7 @@ impl<'a> Iterator for ImplementersIter<'a> {
 
     ghost remaining = { item_count names_left };
 
-    /// The next name.
+    /// The first name that is left, after which the rest is left. Once none is left it answers none, from then on too.
     fn next(&mut self) -> Option<&'a Name> {
         match self.objects.next() {
             Some(name) => Some(name),
@@ -102,7 +104,7 @@ impl<'a> Iterator for ImplementersIter<'a> {
         }
     }
 
-    /// How many names are left, twice; without the second where a `usize` can't say it.
+    /// How many names are left, as both bounds; without an upper one where a `usize` can't say it.
     fn size_hint(&self) -> (usize, Option<usize>)
         ensures lower { IsWithinCount result.0 (item_count names_left self.now) }
         ensures upper { IfSome result.1 (UpTo (item_count names_left self.now)) }

@@ -23,7 +23,7 @@ use graphql_nodes::collections::table::Table;
 use graphql_nodes::name::Name;
 
 /// Two schemas are equal exactly where their definitions are and they have equal types and equal directive definitions
-/// under each name, in any order: places, origins and sources are left out. GraphQL specification of October 2021,
+/// under each name, in any order: locations, origins and sources are left out. GraphQL specification of October 2021,
 /// section 3.
 pub fn equality_of_schemas()
     ensures { (a b : Schema) → IsTrue (⟦<Schema as PartialEq>⟧.eq a b) ↔ AreEqualSchemas a b }
@@ -31,7 +31,7 @@ pub fn equality_of_schemas()
 
 /// Implementers are equal exactly where they have the same names of object types and the same of interface types, in any
 /// order; tables of them, as `implementers_map` answers, where they have equal implementers under each name, in any order;
-/// and errors of fields where both say that there is no type, or name one key and equal types. Places and origins are left
+/// and errors of fields where both say that there is no type, or name one key and equal types. Locations and origins are left
 /// out. GraphQL specification of October 2021, sections 3.6 and 3.7.
 pub fn equality_of_lookups<'schema>()
     ensures implementers { ComparesBy ⟦<Implementers as PartialEq>⟧.eq bare_implementers }
@@ -63,7 +63,7 @@ pub fn implementers()
 
 /// A list of definitions means one schema, but for the source files: schemas that it means, with its extensions numbered from
 /// one number, have the same schema definition, the same directive definitions and the same types, in the same order, with every
-/// place and origin. GraphQL specification of October 2021, section 3.3.
+/// location and origin. GraphQL specification of October 2021, section 3.3.
 pub fn a_list_means_one_schema()
     ensures { (start : ℕ) (adopts : Bool) (xs : List Added) (s t : Schema) → MeansSchema start adopts xs s → MeansSchema start adopts xs t
         → s ≡ record t { sources = s.sources } }

@@ -127,7 +127,7 @@ impl MetaFields {
     }
 }
 
-/// A copy shares the three definitions.
+/// A copy shares the three definitions. The error is want of memory.
 impl Clone for MetaFields {
     ghost is_clone = { λ a b. b ≡ a };
 

@@ -22,8 +22,8 @@ use std::alloc::{AllocError, Global};
 
 /// A schema: its definition, and its types and directive definitions under their names, by first definition.
 ///
-/// Schemas are equal where their definitions are, and their types and directive definitions in any order: places, origins
-/// and sources are left out.
+/// Schemas are equal where their definitions are, and their types and directive definitions in any order: locations, origins
+/// and sources are left out. A clone is the original, with all of these, and shares the nodes.
 #[derive(Drop, Clone)]
 #[derive_where(Debug, PartialEq, Eq)]
 pub struct Schema {
@@ -40,7 +40,7 @@ impl Schema {
     ghost use Rattle.apollo_types.specs.SchemaRoots.{root_of};
     ghost use Rattle.apollo_schema.specs.SchemaWriteOut.{write_schema};
 
-    /// The schema of these parts. The error is want of memory.
+    /// The schema of these parts, of which nothing is asked. The error is want of memory, and drops the parts.
     pub fn from_parts(
         alloc: Global,
         sources: SourceMap,

@@ -25,7 +25,7 @@ use std::alloc::{AllocError, Global};
 ///
 /// The built-in definitions stand before the first document. The first definition of a type's name stays, and each later
 /// one is at fault, unless redefinitions of built-in types are ignored. Of a directive's name the first definition counts that
-/// isn't built-in, which takes the place of a built-in one. The first definition of the schema stays, too. An extension before
+/// isn't built-in, which replaces a built-in one. The first definition of the schema stays, too. An extension before
 /// its definition waits for it.
 ///
 /// After a refusal the builder holds nothing more than its source, which then stands where it stood before the refused
@@ -61,8 +61,8 @@ impl SchemaBuilder {
     ghost use Rattle.apollo_schema.specs.Built.{IsMeant, IsFaultless, IsFoundIn};
     ghost use Rattle.apollo_meaning.specs.Order.SpentIds.{SpendsIds, SpendsIdsSoFar, folds_so_far};
 
-    /// A builder of the built-in definitions alone, without either option, whose first extension has the number 0. The
-    /// error is want of memory.
+    /// A builder of the built-in definitions alone, without sources and without either option, whose first extension has the
+    /// number 0. The error is want of memory.
     pub fn new(alloc: Global) -> Result<SchemaBuilder, AllocError>
         ensures stands { IfOk result (StandsFor 0 (added false built_in_definitions)) }
         ensures settings { IfOk result (λ builder. (adopts builder ≡ false) × (ignores builder ≡ false)) }
@@ -71,7 +71,8 @@ impl SchemaBuilder {
         SchemaBuilder::with_source(alloc, ExtensionSource::new())
     }
 
-    /// The same, drawing the numbers of extensions from this source. The error is want of memory, and drops the source.
+    /// The same, drawing the numbers of extensions from this source: the first one is the source's next number. The error is want
+    /// of memory, and drops the source.
     pub fn with_source(alloc: Global, source: ExtensionSource) -> Result<SchemaBuilder, AllocError>
         ensures stands { IfOk result (StandsFor (next_number source) (added false built_in_definitions)) }
         ensures settings { IfOk result (λ builder. (adopts builder ≡ false) × (ignores builder ≡ false)) }
@@ -103,8 +104,9 @@ impl SchemaBuilder {
     }
 
     /// The builder, which adopts at `build` what is extended only: each type that has extensions and no definition is
-    /// taken as defined, empty, at its first extension; and the schema is taken as defined, at no place, with the default roots
-    /// unless an extension names a root. All else stays: what was added, the other option, and whether a call was refused.
+    /// taken as defined, empty, at its first extension; and the schema is taken as defined, without a location, with the default
+    /// roots unless an extension names a root (sections 3.3.2 and 3.4.3). All else stays: what was added, the other option, and
+    /// whether a call was refused.
     pub fn adopt_orphan_extensions(self) -> SchemaBuilder
         ensures stands { (start : ℕ) (xs : List Added) → StandsFor start xs self → StandsFor start xs result }
         ensures adopts { adopts result ≡ true }
@@ -119,8 +121,8 @@ impl SchemaBuilder {
         builder
     }
 
-    /// The builder, which ignores from now on each definition of a built-in type: it is dropped without a fault. All else
-    /// stays: what was added, the other option, and whether a call was refused.
+    /// The builder, which ignores from now on each further definition of a name whose type is built-in: it is dropped without a
+    /// fault. All else stays: what was added, the other option, and whether a call was refused.
     pub fn ignore_builtin_redefinitions(self) -> SchemaBuilder
         ensures stands { (start : ℕ) (xs : List Added) → StandsFor start xs self → StandsFor start xs result }
         ensures ignores { ignores result ≡ true }
@@ -135,11 +137,12 @@ impl SchemaBuilder {
         builder
     }
 
-    /// Adds the definitions of a document, in order, and its sources.
+    /// Adds the definitions of a document, in order, and its sources: of two files of one number the later stays. The options
+    /// and the first number stay, whatever the answer.
     ///
-    /// `Memory` is want of memory; `ExtensionIds` comes only where the extensions folded so far pass the largest
-    /// number; `Failed` comes exactly after a refusal, and changes nothing. With another error all that was added is
-    /// dropped, and the source stands where it stood before the call.
+    /// `Memory` is want of memory; `ExtensionIds` comes only where the extensions that are folded so far, this document's
+    /// included, pass the largest number; `Failed` comes exactly after a refusal, and changes nothing. With another error all
+    /// that was added is dropped, sources too, and the source of numbers stands where it stood before the call.
     pub fn add_ast(&mut self, document: &Document) -> Result<(), BuilderError>
         ensures stands { OnOk result ((start : ℕ) (xs : List Added) → StandsFor start xs self.old → StandsFor start (xs ++ added (ignores self.old) document.now.definitions) self.new) }
         ensures settings { (adopts self.new ≡ adopts self.old) × (ignores self.new ≡ ignores self.old) }
@@ -169,13 +172,14 @@ impl SchemaBuilder {
     ///
     /// The schema's definition is the first one that was added with all schema extensions folded in. Where there is none,
     /// each object type with the default name of an operation is that operation's root, and the extensions are folded in
-    /// after those roots; with adoption an extension that names a root takes the place of the default ones.
+    /// after those roots; with adoption there are no default roots where an extension names a root. The schema's sources are
+    /// those of the documents, merged.
     ///
-    /// `Faults`, with what could be built, comes exactly where what was added has faults: first those that are found as
+    /// `Faults`, with what could be built, sources included, comes exactly where what was added has faults: first those found as
     /// definitions are added, in that order; then extensions of types without a definition; then what is found at an implied
     /// definition of the schema, and extensions of the schema without one. `Memory` is want of memory; `ExtensionIds` comes only
     /// where the extensions folded pass the largest number, and a schema, with faults or without, only where they don't; `Failed`
-    /// comes exactly after a refusal.
+    /// comes exactly after a refusal. With these three errors all that was added is dropped.
     pub fn build(self) -> Result<Schema, BuildFailure>
         ensures built { IfOk result (IsMeant self) }
         ensures faultless { OnOk result (IsFaultless self) }
@@ -189,7 +193,7 @@ impl SchemaBuilder {
         built
     }
 
-    /// What [`build`](SchemaBuilder::build) answers, and the source, which is never below the builder's first number:
+    /// What [`build`](SchemaBuilder::build) answers, and the source of numbers, never below the builder's first number:
     /// after a schema, or faults, it is at that number plus the extensions that were folded; after `Memory` or
     /// `ExtensionIds` it stands where it stood before the call; with `Failed` it is the one that was left.
     pub fn build_with_source(self) -> (Result<Schema, BuildFailure>, ExtensionSource)
@@ -232,7 +236,8 @@ impl SchemaBuilder {
     }
 }
 
-/// A copy stands for what the original stands for, and draws the numbers that the original draws.
+/// A copy stands for what the original stands for, with its options and sources, and draws the numbers that the original draws. A
+/// copy of a builder that has failed has failed. The error is want of memory.
 impl Clone for SchemaBuilder {
     ghost is_clone = { λ a b. b ≡ a };
 
@@ -249,7 +254,7 @@ impl Clone for SchemaBuilder {
 impl Schema {
     ghost use Rattle.apollo_schema.specs.BuilderStands.{StandsFor, adopts, ignores, sources_of};
 
-    /// A builder of schemas. See [`SchemaBuilder::new`].
+    /// A builder of the built-in definitions alone, as [`SchemaBuilder::new`] answers it. The error is want of memory.
     pub fn builder(alloc: Global) -> Result<SchemaBuilder, AllocError>
         ensures stands { IfOk result (StandsFor 0 (added false built_in_definitions)) }
         ensures settings { IfOk result (λ builder. (adopts builder ≡ false) × (ignores builder ≡ false)) }
@@ -258,7 +263,7 @@ impl Schema {
         SchemaBuilder::new(alloc)
     }
 
-    /// The schema of no documents: that of the built-in definitions alone. The error is want of memory.
+    /// The schema of no documents: that of the built-in definitions alone, without sources. The error is want of memory.
     pub fn new(alloc: Global) -> Result<Schema, AllocError>
         ensures means { IfOk result (MeansSchema 0 false (added false built_in_definitions)) }
         ensures sources { IfOk result (λ schema. schema.sources ≡ []) }

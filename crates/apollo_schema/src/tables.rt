@@ -75,7 +75,7 @@ impl Drop for Tables {
     }
 }
 
-/// Puts a type under a name.
+/// Puts a type under a name. The error is `Memory`.
 fn put(
     types: &mut Table<Name, ExtendedType>,
     name: &Name,
@@ -222,7 +222,7 @@ impl Tables {
         Ok(())
     }
 
-    /// Notes a definition that has no place in a schema.
+    /// Notes a definition that does not belong into a schema.
     fn note_executable(&mut self, definition: &Definition) -> Result<(), AllocError>
         ensures noted { OnOk result (self.new ≡ record self.old { errors = self.old.errors ++ (location_of definition.now, faults.ExecutableDefinition (definition_text definition.now)) ∷ [] }) }
         ensures sources { self.new.sources ≡ self.old.sources }

@@ -59,8 +59,8 @@ impl Schema {
         None
     }
 
-    /// The field of this name in a type at hand, of which this is the name: as [`type_field`](Schema::type_field) finds it
-    /// where the schema has the type under the name. So whoever looks up many fields of one type looks that type up once.
+    /// The field of this name in a type at hand, of which this is the name, if it has one: as [`type_field`](Schema::type_field)
+    /// finds it where the schema has the type under the name. So whoever looks up many fields of one type looks it up once.
     pub fn field_of<'schema>(
         &'schema self,
         type_name: &Name,
@@ -77,7 +77,7 @@ impl Schema {
 
     /// The field of this name in the type of this name: the one that an object or interface type declares, or else a
     /// meta-field. Object, interface and union types have `__typename`, and the type whose name is that of the root of
-    /// queries has `__schema` and `__type`, whatever its kind.
+    /// queries has `__schema` and `__type`, whatever its kind (sections 4.1 and 4.2). It takes no memory.
     ///
     /// `NoSuchType` comes where the schema has no type of the name; `NoSuchField` where it has, with its key and the type.
     pub fn type_field<'schema>(

@@ -24,7 +24,7 @@ fn interfaces_of(ty: &ExtendedType) -> &[ComponentName]
     }
 }
 
-/// Notes a name under an interface: that of an object type, or else of an interface type.
+/// Notes a name under an interface: that of an object type, or else of an interface type. The error is want of memory.
 fn note(
     alloc: Global,
     map: &mut Table<Name, Implementers>,
@@ -44,7 +44,7 @@ fn note(
     Ok(())
 }
 
-/// Notes the name of a type under each interface that the type declares.
+/// Notes the name of a type under each interface that the type declares. The error is want of memory.
 fn note_type(
     alloc: Global,
     map: &mut Table<Name, Implementers>,
@@ -61,9 +61,12 @@ fn note_type(
 }
 
 impl Schema {
-    /// Under the name of each interface that a type declares, the object types and the interface types that declare it,
-    /// by their keys, in order. Nothing is there through another interface. The map hashes as the schema's types do. The
-    /// error is want of memory.
+    /// Under the name of each interface that a type declares, whether the schema has that or not, the object types and the
+    /// interface types that declare it (sections 3.6 and 3.7). Nothing is there through another interface.
+    ///
+    /// The names of interfaces stand in the order in which the types, in the schema's order, declare them first, each as it is
+    /// written there. The types under each stand in the schema's order, by their keys. The map hashes as the schema's types do.
+    /// The error is want of memory.
     pub fn implementers_map(&self, alloc: Global) -> Result<Table<Name, Implementers>, AllocError>
         ensures { IfOk result (λ map. map ≡ implementers_map self.now.types) }
     {
