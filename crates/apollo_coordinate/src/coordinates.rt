@@ -1,4 +1,7 @@
 //! The five coordinates, and any of them: the Schema Coordinates RFC of GraphQL.
+//!
+//! Coordinates are equal and hashed by the texts of their names. A clone is the original, with the locations of its names; its
+//! error is want of memory. `Display` is the text of the form, which reads back as the coordinate where the parts are names.
 ghost use Rattle.std.specs.Prelude.{◌≡◌, IfOk};
 ghost use Rattle.apollo_coordinate.specs.declared.coordinates.SchemaCoordinate.TheVariants as any;
 
@@ -79,7 +82,7 @@ impl Drop for DirectiveArgumentCoordinate {
     }
 }
 
-/// Any coordinate.
+/// Any coordinate. `From` of each form is that coordinate, and takes no memory.
 #[derive(Debug, Drop, Clone, PartialEq, Eq, Hash)]
 pub enum SchemaCoordinate {
     Ty(TypeCoordinate),
@@ -159,6 +162,7 @@ impl DirectiveCoordinate {
 impl From<Name> for DirectiveCoordinate {
     ghost from_gives = { λ name c. c ≡ record { directive = name } };
 
+    /// The coordinate of the directive of this name.
     fn from(directive: Name) -> DirectiveCoordinate {
         DirectiveCoordinate { directive }
     }

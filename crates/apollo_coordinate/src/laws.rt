@@ -18,7 +18,7 @@ use apollo_types::laws::equality_of_types;
 use graphql_ast::laws::equality_of_the_type_system;
 
 /// Whatever reads the text of a coordinate of valid names, as [`SchemaCoordinate::from_str`] does, answers that
-/// coordinate, without the places of its names, or want of memory; no text belongs to two such coordinates; and each text
+/// coordinate, without the locations of its names, or want of memory; no text belongs to two such coordinates; and each text
 /// that says a coordinate is in the grammar.
 pub fn coordinates()
     ensures read { (c : SchemaCoordinate) (result : Result SchemaCoordinate SchemaCoordinateParseError) → HasNames c → IsReadingOf (text c) result → IsReadBack c result }
@@ -35,7 +35,7 @@ pub fn refused_texts()
     ensures directive_argument { (t : List ℕ) (e : SchemaCoordinateParseError) → IsNoDirectiveArgument t e → ¬ IsDirectiveArgumentText t }
 {}
 
-/// Coordinates are equal exactly where they are one without the places of their names.
+/// Coordinates are equal exactly where they are one without the locations of their names.
 pub fn equality_of_coordinates()
     ensures ty { ComparesBy ⟦<TypeCoordinate as PartialEq>⟧.eq bare_type }
     ensures attribute { ComparesBy ⟦<TypeAttributeCoordinate as PartialEq>⟧.eq bare_attribute }
@@ -45,7 +45,7 @@ pub fn equality_of_coordinates()
     ensures coordinate { ComparesBy ⟦<SchemaCoordinate as PartialEq>⟧.eq bare }
 {}
 
-/// What lookups answer is equal exactly where both answers are of one sort, and what is found is one without places, origins
+/// What lookups answer is equal exactly where both answers are of one sort, and what is found is one without locations, origins
 /// and sources. GraphQL specification of October 2021, sections 3.4 to 3.10 and 3.13.
 pub fn equality_of_lookups<'schema>()
     ensures attribute { ComparesBy ⟦<TypeAttributeLookup<'schema> as PartialEq>⟧.eq bare_attribute_lookup }
@@ -55,7 +55,7 @@ pub fn equality_of_lookups<'schema>()
     equality_of_types();
 }
 
-/// Each clone of a coordinate is the original, with the places of its names; and so is each clone of a refusal.
+/// Each clone of a coordinate is the original, with the locations of its names; and so is each clone of a refusal.
 pub fn clones_of_coordinates_are_exact()
     ensures ty { IsExact ⟦<TypeCoordinate as Clone>⟧.is_clone }
     ensures attribute { IsExact ⟦<TypeAttributeCoordinate as Clone>⟧.is_clone }

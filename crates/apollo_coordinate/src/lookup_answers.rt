@@ -12,7 +12,9 @@ use graphql_nodes::name::{Name, NamedType};
 use graphql_nodes::node::Node;
 use thiserror::Error;
 
-/// What an attribute of a type is.
+/// What an attribute of a type is, lent by the schema.
+///
+/// Answers are equal where they are of one sort and what is found is equal: locations and origins are left out.
 #[derive(Debug, Clone, Copy, PartialEq, Eq)]
 pub enum TypeAttributeLookup<'schema> {
     /// A field of an object or interface type, or a meta-field.
@@ -23,7 +25,9 @@ pub enum TypeAttributeLookup<'schema> {
     EnumValue(&'schema Component<EnumValueDefinition>),
 }
 
-/// What a coordinate of any form points to.
+/// What a coordinate of any form points to, lent by the schema. `From` of what is found is the answer of its sort.
+///
+/// Answers are equal where they are of one sort and what is found is equal: locations and origins are left out.
 #[derive(Debug, Clone, Copy, PartialEq, Eq)]
 pub enum SchemaCoordinateLookup<'schema> {
     Ty(&'schema ExtendedType),
@@ -35,22 +39,22 @@ pub enum SchemaCoordinateLookup<'schema> {
     Argument(&'schema Node<InputValueDefinition>),
 }
 
-/// Why a coordinate points to nothing in a schema.
+/// Why a coordinate points to nothing in a schema. The names are lent by the coordinate, the type by the schema.
 #[derive(Debug, Clone, Copy, Error)]
 pub enum SchemaLookupError<'coord, 'schema> {
-    /// The schema has no type, or no directive, of the name.
+    /// The schema has no type, or no directive, of this name.
     #[error("type `{0}` does not exist")]
     MissingType(&'coord NamedType),
-    /// The type has no attribute of the name.
+    /// The type has no attribute of this name, and is of a kind that declares such.
     #[error("type does not have attribute `{0}`")]
     MissingAttribute(&'coord Name),
-    /// The attribute that is to have an argument is no field.
+    /// The attribute of this name, which is to have an argument, is an input field or an enum value.
     #[error("type attribute `{0}` is not a field and can not have arguments")]
     InvalidArgumentAttribute(&'coord Name),
-    /// The field or directive has no argument of the name.
+    /// The field or directive has no argument of this name.
     #[error("field or directive does not have argument `{0}`")]
     MissingArgument(&'coord Name),
-    /// The type is of a kind without attributes, or without those that are looked for.
+    /// This type has no such attribute, and is of a kind without attributes, or without those that are looked for.
     #[error("type does not have attributes")]
     InvalidType(&'schema ExtendedType),
 }

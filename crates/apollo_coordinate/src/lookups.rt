@@ -282,7 +282,7 @@ impl DirectiveArgumentCoordinate {
 }
 
 impl SchemaCoordinate {
-    /// What the coordinate points to, as the lookup of its form finds it, with that lookup's errors.
+    /// What the coordinate points to, as the lookup of its form finds it. The errors are that lookup's.
     pub fn lookup<'coord, 'schema>(
         &'coord self,
         schema: &'schema Schema,

@@ -8,14 +8,18 @@ use std::alloc::AllocError;
 use thiserror::Error;
 
 /// Why a text is not read as a coordinate.
+///
+/// `From` of a [`NameError`] is `InvalidName` or `Memory`, as that is.
 #[derive(Debug, Drop, Clone, Error)]
 pub enum SchemaCoordinateParseError {
-    /// A mark of the coordinate's form is missing, or stands elsewhere.
+    /// A mark of the coordinate's form is missing, or stands elsewhere. It takes no memory.
     #[error("invalid schema coordinate")]
     InvalidFormat,
-    /// A part is no name. The error has the part, and no location.
+    /// A part is no name (section 2.1.9 of the GraphQL specification of October 2021). The error has a copy of the part, and no
+    /// location.
     #[error(transparent)]
     InvalidName(InvalidNameError),
+    /// Want of memory, which says nothing of the text.
     #[error("out of memory")]
     Memory,
 }

@@ -2,7 +2,7 @@
 //!
 //! A text is first read into its parts, in place. Only if all of it is of the form are they made names, from the left: a text
 //! that is read takes memory for its names alone. A refused text takes memory for the one text that `InvalidName` carries,
-//! and for `InvalidFormat` none.
+//! and for `InvalidFormat` none. `Memory` says nothing of the text.
 ghost use Rattle.std.specs.Prelude.{◌≡◌, IfOk, IfErr, OnOk};
 ghost use Rattle.apollo_coordinate.specs.CoordinateText.{IsCoordinateText, Says};
 ghost use Rattle.apollo_coordinate.specs.Parts.{attribute_of, field_argument_of, directive_argument_of, coordinate_of};
@@ -21,7 +21,7 @@ use graphql_nodes::name::Name;
 use std::alloc::{AllocError, Global};
 
 impl<'a> AttributeParts<'a> {
-    /// The coordinate, with its names at no place.
+    /// The coordinate, whose names have no location. The error is want of memory.
     fn into_coordinate(self, alloc: Global) -> Result<TypeAttributeCoordinate, AllocError>
         ensures { IfOk result (λ c. c ≡ attribute_of self.entry) }
     {
@@ -33,7 +33,7 @@ impl<'a> AttributeParts<'a> {
 }
 
 impl<'a> FieldArgumentParts<'a> {
-    /// The coordinate, with its names at no place.
+    /// The coordinate, whose names have no location. The error is want of memory.
     fn into_coordinate(self, alloc: Global) -> Result<FieldArgumentCoordinate, AllocError>
         ensures { IfOk result (λ c. c ≡ field_argument_of self.entry) }
     {
@@ -43,7 +43,7 @@ impl<'a> FieldArgumentParts<'a> {
 }
 
 impl<'a> DirectiveArgumentParts<'a> {
-    /// The coordinate, with its names at no place.
+    /// The coordinate, whose names have no location. The error is want of memory.
     fn into_coordinate(self, alloc: Global) -> Result<DirectiveArgumentCoordinate, AllocError>
         ensures { IfOk result (λ c. c ≡ directive_argument_of self.entry) }
     {
@@ -55,7 +55,7 @@ impl<'a> DirectiveArgumentParts<'a> {
 }
 
 impl<'a> Parts<'a> {
-    /// The coordinate, with its names at no place.
+    /// The coordinate, whose names have no location. The error is want of memory.
     fn into_coordinate(self, alloc: Global) -> Result<SchemaCoordinate, AllocError>
         ensures { IfOk result (λ c. c ≡ coordinate_of self.entry) }
     {
@@ -76,10 +76,10 @@ impl<'a> Parts<'a> {
 }
 
 impl TypeCoordinate {
-    /// The coordinate that a text `Type` says, with its name at no place.
+    /// The coordinate that a text `Type` says, whose name has no location.
     ///
-    /// A text that is no name is refused with [`InvalidName`](SchemaCoordinateParseError::InvalidName);
-    /// [`Memory`](SchemaCoordinateParseError::Memory) is want of memory.
+    /// A text that is no name is refused with [`InvalidName`](SchemaCoordinateParseError::InvalidName) of the text;
+    /// [`Memory`](SchemaCoordinateParseError::Memory) is want of memory. `InvalidFormat` doesn't come.
     pub fn from_str(alloc: Global, text: &str) -> Result<TypeCoordinate, SchemaCoordinateParseError>
         ensures says { IfOk result (λ c. Says text.now (any.Ty c)) }
         ensures refused { IfErr result (WhenRefused (IsNoName text.now)) }
@@ -94,11 +94,11 @@ impl TypeCoordinate {
 }
 
 impl TypeAttributeCoordinate {
-    /// The coordinate that a text `Type.attribute` says, with its names at no place.
+    /// The coordinate that a text `Type.attribute` says, whose names have no location.
     ///
     /// A text without a `.` is refused with [`InvalidFormat`](SchemaCoordinateParseError::InvalidFormat). Of what stands
     /// before and after the first `.` the first that is no name is refused with
-    /// [`InvalidName`](SchemaCoordinateParseError::InvalidName). [`Memory`](SchemaCoordinateParseError::Memory) is want of
+    /// [`InvalidName`](SchemaCoordinateParseError::InvalidName) of it. [`Memory`](SchemaCoordinateParseError::Memory) is want of
     /// memory.
     pub fn from_str(
         alloc: Global,
@@ -115,12 +115,12 @@ impl TypeAttributeCoordinate {
 }
 
 impl FieldArgumentCoordinate {
-    /// The coordinate that a text `Type.field(argument:)` says, with its names at no place.
+    /// The coordinate that a text `Type.field(argument:)` says, whose names have no location.
     ///
     /// A text without a `(` is refused with [`InvalidFormat`](SchemaCoordinateParseError::InvalidFormat). What stands before
     /// the first one is read as a [`TypeAttributeCoordinate`], with its refusals; then what stands after it, where no `:`, or
     /// anything but `)` alone after the first one, is `InvalidFormat`, and an argument that is no name is
-    /// [`InvalidName`](SchemaCoordinateParseError::InvalidName). [`Memory`](SchemaCoordinateParseError::Memory) is want of
+    /// [`InvalidName`](SchemaCoordinateParseError::InvalidName) of it. [`Memory`](SchemaCoordinateParseError::Memory) is want of
     /// memory.
     pub fn from_str(
         alloc: Global,
@@ -137,11 +137,11 @@ impl FieldArgumentCoordinate {
 }
 
 impl DirectiveCoordinate {
-    /// The coordinate that a text `@directive` says, with its name at no place.
+    /// The coordinate that a text `@directive` says, whose name has no location.
     ///
     /// A text that doesn't begin with `@` is refused with
     /// [`InvalidFormat`](SchemaCoordinateParseError::InvalidFormat), and what is no name after it with
-    /// [`InvalidName`](SchemaCoordinateParseError::InvalidName). [`Memory`](SchemaCoordinateParseError::Memory) is want of
+    /// [`InvalidName`](SchemaCoordinateParseError::InvalidName) of it. [`Memory`](SchemaCoordinateParseError::Memory) is want of
     /// memory.
     pub fn from_str(
         alloc: Global,
@@ -160,12 +160,12 @@ impl DirectiveCoordinate {
 }
 
 impl DirectiveArgumentCoordinate {
-    /// The coordinate that a text `@directive(argument:)` says, with its names at no place.
+    /// The coordinate that a text `@directive(argument:)` says, whose names have no location.
     ///
     /// A text without a `(` is refused with [`InvalidFormat`](SchemaCoordinateParseError::InvalidFormat). What stands before
     /// the first one is read as a [`DirectiveCoordinate`], with its refusals; then what stands after it, where no `:`, or
     /// anything but `)` alone after the first one, is `InvalidFormat`, and an argument that is no name is
-    /// [`InvalidName`](SchemaCoordinateParseError::InvalidName). [`Memory`](SchemaCoordinateParseError::Memory) is want of
+    /// [`InvalidName`](SchemaCoordinateParseError::InvalidName) of it. [`Memory`](SchemaCoordinateParseError::Memory) is want of
     /// memory.
     pub fn from_str(
         alloc: Global,
@@ -182,11 +182,11 @@ impl DirectiveArgumentCoordinate {
 }
 
 impl SchemaCoordinate {
-    /// The coordinate that a text of any form says, with its names at no place.
+    /// The coordinate that a text of any form says, whose names have no location.
     ///
     /// A text of no form is refused with [`InvalidName`](SchemaCoordinateParseError::InvalidName) of the whole text, but for
     /// the `@` that it may begin with. [`Memory`](SchemaCoordinateParseError::Memory) is want of memory, and is answered at
-    /// once.
+    /// once. `InvalidFormat` doesn't come.
     pub fn from_str(
         alloc: Global,
         text: &str,
