@@ -24,7 +24,7 @@ use std::alloc::{AllocError, Global};
 
 impl Field {
     /// A field of this name and definition, without alias, arguments, directives and selections. Its set selects from the type
-    /// that the definition names, inside all lists. The error is want of memory.
+    /// that the definition names, inside all lists. The error is want of memory, and drops the name and the definition.
     ///
     /// [`SelectionSet::new_field`] looks the definition up in a schema.
     pub fn new(
@@ -61,7 +61,7 @@ impl Field {
         self
     }
 
-    /// The same field with one more directive at the end. The error is want of memory.
+    /// The same field with one more directive at the end. The error is want of memory, and drops the field.
     pub fn with_directive(mut self, directive: Node<Directive>) -> Result<Field, AllocError>
         ensures { IfOk result (λ field. field ≡ record self { directives = record { 0 = self.directives.0 ++ directive ∷ [] } }) }
     {
@@ -69,7 +69,7 @@ impl Field {
         Ok(self)
     }
 
-    /// The same field with these directives at the end. The error is want of memory.
+    /// The same field with these directives at the end. The error is want of memory, and drops the field.
     pub fn with_directives(mut self, directives: Vec<Node<Directive>>) -> Result<Field, AllocError>
         ensures { IfOk result (λ field. field ≡ record self { directives = record { 0 = self.directives.0 ++ directives.items } }) }
     {
@@ -77,7 +77,7 @@ impl Field {
         Ok(self)
     }
 
-    /// The same field with one more argument at the end. The error is want of memory.
+    /// The same field with one more argument at the end, without a location. The error is want of memory, and drops the field.
     pub fn with_argument(
         mut self,
         alloc: Global,
@@ -91,7 +91,7 @@ impl Field {
         Ok(self)
     }
 
-    /// The same field with these arguments at the end. The error is want of memory.
+    /// The same field with these arguments at the end. The error is want of memory, and drops the field.
     pub fn with_arguments(mut self, arguments: Vec<Node<Argument>>) -> Result<Field, AllocError>
         ensures { IfOk result (λ field. field ≡ record self { arguments = self.arguments ++ arguments.items }) }
     {
@@ -99,7 +99,7 @@ impl Field {
         Ok(self)
     }
 
-    /// The same field with one more selection at the end of its set. The error is want of memory.
+    /// The same field with one more selection at the end of its set. The error is want of memory, and drops the field.
     pub fn with_selection(mut self, selection: Selection) -> Result<Field, AllocError>
         ensures { IfOk result (λ field. field ≡ record self { selection_set = record self.selection_set { selections = self.selection_set.selections ++ selection ∷ [] } }) }
     {
@@ -107,7 +107,7 @@ impl Field {
         Ok(self)
     }
 
-    /// The same field with these selections at the end of its set. The error is want of memory.
+    /// The same field with these selections at the end of its set. The error is want of memory, and drops the field.
     pub fn with_selections(mut self, selections: Vec<Selection>) -> Result<Field, AllocError>
         ensures { IfOk result (λ field. field ≡ record self { selection_set = record self.selection_set { selections = self.selection_set.selections ++ selections.items } }) }
     {
@@ -139,7 +139,8 @@ impl Field {
         schema.types.get(self.ty().inner_named_type())
     }
 
-    /// The value of the argument of the name: the specified one, else the default one of the field's definition, else none.
+    /// The value of the argument of the name: the specified one, else the default one of the field's definition, else none
+    /// (sections 2.6 and 3.6.1). It takes no memory.
     ///
     /// Where no value is specified, an argument that the definition lacks is
     /// [`NoSuchArgument`](ArgumentByNameError::NoSuchArgument), and one of a non-null type without a default value is
@@ -151,7 +152,7 @@ impl Field {
         Argument::argument_by_name(self.arguments.as_slice(), name, definition)
     }
 
-    /// The value of the first argument of the name, if the field specifies one.
+    /// The value of the first argument that has the name's text, if the field specifies one.
     pub fn specified_argument_by_name(&self, name: &Name) -> Option<&Node<Value>>
         ensures { option_copied result ≡ specified_value self.now.arguments name.now }
     {

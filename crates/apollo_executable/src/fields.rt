@@ -54,7 +54,7 @@ impl<'a> Iterator for Fields<'a> {
 
     ghost remaining = { λ left. at_most (length left) };
 
-    /// The next field, if there is one.
+    /// The first field that is left, after which the rest is left. Once none is left it answers none, from then on too.
     fn next(&mut self) -> Option<&'a Node<Field>> {
         while let Some(selection) = self.selections.next() {
             if let Some(field) = selection.as_field() {

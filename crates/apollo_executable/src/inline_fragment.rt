@@ -16,7 +16,7 @@ use std::alloc::{AllocError, Global};
 
 impl InlineFragment {
     /// An inline fragment on this type, without directives and selections. Its set selects from the same type. The error is
-    /// want of memory.
+    /// want of memory, and drops the name.
     pub fn with_type_condition(
         alloc: Global,
         type_condition: NamedType,
@@ -32,7 +32,7 @@ impl InlineFragment {
     }
 
     /// An inline fragment without condition in a set that selects from this type, as its own set does, without directives and
-    /// selections.
+    /// selections. It takes no memory.
     pub fn without_type_condition(
         alloc: Global,
         parent_selection_set_type: NamedType,
@@ -46,7 +46,7 @@ impl InlineFragment {
         }
     }
 
-    /// The same inline fragment with one more directive at the end. The error is want of memory.
+    /// The same inline fragment with one more directive at the end. The error is want of memory, and drops the fragment.
     pub fn with_directive(
         mut self,
         directive: Node<Directive>,
@@ -57,7 +57,7 @@ impl InlineFragment {
         Ok(self)
     }
 
-    /// The same inline fragment with these directives at the end. The error is want of memory.
+    /// The same inline fragment with these directives at the end. The error is want of memory, and drops the fragment.
     pub fn with_directives(
         mut self,
         directives: Vec<Node<Directive>>,
@@ -68,7 +68,8 @@ impl InlineFragment {
         Ok(self)
     }
 
-    /// The same inline fragment with one more selection at the end of its set. The error is want of memory.
+    /// The same inline fragment with one more selection at the end of its set. The error is want of memory, and drops the
+    /// fragment.
     pub fn with_selection(mut self, selection: Selection) -> Result<InlineFragment, AllocError>
         ensures { IfOk result (λ inline. inline ≡ record self { selection_set = record self.selection_set { selections = self.selection_set.selections ++ selection ∷ [] } }) }
     {
@@ -76,7 +77,8 @@ impl InlineFragment {
         Ok(self)
     }
 
-    /// The same inline fragment with these selections at the end of its set. The error is want of memory.
+    /// The same inline fragment with these selections at the end of its set. The error is want of memory, and drops the
+    /// fragment.
     pub fn with_selections(
         mut self,
         selections: Vec<Selection>,
@@ -89,7 +91,7 @@ impl InlineFragment {
 }
 
 impl FragmentSpread {
-    /// The selections of the fragment of this name, without directives.
+    /// The selections of the fragment of this name, without directives. It takes no memory.
     pub fn new(alloc: Global, fragment_name: Name) -> FragmentSpread
         ensures { result ≡ record { fragment_name = fragment_name; directives = record { 0 = [] } } }
     {
@@ -99,7 +101,7 @@ impl FragmentSpread {
         }
     }
 
-    /// The same spread with one more directive at the end. The error is want of memory.
+    /// The same spread with one more directive at the end. The error is want of memory, and drops the spread.
     pub fn with_directive(
         mut self,
         directive: Node<Directive>,
@@ -110,7 +112,7 @@ impl FragmentSpread {
         Ok(self)
     }
 
-    /// The same spread with these directives at the end. The error is want of memory.
+    /// The same spread with these directives at the end. The error is want of memory, and drops the spread.
     pub fn with_directives(
         mut self,
         directives: Vec<Node<Directive>>,
@@ -121,7 +123,7 @@ impl FragmentSpread {
         Ok(self)
     }
 
-    /// The fragment that is spread, if the document has one of the name.
+    /// The fragment that is spread: the one that stands under the name's text in the document, if one does.
     pub fn fragment_def<'doc>(
         &self,
         document: &'doc ExecutableDocument,

@@ -1,4 +1,4 @@
-//! What `==` answers at each type of this crate: whether the two are one with places and sources left out, and operations
+//! What `==` answers at each type of this crate: whether the two are one with locations and sources left out, and operations
 //! and fragments in any order; and that clones are the originals.
 //!
 //! Each law is a function that does nothing. A proof cites it by a call, and finds a clause for each type there.

@@ -6,9 +6,9 @@ use std::alloc::AllocError;
 /// Why [`SelectionSet::new_field`](crate::selection::SelectionSet::new_field) answers no field.
 #[derive(Debug, Drop, PartialEq, Eq)]
 pub enum NewFieldError<'schema> {
-    /// The schema has no such type, or the type no such field.
+    /// The schema has no such type, or the type no such field: the error of `Schema::type_field`.
     Lookup(FieldLookupError<'schema>),
-    /// Want of memory.
+    /// Want of memory. The schema has the field.
     Memory,
 }
 
@@ -18,6 +18,7 @@ impl<'schema> From<FieldLookupError<'schema>> for NewFieldError<'schema> {
 
     ghost from_gives = { λ reason error. error ≡ Lookup reason };
 
+    /// `Lookup` of this reason.
     fn from(reason: FieldLookupError<'schema>) -> NewFieldError<'schema> {
         NewFieldError::Lookup(reason)
     }
@@ -29,6 +30,7 @@ impl<'schema> From<AllocError> for NewFieldError<'schema> {
 
     ghost from_gives = { λ _ error. error ≡ Memory };
 
+    /// `Memory`.
     fn from(_: AllocError) -> NewFieldError<'schema> {
         NewFieldError::Memory
     }

@@ -11,7 +11,9 @@ use graphql_nodes::node::Node;
 use graphql_nodes::operation_type::OperationType;
 use std::alloc::AllocError;
 
-/// A query, mutation or subscription, anonymous where it has no name.
+/// A query, mutation or subscription, anonymous where it has no name (section 2.3).
+///
+/// Equality leaves out locations. A clone is the original, with them; its error is want of memory.
 #[derive(Debug, PartialEq, Eq)]
 pub struct Operation {
     pub operation_type: OperationType,
@@ -33,7 +35,9 @@ impl Drop for Operation {
     }
 }
 
-/// A named fragment. Its type condition is the type of its selection set.
+/// A named fragment (section 2.8). Its type condition is the type of its selection set.
+///
+/// Equality leaves out locations. A clone is the original, with them; its error is want of memory.
 #[derive(Debug, PartialEq, Eq)]
 pub struct Fragment {
     pub name: Name,

@@ -15,7 +15,8 @@ use std::alloc::Global;
 
 /// The anonymous operation of a document, if there is one, and its named operations under their names, in order.
 ///
-/// Maps are equal where their anonymous operations are, and those under each name, in any order.
+/// Maps are equal where their anonymous operations are, and those under each name, in any order. A clone is the original, with
+/// locations; its error is want of memory.
 #[derive(Debug, PartialEq, Eq, Clone)]
 pub struct OperationMap {
     pub anonymous: Option<Node<Operation>>,
@@ -46,14 +47,14 @@ impl OperationMap {
     ghost use Rattle.apollo_executable.specs.Requests.{requested, IsRefusal};
     ghost use Rattle.apollo_executable.specs.OperationLending.{LendsOperation, LendsNode};
 
-    /// No operation, in a map that hashes by fixed keys.
+    /// No operation, in a map that hashes by fixed keys. It takes no memory.
     pub fn new(alloc: Global) -> OperationMap
         ensures { result ≡ no_operations }
     {
         OperationMap::with_keys(alloc, HashKeys::FIXED)
     }
 
-    /// No operation, in a map that hashes by these keys: those of a schema, for a document from strangers.
+    /// No operation, in a map that hashes by these keys: those of a schema, for a document from strangers. It takes no memory.
     pub fn with_keys(alloc: Global, keys: HashKeys) -> OperationMap
         ensures { result ≡ no_operations }
     {
@@ -106,7 +107,7 @@ impl OperationMap {
     /// The operation that a request asks for (section 6.1): the one of the name, or without a name the only one of the document.
     ///
     /// [`RequestError::NoSuchOperation`] says that there is none of the name; without a name the error is
-    /// [`RequestError::Ambiguous`], for no operation too.
+    /// [`RequestError::Ambiguous`], for no operation too. It takes no memory, so [`RequestError::Memory`] doesn't come.
     pub fn get<'n>(&self, name: Option<&'n Name>) -> Result<&Node<Operation>, RequestError<'n>>
         ensures found { IfOk result (λ operation. requested self.now (option_copied name.entry) ≡ Some operation.now) }
         ensures none { OnErr result (requested self.now (option_copied name.entry) ≡ None) }
@@ -138,11 +139,11 @@ impl OperationMap {
         self.iter().next()
     }
 
-    /// The operation that a request asks for, to write to, as [`get`](OperationMap::get) finds it. Its place and the key that it
-    /// stands under stay, and so do all other operations.
+    /// The operation that a request asks for, to write to, as [`get`](OperationMap::get) finds it. When the loan ends, it is what
+    /// was written: its location, its place in the map and the key that it stands under stay, and so do all other operations.
     ///
-    /// An operation that is shared is copied first: [`RequestError::Memory`] is want of memory for that. After any error the map
-    /// is as it was.
+    /// An operation that is shared is copied first: [`RequestError::Memory`] is want of memory for that, and comes only where
+    /// there is such an operation. The other errors are those of `get`. After any error the map is as it was.
     pub fn get_mut<'n>(
         &mut self,
         name: Option<&'n Name>,
@@ -182,10 +183,10 @@ impl OperationMap {
         self.named.get_index_mut(0)
     }
 
-    /// Puts the operation under its name, or in the place of the anonymous one if it has none. Answers the operation that stood
-    /// there. Under a name that is there it keeps that one's place, and under a new one it goes last.
+    /// Puts the operation under its name, or makes it the anonymous one if it has none. Answers the operation that stood there,
+    /// if one did. Under a name that is there it has that one's place, and under a new one it goes last.
     ///
-    /// After want of memory the map is as it was, and the error is the operation. An anonymous operation takes no memory.
+    /// The error is want of memory: it is the operation, and the map is as it was. An anonymous operation takes no memory.
     pub fn insert(
         &mut self,
         operation: Node<Operation>,

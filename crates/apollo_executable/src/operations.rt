@@ -59,7 +59,7 @@ impl<'a> Iterator for Operations<'a> {
 
     ghost remaining = { λ left. at_most (length left) };
 
-    /// The next operation, if there is one.
+    /// The first operation that is left, after which the rest is left. Once none is left it answers none, from then on too.
     fn next(&mut self) -> Option<&'a Node<Operation>> {
         match self.anonymous.take() {
             Some(operation) => Some(operation),

@@ -6,6 +6,8 @@ use thiserror::Error;
 
 /// Why [`OperationMap::get`](crate::operation_map::OperationMap::get) or
 /// [`get_mut`](crate::operation_map::OperationMap::get_mut) answers no operation.
+///
+/// Errors are equal where they are of one sort, and their names have one text.
 #[derive(Clone, Copy, Debug, PartialEq, Eq, Error)]
 pub enum RequestError<'n> {
     /// The document has no operation of this name.
@@ -25,6 +27,7 @@ impl<'n> From<AllocError> for RequestError<'n> {
 
     ghost from_gives = { λ _ error. error ≡ Memory };
 
+    /// `Memory`.
     fn from(_: AllocError) -> RequestError<'n> {
         RequestError::Memory
     }

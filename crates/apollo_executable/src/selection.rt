@@ -1,7 +1,10 @@
 //! Typed selections: GraphQL specification of October 2021, sections 2.4 to 2.8.
 //!
 //! They are those of the syntax tree, but that a set knows the name of the type that it selects from, and a field its
-//! definition in the schema.
+//! definition in the schema. All fields are public: any value may be made, whether a schema has such types and fields or not.
+//!
+//! Equality leaves out locations; definitions of fields and types of sets count. A clone is the original, with locations, and
+//! its error is want of memory.
 ghost use Rattle.std.specs.Prelude.{◌≡◌};
 
 use graphql_ast::directive::{Argument, DirectiveList};
@@ -11,7 +14,7 @@ use graphql_nodes::name::{Name, NamedType};
 use graphql_nodes::node::Node;
 use std::alloc::AllocError;
 
-/// Selections from a type, in order.
+/// Selections from a type, in order (section 2.4).
 #[cycle(selection)]
 #[derive(Debug, PartialEq, Eq, Hash)]
 pub struct SelectionSet {
@@ -30,7 +33,7 @@ impl Drop for SelectionSet {
     }
 }
 
-/// One entry of a selection set.
+/// One entry of a selection set. `From` of a node is the variant of its kind, which holds this node.
 #[cycle(selection)]
 #[derive(Debug, Drop, PartialEq, Eq, Hash)]
 pub enum Selection {
@@ -39,7 +42,7 @@ pub enum Selection {
     InlineFragment(Node<InlineFragment>),
 }
 
-/// A selected field.
+/// A selected field (section 2.5).
 #[cycle(selection)]
 #[derive(Debug, PartialEq, Eq, Hash)]
 pub struct Field {
@@ -66,7 +69,7 @@ impl Drop for Field {
     }
 }
 
-/// The selections of a named fragment.
+/// The selections of a named fragment (section 2.8).
 #[derive(Debug, PartialEq, Eq, Hash, Clone)]
 pub struct FragmentSpread {
     pub fragment_name: Name,
@@ -82,7 +85,7 @@ impl Drop for FragmentSpread {
     }
 }
 
-/// Selections under a type condition, if there is one, and directives of their own.
+/// Selections under a type condition, if there is one, and directives of their own (section 2.8.2).
 #[cycle(selection)]
 #[derive(Debug, PartialEq, Eq, Hash)]
 pub struct InlineFragment {

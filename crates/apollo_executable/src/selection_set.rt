@@ -12,7 +12,7 @@ use graphql_nodes::name::{Name, NamedType};
 use std::alloc::{AllocError, Global};
 
 impl SelectionSet {
-    /// No selection, from this type.
+    /// No selection, from this type. It takes no memory.
     pub fn new(alloc: Global, ty: NamedType) -> SelectionSet
         ensures { result ≡ empty_set ty }
     {
@@ -29,7 +29,7 @@ impl SelectionSet {
         self.selections.is_empty()
     }
 
-    /// Adds a selection at the end. After want of memory the set is as it was.
+    /// Adds a selection at the end. The error is want of memory: the set is as it was, and the selection is dropped.
     pub fn push(&mut self, selection: Selection) -> Result<(), AllocError>
         ensures ok { OnOk result (self.new ≡ record self.old { selections = self.old.selections ++ selection ∷ [] }) }
         ensures err { OnErr result (self.new ≡ self.old) }
@@ -37,7 +37,8 @@ impl SelectionSet {
         self.selections.push(selection)
     }
 
-    /// Adds the selections at the end, in order. After want of memory the set is as it was.
+    /// Adds the selections at the end, in order. The error is want of memory: the set is as it was, and the selections are
+    /// dropped.
     pub fn extend(&mut self, selections: Vec<Selection>) -> Result<(), AllocError>
         ensures ok { OnOk result (self.new ≡ record self.old { selections = self.old.selections ++ selections.items }) }
         ensures err { OnErr result (self.new ≡ self.old) }
@@ -49,7 +50,7 @@ impl SelectionSet {
     /// [`type_field`](Schema::type_field) gives in the type of this set, and its own set selects from the type which that names.
     ///
     /// [`NewFieldError::Lookup`] says that the schema has no such type, or the type no such field; [`NewFieldError::Memory`] is
-    /// want of memory.
+    /// want of memory, and comes only where the type has the field. Either drops the name.
     pub fn new_field<'schema>(
         &self,
         alloc: Global,
@@ -65,7 +66,7 @@ impl SelectionSet {
     }
 
     /// An inline fragment, to be added with [`push`](SelectionSet::push). Its set selects from the type of its condition, or
-    /// without one from that of this set. The error is want of memory.
+    /// without one from that of this set. The error is want of memory, and drops the condition.
     pub fn new_inline_fragment(
         &self,
         alloc: Global,
@@ -79,7 +80,8 @@ impl SelectionSet {
         }
     }
 
-    /// A spread of the fragment of this name, to be added with [`push`](SelectionSet::push).
+    /// A spread of the fragment of this name, without directives, to be added with [`push`](SelectionSet::push). It takes no
+    /// memory.
     pub fn new_fragment_spread(&self, alloc: Global, fragment_name: Name) -> FragmentSpread
         ensures { result ≡ record { fragment_name = fragment_name; directives = record { 0 = [] } } }
     {

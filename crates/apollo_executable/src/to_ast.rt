@@ -36,7 +36,7 @@ impl SelectionSet {
 }
 
 impl Selection {
-    /// The selection as syntax, at the same place. The error is want of memory.
+    /// The selection as syntax, at the same location. The error is want of memory.
     #[cycle(to_ast)]
     pub fn to_ast(&self, alloc: Global) -> Result<ast::Selection, AllocError>
         ensures { IfOk result (λ written. written ≡ erased self.now) }
@@ -119,7 +119,7 @@ impl FragmentSpread {
 }
 
 impl Operation {
-    /// The operation as a definition that stands at this place, if one is given. The error is want of memory.
+    /// The operation as a definition at this location, if one is given. The error is want of memory.
     pub fn to_ast(
         &self,
         alloc: Global,
@@ -140,8 +140,8 @@ impl Operation {
 }
 
 impl Fragment {
-    /// The fragment as a definition that stands at this place, if one is given. Its condition is the type of its set. The
-    /// error is want of memory.
+    /// The fragment as a definition at this location, if one is given. Its condition is the type of its set. The error is want
+    /// of memory.
     pub fn to_ast(
         &self,
         alloc: Global,
@@ -162,7 +162,7 @@ impl Fragment {
 
 impl ExecutableDocument {
     /// The document as syntax, without its sources: the anonymous operation, the named operations and the fragments, in
-    /// order. The error is want of memory.
+    /// order, each at the location of its node. The error is want of memory.
     pub fn to_ast(&self, alloc: Global) -> Result<Document, AllocError>
         ensures { IfOk result (λ written. written ≡ erased_document self.now) }
     {

@@ -26,7 +26,7 @@ impl SelectionSet {
     }
 
     /// A walk over all fields that this set reaches, through fragments and below fields: each field comes before those below
-    /// it. Making it takes no memory.
+    /// it. Making it takes no memory. GraphQL specification of October 2021, sections 2.4 and 2.8.
     ///
     /// That the set may belong to a fragment doesn't open that fragment.
     pub fn all_fields<'doc>(
@@ -39,8 +39,8 @@ impl SelectionSet {
         AllFields::new(alloc, document, self)
     }
 
-    /// The fields of a whole walk over root fields, as [`root_fields`](SelectionSet::root_fields) gives them. The error is
-    /// want of memory.
+    /// The fields of a whole walk over root fields, in order, as [`root_fields`](SelectionSet::root_fields) gives them. The
+    /// error is want of memory, and drops what was given.
     pub fn collect_root<'doc>(
         &'doc self,
         alloc: Global,
@@ -56,8 +56,8 @@ impl SelectionSet {
         Ok(fields)
     }
 
-    /// The fields of a whole walk over all fields, as [`all_fields`](SelectionSet::all_fields) gives them. The error is want
-    /// of memory.
+    /// The fields of a whole walk over all fields, in order, as [`all_fields`](SelectionSet::all_fields) gives them. The error
+    /// is want of memory, and drops what was given.
     pub fn collect_all<'doc>(
         &'doc self,
         alloc: Global,
@@ -75,7 +75,7 @@ impl SelectionSet {
 }
 
 impl Operation {
-    /// A walk over the root fields of the operation, as [`SelectionSet::root_fields`] makes it.
+    /// A walk over the root fields of the operation, as [`SelectionSet::root_fields`] makes it. Making it takes no memory.
     pub fn root_fields<'doc>(
         &'doc self,
         alloc: Global,
@@ -86,7 +86,7 @@ impl Operation {
         self.selection_set.root_fields(alloc, document)
     }
 
-    /// A walk over all fields that the operation reaches, as [`SelectionSet::all_fields`] makes it.
+    /// A walk over all fields that the operation reaches, as [`SelectionSet::all_fields`] makes it. Making it takes no memory.
     pub fn all_fields<'doc>(
         &'doc self,
         alloc: Global,

@@ -57,6 +57,11 @@ impl<'doc> RootFields<'doc> {
 
     /// The turns so far, or `u64::MAX` where they are more. A turn is one look at the innermost open list: one selection
     /// taken, or one list found empty and closed.
+    ///
+    /// Before the first `next` there are none. When a field is given they are the turn in which it is due, and at the end all
+    /// turns of the walk. They are at most two for each selection in reach, and one: in reach are the selections of the set and
+    /// of the fragments that it leads to, but none below a field. After the error they are more than before it, and no more than
+    /// the turn of the field that was to come.
     pub fn turns(&self) -> u64
         ensures turns { result ≡ min self.now.taken (2 ^ 64 - 1) }
         ensures few { IsWithinTurns false self.now.document self.now.start self.now.taken }
@@ -72,7 +77,8 @@ impl<'doc> Iterator for RootFields<'doc> {
 
     ghost remaining = { λ walk. at_most (most_items walk) };
 
-    /// The next field, in its turn, or the one error, no later than that turn. After that or the end there is none for good.
+    /// The first field that is to come, in its turn, or the one error, want of memory, no later than that turn. None says that
+    /// the walk has ended. After the error, or after none, there is none for good, and the walk stays as it is.
     fn next(&mut self) -> Option<Result<&'doc Node<Field>, AllocError>> {
         self.walk.advance()
     }
