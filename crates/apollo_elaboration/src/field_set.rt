@@ -21,7 +21,8 @@ use graphql_nodes::operation_type::OperationType;
 use graphql_nodes::source::SourceMap;
 use std::alloc::{AllocError, Global};
 
-/// Selections from a type of a schema, without a definition around them, and the files that they come from.
+/// Selections from a type of a schema, without a definition around them, and the files that they come from. A clone is the
+/// original, with its sources; its error is want of memory.
 #[derive(Debug)]
 pub struct FieldSet {
     pub sources: SourceMap,
@@ -52,7 +53,7 @@ impl FieldSet {
     /// The typable ones of these selections from the type of this name, typed as [`elaborate_selections`] says, without
     /// sources, and the faults of the others, in order. Each path begins as that of an anonymous query.
     ///
-    /// The error is want of memory.
+    /// The error is want of memory, and drops the name.
     pub fn from_ast(
         alloc: Global,
         schema: &Schema,

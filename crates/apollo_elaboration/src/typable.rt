@@ -36,7 +36,7 @@ fn unknown_field(alloc: Global, name: &Name) -> Result<Node<FieldDefinition>, Al
     Node::new(alloc, definition)
 }
 
-/// The definition of a field of this name in a type. That a type of the schema has none is noted.
+/// The definition of a field of this name in a type. That a type of the schema has none is noted. The error is want of memory.
 fn definition_in(
     alloc: Global,
     parent: &Parent,
@@ -115,7 +115,7 @@ pub(crate) fn typable_field(
     unless_leaf(schema, definition, node.location(), path, faults)
 }
 
-/// Whether a schema has a type of this name. Without a schema each name has one.
+/// Whether a schema has a type of this name. Without a schema each name has one. It takes no memory.
 pub fn has_type(schema: Option<&Schema>, ty: &NamedType) -> bool
     ensures { result ≡ spec.has_type (option_copied schema.entry) ty.now }
 {
