@@ -48,7 +48,7 @@ impl<'schema> ExecutableDocumentBuilder<'schema> {
     ghost use Rattle.apollo_document.specs.BuilderStands.{StandsFor, HasFailed, sources_of};
 
     /// A builder of no definition, over this schema or without one. Without a schema each operation has the default name of its
-    /// root type, each name is that of a type, and every selection is typable.
+    /// root type, each name is that of a type, and every selection is typable. It takes no memory.
     ///
     /// The document's tables hash by the keys of the schema, and without one by fixed keys: for documents from strangers without
     /// a schema, take [`with_keys`](ExecutableDocumentBuilder::with_keys).
@@ -64,7 +64,7 @@ impl<'schema> ExecutableDocumentBuilder<'schema> {
     }
 
     /// A builder as [`new`](ExecutableDocumentBuilder::new) makes it, for a document whose tables hash by these keys. No clause
-    /// speaks of keys: answers and orders never depend on them.
+    /// speaks of keys: answers and orders never depend on them. It takes no memory.
     pub fn with_keys(
         alloc: Global,
         schema: Option<&'schema Schema>,
@@ -79,11 +79,11 @@ impl<'schema> ExecutableDocumentBuilder<'schema> {
         }
     }
 
-    /// Adds the definitions of a document, in order, and its sources. Definitions of the type system are passed over; with
-    /// `type_system_definitions_are_errors` each is a fault.
+    /// Adds the definitions of a document, in order, and its sources: of two files of one number the later stays. Definitions of
+    /// the type system are passed over; with `type_system_definitions_are_errors` each is a fault (section 2.2).
     ///
-    /// `Memory` is want of memory, and drops all that was added; `Failed` comes exactly after that, and changes nothing. No other
-    /// error comes.
+    /// `Memory` is want of memory, and drops all that was added, sources too; `Failed` comes exactly after that, and changes
+    /// nothing. No other error comes.
     pub fn add_ast_document(
         &mut self,
         document: &Document,
@@ -109,8 +109,9 @@ impl<'schema> ExecutableDocumentBuilder<'schema> {
         }
     }
 
-    /// The document of what was added, and what is wrong with it, in the order of the definitions. It takes no memory: `Failed`
-    /// comes exactly after a refusal, and no other error does.
+    /// The document of what was added, with the merged sources, and what is wrong with it, in the order of the definitions. The
+    /// document comes whether anything is wrong or not. It takes no memory: `Failed` comes exactly after a refusal, and no other
+    /// error does.
     pub fn build(self) -> Result<(ExecutableDocument, Faults), BuilderError>
         ensures built { IfOk result (λ built. (schema : Option schemas.Schema) (xs : List Added) → StandsFor schema xs self.entry → IsDocumentOf schema xs built.0) }
         ensures faults { IfOk result (λ built. (schema : Option schemas.Schema) (xs : List Added) → StandsFor schema xs self.entry → built.1.items ≡ document_faults schema xs) }

@@ -59,7 +59,7 @@ fn operation_over(
     })
 }
 
-/// Notes that an anonymous operation at this place isn't the only one.
+/// Notes that an anonymous operation at this location isn't the only one. The error is want of memory.
 pub(crate) fn note_ambiguous(
     place: Option<SourceSpan>,
     errors: &mut Items<Fault>,
@@ -148,7 +148,7 @@ pub(crate) fn put_named(
     Ok(())
 }
 
-/// Notes an anonymous operation after the kept one, which stands at `kept`. That one is noted too, at the first of them.
+/// Notes an anonymous operation after the kept one, whose location is `kept`. That one is noted too, at the first of them.
 pub(crate) fn note_further_anonymous(
     kept: Option<SourceSpan>,
     multiple_anonymous: bool,
