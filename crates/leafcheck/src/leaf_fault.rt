@@ -15,13 +15,16 @@ pub enum LeafKind {
     MissingSubselection,
 }
 
-/// A field that is at fault.
+/// A field that is at fault. `Display` is a message with the key.
+///
+/// Faults are equal where their locations are, the texts of their keys, and their kinds. A clone is the original, with the
+/// location of its key; its error is want of memory.
 #[derive(Debug, Clone, PartialEq, Eq, Error)]
 #[error("`{response_key}`: {kind}")]
 pub struct LeafFault {
-    /// The place of the field's node, if it is known.
+    /// The location of the field's node, if it is known.
     pub location: Option<SourceSpan>,
-    /// The key of the field in a response: its alias, or else its name.
+    /// The key of the field in a response: its alias, or else its name (section 2.7).
     pub response_key: Name,
     pub kind: LeafKind,
 }
