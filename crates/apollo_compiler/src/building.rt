@@ -46,7 +46,8 @@ fn with_ignoring(builder: SchemaBuilder, ignore: bool) -> SchemaBuilder
     builder
 }
 
-/// A builder with these options, which hashes by these keys and draws its numbers from a new source.
+/// A builder with these options, which hashes by these keys and draws its numbers from a new source. The error is want of
+/// memory.
 fn begun(
     alloc: Global,
     keys: HashKeys,
@@ -64,9 +65,11 @@ fn begun(
 }
 
 /// The schema of the documents with these options, and its faults, as [`SchemaBuilder::build`] gives them. Its extensions are
-/// numbered from 0, and its tables hash by these keys. GraphQL specification of October 2021, section 3.
+/// numbered from 0, and its tables hash by these keys. Its sources are those of the documents, merged. Where there are faults,
+/// it is what could be built. GraphQL specification of October 2021, section 3.
 ///
-/// `Memory` is want of memory; `ExtensionIds` comes only where the numbers don't suffice for the extensions that are folded.
+/// `Memory` is want of memory; `ExtensionIds` comes only where the numbers don't suffice for the extensions that are folded. Then
+/// all that was built is dropped, and the documents are as they were.
 pub fn build_schema(
     alloc: Global,
     keys: HashKeys,

@@ -3,11 +3,13 @@
 use std::alloc::AllocError;
 use thiserror::Error;
 
-/// Why nothing is compiled.
+/// Why nothing is compiled. All that was built is then dropped, and the documents are as they were.
 #[derive(Debug, Clone, Copy, PartialEq, Eq, Error)]
 pub enum CompileError {
+    /// Want of memory.
     #[error("out of memory")]
     Memory,
+    /// The extensions that the schema documents fold would pass the largest number.
     #[error("extension identities spent")]
     ExtensionIds,
 }
@@ -18,6 +20,7 @@ impl From<AllocError> for CompileError {
 
     ghost from_gives = { λ _ error. error ≡ CompileError.Memory };
 
+    /// `Memory`.
     fn from(_error: AllocError) -> CompileError {
         CompileError::Memory
     }

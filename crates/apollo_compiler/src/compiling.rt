@@ -21,14 +21,18 @@ use std::alloc::Global;
 ///
 /// The schema documents are built to `schema`, with these options, and `ast` is that as syntax. `rebuilt` is built of `ast`
 /// alone, with adoption, and `rebuilt_ast` is that as syntax. The executable documents are built to `document`, over `schema`,
-/// and `erased` is that as syntax. Each build has its faults beside it, and then what could be built. Definitions of the type
-/// system in executable documents are passed over; with `type_system_definitions_are_errors` each is a fault.
+/// and `erased` is that as syntax. Each build has its faults beside it, and is then what could be built. The extensions of both
+/// schemas are numbered from 0. Definitions of the type system in executable documents are passed over; with
+/// `type_system_definitions_are_errors` each is a fault.
+///
+/// The sources of `schema` and of `document` are those of their documents, merged: of two files of one number the later stays.
+/// `rebuilt` and `erased` have none.
 ///
 /// The rebuild has no faults, equals `schema` and is written out the same, where no definition that is handed in is marked
 /// built-in and each schema definition names a root. What else is promised is said by [`headline`].
 ///
 /// `Memory` is want of memory; `ExtensionIds` comes only where the numbers don't suffice for the extensions of the schema
-/// documents. No other error comes.
+/// documents. No other error comes. The documents are as they were.
 ///
 /// All tables hash by fixed keys: for documents from strangers, take [`compile_with_keys`].
 pub fn compile(
@@ -52,8 +56,8 @@ pub fn compile(
     )
 }
 
-/// The same, for documents from strangers: all tables of both schemas and of the typed document hash by these keys. What is
-/// built, and in what order, is the same under any keys.
+/// The same as [`compile`], errors too, for documents from strangers: all tables of both schemas and of the typed document hash
+/// by these keys. What is built, and in what order, is the same under any keys.
 pub fn compile_with_keys(
     alloc: Global,
     keys: HashKeys,

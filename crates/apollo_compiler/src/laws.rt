@@ -15,7 +15,7 @@ ghost use Rattle.apollo_compiler.specs.Headline.{HasOneWalk, IsFolded, all_items
 ghost use Rattle.apollo_compiler.specs.Lists.{executable_list, handed_in};
 ghost use Rattle.graphql_nodes.specs.Clones.{IsExact};
 
-// Names, nodes and containers: `==` compares text or value, without places, and tables and sets without order.
+// Names, nodes and containers: `==` compares text or value, without locations, and tables and sets without order.
 pub use graphql_nodes::laws as nodes;
 
 // The syntax tree: `==` leaves out each location and nothing else, and each clone is the original.
@@ -24,7 +24,7 @@ pub use graphql_ast::laws as ast;
 // Components: each place of a list is the first of its key or a later one; `==` leaves out origins, and clones keep them.
 pub use apollo_component::laws as component;
 
-// The types of a schema: `==` leaves out places, origins and the order of what stands under names.
+// The types of a schema: `==` leaves out locations, origins and the order of what stands under names.
 pub use apollo_types::laws as types;
 
 // What a list of definitions means: each type is its first definition with all its kind's extensions, in order; its faults, in
@@ -54,7 +54,7 @@ pub use apollo_coordinate::laws::coordinates;
 // Walks over any selections: each field that is reached as often as it stands there, in one order, in at most 2N + 1 turns.
 pub use apollo_walks::laws as walks;
 
-// Typed documents: which fields stand in selections; `==` leaves out places and sources, and each clone is the original.
+// Typed documents: which fields stand in selections; `==` leaves out locations and sources, and each clone is the original.
 pub use apollo_executable::laws as executable;
 
 // Untyped selections made into typed ones: a typed set is exactly what is typable, and each type in it is right.
