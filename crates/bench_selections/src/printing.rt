@@ -6,8 +6,8 @@ use graphql_ast::selection::{Field, FragmentSpread, InlineFragment, Selection};
 use graphql_nodes::name::Name;
 use std::alloc::{AllocError, Global};
 
-/// Adds the lines of selections that stand at this depth. The error is want of memory, after which nothing is said of the
-/// text: drop it.
+/// Adds the lines of these selections, which stand at this depth, in order, each before those in it. The error is want of
+/// memory, after which nothing is said of the text: drop it.
 #[cycle(push_selections)]
 pub fn push_selections(
     alloc: Global,

@@ -40,6 +40,7 @@ impl Selected {
 pub struct SelectionLine {
     /// In how many other selections it stands.
     pub depth: u8,
+    /// Its location.
     pub place: SourceSpan,
     pub selected: Selected,
 }
@@ -67,7 +68,8 @@ impl SelectionLine {
         }
     }
 
-    /// The selection that it says, with these selections. A spread has none.
+    /// The selection that it says, at its location, with these selections. Of a spread they are dropped. The error is want of
+    /// memory, and drops them.
     pub fn into_selection(
         self,
         alloc: Global,
