@@ -13,9 +13,9 @@ use std::alloc::{AllocError, Global};
 /// What the definition of a directive has, and no other.
 pub struct DirectiveParts {
     pub arguments: Items<Node<InputValueDefinition>>,
-    /// Whether the directive may be applied again at the same place.
+    /// Whether the directive may be applied again at the same location.
     pub is_repeatable: bool,
-    /// The places where the directive may be applied.
+    /// The locations where the directive may be applied.
     pub locations: Items<DirectiveLocation>,
 }
 
@@ -43,7 +43,7 @@ impl DirectiveParts {
         }
     }
 
-    /// The definition of the directive of this name, with these parts.
+    /// The definition of the directive of this name, at this location, with these parts. The error is want of memory.
     pub fn into_definition(
         self,
         alloc: Global,

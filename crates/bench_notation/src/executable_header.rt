@@ -23,7 +23,8 @@ pub enum ExecutableHeader {
 }
 
 impl ExecutableHeader {
-    /// The operation or fragment, without variables. The error is want of memory.
+    /// The operation or fragment, at this location, with these directives and selections and without variables. The error is
+    /// want of memory, and drops them.
     pub fn into_definition(
         self,
         alloc: Global,

@@ -86,7 +86,8 @@ impl OpenItem {
         }
     }
 
-    /// Adds a component. A directive of a field, where there is no field, adds nothing.
+    /// Adds a component, at this location. A directive of a field, where there is no field, adds nothing. The error is want of
+    /// memory.
     pub fn add(
         &mut self,
         alloc: Global,
@@ -166,7 +167,7 @@ impl OpenItem {
         }
     }
 
-    /// The definition or extension.
+    /// The definition or extension. The error is want of memory.
     pub fn close(self, alloc: Global) -> Result<Definition, AllocError>
         ensures { IfOk result (λ definition. definition ≡ whole_item self) }
     {

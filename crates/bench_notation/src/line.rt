@@ -78,9 +78,10 @@ pub enum Line {
     Component(Component),
 }
 
-/// Reads a line. Its names get this place.
+/// Reads a line, which stands at this position. Its names get this location.
 ///
-/// `words` is room for its words: what it holds afterwards is not said.
+/// [`Refused`](LineError::Refused) comes only where the line says nothing that may stand there; `Memory` is want of memory, and
+/// says nothing of the line. `words` is room for its words: what it holds afterwards is not said.
 pub fn read_line<'a>(
     names: &mut Names,
     words: &mut Vec<&'a str>,

@@ -52,7 +52,8 @@ impl Names {
         *self.places.allocator()
     }
 
-    /// The name that a word is, at this place. A word that is no name is a bad word.
+    /// The name that a word is, at this location. A word that is no name is refused as a bad word; `Memory` is want of memory,
+    /// and says nothing of the word.
     pub fn read(&mut self, word: &str, place: SourceSpan) -> Result<Name, LineError>
         ensures text { IfOk result (λ name. name.text ≡ word.now) }
         ensures name { IfOk result (IsNameAt place) }

@@ -16,10 +16,11 @@ use graphql_nodes::source::{FileId, SourceSpan};
 use std::alloc::{AllocError, Global};
 use std::mem;
 
-/// The file that the input counts as.
+/// The file that the input counts as. What stands on a line has that line's number, from 1 on, as the start and the end of its
+/// location in this file.
 pub const INPUT_FILE: FileId = FileId(1);
 
-/// The place of what stands on a line of the input.
+/// The location of what stands on a line of the input.
 fn line_place(number: usize) -> SourceSpan
     ensures { result ≡ line_place number }
 {
@@ -186,10 +187,12 @@ fn take_lines<'a>(
     Ok(())
 }
 
-/// Reads a whole text that no line divides: its documents, of which there is at least one. They have no sources.
+/// Reads a whole text that no line divides: its documents, of which there is at least one. They have no sources, and their
+/// locations are lines of [`INPUT_FILE`].
 ///
-/// The first line that is refused ends the reading, and a line that would divide the text is. `Memory` is want of memory.
-/// There is no other error.
+/// The first line that is refused ends the reading, and a line that would divide the text is: `Refused` has its number. It says
+/// nothing that may stand there, and each line before it says something. `Memory` is want of memory, and says nothing of the
+/// text. There is no other error.
 pub fn read(alloc: Global, text: &str) -> Result<Vec<Document>, ReadError>
     ensures read { OnOk result (All IsLine (lines_of text.now)) }
     ensures said { IfOk result (λ documents. AreDocumentsOf text.now documents.items) }
@@ -218,10 +221,12 @@ impl Drop for DividedDocuments {
     }
 }
 
-/// Reads a whole text that one line divides: its documents, which have no sources.
+/// Reads a whole text that one line divides: its documents, which have no sources, and whose locations are lines of
+/// [`INPUT_FILE`].
 ///
-/// The first line that is refused ends the reading, and a second line that would divide the text is. `NoDivision` is the
-/// error where none is refused and none divides the text. `Memory` is want of memory.
+/// The first line that is refused ends the reading, and a second line that would divide the text is: `Refused` has its number. It
+/// says nothing that may stand there, and each line before it says something. `NoDivision` is the error where none is refused
+/// and none divides the text. `Memory` is want of memory, and says nothing of the text.
 pub fn read_divided(alloc: Global, text: &str) -> Result<DividedDocuments, ReadError>
     ensures read { OnOk result (All IsLine (lines_of text.now)) }
     ensures said { IfOk result (λ documents. AreDividedDocumentsOf text.now documents.schema.items documents.executable.items) }

@@ -15,12 +15,12 @@ pub enum Reason {
     /// There are too few words, or too many. Two spaces in a row have an empty word between them.
     #[error("wrong number of words")]
     WrongNumberOfWords,
-    /// A word is none that can stand in its place.
+    /// A word is none that can stand where it does.
     #[error("bad word")]
     BadWord,
 }
 
-/// Why a line is not read.
+/// Why a line is not read: it is refused, or there is want of memory, which says nothing of the line.
 #[derive(Debug, Clone, Copy, PartialEq, Eq)]
 pub enum LineError {
     Refused(Reason),
@@ -68,7 +68,8 @@ pub struct RefusedLine {
     pub reason: Reason,
 }
 
-/// Why a whole text is not read.
+/// Why a whole text is not read: a line is refused, no line divides it, or there is want of memory, which says nothing of the
+/// text.
 #[derive(Debug, Clone, Copy, PartialEq, Eq, Error)]
 pub enum ReadError {
     #[error(transparent)]

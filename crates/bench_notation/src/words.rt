@@ -5,7 +5,8 @@ ghost use Rattle.bench_notation.specs.Line.{lines_of, texts_of, words_of};
 
 use std::alloc::{AllocError, Global};
 
-/// The lines of a text. Each ends by a line feed, which the last may lack.
+/// The lines of a text, which stand between its line feeds: so the last one is empty where the text ends with a line feed. The
+/// error is want of memory.
 pub fn lines_of(alloc: Global, text: &str) -> Result<Vec<&str>, AllocError>
     ensures { IfOk result (λ lines. texts_of lines.items ≡ lines_of text.now) }
 {
@@ -14,7 +15,7 @@ pub fn lines_of(alloc: Global, text: &str) -> Result<Vec<&str>, AllocError>
     Ok(lines)
 }
 
-/// Takes the words of a line, which stand between its spaces, in place of those that were there. The error is want of memory.
+/// Takes the words of a line, which stand between its spaces, instead of those that were there. The error is want of memory.
 pub(crate) fn take_words<'a>(words: &mut Vec<&'a str>, line: &'a str) -> Result<(), AllocError>
     ensures { OnOk result (texts_of words.new.items ≡ words_of line.now) }
 {
