@@ -16,7 +16,8 @@ use bench_notation::reading::read;
 use graphql_nodes::collections::hash_keys::HashKeys;
 use std::alloc::Global;
 
-/// The schema of what an input says with these options, and its faults.
+/// The schema of what an input says with these options, and its faults, of which there may be none. All tables hash by these
+/// keys.
 ///
 /// `RefusedLine` tells the first line that says nothing where it stands; `ExtensionIds` comes only where the numbers don't
 /// suffice for the extensions of the input; `Memory` is want of memory. There is no other error.
@@ -36,7 +37,8 @@ pub fn build_input(
     Ok(built)
 }
 
-/// What the documents of an input are compiled to with these options, without executable documents.
+/// What the documents of an input are compiled to with these options, without executable documents. All tables hash by these
+/// keys.
 ///
 /// The errors are those of [`build_input`].
 pub fn compile_input(

@@ -14,7 +14,7 @@ use bench_notation::reading::read_divided;
 use graphql_nodes::collections::hash_keys::HashKeys;
 use std::alloc::Global;
 
-/// Whether anything is at fault in the schema or in the document.
+/// Whether anything is at fault in the schema or in the document. The rebuild isn't looked at.
 pub fn has_faults(compiled: &Compiled) -> bool
     ensures { result ≡ not ((length compiled.now.schema_faults.items == 0) && (length compiled.now.document_faults.items == 0)) }
 {

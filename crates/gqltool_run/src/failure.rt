@@ -20,13 +20,16 @@ pub enum Failure {
     /// The input cannot be read, or is not UTF-8.
     #[error("cannot read input")]
     CannotRead,
+    /// This line of the input says nothing where it stands.
     #[error(transparent)]
     RefusedLine(RefusedLine),
     /// No line divides the input, which is to be divided.
     #[error("missing ===")]
     NoDivision,
+    /// Want of memory.
     #[error("out of memory")]
     Memory,
+    /// The extensions of the input would pass the largest number.
     #[error("extension identities spent")]
     ExtensionIds,
 }
@@ -89,7 +92,7 @@ impl Failure {
     ghost use Rattle.std.specs.Prelude.{◌≡◌};
     ghost use Rattle.gqltool_run.specs.Status.{status_of};
 
-    /// How the run ends.
+    /// How the run ends: `Exhausted` for `Memory` and `ExtensionIds`, and `Refused` for all others.
     pub fn status(&self) -> Status
         ensures { result ≡ status_of self.now }
     {

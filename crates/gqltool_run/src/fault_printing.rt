@@ -6,7 +6,7 @@ use graphql_nodes::source::SourceSpan;
 use std::alloc::{AllocError, Global};
 use std::fmt::Display;
 
-/// Adds the lines of faults, each at its place.
+/// Adds the lines of faults, in order, each with its location. The error is want of memory.
 pub fn push_faults<E: Display>(
     alloc: Global,
     text: &mut String,
@@ -36,7 +36,8 @@ fn push_fault<E: Display>(
     text.push_str("\n")
 }
 
-/// Adds the line where a fault stands.
+/// Adds the number with which a location starts, or `-` where there is none: of what was read the line. The error is want of
+/// memory.
 pub(crate) fn push_place(
     alloc: Global,
     text: &mut String,

@@ -10,6 +10,7 @@ use std::io::{ErrorKind, Read};
 pub enum InputError {
     /// It cannot be read, or is not UTF-8.
     CannotRead,
+    /// Want of memory.
     Memory,
 }
 
@@ -27,14 +28,14 @@ pub trait Input {
     // Reading them may fail.
     ghost may_fail: { Self → Type 0 };
 
-    /// All that there is to read, as a text. The error is `Memory` for want of memory, and `CannotRead` where reading fails
-    /// or the bytes are not UTF-8. There is no other error.
+    /// All that there is to read, as a text of exactly these bytes. The error is `Memory` for want of memory, and `CannotRead`
+    /// where reading fails or the bytes are not UTF-8. There is no other error. What was read is then dropped.
     fn read_all(&mut self, alloc: Global) -> Result<String, InputError>
         ensures text { IfOk result (λ text. IfSome (holds self.old) (λ input. string_bytes text ≡ input)) }
         ensures causes { IfErr result (IsInputCause (holds self.old) (may_fail self.old)) };
 }
 
-/// Any reader may fail at any time.
+/// Any reader may fail at any time, so nothing says that `CannotRead` doesn't come.
 impl<R: Read> Input for R {
     ghost use Rattle.std.specs.Prelude.{⊤};
 
@@ -52,7 +53,7 @@ impl<R: Read> Input for R {
     }
 }
 
-/// Bytes in memory, which can be read whatever comes.
+/// Bytes in memory, of which reading doesn't fail: they are refused for want of memory, or where they are not UTF-8.
 #[derive(Debug, Clone, Copy)]
 pub struct BytesAtHand<'a>(pub &'a [u8]);
 

@@ -14,11 +14,20 @@ use graphql_nodes::collections::hash_keys::HashKeys;
 use std::alloc::Global;
 use std::io::{self, Write};
 
-/// Runs the program on the words that follow its name.
+/// Runs the program on the words that follow its name, and answers how that ended.
 ///
-/// The output is written only once all of it is there. What is wrong is said on `errors`, in one line, or in more where the text
-/// of `coord` has line feeds; that it cannot be said there changes nothing. `Refused` and `Exhausted` come only for a cause
-/// that [`answer_to`] has. Tables hash by fixed keys: for an input from strangers, take [`run_with_keys`].
+/// `Done` and `Faults`: exactly the answer of [`answer_to`] stands on `output`, behind what was there, and nothing was written
+/// on `errors`. The output is written only once all of it is there.
+///
+/// `Refused` and `Exhausted`: nothing was written on `output`, for an error that `answer_to` has. The message of that error is
+/// written on `errors`, as one line, or as more where the text of `coord` has line feeds. Words that are no command, and `coord`
+/// with a text of no coordinate, are refused before anything is read.
+///
+/// `NotWritten`: there was an answer, and not all of it was written. Nothing is said of what went out. `cannot write output` is
+/// written on `errors`.
+///
+/// That something cannot be said on `errors` changes nothing, and but for `Done` and `Faults` no clause says what stands there.
+/// Tables hash by fixed keys: for an input from strangers, take [`run_with_keys`].
 ///
 /// What was built of the input is left in memory, since a program ends after its run, which is faster by a third. A process
 /// that goes on takes the libraries' calls, which free what they make.
@@ -34,7 +43,7 @@ pub fn run<R: Input, O: Write, E: Write>(
     run_with_keys(alloc, HashKeys::FIXED, words, reader, output, errors)
 }
 
-/// The same, for an input from strangers: its tables hash by these keys. What is written is the same under any keys.
+/// The same as [`run`], for an input from strangers: its tables hash by these keys. What is written is the same under any keys.
 pub fn run_with_keys<R: Input, O: Write, E: Write>(
     alloc: Global,
     keys: HashKeys,
@@ -74,7 +83,7 @@ fn end_with_answer<O: Write, E: Write>(answer: &Answer, output: &mut O, errors: 
     }
 }
 
-/// Writes all of a text, and has it written through.
+/// Writes all of a text, and has it written through. The error is the writer's, after which some of it may be written.
 pub fn write_out<O: Write>(output: &mut O, text: &str) -> io::Result<()>
     ensures { OnOk result (Appends (O.contents output.old) (O.contents output.new) text.now) }
 {

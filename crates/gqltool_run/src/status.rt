@@ -19,7 +19,7 @@ impl Status {
     ghost use Rattle.std.specs.Prelude.{◌≡◌};
     ghost use Rattle.gqltool_run.specs.Status.{exit_code};
 
-    /// The exit status of the program.
+    /// The exit status of the program: 0 for `Done`, 1 for `Faults`, 2 for `Refused`, 3 for `Exhausted`, 4 for `NotWritten`.
     pub fn code(self) -> u8
         ensures { result ≡ exit_code self }
     {
