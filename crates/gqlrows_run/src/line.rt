@@ -55,7 +55,8 @@ fn is_status(text: &str) -> bool
     }
 }
 
-/// Why a line says nothing, below a title or not, where the line before it has this mark.
+/// Why a line says nothing, below a title or not, where the line before it has this mark; none where it says something. It takes
+/// no memory.
 pub fn reason_for(titled: bool, before: u8, line: &str) -> Option<Reason>
     ensures { result ≡ reason_for titled before line.now }
 {

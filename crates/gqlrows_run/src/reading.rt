@@ -41,9 +41,10 @@ fn rows_in<'a>(alloc: Global, lines: &[&'a str]) -> Result<Vec<Row<'a>>, AllocEr
     Ok(rows)
 }
 
-/// The rows that a text says.
+/// The rows that a text says, in order: each title begins one, with the lines up to the next title.
 ///
-/// `Refused` tells the first line that says nothing where it stands; `Memory` is want of memory. There is no other error.
+/// `Refused` tells the first line that says nothing where it stands; `Memory` is want of memory, and says nothing of the text.
+/// There is no other error.
 pub fn read_rows(alloc: Global, text: &str) -> Result<Vec<Row<'_>>, ReadError>
     ensures read { OnOk result (refused_of (lines_of text.now) ≡ None) }
     ensures rows { IfOk result (λ rows. map row_view rows.items ≡ rows_of (lines_of text.now)) }

@@ -30,7 +30,8 @@ pub struct RefusedLine {
     pub reason: Reason,
 }
 
-/// Why a file of rows is not read.
+/// Why a file of rows is not read: a line says nothing where it stands; the file cannot be read, or is not UTF-8; or there is
+/// want of memory.
 #[derive(Debug, Clone, Copy, PartialEq, Eq, Error)]
 pub enum ReadError {
     #[error(transparent)]

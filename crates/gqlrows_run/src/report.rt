@@ -58,7 +58,7 @@ fn push_shown(report: &mut Vec<u8>, mark: u8, text: &[u8]) -> Result<(), AllocEr
     }
 }
 
-/// Adds what came in the place of a text, where it is another.
+/// Adds what came instead of a text, where it is another. The error is want of memory.
 fn push_text_difference(
     report: &mut Vec<u8>,
     heading: &str,
@@ -133,7 +133,8 @@ fn push_count(
     report.extend_from_slice(b" differ\n")
 }
 
-/// Runs rows, and reports on them.
+/// Runs rows, in order, and reports on them: for each that differs its title and what came, and then how many rows there are and
+/// how many differ. The error is want of memory for the report; a run that wants memory ends with its own status.
 pub fn run_all(alloc: Global, rows: &[Row<'_>]) -> Result<Report, AllocError>
     ensures { IfOk result (λ report. (runs : List Ran) × (AreRunsOf (map row_view rows.now) runs × ((report.text.items ≡ report_text runs) × (report.differing ≡ count_by differs runs)))) }
 {

@@ -5,7 +5,7 @@ ghost use Rattle.gqlrows_run.specs.Rows.{texts, line_end, joined, status_in, row
 use crate::line::{mark, text};
 use std::alloc::{AllocError, Global};
 
-/// A row: the words and the input of a run, and what is to come of it.
+/// A row: the words and the input of a run, and what is to come of it: its output, what stands on standard error, its status.
 pub struct Row<'a> {
     pub title: &'a str,
     pub words: Vec<&'a str>,
@@ -87,7 +87,7 @@ fn status_in(lines: &[&str]) -> u8
     0
 }
 
-/// The row of a title line and the lines that belong to it.
+/// The row of a title line and the lines that belong to it. A status that isn't given is 0. The error is want of memory.
 pub fn read_row<'a>(alloc: Global, title: &'a str, lines: &[&'a str]) -> Result<Row<'a>, AllocError>
     ensures { IfOk result (λ row. row_view row ≡ row_of title.now (map (λ line. line.now) lines.now)) }
 {
@@ -101,7 +101,7 @@ pub fn read_row<'a>(alloc: Global, title: &'a str, lines: &[&'a str]) -> Result<
     })
 }
 
-/// The lines before the next title.
+/// The lines before the next title, or all where there is none.
 pub fn up_to_title<'a, 'b>(lines: &'a [&'b str]) -> &'a [&'b str]
     ensures { map (λ line. line.now) result.now ≡ up_to_title (map (λ line. line.now) lines.now) }
 {

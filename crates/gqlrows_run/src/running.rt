@@ -16,9 +16,11 @@ use std::io::{self, Write};
 
 /// Reads a file of rows, runs each, and writes which differ from what they expect, and how many.
 ///
-/// `Done` is the answer where none differs, `Faults` where one does, `Refused` where the file can't be read or one of its
-/// lines says nothing where it stands, `Exhausted` where memory is wanting, and `NotWritten` where the report cannot be
-/// written. What is wrong with the file is said on `errors`, in one line; that it cannot be said there changes nothing.
+/// `Done` is the answer where none differs, `Faults` where one does: then the report stands on `output`, behind what was there,
+/// and nothing was written on `errors`. `Refused` is the answer where the file can't be read or one of its lines says nothing
+/// where it stands, and `Exhausted` where memory is wanting: then nothing was written on `output`. `NotWritten` is the answer
+/// where the report cannot be written, and nothing is said of what went out. What is wrong is said on `errors`, in one line;
+/// that it cannot be said there changes nothing.
 pub fn run_rows<R: Input, O: Write, E: Write>(
     alloc: Global,
     reader: &mut R,
