@@ -36,7 +36,8 @@ pub struct Command {
     pub repeat: usize,
 }
 
-/// The command that these words are. Other words are none.
+/// The command that these words are: the word of its work, then `--random-keys` or not, the options of a build, and a number from
+/// 1 on. Other words are none. It takes no memory.
 pub fn read_command(words: &[&str]) -> Option<Command>
     ensures { MatchOption result (AreNoCommand (texts_of words.now)) (AreWordsOf (texts_of words.now)) }
 {

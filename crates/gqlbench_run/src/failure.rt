@@ -13,9 +13,10 @@ pub enum Failure {
     /// The words are none that the program takes.
     #[error("usage: gqlbench schema|lookups|doc|walk|leaf|compile [--random-keys] [--adopt] [--ignore-builtin] REPEAT (without --random-keys tables hash by fixed keys)")]
     Usage,
-    /// The input is refused, or memory or numbers are wanting, as with `gqltool`.
+    /// The input is refused, or memory or numbers are wanting, as in a run of `gqltool`.
     #[error(transparent)]
     Input(InputFailure),
+    /// The clock can't be read.
     #[error("cannot read the clock")]
     Clock,
     /// The words ask for random keys, and the system gives none.
@@ -73,7 +74,7 @@ impl Failure {
     ghost use Rattle.std.specs.Prelude.{◌≡◌};
     ghost use Rattle.gqlbench_run.specs.Commands.{ending_of};
 
-    /// How the run ends.
+    /// How the run ends: `Refused` for `Usage`, `Exhausted` for `Clock` and `Randomness`, and as `gqltool` for `Input`.
     pub fn status(&self) -> Status
         ensures { result ≡ ending_of self.now }
     {

@@ -16,7 +16,8 @@ pub enum KeyChoice {
     Random,
 }
 
-/// The keys that are chosen. Only random ones are drawn; the error is a source that gives none.
+/// The keys that are chosen. Only random ones are drawn: the error is [`Failure::Randomness`], where the source gives none, and
+/// doesn't come for fixed ones. No clause says which keys they are.
 pub fn chosen_keys<S: RandomSource>(source: &S, choice: KeyChoice) -> Result<HashKeys, Failure>
     ensures drawn { OnErr result (choice ≡ KeyChoice.Random) }
     ensures refused { IfErr result (λ failure. failure ≡ Failure.Randomness) }

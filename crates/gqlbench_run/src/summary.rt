@@ -13,7 +13,7 @@ pub struct Summary {
     pub mean: u64,
 }
 
-/// The summary of these times, which are put in ascending order. An empty list has none.
+/// The summary of these times, which are put in ascending order. An empty list has none. It takes no memory.
 pub fn summarize(times: &mut [u64]) -> Option<Summary>
     ensures summary { MatchOption result (times.old ≡ []) (IsSummary times.old) }
     ensures sorted { IsPermutation times.old times.new × IsNonDecreasing times.new }
