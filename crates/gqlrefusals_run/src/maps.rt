@@ -40,7 +40,7 @@ fn map_of(alloc: Global, texts: &[&'static str]) -> Result<OperationMap, Stop> {
     Ok(map.clone()?)
 }
 
-/// Whether two operations are the same, at the same place.
+/// Whether two operations are the same, at the same location.
 fn are_same(first: &Node<Operation>, second: &Node<Operation>) -> bool {
     *first == *second && first.location() == second.location()
 }

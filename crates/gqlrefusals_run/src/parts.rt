@@ -1,4 +1,4 @@
-//! Parts that calls are made on, each with places.
+//! Parts that calls are made on, each with locations.
 
 use apollo_executable::{FragmentSpread, Selection, SelectionSet};
 use graphql_ast::directive::{Directive, DirectiveList};
@@ -10,7 +10,7 @@ use graphql_nodes::node::Node;
 use graphql_nodes::source::{FileId, SourceSpan};
 use std::alloc::{AllocError, Global};
 
-/// A place.
+/// A location.
 /// No clause: it serves the scenarios, which say what they see.
 pub fn place(line: usize) -> SourceSpan {
     SourceSpan {
@@ -20,7 +20,7 @@ pub fn place(line: usize) -> SourceSpan {
     }
 }
 
-/// A name with a place.
+/// A name with a location.
 /// No clause: it serves the scenarios, which say what they see.
 pub fn name(alloc: Global, text: &str) -> Result<Name, AllocError> {
     Ok(Name::new_unchecked(alloc, text)?.with_location(place(text.len())))
@@ -36,13 +36,13 @@ fn definition(alloc: Global) -> Result<FieldDefinition, AllocError> {
     })
 }
 
-/// The definition of a field, with places.
+/// The definition of a field, with locations.
 /// No clause: it serves the scenarios, which say what they see.
 pub fn definition_node(alloc: Global) -> Result<Node<FieldDefinition>, AllocError> {
     Node::new_opt_location(alloc, definition(alloc)?, Some(place(3)))
 }
 
-/// A spread, with places.
+/// A spread, with locations.
 /// No clause: it serves the scenarios, which say what they see.
 pub fn spread(alloc: Global, text: &str) -> Result<Selection, AllocError> {
     let spread = FragmentSpread::new(alloc, name(alloc, text)?);
@@ -66,7 +66,7 @@ pub fn full_set(alloc: Global, count: usize) -> Result<SelectionSet, AllocError>
     set.clone()
 }
 
-/// A directive, with places.
+/// A directive, with locations.
 /// No clause: it serves the scenarios, which say what they see.
 pub fn directive(alloc: Global) -> Result<Node<Directive>, AllocError> {
     let directive = Directive::new(alloc, name(alloc, "d")?);

@@ -1,4 +1,4 @@
-//! Values told in full: each part, with its place.
+//! Values told in full: each part, with its location.
 
 use graphql_nodes::name::Name;
 use graphql_nodes::node_str::NodeStr;
@@ -14,11 +14,11 @@ pub mod typed;
 
 /// A value that is told in full.
 pub trait Tell {
-    /// Adds each part of it, with its place. The error is want of memory.
+    /// Adds each part of it, with its location. The error is want of memory.
     fn tell(&self, text: &mut String) -> Result<(), AllocError>;
 }
 
-/// Adds a name, and its place.
+/// Adds a name, and its location.
 /// No clause: it serves the scenarios, which say what they see.
 pub fn push_name(text: &mut String, name: &Name) -> Result<(), AllocError> {
     text.push_str(name.as_str())?;
@@ -26,7 +26,7 @@ pub fn push_name(text: &mut String, name: &Name) -> Result<(), AllocError> {
     push_place(text, name.location())
 }
 
-/// Adds a word, and a place.
+/// Adds a word, and a location.
 /// No clause: it serves the scenarios, which say what they see.
 pub fn push_at(text: &mut String, word: &str, place: Option<SourceSpan>) -> Result<(), AllocError> {
     text.push_str(word)?;
@@ -34,7 +34,7 @@ pub fn push_at(text: &mut String, word: &str, place: Option<SourceSpan>) -> Resu
     push_place(text, place)
 }
 
-/// Adds a name and its place, if there is one.
+/// Adds a name and its location, if there is one.
 /// No clause: it serves the scenarios, which say what they see.
 pub fn push_name_or_none(text: &mut String, name: &Option<Name>) -> Result<(), AllocError> {
     match name {
@@ -43,7 +43,7 @@ pub fn push_name_or_none(text: &mut String, name: &Option<Name>) -> Result<(), A
     }
 }
 
-/// Adds a description and its place, if there is one.
+/// Adds a description and its location, if there is one.
 /// No clause: it serves the scenarios, which say what they see.
 pub fn push_description(
     text: &mut String,

@@ -11,7 +11,7 @@ use graphql_nodes::collections::table::Table;
 use graphql_nodes::name::Name;
 use std::alloc::AllocError;
 
-/// Adds an identity: its number and its place.
+/// Adds an identity: its number and its location.
 /// No clause: it serves the scenarios, which say what they see.
 pub fn push_identity(text: &mut String, id: &ExtensionId) -> Result<(), AllocError> {
     let number = id.number();

@@ -1,4 +1,4 @@
-//! Faults: the place and text of each, and all that it has.
+//! Faults: the location and text of each, and all that it has.
 
 use apollo_elaboration::build_error as document;
 use apollo_meaning::build_error as schema;

@@ -1,4 +1,4 @@
-//! Definitions of syntax: how the notation says them, and then a line for each with the places of all its parts.
+//! Definitions of syntax: how the notation says them, and then a line for each with the locations of all its parts.
 
 use crate::tell::{Tell, push_at, push_description, push_name, push_name_or_none};
 use apollo_folding::views::{BodyView, ItemView, PartView};
@@ -25,7 +25,7 @@ fn push_names(text: &mut String, names: &Items<Name>) -> Result<(), AllocError> 
     Ok(())
 }
 
-/// Adds a type, and the places of its name.
+/// Adds a type, and the locations of its name.
 fn push_type(text: &mut String, ty: &Type) -> Result<(), AllocError> {
     write!(text, "{ty:?} ")?;
     push_name(text, ty.inner_named_type())
@@ -39,7 +39,7 @@ fn push_argument(text: &mut String, argument: &Node<Argument>) -> Result<(), All
     push_at(text, "value", argument.value.location())
 }
 
-/// Adds arguments, each with its places.
+/// Adds arguments, each with its locations.
 /// No clause: it serves the scenarios, which say what they see.
 pub fn push_arguments(
     text: &mut String,
@@ -51,7 +51,7 @@ pub fn push_arguments(
     Ok(())
 }
 
-/// Adds a directive that is applied, with its places.
+/// Adds a directive that is applied, with its locations.
 /// No clause: it serves the scenarios, which say what they see.
 pub fn push_directive(text: &mut String, directive: &Node<Directive>) -> Result<(), AllocError> {
     push_at(text, "@", directive.location())?;
@@ -59,7 +59,7 @@ pub fn push_directive(text: &mut String, directive: &Node<Directive>) -> Result<
     push_arguments(text, &directive.arguments)
 }
 
-/// Adds directives that are applied, each with its places.
+/// Adds directives that are applied, each with its locations.
 /// No clause: it serves the scenarios, which say what they see.
 pub fn push_directives(text: &mut String, directives: &DirectiveList) -> Result<(), AllocError> {
     for directive in directives.as_slice() {
@@ -68,7 +68,7 @@ pub fn push_directives(text: &mut String, directives: &DirectiveList) -> Result<
     Ok(())
 }
 
-/// Adds an argument that is defined, or a field of an input object type, with its places.
+/// Adds an argument that is defined, or a field of an input object type, with its locations.
 /// No clause: it serves the scenarios, which say what they see.
 pub fn push_input(text: &mut String, input: &Node<InputValueDefinition>) -> Result<(), AllocError> {
     push_at(text, "input", input.location())?;
@@ -91,7 +91,7 @@ fn push_inputs(
     Ok(())
 }
 
-/// Adds a field that is defined, with its places.
+/// Adds a field that is defined, with its locations.
 /// No clause: it serves the scenarios, which say what they see.
 pub fn push_field(text: &mut String, field: &Node<FieldDefinition>) -> Result<(), AllocError> {
     push_at(text, "field", field.location())?;
@@ -109,7 +109,7 @@ fn push_fields(text: &mut String, fields: &Items<Node<FieldDefinition>>) -> Resu
     Ok(())
 }
 
-/// Adds a value of an enum type, with its places.
+/// Adds a value of an enum type, with its locations.
 /// No clause: it serves the scenarios, which say what they see.
 pub fn push_value(text: &mut String, value: &Node<EnumValueDefinition>) -> Result<(), AllocError> {
     push_at(text, "value", value.location())?;
@@ -168,7 +168,7 @@ fn push_schema(
     Ok(())
 }
 
-/// Adds the definition of a directive, with its places.
+/// Adds the definition of a directive, with its locations.
 /// No clause: it serves the scenarios, which say what they see.
 pub fn push_directive_definition(
     text: &mut String,
@@ -215,7 +215,7 @@ fn push_inline(text: &mut String, inline: &InlineFragment) -> Result<(), AllocEr
     push_selections(text, &inline.selection_set)
 }
 
-/// Adds a selection, with its places.
+/// Adds a selection, with its locations.
 /// No clause: it serves the scenarios, which say what they see.
 #[cycle(places)]
 pub fn push_selection(text: &mut String, selection: &Selection) -> Result<(), AllocError> {
@@ -271,7 +271,7 @@ fn push_item(text: &mut String, item: ItemView<'_>) -> Result<(), AllocError> {
     }
 }
 
-/// Adds the places of each definition, a line for each.
+/// Adds the locations of each definition, a line for each.
 fn push_places(text: &mut String, definitions: &[Definition]) -> Result<(), AllocError> {
     for definition in definitions {
         push_item(text, ItemView::of(definition))?;
@@ -280,7 +280,7 @@ fn push_places(text: &mut String, definitions: &[Definition]) -> Result<(), Allo
     Ok(())
 }
 
-/// Adds definitions as the notation says them, and then their places.
+/// Adds definitions as the notation says them, and then their locations.
 /// No clause: it serves the scenarios, which say what they see.
 pub fn push_definitions(
     alloc: Global,

@@ -59,7 +59,7 @@ fn kind_word(ty: &ExtendedType) -> &'static str {
     }
 }
 
-/// Adds a type: its kind and place, and, unless it is as in every schema, its parts.
+/// Adds a type: its kind and location, and, unless it is as in every schema, its parts.
 fn push_type(text: &mut String, ty: &ExtendedType) -> Result<(), AllocError> {
     push_at(text, kind_word(ty), ty.location())?;
     if !ty.is_built_in() || is_extended(ty) {
