@@ -1,4 +1,4 @@
--- What `==` compares of components: values, without places and origins.
+-- What `==` compares of components: values, without locations and origins.
 use Rattle.std.specs.Prelude.{ℕ, List, Option, map, option_map}
 use Rattle.graphql_nodes.specs.NameView.{NameView}
 use Rattle.graphql_nodes.specs.Comparing.{bare_name}

@@ -6,7 +6,7 @@ use Rattle.apollo_component.specs.declared.extension.ExtensionId.{ExtensionId}
 use Rattle.apollo_component.specs.declared.extension.ComponentOrigin.{ComponentOrigin}
 use Rattle.apollo_component.specs.declared.extension.ComponentOrigin.TheVariants.{Definition, Extension}
 
--- the identity with this number, of an extension at this place
+-- the identity with this number, of an extension at this location
 abbrev pub extension_id : ℕ → Option SourceSpan → ExtensionId
 extension_id n place = record { number = n; location = place }
 

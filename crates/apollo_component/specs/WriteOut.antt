@@ -50,10 +50,10 @@ of_extensions cs = map (λ e. (e, of_origin (origins.Extension e) cs)) (identiti
 abbrev pub by_origin : List SourcedPart → PartsByOrigin
 by_origin cs = record { definition = of_origin origins.Definition cs; extensions = of_extensions cs }
 
--- the definition of a type, at this place, then its extensions, each where it stands
+-- the definition of a type, at this location, then its extensions, each where it stands
 abbrev pub written_type : TypeKind → Option NameView → NameView → PartsByOrigin → Option SourceSpan → List Definition
 written_type kind description name parts place = type_definition kind description name parts.definition place ∷ map (λ e. type_extension kind name e.1 (place_of e.0)) parts.extensions
 
--- the definition of the schema, at this place, if it is written, then its extensions, each where it stands
+-- the definition of the schema, at this location, if it is written, then its extensions, each where it stands
 abbrev pub written_schema : Bool → Option NameView → PartsByOrigin → Option SourceSpan → List Definition
 written_schema is_written description parts place = (if is_written then schema_definition description parts.definition place ∷ [] else []) ++ map (λ e. schema_extension e.1 (place_of e.0)) parts.extensions

@@ -76,11 +76,11 @@ parts (DirectiveArgument c) = c.directive ∷ c.argument ∷ []
 abbrev pub HasNames : SchemaCoordinate → Type 0
 HasNames c = AllByRecursion (λ n. IsName n.text) (parts c)
 
--- a text says a coordinate: it is its text, and each part is a name, at no place
+-- a text says a coordinate: it is its text, and each part is a name, at no location
 abbrev pub Says : List ℕ → SchemaCoordinate → Type 0
 Says t c = (text c ≡ t) × AllByRecursion (λ n. IsName n.text × (n.location ≡ None)) (parts c)
 
--- a coordinate without the places of its names
+-- a coordinate without the locations of its names
 abbrev pub bare_type : TypeCoordinate → TypeCoordinate
 bare_type c = record { ty = bare_name c.ty }
 

@@ -1,4 +1,4 @@
--- The parts of a text, borrowed from it: the coordinate that they make, with its names at no place, and the error that a refusal
+-- The parts of a text, borrowed from it: the coordinate that they make, its names at no location, and the error that a refusal
 -- is answered as, where there is memory for it.
 use Rattle.std.specs.Prelude.{ℕ, List, None}
 use Rattle.graphql_nodes.specs.NameView.{NameView}

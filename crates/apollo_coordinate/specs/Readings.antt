@@ -10,6 +10,6 @@ use Rattle.apollo_coordinate.specs.declared.parse_error.SchemaCoordinateParseErr
 abbrev pub IsReadingOf : List ℕ → Result SchemaCoordinate SchemaCoordinateParseError → Type 0
 IsReadingOf t result = IfOk result (Says t) × IfErr result (WhenRefused (IsNoCoordinate t))
 
--- the coordinate, at no place, or want of memory
+-- the coordinate, at no location, or want of memory
 abbrev pub IsReadBack : SchemaCoordinate → Result SchemaCoordinate SchemaCoordinateParseError → Type 0
 IsReadBack c result = MatchResult result (λ d. d ≡ bare c) (λ e. e ≡ Memory)

@@ -25,7 +25,7 @@ Lacks mark t = All (λ b. b ≢ mark) t
 abbrev pub IsCut : ℕ → List ℕ → List ℕ → List ℕ → Type 0
 IsCut mark t front back = Lacks mark front × (t ≡ front ++ mark ∷ back)
 
--- the part is no name, and the error carries it, at no place
+-- the part is no name, and the error carries it, at no location
 abbrev pub IsNoName : List ℕ → SchemaCoordinateParseError → Type 0
 IsNoName part e = (IsName part → ⊥) × (e ≡ InvalidName (record { name = part; location = None }))
 

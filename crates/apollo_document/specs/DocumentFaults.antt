@@ -24,7 +24,7 @@ use Rattle.apollo_elaboration.specs.declared.selection_path.ExecutableDefinition
 use Rattle.apollo_document.specs.AddedDefinitions.{Added}
 use Rattle.apollo_document.specs.KeptDefinitions.{root_in, kept_anonymous, kept_named, kept_fragments, is_repeated}
 
--- an anonymous operation at this place isn't the only one
+-- an anonymous operation at this location isn't the only one
 abbrev pub ambiguous : Option SourceSpan → Fault
 ambiguous place = (place, e.AmbiguousAnonymousOperation)
 
@@ -49,7 +49,7 @@ faults_in_operation s name n = rooted_faults s name n (root_in s n.value.operati
 abbrev pub faults_of_named : Option Schema → Option NameView → NameView → NodeView OperationDefinition → List Fault
 faults_of_named s taken name n = unless_taken e.OperationNameCollision name taken (faults_in_operation s (NamedOperation n.value.operation_type name) n)
 
--- a named operation, after an anonymous one at this place if there is one, and where its name is taken if it is
+-- a named operation, after an anonymous one at this location if there is one, and where its name is taken if it is
 abbrev pub named_faults : Option Schema → Option (Option SourceSpan) → Option NameView → NameView → NodeView OperationDefinition → List Fault
 named_faults s anonymous taken name n = ambiguous_if anonymous ++ faults_of_named s taken name n
 

@@ -23,7 +23,7 @@ inside path key = record { root = path.root; nested_fields = path.nested_fields 
 abbrev pub FS : Type 0
 FS = NameView → SelectionPath → List Fault
 
--- those of a field or an inline fragment, by the place of its node too
+-- those of a field or an inline fragment, by the location of its node too
 abbrev pub FN : Type 0
 FN = NameView → Wrong
 

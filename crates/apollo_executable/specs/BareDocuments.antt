@@ -1,4 +1,4 @@
--- What `==` compares of operations, fragments and documents: no place, and what stands under a name as a function of its
+-- What `==` compares of operations, fragments and documents: no location, and what stands under a name as a function of its
 -- text. GraphQL specification of October 2021, sections 2.2, 2.3 and 2.8.
 use Rattle.std.specs.Prelude.{ℕ, List, Option, map, option_map}
 use Rattle.graphql_nodes.specs.NodeView.{NodeView}

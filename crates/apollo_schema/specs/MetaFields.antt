@@ -1,5 +1,5 @@
 -- The fields that types have without declaring them: GraphQL specification of October 2021, sections 4.1 and 4.2. They have
--- no description and no directive, and stand at no place.
+-- no description and no directive, and have no location.
 use Rattle.std.specs.Prelude.{ℕ, List, [], ◌∷◌, None, codes}
 use Rattle.graphql_nodes.specs.NameView.{NameView}
 use Rattle.graphql_nodes.specs.NodeView.{NodeView}

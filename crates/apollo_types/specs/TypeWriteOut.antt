@@ -86,7 +86,7 @@ type_components (Union n) = union_components n.value
 type_components (Enum n) = enum_components n.value
 type_components (InputObject n) = input_object_components n.value
 
--- the definition, at this place, then an extension for each identity
+-- the definition, at this location, then an extension for each identity
 abbrev pub write_scalar : ScalarType → Option SourceSpan → List Definition
 write_scalar t place = written_type kinds.Scalar t.description t.name (by_origin (scalar_components t)) place
 

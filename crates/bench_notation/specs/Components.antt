@@ -33,7 +33,7 @@ use Rattle.bench_notation.specs.declared.directive_parts.DirectiveParts.{Directi
 use Rattle.bench_notation.specs.declared.open_field.OpenField.{OpenField}
 use Rattle.bench_notation.specs.declared.item.OpenItem.{OpenItem}
 
--- a node that stands at this place
+-- a node that stands at this location
 abbrev pub node_at : {A : Type 0} → SourceSpan → A → NodeView A
 node_at place value = record { value = value; location = Some place }
 

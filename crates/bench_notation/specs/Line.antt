@@ -35,31 +35,31 @@ lines_of text = slice_split (λ b. b == 10) text
 abbrev pub words_of : List ℕ → List (List ℕ)
 words_of line = slice_split (λ b. b == 32) line
 
--- the place of what stands on the line of this number: the bench has one file, whose number is 1
+-- the location of what stands on the line of this number: the bench has one file, whose number is 1
 abbrev pub line_place : ℕ → SourceSpan
 line_place number = record { file = record { 0 = 1 }; start = number; end = number }
 
--- a GraphQL name that stands at this place
+-- a GraphQL name that stands at this location
 abbrev pub IsNameAt : SourceSpan → NameView → Type 0
 IsNameAt place name = IsName name.text × (name.location ≡ Some place)
 
--- a type of at most 200 brackets whose name stands at this place
+-- a type of at most 200 brackets whose name stands at this location
 abbrev pub IsTypeAt : SourceSpan → TypeReference → Type 0
 IsTypeAt place ty = (opened_brackets ty ≤ 200) × IsNameAt place (inner_name ty)
 
--- these words are a name that stands at this place
+-- these words are a name that stands at this location
 abbrev pub AreName : SourceSpan → List (List ℕ) → NameView → Type 0
 AreName place words name = (words ≡ name.text ∷ []) × IsNameAt place name
 
--- these words are a name and a type that stand at this place
+-- these words are a name and a type that stand at this location
 abbrev pub AreNameAndType : SourceSpan → List (List ℕ) → NameView → TypeReference → Type 0
 AreNameAndType place words name ty = (words ≡ name.text ∷ type_text ty ∷ []) × (IsNameAt place name × IsTypeAt place ty)
 
--- these words are a kind of operation, and a name that stands at this place
+-- these words are a kind of operation, and a name that stands at this location
 abbrev pub AreRoot : SourceSpan → List (List ℕ) → OperationType → NameView → Type 0
 AreRoot place words operation name = (words ≡ operation_text operation ∷ name.text ∷ []) × IsNameAt place name
 
--- the name that there is, if there is one, stands at this place
+-- the name that there is, if there is one, stands at this location
 abbrev pub IsOptionalNameAt : SourceSpan → Option NameView → Type 0
 IsOptionalNameAt place name = IfSome name (IsNameAt place)
 
@@ -68,19 +68,19 @@ abbrev pub optional_word : Option NameView → List (List ℕ)
 optional_word None = []
 optional_word (Some name) = name.text ∷ []
 
--- these words are a name that stands at this place, or there is no word
+-- these words are a name that stands at this location, or there is no word
 abbrev pub AreOptionalName : SourceSpan → List (List ℕ) → Option NameView → Type 0
 AreOptionalName place words name = (words ≡ optional_word name) × IsOptionalNameAt place name
 
--- these words are a name, and an alias behind it or none, that stand at this place
+-- these words are a name, and an alias behind it or none, that stand at this location
 abbrev pub AreNameAndAlias : SourceSpan → List (List ℕ) → NameView → Option NameView → Type 0
 AreNameAndAlias place words name alias = (words ≡ name.text ∷ optional_word alias) × (IsNameAt place name × IsOptionalNameAt place alias)
 
--- these words are a kind of operation, and a name that stands at this place or the word for none
+-- these words are a kind of operation, and a name that stands at this location or the word for none
 abbrev pub AreOperation : SourceSpan → List (List ℕ) → OperationType → Option NameView → Type 0
 AreOperation place words operation name = (words ≡ operation_text operation ∷ name_word name ∷ []) × IsOptionalNameAt place name
 
--- these words are a fragment's name and that of its type, which stand at this place
+-- these words are a fragment's name and that of its type, which stand at this location
 abbrev pub AreFragment : SourceSpan → List (List ℕ) → NameView → NameView → Type 0
 AreFragment place words name condition = (words ≡ name.text ∷ condition.text ∷ []) × (IsNameAt place name × IsNameAt place condition)
 
@@ -90,13 +90,13 @@ selected_words (w.Field name alias) = codes "field" ∷ name.text ∷ optional_w
 selected_words (w.Spread name) = codes "spread" ∷ name.text ∷ []
 selected_words (w.Inline condition) = codes "inline" ∷ optional_word condition
 
--- the names of what is selected stand at this place
+-- the names of what is selected stand at this location
 abbrev pub IsSelectedAt : SourceSpan → Selected → Type 0
 IsSelectedAt place (w.Field name alias) = IsNameAt place name × IsOptionalNameAt place alias
 IsSelectedAt place (w.Spread name) = IsNameAt place name
 IsSelectedAt place (w.Inline condition) = IsOptionalNameAt place condition
 
--- these words are what is selected, whose names stand at this place
+-- these words are what is selected, whose names stand at this location
 abbrev pub AreSelected : SourceSpan → List (List ℕ) → Selected → Type 0
 AreSelected place words selected = (words ≡ selected_words selected) × IsSelectedAt place selected
 
@@ -104,19 +104,19 @@ AreSelected place words selected = (words ≡ selected_words selected) × IsSele
 abbrev pub IsDepth : ℕ → Type 0
 IsDepth depth = depth ≤ 200
 
--- these words are a depth and what is selected, whose names stand at this place
+-- these words are a depth and what is selected, whose names stand at this location
 abbrev pub AreSelection : SourceSpan → List (List ℕ) → ℕ → Selected → Type 0
 AreSelection place words depth selected = (words ≡ decimal depth ∷ selected_words selected) × (IsDepth depth × IsSelectedAt place selected)
 
--- a word, then a name that stands at this place
+-- a word, then a name that stands at this location
 abbrev pub SaysName : SourceSpan → List (List ℕ) → List ℕ → NameView → Type 0
 SaysName place words word name = (words ≡ word ∷ name.text ∷ []) × IsNameAt place name
 
--- a word, then a name and a type that stand at this place
+-- a word, then a name and a type that stand at this location
 abbrev pub SaysNameAndType : SourceSpan → List (List ℕ) → List ℕ → NameView → TypeReference → Type 0
 SaysNameAndType place words word name ty = (words ≡ word ∷ name.text ∷ type_text ty ∷ []) × (IsNameAt place name × IsTypeAt place ty)
 
--- a word, then a kind of operation, and a name that stands at this place
+-- a word, then a kind of operation, and a name that stands at this location
 abbrev pub SaysRoot : SourceSpan → List (List ℕ) → List ℕ → OperationType → NameView → Type 0
 SaysRoot place words word operation name = (words ≡ word ∷ operation_text operation ∷ name.text ∷ []) × IsNameAt place name
 
@@ -154,7 +154,7 @@ SayLine place words l.Division = words ≡ codes "===" ∷ []
 SayLine place words (l.Header header) = SaysHeader place words header
 SayLine place words (l.Component component) = SaysComponent place words component
 
--- what a line says, of which each name stands at this place
+-- what a line says, of which each name stands at this location
 abbrev pub Says : SourceSpan → List ℕ → Line → Type 0
 Says place text l.Empty = text ≡ []
 Says place text line = SayLine place (words_of text) line

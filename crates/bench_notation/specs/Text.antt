@@ -103,7 +103,7 @@ abbrev pub repeatable_text : Bool → List ℕ
 repeatable_text true = codes "repeatable\n"
 repeatable_text false = []
 
--- each place of a directive on a line of its own
+-- each location of a directive on a line of its own
 abbrev pub locations_text : List DirectiveLocation → List ℕ
 locations_text locations = flat_map (λ (location : DirectiveLocation). word_line (codes "on ") (location_text location)) locations
 

@@ -20,7 +20,7 @@ takes_selections (w.Inline condition) = true
 abbrev pub levels_below : SelectionLine → ℕ
 levels_below line = if takes_selections line.selected then line.depth + 1 + 1 else line.depth + 1
 
--- what is selected at a place, with these selections, without arguments and directives
+-- what is selected at a location, with these selections, without arguments and directives
 abbrev pub selection_with : Selected → SourceSpan → List Selection → Selection
 selection_with (w.Field name alias) place selections = s.Field record {
   value = roll-Field (record { alias = alias; name = name; arguments = []; directives = record { 0 = [] }; selection_set = selections });

@@ -22,7 +22,7 @@ abbrev pub shown : ℕ → Bool → List ℕ → List ℕ
 shown mark starts [] = if starts then [] else codes "\n"
 shown mark starts (b ∷ text) = (if starts then mark ∷ 32 ∷ [] else []) ++ b ∷ shown mark (b == 10) text
 
--- what came in the place of a text, where it is another
+-- what came instead of a text, where it is another
 abbrev pub text_difference : List ℕ → ℕ → List ℕ → List ℕ → List ℕ
 text_difference heading mark expected came = if same came expected then [] else heading ++ shown mark true came
 

@@ -11,7 +11,7 @@ place_text (Some span) = decimal span.start
 abbrev pub fault_line : Option SourceSpan → List ℕ → List ℕ
 fault_line place said = codes "fault " ++ place_text place ++ codes " " ++ said ++ codes "\n"
 
--- the lines of faults, in order, each at its place, with something said of it
+-- the lines of faults, in order, each at its location, with something said of it
 abbrev pub AreFaultLines : {E : Type 0} → List (Option SourceSpan × E) → List ℕ → Type 0
 AreFaultLines [] lines = lines ≡ []
 AreFaultLines (fault ∷ faults) lines = (said : List ℕ) × ((rest : List ℕ) × ((lines ≡ fault_line fault.0 said ++ rest) × AreFaultLines faults rest))

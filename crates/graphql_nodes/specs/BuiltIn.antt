@@ -2,7 +2,7 @@
 use Rattle.std.specs.Prelude.{Bool, false, ◌==◌, Option, None, Some}
 use Rattle.graphql_nodes.specs.declared.source.SourceSpan.{SourceSpan}
 
--- whether a place is one in the file of built-in definitions, whose number is 0
+-- whether a location is one in the file of built-in definitions, whose number is 0
 abbrev pub is_built_in : Option SourceSpan → Bool
 is_built_in None = false
 is_built_in (Some span) = span.file.0 == 0

@@ -1,4 +1,4 @@
--- Lines and columns of a text. A line ends with a line terminator: GraphQL specification of October 2021, section 2.1.2.
+-- Lines and columns of a text. A line ends with a line terminator: GraphQL specification of October 2021, section 2.1.3.
 use Rattle.std.specs.Prelude.{ℕ, zero, suc, ◌+◌, Bool, not, ◌&&◌, ◌||◌, cond, List, length, slice_index, nat_eq, nat_lt, nat_le, Option, None, Some, option_and_then, option_map}
 use Rattle.std.specs.declared.ops.Range.{Range}
 use Rattle.graphql_nodes.specs.Tables.{lookup}

@@ -3,7 +3,7 @@ use Rattle.std.specs.Coded.{Coded, code_by, coded×, coded_option, coded_list, c
 use Rattle.graphql_nodes.specs.declared.source.SourceSpan.{SourceSpan}
 use Rattle.graphql_nodes.specs.NodeView.{span_code}
 
--- what a contract sees of a name: its bytes, and the place where it stands
+-- what a contract sees of a name: its bytes, and its location
 pub record NameView : Type 0 where
   pub text : List ℕ
   pub location : Option SourceSpan

@@ -2,7 +2,7 @@ use Rattle.std.specs.Prelude.{ℕ, Option, refl}
 use Rattle.std.specs.Coded.{Coded, code_by, coded×, coded_option, coded_ℕ}
 use Rattle.graphql_nodes.specs.declared.source.SourceSpan.{SourceSpan}
 
--- what a contract sees of a node: its value, and the place where it stands
+-- what a contract sees of a node: its value, and its location
 pub record NodeView (T : Type 0) : Type 0 where
   pub value : T
   pub location : Option SourceSpan

@@ -29,7 +29,7 @@ kind_in false t = if is_leaf t then Some SubselectionOnLeaf else None
 abbrev pub kind_over : Schema → Field → Option LeafKind
 kind_over s f = option_and_then (kind_in (length f.selection_set.selections == 0)) (type_at s.types (inner_name f.definition.value.ty))
 
--- the fault of a field, at the place of its node
+-- the fault of a field, at the location of its node
 abbrev pub fault_at : Schema → NodeView Field → Option LeafFault
 fault_at s n = option_map (λ kind. record { location = n.location; response_key = response_key n.value; kind = kind }) (kind_over s n.value)
 

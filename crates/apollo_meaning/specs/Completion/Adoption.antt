@@ -28,7 +28,7 @@ empty_body (UnionBody members) = UnionBody []
 empty_body (EnumBody values) = EnumBody []
 empty_body (InputObjectBody fields) = InputObjectBody []
 
--- the empty definition that adoption gives a name: of the kind, with the name and at the place of its first extension
+-- the empty definition that adoption gives a name: of the kind, with the name and at the location of its first extension
 abbrev pub adopted_part : TypePart → TypePart
 adopted_part e = record {
   name = e.name;

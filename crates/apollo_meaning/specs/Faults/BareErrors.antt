@@ -1,4 +1,4 @@
--- What `==` compares of the errors of a build: names without their locations, the places of what is kept with them.
+-- What `==` compares of the errors of a build: names without their locations, the locations of what is kept with them.
 use Rattle.graphql_nodes.specs.Comparing.{bare_name}
 use Rattle.apollo_meaning.specs.declared.build_error.BuildError.{BuildError}
 use Rattle.apollo_meaning.specs.declared.build_error.BuildError.TheVariants as e

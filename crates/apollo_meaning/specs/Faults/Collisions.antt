@@ -12,7 +12,7 @@ use Rattle.apollo_meaning.specs.declared.collision.Collection.{Collection}
 use Rattle.apollo_meaning.specs.declared.collision.Collection.TheVariants.{ObjectInterfaces, InterfaceInterfaces, ObjectFields, InterfaceFields, EnumValues, UnionMembers, InputFields}
 use Rattle.apollo_meaning.specs.declared.build_error.BuildError.TheVariants as errors
 
--- a fault, and the place that it is about
+-- a fault, and the location that it is about
 abbrev pub Fault : Type 0
 Fault = Option SourceSpan × BuildError
 
@@ -27,7 +27,7 @@ collision EnumValues kept ty = errors.EnumValueNameCollision kept ty
 collision UnionMembers kept ty = errors.UnionMemberNameCollision kept ty
 collision InputFields kept ty = errors.InputFieldNameCollision kept ty
 
--- a component's name, and the place of the component
+-- a component's name, and the location of the component
 abbrev pub Entry : Type 0
 Entry = NameView × Option SourceSpan
 

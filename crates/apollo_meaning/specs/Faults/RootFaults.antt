@@ -25,7 +25,7 @@ root_faults = each_after root_fault
 abbrev pub same_root : Root → Root → Bool
 same_root a b = same_operation a.value.0 b.value.0
 
--- the fault of a root that is dropped where these are kept: at the root, with the place of the kept one
+-- the fault of a root that is dropped where these are kept: at the root, with the location of the kept one
 abbrev pub dropped_root : List Root → Root → Fault
 dropped_root kept r = (r.location, errors.DuplicateRootOperation (kept_for same_root kept r).value.1.location (operation_text r.value.0))
 

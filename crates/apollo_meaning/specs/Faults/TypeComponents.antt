@@ -11,7 +11,7 @@ use Rattle.apollo_meaning.specs.Faults.Collisions.{Fault, Entry, collision, same
 use Rattle.apollo_meaning.specs.Faults.TypeFaults.{part_faults, name_entries, field_entries, value_entries, input_field_entries}
 use Rattle.apollo_meaning.specs.declared.collision.Collection.TheVariants as c
 
--- a component of a type: its collection, its name and place, and the type's name as the part has it where it stands
+-- a component of a type: its collection, its name and location, and the type's name as the part has it where it stands
 pub record TypeComponent : Type 0 where
   pub collection : Collection
   pub entry : Entry

@@ -33,7 +33,7 @@ value_names = flat_map (λ p. map (λ v. v.value.value) (body_values p.body))
 abbrev pub input_field_names : List TypePart → List NameView
 input_field_names = flat_map (λ p. map (λ f. f.value.name) (body_input_fields p.body))
 
--- components by name and place
+-- components by name and location
 abbrev pub named_entries : {A : Type 0} → (A → NameView) → List (NodeView A) → List Entry
 named_entries name = map (λ n. (name n.value, n.location))
 

@@ -72,7 +72,7 @@ pub record TypePart : Type 0 where
   -- a definition that is passed over without a fault where its name's first one is built in
   pub ignorable : Bool
 
--- a part that stands at this place
+-- a part that stands at this location
 abbrev pub part_at : Option SourceSpan → NameView → Option NameView → DirectiveList → TypeBody → TypePart
 part_at place name description directives body = record {
   name = name;

@@ -62,7 +62,7 @@ extensions_alone =
     ∷ extension_at 8 (name_at (codes "A") 8) [] (field_at (codes "y") 9 ∷ [])
     ∷ []
 
--- the schema definition where they are adopted: it is at no place, and all of it comes of its extensions, which are folded
+-- the schema definition where they are adopted: it is at no location, and all of it comes of its extensions, which are folded
 -- after those of types
 abbrev pub adopted_schema : NodeView SchemaDefinition
 adopted_schema = record {

@@ -9,7 +9,7 @@ use Rattle.graphql_ast.specs.declared.definition.Definition.TheVariants.{ScalarT
 use Rattle.graphql_ast.specs.declared.type_reference.Type.{Named}
 use Rattle.apollo_meaning.specs.Items.ListItems.{Folding, OfType, OfSchema}
 
--- the place of a line
+-- the location of a line
 abbrev pub line : ℕ → Option SourceSpan
 line n = Some (record { file = record { 0 = 1 }; start = n; end = n })
 

@@ -101,7 +101,7 @@ type_at (UnionBody members) head parts = Union (record { value = union_of head p
 type_at (EnumBody values) head parts = Enum (record { value = enum_of head parts; location = head.location })
 type_at (InputObjectBody fields) head parts = InputObject (record { value = input_object_of head parts; location = head.location })
 
--- the type that these parts make, with the description, name and place of the head
+-- the type that these parts make, with the description, name and location of the head
 abbrev pub type_from : TypePart → List Sourced → ExtendedType
 type_from head parts = type_at head.body head parts
 
