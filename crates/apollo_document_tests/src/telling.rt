@@ -69,7 +69,7 @@ fn path_of(error: &BuildError) -> Option<&SelectionPath> {
     }
 }
 
-/// Adds the place of a fault, its text and its path.
+/// Adds the location of a fault, its text and its path.
 fn tell_fault(alloc: Global, text: &mut String, fault: &Fault) -> Result<(), AllocError> {
     if let Some(place) = fault.0 {
         text.push_str(place.start.to_string(alloc)?.as_str())?;

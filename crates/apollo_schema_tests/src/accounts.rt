@@ -126,7 +126,7 @@ pub fn push_schema(text: &mut String, schema: &Schema) -> Result<(), AllocError>
     push_types(text, schema)
 }
 
-/// Adds faults, each with its place.
+/// Adds faults, each with its location.
 /// No clause: it serves tests.
 pub fn push_faults(text: &mut String, faults: &[Fault]) -> Result<(), AllocError> {
     for (place, error) in faults {

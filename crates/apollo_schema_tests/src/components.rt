@@ -17,7 +17,7 @@ const PLACE: SourceSpan = SourceSpan {
     end: 31,
 };
 
-/// The first identity of a source, at the place, and the second, of a node with no place.
+/// The first identity of a source, at the location, and the second, of a node without a location.
 fn first_two(alloc: Global) -> Option<(ExtensionId, ExtensionId)> {
     let mut source = ExtensionSource::new();
     let first = source.draw(Some(PLACE)).ok()?;
@@ -32,7 +32,7 @@ fn are_first_two(first: &ExtensionId, second: &ExtensionId) -> bool {
     (first.number(), second.number()) == (0, 1) && places == (Some(PLACE), None) && first != second
 }
 
-/// Whether a node is made at the place of the identity.
+/// Whether a node is made at the location of the identity.
 fn is_beside(alloc: Global, id: &ExtensionId) -> bool {
     match id.same_location(alloc, 'a') {
         Ok(beside) => (*beside, beside.location()) == ('a', Some(PLACE)),
@@ -40,7 +40,7 @@ fn is_beside(alloc: Global, id: &ExtensionId) -> bool {
     }
 }
 
-/// Whether the first identity of another source is equal, with no place.
+/// Whether the first identity of another source is equal, without a location.
 fn is_place_left_out(first: &ExtensionId) -> bool {
     match ExtensionSource::new().draw(None) {
         Ok(again) => are_alike(first, &again),
@@ -71,7 +71,7 @@ fn the_last_number_is_never_drawn(rt: HostRuntime) {
     assert!(rt; is_printed(rt.alloc(), &IdsSpent, "extension identities spent"));
 }
 
-/// The identity with the number 4, at the place.
+/// The identity with the number 4, at the location.
 fn fourth() -> Result<ExtensionId, IdsSpent> {
     ExtensionSource::starting_at(4).draw(Some(PLACE))
 }
@@ -94,7 +94,7 @@ fn origins_have_identities(rt: HostRuntime) -> Result<(), Fail> {
     Ok(())
 }
 
-/// The node `a` at a place.
+/// The node `a` at a location.
 fn node(alloc: Global) -> Result<Node<char>, AllocError> {
     Node::new_opt_location(alloc, 'a', Some(PLACE))
 }
@@ -130,7 +130,7 @@ fn origins_are_left_out_of_equality(rt: HostRuntime) -> Result<(), Fail> {
     Ok(())
 }
 
-/// Whether the component has this origin, and is at the place.
+/// Whether the component has this origin, and is at the location.
 fn is_of(component: Result<Component<char>, AllocError>, origin: ComponentOrigin) -> bool {
     match component {
         Ok(component) => component.origin == origin && component.node.location() == Some(PLACE),
@@ -160,7 +160,7 @@ fn components_of_nodes(rt: HostRuntime) {
     assert!(rt; is_of(from_node(rt.alloc()), ComponentOrigin::Definition));
 }
 
-/// The name `Node` at a place.
+/// The name `Node` at a location.
 fn name(alloc: Global) -> Result<Name, AllocError> {
     Ok(Name::new_unchecked(alloc, "Node")?.with_location(PLACE))
 }
@@ -190,7 +190,7 @@ fn names_are_equal_without_origins(rt: HostRuntime) -> Result<(), Fail> {
     Ok(())
 }
 
-/// Whether the name is one of a definition, at the place.
+/// Whether the name is one of a definition, at the location.
 fn is_placed(name: &ComponentName) -> bool {
     name.origin == ComponentOrigin::Definition && name.name.location() == Some(PLACE)
 }

@@ -8,7 +8,7 @@ use graphql_nodes::node::Node;
 use graphql_nodes::source::{FileId, SourceSpan};
 use std::alloc::{AllocError, Global};
 
-/// The place that begins there.
+/// The location that begins there.
 fn place(start: usize) -> SourceSpan {
     SourceSpan {
         file: FileId(5),
@@ -17,19 +17,19 @@ fn place(start: usize) -> SourceSpan {
     }
 }
 
-/// The name, at no place.
+/// The name, without a location.
 fn name(alloc: Global, text: &str) -> Result<Name, AllocError> {
     Name::new_unchecked(alloc, text)
 }
 
-/// The directive of this name, at this place.
+/// The directive of this name, at this location.
 fn directive(alloc: Global, text: &str, start: usize) -> Result<Component<Directive>, AllocError> {
     let directive = Directive::new(alloc, name(alloc, text)?);
     let node = Node::new_opt_location(alloc, directive, Some(place(start)))?;
     Ok(Component::from(node))
 }
 
-/// Puts the directive of this name at this place last.
+/// Puts the directive of this name at this location last.
 fn add(
     alloc: Global,
     list: &mut DirectiveList,

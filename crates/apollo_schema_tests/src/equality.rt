@@ -1,5 +1,5 @@
 //! Schemas that differ in one thing each, and whether they are equal: the order of directives and of arguments counts, that of
-//! types, fields and other members doesn't, and neither do places and origins.
+//! types, fields and other members doesn't, and neither do locations and origins.
 
 use crate::asking::{Question, expect};
 use crate::building::{PLAIN, is_built_of};
@@ -87,7 +87,7 @@ fn schemas_that_differ_in_one_value_are_unequal(rt: HostRuntime) -> Result<(), F
 #[test]
 fn schemas_that_differ_in_order_origin_or_place_are_equal(rt: HostRuntime) -> Result<(), Fail> {
     // The order of types, of directive definitions, of fields, of interfaces, of members and of values; the origin of a
-    // field, of a directive and of a root, each on its own line; places alone, and documents.
+    // field, of a directive and of a root, each on its own line; locations alone, and documents.
     for (one, other) in [
         ("def scalar S\ndef scalar T", "def scalar T\ndef scalar S"),
         (

@@ -13,7 +13,7 @@ use apollo_compiler::{FileId, Name, Node, Schema, SourceSpan};
 use bench_notation::printing::print;
 use std::alloc::Global;
 
-/// A field of a named type, whose name stands at a place in a file. Whoever reads GraphQL text hands such places in.
+/// A field of a named type, whose name stands at a location in a file. Whoever reads GraphQL text hands such locations in.
 fn field(
     alloc: Global,
     name: &str,
@@ -69,7 +69,7 @@ fn builder(alloc: Global) -> Result<SchemaBuilder> {
     Ok(builder)
 }
 
-/// The faults, each with its place, and the schema that could be built.
+/// The faults, each with its location, and the schema that could be built.
 fn print_faults(rt: &HostRuntime, found: WithErrors<Schema>) -> Result<Schema> {
     for (place, fault) in found.errors.iter() {
         match place {

@@ -14,7 +14,7 @@ use graphql_nodes::node_str::NodeStr;
 use likeness::is_so;
 use std::alloc::{AllocError, Global};
 
-/// The node of this integer, at the place.
+/// The node of this integer, at the location.
 /// No clause: it serves tests.
 pub fn number(alloc: Global, text: &str) -> Result<Node<Value>, AllocError> {
     placed(alloc, Value::Int(Text::from_str(alloc, text)?))
@@ -93,7 +93,7 @@ fn is_answer(
     }
 }
 
-/// Whether this is the answer on the argument of this text as name, at a place.
+/// Whether this is the answer on the argument of this text as name, at a location.
 fn is_answer_on(
     alloc: Global,
     name: &str,

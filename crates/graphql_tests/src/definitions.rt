@@ -12,12 +12,12 @@ use graphql_nodes::{Name, Node, OperationType};
 use likeness::{is_copied, is_copied_so};
 use std::alloc::Global;
 
-/// Whether this is how the definition is described, and it is at the place.
+/// Whether this is how the definition is described, and it is at the location.
 fn is_described(definition: &Definition, text: &str) -> bool {
     definition.describe() == text && definition.location() == Some(PLACE)
 }
 
-/// Whether the value has an equal copy, and so has the definition of it at the place, which is described so. A copy of
+/// Whether the value has an equal copy, and so has the definition of it at the location, which is described so. A copy of
 /// the definition shares the value.
 fn is_defined<T: Clone + PartialEq + Drop>(alloc: Global, value: T, text: &str) -> bool
 where

@@ -1,4 +1,4 @@
-//! Lines and columns of places in texts.
+//! Lines and columns of offsets in texts.
 
 use crate::sources::{file, one};
 use graphql_nodes::line_column::LineColumn;
@@ -57,14 +57,14 @@ fn span(file: u64, start: usize, end: usize) -> SourceSpan {
     }
 }
 
-/// Whether a span within the text has its places.
+/// Whether a span within the text has its lines and columns.
 fn are_found(sources: &SourceMap) -> bool {
     let span = span(1, 1, 3);
     span.line_column(sources) == Some(at(1, 2))
         && span.line_column_range(sources) == Some(at(1, 2)..at(2, 1))
 }
 
-/// Whether a span of another file has no place, and one that ends beyond the text no range.
+/// Whether a span of another file has no line, and one that ends beyond the text no range.
 fn are_missing(sources: &SourceMap) -> bool {
     let (other, long) = (span(2, 0, 1), span(1, 4, 5));
     let is_missing = other.line_column(sources).is_none()

@@ -29,14 +29,14 @@ fn grammar(rt: HostRuntime) {
     );
 }
 
-/// Whether a name and its copy at a place differ in the place alone.
+/// Whether a name and its copy at a location differ in the location alone.
 fn is_placed(name: &Name, placed: &Name) -> bool {
     (name.location(), placed.location()) == (None, Some(PLACE))
         && are_alike(name, placed)
         && placed.cmp(name) == Ordering::Equal
 }
 
-/// The place of a copy, if one is made.
+/// The location of a copy, if one is made.
 fn place_of_copy(name: &Name) -> Option<SourceSpan> {
     match name.clone() {
         Ok(copy) => copy.location(),
@@ -44,7 +44,7 @@ fn place_of_copy(name: &Name) -> Option<SourceSpan> {
     }
 }
 
-/// Whether the name can be copied to a place, and from there.
+/// Whether the name can be copied to a location, and from there.
 fn is_kept(name: &Name) -> bool {
     match name.clone() {
         Ok(copy) => {
@@ -68,7 +68,7 @@ fn is_field(alloc: Global, name: &Name) -> bool {
     name.as_str() == "field_1" && is_printed(alloc, name, "field_1")
 }
 
-/// Whether `field_1` is a name, with its text, and with the place of a copy.
+/// Whether `field_1` is a name, with its text, and with the location of a copy.
 fn is_field_kept(alloc: Global) -> bool {
     match Name::new(alloc, "field_1") {
         Ok(name) => { is_field(alloc, &name) && is_kept(&name) && is_kept_unchecked(alloc, &name) }
@@ -89,7 +89,7 @@ fn refusal(alloc: Global, text: &str) -> Option<InvalidNameError> {
     }
 }
 
-/// Whether the refusal is of this text, at no place, and says this, alone and as one of the errors.
+/// Whether the refusal is of this text, without a location, and says this, alone and as one of the errors.
 fn is_refusal(alloc: Global, error: InvalidNameError, text: &str, said: &str) -> bool {
     let are_parts = error.name.as_str() == text && error.location.is_none();
     let is_alone = is_printed(alloc, &error, said);
@@ -112,7 +112,7 @@ fn refused_names(rt: HostRuntime) {
     assert!(rt; is_printed(alloc, &NameError::Memory, "out of memory"));
 }
 
-/// Whether a copy of the refusal at another place is equal.
+/// Whether a copy of the refusal at another location is equal.
 fn is_equal_at_place(error: &InvalidNameError) -> bool {
     match error.clone() {
         Ok(mut placed) => {
@@ -129,7 +129,7 @@ fn refusals_are_equal_without_places(rt: HostRuntime) {
     assert!(rt; error.is_some_and(|error| is_equal_at_place(&error)));
 }
 
-/// Whether a text and its copy at a place differ in the place alone.
+/// Whether a text and its copy at a location differ in the location alone.
 fn is_text_placed(text: &NodeStr, placed: &NodeStr) -> bool {
     (text.location(), placed.location()) == (None, Some(PLACE))
         && placed.as_str() == "A type, \"quoted\"."
@@ -141,7 +141,7 @@ fn quoted(alloc: Global) -> Result<NodeStr, AllocError> {
     NodeStr::new(alloc, "A type, \"quoted\".")
 }
 
-/// Whether that text can be copied to a place.
+/// Whether that text can be copied to a location.
 fn is_text_kept(alloc: Global) -> Result<bool, AllocError> {
     let text = quoted(alloc)?;
     let placed = text.clone()?.with_location(PLACE);

@@ -1,4 +1,4 @@
-//! Nodes and their places.
+//! Nodes and their locations.
 
 use crate::samples::PLACE;
 use graphql_nodes::name::Name;
@@ -13,14 +13,14 @@ fn one_pointer_wide(rt: HostRuntime) {
     assert!(rt; size_of::<Node<SourceFile>>() == size_of::<usize>());
 }
 
-/// A place in the file of built-in definitions.
+/// A location in the file of built-in definitions.
 const BUILT_IN: SourceSpan = SourceSpan {
     file: FileId::BUILT_IN,
     start: 0,
     end: 0,
 };
 
-/// Whether the node was made, and is at this place.
+/// Whether the node was made, and is at this location.
 fn is_at(
     node: Result<Node<i32>, AllocError>,
     place: Option<SourceSpan>,
@@ -32,17 +32,17 @@ fn is_at(
     }
 }
 
-/// A node that holds 7 at this place.
+/// A node that holds 7 at this location.
 fn seven(alloc: Global, place: Option<SourceSpan>) -> Result<Node<i32>, AllocError> {
     Node::new_opt_location(alloc, 7, place)
 }
 
-/// A node that holds `a` at the place of another.
+/// A node that holds `a` at the location of another.
 fn beside(alloc: Global) -> Result<Node<char>, AllocError> {
     seven(alloc, Some(PLACE))?.same_location(alloc, 'a')
 }
 
-/// Whether the node was made, and holds `a` at the place.
+/// Whether the node was made, and holds `a` at the location.
 fn is_beside(node: Result<Node<char>, AllocError>) -> bool {
     match node {
         Ok(node) => (*node, node.location()) == ('a', Some(PLACE)),
@@ -60,7 +60,7 @@ fn places(rt: HostRuntime) {
     assert!(rt; is_beside(beside(alloc)));
 }
 
-/// Whether a node of 7 and one of 7 at this place are equal, and hashed the same.
+/// Whether a node of 7 and one of 7 at this location are equal, and hashed the same.
 fn is_alike_at(alloc: Global, place: Option<SourceSpan>) -> bool {
     match (Node::new(alloc, 7), seven(alloc, place)) {
         (Ok(nowhere), Ok(node)) => are_alike(&nowhere, &node),
@@ -90,7 +90,7 @@ fn rename(alloc: Global, node: &mut Node<Name>, name: &str) -> Result<(), AllocE
     Ok(())
 }
 
-/// Whether the nodes have these names, both at the place.
+/// Whether the nodes have these names, both at the location.
 fn are_named(first: &Node<Name>, second: &Node<Name>, names: (&str, &str)) -> bool {
     let places = (first.location(), second.location());
     (first.as_str(), second.as_str()) == names && places == (Some(PLACE), Some(PLACE))

@@ -1,4 +1,4 @@
-//! What is read from lines: extensions as they stand, before a schema is built of them, and the places of nodes.
+//! What is read from lines: extensions as they stand, before a schema is built of them, and the locations of nodes.
 
 use bench_notation::printing::print;
 use bench_notation::reading::{read, read_divided};
@@ -109,7 +109,7 @@ fn a_text_is_divided_once(rt: HostRuntime) -> Result<(), Fail> {
     Ok(())
 }
 
-/// Adds the places of an input object type, its name, its fields and their parts.
+/// Adds the locations of an input object type, its name, its fields and their parts.
 fn push_input_places(
     text: &mut String,
     node: &Node<InputObjectTypeDefinition>,
@@ -124,7 +124,7 @@ fn push_input_places(
     Ok(())
 }
 
-/// Adds the places of a schema definition, its directives and its roots.
+/// Adds the locations of a schema definition, its directives and its roots.
 fn push_schema_places(text: &mut String, node: &Node<SchemaDefinition>) -> Result<(), AllocError> {
     push_place(text, node.location())?;
     for directive in node.directives.as_slice() {
@@ -140,7 +140,7 @@ fn push_schema_places(text: &mut String, node: &Node<SchemaDefinition>) -> Resul
     Ok(())
 }
 
-/// Adds the places of what stands in input object types and schema definitions.
+/// Adds the locations of what stands in input object types and schema definitions.
 fn push_places(text: &mut String, documents: &[Document]) -> Result<(), AllocError> {
     for document in documents {
         for definition in document.definitions.as_slice() {

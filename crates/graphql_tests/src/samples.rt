@@ -6,26 +6,26 @@ use graphql_nodes::node::Node;
 use graphql_nodes::source::{FileId, SourceSpan};
 use std::alloc::{AllocError, Global};
 
-/// The place of what the tests put at one.
+/// The location of what the tests put at one.
 pub const PLACE: SourceSpan = SourceSpan {
     file: FileId(3),
     start: 14,
     end: 17,
 };
 
-/// The node of this value, at the place.
+/// The node of this value, at the location.
 /// No clause: it serves tests.
 pub fn placed<T: Drop>(alloc: Global, value: T) -> Result<Node<T>, AllocError> {
     Node::new_opt_location(alloc, value, Some(PLACE))
 }
 
-/// The name `n`, at the place.
+/// The name `n`, at the location.
 /// No clause: it serves tests.
 pub fn placed_name(alloc: Global) -> Result<Name, AllocError> {
     name(alloc, "n", Some(PLACE))
 }
 
-/// The name of this text, at a place if one is given.
+/// The name of this text, at a location if one is given.
 /// No clause: it serves tests.
 pub fn name(alloc: Global, text: &str, place: Option<SourceSpan>) -> Result<Name, AllocError> {
     let name = Name::new_unchecked(alloc, text)?;

@@ -9,26 +9,26 @@ use graphql_nodes::SourceSpan;
 use likeness::{are_made_alike, is_copied_so, is_held_copied, is_made_copied, is_so};
 use std::alloc::{AllocError, Global};
 
-/// The argument `where: ..`, all at one place.
+/// The argument `where: ..`, all at one location.
 fn argument(alloc: Global, place: Option<SourceSpan>) -> Result<Node<Argument>, AllocError> {
     let value = Node::new_opt_location(alloc, value(alloc, place)?, place)?;
     let name = name(alloc, "where", place)?;
     Node::new_opt_location(alloc, Argument::new(name, value), place)
 }
 
-/// The directive `@on(where: ..)`, all at one place.
+/// The directive `@on(where: ..)`, all at one location.
 fn directive(alloc: Global, place: Option<SourceSpan>) -> Result<Node<Directive>, AllocError> {
     let arguments = list(alloc, argument(alloc, place)?)?;
     let name = name(alloc, "on", place)?;
     Node::new_opt_location(alloc, Directive { name, arguments }, place)
 }
 
-/// The directives `@on(where: ..)`, all at one place.
+/// The directives `@on(where: ..)`, all at one location.
 fn directives(alloc: Global, place: Option<SourceSpan>) -> Result<DirectiveList, AllocError> {
     Ok(DirectiveList(list(alloc, directive(alloc, place)?)?))
 }
 
-/// The field `other: key`, all at one place.
+/// The field `other: key`, all at one location.
 fn field(alloc: Global, place: Option<SourceSpan>) -> Result<Node<Field>, AllocError> {
     let alias = name(alloc, "other", place)?;
     let mut field = Field::new(alloc, name(alloc, "key", place)?);
@@ -36,12 +36,12 @@ fn field(alloc: Global, place: Option<SourceSpan>) -> Result<Node<Field>, AllocE
     Node::new_opt_location(alloc, field, place)
 }
 
-/// The selections `{ other: key }`, all at one place.
+/// The selections `{ other: key }`, all at one location.
 fn selections(alloc: Global, place: Option<SourceSpan>) -> Result<Items<Selection>, AllocError> {
     list(alloc, Selection::from(field(alloc, place)?))
 }
 
-/// The fragment `... on T @on(..) { other: key }`, all at one place.
+/// The fragment `... on T @on(..) { other: key }`, all at one location.
 fn fragment(alloc: Global, place: Option<SourceSpan>) -> Result<Node<InlineFragment>, AllocError> {
     let directives = directives(alloc, place)?;
     let selection_set = selections(alloc, place)?;
@@ -63,7 +63,7 @@ fn trees_are_equal_without_places(rt: HostRuntime) {
     assert!(rt; are_made_alike(selection(alloc, Some(PLACE)), selection(alloc, None)));
 }
 
-/// The place of the type condition.
+/// The location of the type condition.
 fn place_of_condition(node: &Node<InlineFragment>) -> Option<SourceSpan> {
     match node.type_condition.as_ref() {
         Some(condition) => condition.location(),
@@ -71,7 +71,7 @@ fn place_of_condition(node: &Node<InlineFragment>) -> Option<SourceSpan> {
     }
 }
 
-/// Whether the inline fragment and its type condition are at the place.
+/// Whether the inline fragment and its type condition are at the location.
 fn is_in_place(selection: &Selection) -> bool {
     match selection {
         Selection::InlineFragment(node) => {

@@ -24,7 +24,7 @@ fn kinds(rt: HostRuntime) {
     }
 }
 
-/// Whether the root has this default name, at no place.
+/// Whether the root has this default name, without a location.
 fn is_root(alloc: Global, operation: OperationType, root: &str) -> bool {
     match operation.default_type_name(alloc) {
         Ok(name) => (name.as_str(), name.location()) == (root, None),
@@ -54,7 +54,7 @@ fn operations(rt: HostRuntime) {
     }
 }
 
-/// Each place of a directive, with its name.
+/// Each location of a directive, with its name.
 const LOCATIONS: &[(DirectiveLocation, &str)] = &[
     (DirectiveLocation::Query, "QUERY"),
     (DirectiveLocation::Mutation, "MUTATION"),
@@ -80,7 +80,7 @@ const LOCATIONS: &[(DirectiveLocation, &str)] = &[
     ),
 ];
 
-/// Whether the place of a directive has this name, and is found by it.
+/// Whether the location of a directive has this name, and is found by it.
 fn is_location(alloc: Global, location: DirectiveLocation, text: &str) -> bool {
     location.name() == text
         && is_printed(alloc, &location, text)

@@ -6,7 +6,7 @@ use graphql_nodes::Boxed;
 use likeness::{are_equal, is_copied_so, is_so};
 use std::alloc::{AllocError, Global};
 
-/// The type `Page!`, at a place.
+/// The type `Page!`, at a location.
 fn page(alloc: Global) -> Result<Type, AllocError> {
     Ok(Type::named(name(alloc, "Page", Some(PLACE))?).non_null())
 }
@@ -47,7 +47,7 @@ fn type_references(rt: HostRuntime) {
     assert!(rt; are_equal(optional(alloc), all_pages(alloc)) == Some(false));
 }
 
-/// Whether the type's name is `Page`, at the place.
+/// Whether the type's name is `Page`, at the location.
 fn is_of_page(ty: &Type) -> bool {
     let name = ty.inner_named_type();
     (name.as_str(), name.location()) == ("Page", Some(PLACE))

@@ -117,7 +117,7 @@ pub fn is_printed<T: Display>(alloc: Global, value: &T, text: &str) -> bool {
     }
 }
 
-/// Adds a place: the number of its file, and from where to where it goes.
+/// Adds a location: the number of its file, and from where to where it goes.
 /// No clause: it serves tests.
 pub fn push_place(text: &mut String, place: Option<SourceSpan>) -> Result<(), AllocError> {
     match place {
