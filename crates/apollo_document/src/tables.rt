@@ -220,7 +220,8 @@ impl Tables {
         Ok(())
     }
 
-    /// Takes a document: its definitions, and then its sources.
+    /// Takes a document: its definitions, and then its sources. The error is want of memory, after which nothing is said of the
+    /// tables.
     pub fn take_document(
         &mut self,
         schema: Option<&Schema>,

@@ -108,7 +108,7 @@ impl Tables {
         }
     }
 
-    /// Tables of the built-in definitions, which hash by these keys, as do those of their types.
+    /// Tables of the built-in definitions, which hash by these keys, as do those of their types. The error is want of memory.
     pub fn with_built_ins(
         alloc: Global,
         keys: HashKeys,
@@ -264,7 +264,8 @@ impl Tables {
         Ok(())
     }
 
-    /// Takes a document: its definitions, and then its sources.
+    /// Takes a document: its definitions, and then its sources. `Memory` is want of memory; `ExtensionIds` comes only where the
+    /// numbers don't suffice for its extensions. After either nothing is said of the tables.
     pub fn take_document(&mut self, document: &Document, ignores: bool) -> Result<(), BuilderError>
         ensures stands { OnOk result (Takes self.old (added_items (added ignores document.now.definitions)) self.new) }
         ensures refused { IfErr result (λ error. RefusedAs error (SpentBy self.old (added_items (added ignores document.now.definitions)))) }
