@@ -1,4 +1,5 @@
-//! Words that are names, and no more words.
+//! Words that are names, and no more words. Words that are none such are refused, with a reason. `Memory` is want of memory,
+//! and says nothing of them.
 ghost use Rattle.std.specs.Prelude.{Option, IfErr, IfOk};
 ghost use Rattle.graphql_nodes.specs.NameView.{NameView};
 ghost use Rattle.bench_notation.specs.Line.{AreName, AreNameAndAlias, AreOptionalName, texts_of};

@@ -23,7 +23,7 @@ pub fn push_time<C: Clock>(clock: &C, began: Instant, times: &mut Vec<u64>) -> R
     Ok(push(times, u64::try_from(nanoseconds).unwrap_or(u64::MAX))?)
 }
 
-/// Adds the line of a phase of this name, which sums up its times. A phase without times has none.
+/// Adds the line of a phase of this name, which sums up its times. A phase without times has none. The error is want of memory.
 pub fn push_phase(
     alloc: Global,
     text: &mut String,

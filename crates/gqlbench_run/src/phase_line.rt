@@ -35,7 +35,7 @@ fn push_name(text: &mut String, name: &str) -> Result<(), AllocError>
     push_spaces(text, NAME_WIDTH.saturating_sub(name.len()))
 }
 
-/// Adds the line of a phase of this name.
+/// Adds the line of a phase of this name. The error is want of memory.
 pub fn push_line(
     alloc: Global,
     text: &mut String,
