@@ -12,8 +12,7 @@ use std::alloc::{AllocError, Global};
 
 /// The typed document of these documents over a schema, and its faults, as [`ExecutableDocumentBuilder::build`] gives them. With
 /// `type_system_definitions_are_errors` definitions of the type system are among the faults. Its tables hash by the keys of the
-/// schema, and its sources are those of the documents, merged. The error is want of memory, and drops all that was built. GraphQL
-/// specification of October 2021, sections 2.2 to 2.8.
+/// schema. The error is want of memory. GraphQL specification of October 2021, sections 2.2 to 2.8.
 pub fn build_executable_document(
     alloc: Global,
     schema: &Schema,

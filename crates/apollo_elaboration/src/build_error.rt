@@ -73,7 +73,7 @@ pub enum BuildError {
     },
 }
 
-/// What is wrong, and the location of that, if it is known.
+/// What is wrong, and the location that it is about.
 pub type Fault = (Option<SourceSpan>, BuildError);
 
 /// The faults of a build, in order.

@@ -254,7 +254,7 @@ impl Clone for SchemaBuilder {
 impl Schema {
     ghost use Rattle.apollo_schema.specs.BuilderStands.{StandsFor, adopts, ignores, sources_of};
 
-    /// A builder of the built-in definitions alone, as [`SchemaBuilder::new`] answers it. The error is want of memory.
+    /// A builder of schemas. See [`SchemaBuilder::new`].
     pub fn builder(alloc: Global) -> Result<SchemaBuilder, AllocError>
         ensures stands { IfOk result (StandsFor 0 (added false built_in_definitions)) }
         ensures settings { IfOk result (λ builder. (adopts builder ≡ false) × (ignores builder ≡ false)) }
@@ -263,7 +263,7 @@ impl Schema {
         SchemaBuilder::new(alloc)
     }
 
-    /// The schema of no documents: that of the built-in definitions alone, without sources. The error is want of memory.
+    /// The schema of no documents: that of the built-in definitions alone. The error is want of memory.
     pub fn new(alloc: Global) -> Result<Schema, AllocError>
         ensures means { IfOk result (MeansSchema 0 false (added false built_in_definitions)) }
         ensures sources { IfOk result (λ schema. schema.sources ≡ []) }

@@ -75,7 +75,7 @@ impl Drop for Tables {
     }
 }
 
-/// Puts a type under a name. The error is `Memory`.
+/// Puts a type under a name. The error is want of memory.
 fn put(
     types: &mut Table<Name, ExtendedType>,
     name: &Name,

@@ -20,7 +20,7 @@ pub enum Reason {
     BadWord,
 }
 
-/// Why a line is not read: it is refused, or there is want of memory, which says nothing of the line.
+/// Why a line is not read.
 #[derive(Debug, Clone, Copy, PartialEq, Eq)]
 pub enum LineError {
     Refused(Reason),

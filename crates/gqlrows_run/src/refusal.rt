@@ -30,14 +30,16 @@ pub struct RefusedLine {
     pub reason: Reason,
 }
 
-/// Why a file of rows is not read: a line says nothing where it stands; the file cannot be read, or is not UTF-8; or there is
-/// want of memory.
+/// Why a file of rows is not read.
 #[derive(Debug, Clone, Copy, PartialEq, Eq, Error)]
 pub enum ReadError {
+    /// This line says nothing where it stands.
     #[error(transparent)]
     Refused(RefusedLine),
+    /// The file cannot be read, or is not UTF-8.
     #[error("cannot read input")]
     CannotRead,
+    /// Want of memory.
     #[error("out of memory")]
     Memory,
 }

@@ -6,7 +6,7 @@ use graphql_nodes::{FileId, Items, Node, Shared, SourceFile, SourceMap, SourceSp
 use likeness::{are_equal, is_copied_so};
 use std::alloc::{AllocError, Global};
 
-/// A definition of the schema at this location.
+/// A definition of the schema at this place.
 fn definitions(alloc: Global, place: Option<SourceSpan>) -> Result<Items<Definition>, AllocError> {
     let schema = Node::new_opt_location(alloc, SchemaDefinition::new(alloc), place)?;
     let mut definitions = Items::new(alloc);
@@ -36,7 +36,7 @@ fn document(alloc: Global) -> Result<Document, AllocError> {
     })
 }
 
-/// That document with a source, and the definition at the location.
+/// That document with a source, and the definition at the place.
 fn with_source(alloc: Global) -> Result<Document, AllocError> {
     let definitions = definitions(alloc, Some(PLACE))?;
     Ok(Document {
@@ -60,7 +60,7 @@ fn has_source(document: &Document) -> bool {
     }
 }
 
-/// Whether the document's definition is at the location.
+/// Whether the document's definition is at the place.
 fn is_in_place(document: &Document) -> bool {
     match document.definitions.get(0) {
         Some(first) => first.location() == Some(PLACE),

@@ -24,8 +24,7 @@ use std::alloc::{AllocError, Global};
 /// it is the field before those below it, through inline fragments, but not through spreads: a fragment is looked at once,
 /// wherever it is spread, or nowhere.
 ///
-/// The schema need not be the one that the document was built over, nor the document one that was built. The error is want of
-/// memory, and drops the faults.
+/// The schema need not be the one that the document was built over. The error is want of memory.
 pub fn leaf_faults(
     alloc: Global,
     schema: &Schema,
@@ -43,7 +42,7 @@ pub fn leaf_faults(
     Ok(faults.into_vec())
 }
 
-/// Notes the faults of a set. The error is want of memory.
+/// Notes the faults of a set.
 #[cycle(note)]
 fn note_set(
     schema: &Schema,

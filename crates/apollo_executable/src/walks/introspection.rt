@@ -19,8 +19,7 @@ fn is_meta_name(name: &str) -> bool
 
 impl Operation {
     /// Whether the operation is a query all of whose root fields, those that are reached through fragments too, are `__type`,
-    /// `__schema` or `__typename` (sections 4.1 and 4.2). It stops at the first other one. The error is want of memory, which
-    /// only a query meets.
+    /// `__schema` or `__typename`. It stops at the first other one. The error is want of memory, which only a query meets.
     pub fn is_introspection(
         &self,
         alloc: Global,
