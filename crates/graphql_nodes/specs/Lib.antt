@@ -10,6 +10,7 @@ pub mod LineColumns
 pub mod LocationTexts
 pub mod NameRefusal
 pub mod NameSyntax
+pub mod NameTexts
 pub mod NameView
 pub mod NodeLending
 pub mod NodeView

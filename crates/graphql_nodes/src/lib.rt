@@ -9,6 +9,7 @@ pub mod directive_location;
 pub mod laws;
 pub mod line_column;
 pub mod name;
+mod name_text;
 pub mod named;
 pub mod node;
 pub mod node_str;

@@ -12,13 +12,14 @@ ghost use Rattle.graphql_nodes.specs.NameSyntax.{IsName, IsNameStart, IsNameCont
 ghost use Rattle.graphql_nodes.specs.NameRefusal.{IsNameRefusal};
 
 use crate::collections::text::Text;
+use crate::name_text::NameText;
 use crate::source::SourceSpan;
 use std::alloc::{AllocError, Global};
 use std::cmp::Ordering;
 use std::fmt;
 use std::hash::{Hash, Hasher};
 use std::marker::Model;
-use std::rc::RcStr;
+use std::rc::Rc;
 use thiserror::Error;
 
 /// A text that is no GraphQL name (section 2.1.9), and its location, if it is known.
@@ -68,7 +69,7 @@ impl From<AllocError> for NameError {
 ///
 /// Names are equal, and are ordered and hashed, by their texts: the location is left out. `Display` is the text.
 pub struct Name {
-    shared: RcStr,
+    shared: Rc<NameText>,
     place: Option<SourceSpan>,
 }
 
@@ -85,14 +86,14 @@ impl Drop for Name {
 pub type NamedType = Name;
 
 impl Model for Name {
-    ghost use Rattle.std.specs.Rc.{rc_str_bytes};
+    ghost use Rattle.graphql_nodes.specs.NameTexts.{name_text};
     ghost use Rattle.graphql_nodes.specs.NameView.{NameView, name_view_code};
 
     ghost Value = { NameView };
 
     ghost coded = { name_view_code };
 
-    ghost view = { λ n. record { text = rc_str_bytes n.shared; location = n.place } };
+    ghost view = { λ n. record { text = name_text n.shared.value; location = n.place } };
 }
 
 fn is_name_start(byte: u8) -> bool
@@ -144,7 +145,7 @@ impl Name {
         ensures { IfOk result (λ n. n ≡ record { text = text.now; location = None }) }
     {
         Ok(Name {
-            shared: RcStr::from_str(alloc, text)?,
+            shared: Rc::new(alloc, NameText::from_str(alloc, text)?)?,
             place: None,
         })
     }
@@ -190,7 +191,7 @@ impl PartialEq for Name {
     ghost laws = { on_per (λ x. x.text) (Cmp.partial_equiv_from_equiv nat_list_eq_equiv) };
 
     fn eq(&self, other: &Name) -> bool {
-        self.shared == other.shared
+        self.as_str() == other.as_str()
     }
 }
 
@@ -218,7 +219,7 @@ impl Ord for Name {
     ghost matches_eq = { λ x y. texts_ties x.text y.text };
 
     fn cmp(&self, other: &Name) -> Ordering {
-        self.shared.cmp(&other.shared)
+        self.as_str().cmp(other.as_str())
     }
 }
 
@@ -228,7 +229,7 @@ impl Hash for Name {
     ghost respects_eq = { Prim.search (hashing, rules) };
 
     fn hash<H: Hasher>(&self, state: &mut H) {
-        self.shared.hash(state)
+        self.as_str().hash(state)
     }
 }
 
@@ -236,7 +237,7 @@ impl fmt::Display for Name {
     ghost output = { λ n. Some n.text };
 
     fn fmt<W: fmt::Write>(&self, f: &mut fmt::Formatter<W>) -> fmt::Result {
-        fmt::Display::fmt(&self.shared, f)
+        fmt::Display::fmt(self.as_str(), f)
     }
 }
 
