@@ -1,5 +1,5 @@
 -- What the lines of the notation say.
-use Rattle.std.specs.Prelude.{ℕ, List, [], ◌∷◌, ◌≡◌, ◌==◌, ◌≤◌, Option, None, Some, IfSome, codes, decimal, map}
+use Rattle.std.specs.Prelude.{ℕ, List, [], ◌∷◌, ◌≡◌, ◌==◌, ◌≤◌, ◌+◌, Option, None, Some, IfSome, codes, decimal, length, map}
 use Rattle.std.specs.Borrow.{Bor}
 use Rattle.std.specs.List.{slice_split}
 use Rattle.graphql_nodes.specs.NameView.{NameView}
@@ -34,6 +34,16 @@ lines_of text = slice_split (λ b. b == 10) text
 -- the words of a line, which stand between its spaces
 abbrev pub words_of : List ℕ → List (List ℕ)
 words_of line = slice_split (λ b. b == 32) line
+
+-- the pieces of what is left of a text, if something is left
+abbrev pub pieces_left : ℕ → Option (Bor (List ℕ)) → List (List ℕ)
+pieces_left between None = []
+pieces_left between (Some text) = slice_split (λ b. b == between) text.now
+
+-- how many bytes are left, and one more; 0 if nothing is left
+abbrev pub bytes_left : Option (Bor (List ℕ)) → ℕ
+bytes_left None = 0
+bytes_left (Some text) = length text.now + 1
 
 -- the location of what stands on the line of this number: the bench has one file, whose number is 1
 abbrev pub line_place : ℕ → SourceSpan

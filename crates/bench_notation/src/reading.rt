@@ -1,7 +1,7 @@
 //! Reading a whole text of the notation.
 ghost use Rattle.std.specs.Prelude.{◌≡◌, All, IfErr, IfOk, OnOk};
 ghost use Rattle.bench_notation.specs.Documents.{AreDividedDocumentsOf, AreDocumentsOf, IsDividedReadError, IsLinesError, IsReadError, LeadTo};
-ghost use Rattle.bench_notation.specs.Line.{IsLine, lines_of, line_place, texts_of};
+ghost use Rattle.bench_notation.specs.Line.{IsLine, lines_of, line_place};
 ghost use Rattle.bench_notation.specs.Refusals.{SaysNothing, WhenRefused};
 
 use crate::above::{Above, Position};
@@ -9,7 +9,7 @@ use crate::item::OpenItem;
 use crate::line::{Line, read_line};
 use crate::names::Names;
 use crate::refusal::{LineError, ReadError, RefusedLine};
-use crate::words::lines_of;
+use crate::words::first_piece;
 use graphql_ast::document::Document;
 use graphql_nodes::collections::items::Items;
 use graphql_nodes::source::{FileId, SourceSpan};
@@ -162,27 +162,34 @@ impl DocumentReader {
     }
 }
 
-/// Takes these lines, the first of which is counted as line 1.
+/// How many bytes a line takes, roughly: a text has about so many lines as that goes into its length.
+const BYTES_OF_LINE: usize = 16;
+
+/// Takes the lines of a text, the first of which is counted as line 1.
 fn take_lines<'a>(
     alloc: Global,
-    lines: &[&'a str],
+    text: &'a str,
     reader: &mut DocumentReader,
 ) -> Result<(), ReadError>
-    ensures read { OnOk result (All IsLine (texts_of lines.now)) }
-    ensures leads { OnOk result (LeadTo 1 (texts_of lines.now) reader.old reader.new) }
-    ensures refused { IfErr result (IsLinesError reader.old (texts_of lines.now)) }
+    ensures read { OnOk result (All IsLine (lines_of text.now)) }
+    ensures leads { OnOk result (LeadTo 1 (lines_of text.now) reader.old reader.new) }
+    ensures refused { IfErr result (IsLinesError reader.old (lines_of text.now)) }
 {
-    let mut names = Names::new(alloc, lines.len())?;
+    let mut names = Names::new(alloc, text.len() / BYTES_OF_LINE)?;
     let mut words = Vec::new(alloc);
-    for (index, line) in lines.iter().enumerate() {
-        let number = index + 1;
-        match reader.take_line(&mut names, &mut words, *line, number) {
+    let mut number = 0;
+    let mut left = Some(text);
+    while let Some(rest) = left {
+        let (line, behind) = first_piece(rest, b'\n');
+        number += 1;
+        match reader.take_line(&mut names, &mut words, line, number) {
             Ok(()) => {}
             Err(LineError::Refused(reason)) => {
                 return Err(ReadError::Refused(RefusedLine { number, reason }));
             }
             Err(LineError::Memory) => return Err(ReadError::Memory),
         }
+        left = behind;
     }
     Ok(())
 }
@@ -198,9 +205,8 @@ pub fn read(alloc: Global, text: &str) -> Result<Vec<Document>, ReadError>
     ensures said { IfOk result (λ documents. AreDocumentsOf text.now documents.items) }
     ensures refused { IfErr result (IsReadError (lines_of text.now)) }
 {
-    let lines = lines_of(alloc, text)?;
     let mut reader = DocumentReader::new(alloc, Division::Never);
-    take_lines(alloc, lines.as_slice(), &mut reader)?;
+    take_lines(alloc, text, &mut reader)?;
     Ok(reader.finish(alloc)?)
 }
 
@@ -232,9 +238,8 @@ pub fn read_divided(alloc: Global, text: &str) -> Result<DividedDocuments, ReadE
     ensures said { IfOk result (λ documents. AreDividedDocumentsOf text.now documents.schema.items documents.executable.items) }
     ensures refused { IfErr result (IsDividedReadError (lines_of text.now)) }
 {
-    let lines = lines_of(alloc, text)?;
     let mut reader = DocumentReader::new(alloc, Division::ToCome);
-    take_lines(alloc, lines.as_slice(), &mut reader)?;
+    take_lines(alloc, text, &mut reader)?;
     let executable = reader.finish(alloc)?;
     match mem::replace(&mut reader.division, Division::Never) {
         Division::After(schema) => Ok(DividedDocuments {

@@ -1,7 +1,7 @@
 //! The lines of a text, the words of a line, and what a word begins or ends with.
-ghost use Rattle.std.specs.Prelude.{◌≡◌, ◌≢◌, ◌<◌, ◌==◌, ◌++◌, ℕ, List, IfOk, MatchOption, OnOk};
+ghost use Rattle.std.specs.Prelude.{◌≡◌, ◌≢◌, ◌<◌, ◌≤◌, ◌==◌, ◌∷◌, ◌++◌, ℕ, List, length, IfOk, MatchOption, OnOk};
 ghost use Rattle.std.specs.List.{slice_split};
-ghost use Rattle.bench_notation.specs.Line.{lines_of, texts_of, words_of};
+ghost use Rattle.bench_notation.specs.Line.{bytes_left, lines_of, pieces_left, texts_of, words_of};
 
 use std::alloc::{AllocError, Global};
 
@@ -28,15 +28,28 @@ fn push_pieces<'a>(pieces: &mut Vec<&'a str>, text: &'a str, between: u8) -> Res
     requires { between < 128 }
     ensures { OnOk result (texts_of pieces.new.items ≡ texts_of pieces.old.items ++ slice_split (λ b. b == between) text.now) }
 {
-    let mut start = 0;
+    let mut left = Some(text);
+    while let Some(rest) = left {
+        let (piece, behind) = first_piece(rest, between);
+        pieces.push(piece)?;
+        left = behind;
+    }
+    Ok(())
+}
+
+/// The first piece of a text, up to the first byte of this value, which is an ASCII character, and what stands behind that
+/// byte, if there is one.
+pub(crate) fn first_piece<'a>(text: &'a str, between: u8) -> (&'a str, Option<&'a str>)
+    requires { between < 128 }
+    ensures pieces { slice_split (λ b. b == between) text.now ≡ result.0.now ∷ pieces_left between result.1 }
+    ensures shorter { bytes_left result.1 ≤ length text.now }
+{
     for (at, byte) in text.as_bytes().iter().enumerate() {
         if *byte == between {
-            pieces.push(&text[start..at])?;
-            start = at + 1;
+            return (&text[..at], Some(&text[at + 1..]));
         }
     }
-    pieces.push(&text[start..])?;
-    Ok(())
+    (text, None)
 }
 
 /// What follows `prefix` in a text that begins with it, and none in any other.
