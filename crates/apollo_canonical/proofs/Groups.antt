@@ -1,5 +1,5 @@
 -- A list in groups: where no element stands in two of them, they have no more elements than the list.
-use Rattle.std.proofs.Common.{◌≡◌, ◌+◌, ◌≤◌, Bool, true, false, cond, List, [], ◌∷◌, ◌++◌, length, filter, flat_map, refl, sym, ap, ◌∙◌, length-append, arith}
+use Rattle.std.proofs.Common.{◌≡◌, ◌+◌, ◌≤◌, Bool, true, false, cond, List, [], ◌∷◌, length, filter, flat_map, refl, sym, ap, ◌∙◌, length-append, arith}
 use Rattle.std.specs.Cmp.{IsEquivalence}
 use Rattle.std.specs.List.{AllByRecursion, IsDistinct}
 use Rattle.apollo_component.proofs.Lists.Each.{filter-fails}
@@ -20,12 +20,7 @@ module _ {I X : Type 0} (test : I → X → Bool) where
   -- an element stands in as many groups as it passes tests
   grouped-cons : (x : X) (xs : List X) (is : List I) → length (grouped is (x ∷ xs)) ≡ length (passed is x) + length (grouped is xs)
   grouped-cons x xs [] = omega arith
-  grouped-cons x xs (i ∷ is) = by (test i x) (grouped-cons x xs is)
-    where
-      by : (b : Bool) → length (grouped is (x ∷ xs)) ≡ length (passed is x) + length (grouped is xs)
-          → length (cond b (x ∷ filter (test i) xs) (filter (test i) xs) ++ grouped is (x ∷ xs)) ≡ length (cond b (i ∷ passed is x) (passed is x)) + length (filter (test i) xs ++ grouped is xs)
-      by true rest = omega (arith, rest, length-append (x ∷ filter (test i) xs) (grouped is (x ∷ xs)), length-append (filter (test i) xs) (grouped is xs))
-      by false rest = omega (arith, rest, length-append (filter (test i) xs) (grouped is (x ∷ xs)), length-append (filter (test i) xs) (grouped is xs))
+  grouped-cons x xs (i ∷ is) = grind (arith, grouped-cons x xs is, length-append (filter (test i) (x ∷ xs)) (grouped is (x ∷ xs)), length-append (filter (test i) xs) (grouped is xs))
 
   pub grouped-few : (is : List I) (xs : List X) → AllByRecursion (λ x. length (passed is x) ≤ 1) xs → length (grouped is xs) ≤ length xs
   grouped-few is [] a = omega (arith, grouped-nil is)
@@ -35,8 +30,7 @@ module _ {I X : Type 0} (test : I → X → Bool) where
 pub same-once : {K : Type 0} (same : K → K → Bool) → IsEquivalence same → (ks : List K) → IsDistinct same ks → (k : K) → length (filter (λ j. same j k) ks) ≤ 1
 unfolding IsDistinct
 same-once same laws [] d k = omega arith
-same-once same laws (j ∷ ks) d k = by (same j k) refl (same-once same laws ks d.1 k)
-  where
-    by : (b : Bool) → same j k ≡ b → length (filter (λ i. same i k) ks) ≤ 1 → length (cond b (j ∷ filter (λ i. same i k) ks) (filter (λ i. same i k) ks)) ≤ 1
-    by true e rest = omega (arith, ap length (filter-fails (λ i. same j i ≡ false) (λ i. same i k) (λ i apart. laws.symm i k ∙ sym (laws.congr j k i e) ∙ apart) ks d.0))
-    by false e rest = rest
+same-once same laws (j ∷ ks) d k = elim (same j k) as (λ b. same j k ≡ b → length (cond b (j ∷ filter (λ i. same i k) ks) (filter (λ i. same i k) ks)) ≤ 1) [
+  | true ↦ λ e. omega (arith, ap length (filter-fails (λ i. same j i ≡ false) (λ i. same i k) (λ i apart. laws.symm i k ∙ sym (laws.congr j k i e) ∙ apart) ks d.0))
+  | false ↦ λ e. same-once same laws ks d.1 k
+] refl

@@ -1,5 +1,5 @@
 -- Lists whose keys differ: the first of each are all of them, and what is found by a key doesn't hang on their order.
-use Rattle.std.proofs.Common.{◌≡◌, Bool, true, false, cond, not, ◌||◌, List, [], ◌∷◌, Some, map, filter, find, refl, sym, ap, ◌∙◌}
+use Rattle.std.proofs.Common.{◌≡◌, Bool, true, false, cond, not, List, [], ◌∷◌, Some, map, filter, find, refl, sym, ap, ◌∙◌, arith}
 use Rattle.std.proofs.lemmas.List.Elements.{All-from_recursion, recursion_from_All}
 use Rattle.std.proofs.lemmas.List.Sorted.{All-permutation, list_any-IsPermutation}
 use Rattle.std.specs.Cmp.{IsEquivalence}
@@ -15,7 +15,7 @@ unfolding IsDistinct
 all-first same key [] d = refl
 all-first same key (x ∷ xs) d =
     ap (λ l. x ∷ filter (λ y. not (same (key x) (key y))) l) (all-first same key xs d.1)
-    ∙ ap (λ l. x ∷ l) (filter-all (λ y. not (same (key x) (key y))) xs (each-from_map (λ k. not (same (key x) k) ≡ true) key xs (each-weaken (λ k. same (key x) k ≡ false) (λ k. not (same (key x) k) ≡ true) (λ k e. ap not e) (map key xs) d.0)))
+    ∙ ap (λ l. x ∷ l) (filter-all (λ y. not (same (key x) (key y))) xs (each-weaken (λ y. same (key x) (key y) ≡ false) (λ y. not (same (key x) (key y)) ≡ true) (λ y e. ap not e) xs (each-from_map (λ k. same (key x) k ≡ false) key xs d.0)))
 
 module _ {K X : Type 0} (same : K → K → Bool) (laws : IsEquivalence same) (key : X → K) (k : K) where
   abbrev has : X → Bool
@@ -28,7 +28,7 @@ module _ {K X : Type 0} (same : K → K → Bool) (laws : IsEquivalence same) (k
   own-found (x ∷ xs) d = (
     (λ e. ap (λ b. cond b (Some x) (find has xs)) e),
     each-both (λ y. same (key x) (key y) ≡ false) (λ y. has y ≡ true → find has xs ≡ Some y) (λ y. has y ≡ true → find has (x ∷ xs) ≡ Some y)
-        (λ y apart own e. ap (λ b. cond b (Some x) (find has xs)) (laws.congr k (key y) (key x) e ∙ laws.symm (key y) (key x) ∙ apart) ∙ own e)
+        (λ y apart own e. grind (arith, laws.congr k (key y) (key x) e, laws.symm (key y) (key x), own e, apart))
         xs (each-from_map (λ c. same (key x) c ≡ false) key xs d.0) (own-found xs d.1),
   )
 
@@ -41,8 +41,4 @@ module _ {K X : Type 0} (same : K → K → Bool) (laws : IsEquivalence same) (k
 
       go : (zs : List X) → AllByRecursion Own zs → list_any has zs ≡ list_any has xs → find has zs ≡ find has xs
       go [] own any = sym (find-none has xs (sym any))
-      go (z ∷ zs) own any = by (has z) refl any (go zs own.1)
-        where
-          by : (b : Bool) → has z ≡ b → (b || list_any has zs) ≡ list_any has xs → (list_any has zs ≡ list_any has xs → find has zs ≡ find has xs) → cond b (Some z) (find has zs) ≡ find has xs
-          by true e any rest = sym (own.0 e)
-          by false e any rest = rest any
+      go (z ∷ zs) own any = grind (arith, own.0, go zs own.1)

@@ -30,12 +30,10 @@ module _ {V : Type 0} (g : List ℕ → Option V) where
 
   lookup-valued : (n : List ℕ) (es : List (NameView × V)) → lookup (by_text n) (valued es) ≡ option_map (unwrap_or (g n)) (lookup (by_text n) es)
   lookup-valued n [] = refl
-  lookup-valued n (e ∷ es) = by (same n e.0.text) refl (lookup-valued n es)
-    where
-      by : (b : Bool) → same n e.0.text ≡ b → lookup (by_text n) (valued es) ≡ option_map (unwrap_or (g n)) (lookup (by_text n) es)
-          → cond b (Some (unwrap_or (g e.0.text) e.1)) (lookup (by_text n) (valued es)) ≡ option_map (unwrap_or (g n)) (cond b (Some e.1) (lookup (by_text n) es))
-      by true h rest = ap (λ (m : List ℕ). Some (unwrap_or (g m) e.1)) (sym (same-true n e.0.text h))
-      by false h rest = rest
+  lookup-valued n (e ∷ es) = elim (same n e.0.text) as (λ b. same n e.0.text ≡ b → cond b (Some (unwrap_or (g e.0.text) e.1)) (lookup (by_text n) (valued es)) ≡ option_map (unwrap_or (g n)) (cond b (Some e.1) (lookup (by_text n) es))) [
+    | true ↦ λ h. ap (λ (m : List ℕ). Some (unwrap_or (g m) e.1)) (sym (same-true n e.0.text h))
+    | false ↦ λ h. lookup-valued n es
+  ] refl
 
 module _ (laws : MeaningLaws) (start : ℕ) (adopts c : Bool) (more : List Added) (schema : Schema) (within : IsUnmarkedAndRooted more) (means : MeansSchema start adopts (with_built_ins more) schema) (again : ℕ) where
   abbrev zs : List ListItem

@@ -1,7 +1,8 @@
 -- A list with a write-out is without fault.
-use Rattle.std.proofs.Common.{◌≡◌, ℕ, Bool, true, false, cond, ◌||◌, ◌&&◌, List, [], ◌∷◌, ◌++◌, None, Option, Some, map, filter, find, flat_map, refl, sym, ap, subst, ◌∙◌, append_assoc}
+use Rattle.std.proofs.Common.{◌≡◌, ℕ, Bool, true, false, cond, ◌&&◌, List, [], ◌∷◌, ◌++◌, None, Option, Some, map, filter, find, flat_map, refl, sym, ap, subst, ◌∙◌, append_assoc, arith}
 use Rattle.std.proofs.lemmas.List.{append-nil, map-append}
 use Rattle.std.proofs.lemmas.List.Elements.{filter_map-append}
+use Rattle.std.proofs.lemmas.List.Folds.{find-append}
 use Rattle.std.proofs.lemmas.Simd.{map-map}
 use Rattle.std.specs.List.{AllByRecursion, IsDistinct, filter_map, list_any}
 use Rattle.std.specs.Option.{option_map_or, option_or}
@@ -40,7 +41,7 @@ use Rattle.apollo_component.proofs.FirstOfEachLemmas.{name_laws}
 use Rattle.apollo_canonical.specs.WrittenAgain.{with_built_ins}
 use Rattle.apollo_canonical.proofs.Rebuild.About.{Name, Others, Schema, Topic, about, directives-about, faultless-by_topic}
 use Rattle.apollo_canonical.proofs.Rebuild.BuiltIns.{built_ins}
-use Rattle.apollo_canonical.proofs.Rebuild.DirectivesAgain.{built_in-marked, built_in_directives, find-append, find-unmarked, texts, unique, written_directives}
+use Rattle.apollo_canonical.proofs.Rebuild.DirectivesAgain.{built_in-marked, built_in_directives, find-unmarked, texts, unique, written_directives}
 use Rattle.apollo_canonical.proofs.Rebuild.LeftOut.{roots_where}
 use Rattle.apollo_canonical.proofs.Rebuild.Meant.{IsAddedByHand}
 use Rattle.apollo_canonical.proofs.Rebuild.OnceInParts.{once-in_parts, written_parts}
@@ -61,12 +62,7 @@ others-built_in = refl
 
 none-named : (k : NameView) (ds : Directives) → list_any (same_text k) (map (λ d. d.value.name) ds) ≡ false → find (λ d. has_text k.text d && is_handed_in d) ds ≡ None
 none-named k [] h = refl
-none-named k (d ∷ ds) h = by (has_text k.text d) h (none-named k ds)
-  where
-    by : (b : Bool) → (b || list_any (same_text k) (map (λ d. d.value.name) ds)) ≡ false → (list_any (same_text k) (map (λ d. d.value.name) ds) ≡ false → find (λ d. has_text k.text d && is_handed_in d) ds ≡ None)
-        → cond (b && is_handed_in d) (Some d) (find (λ d. has_text k.text d && is_handed_in d) ds) ≡ None
-    by true h rest = absurd (let g : true ≡ false = h in cc)
-    by false h rest = rest h
+none-named k (d ∷ ds) h = grind (arith, h, none-named k ds)
 
 directives-none : (before : List ListItem) → directive_definitions before ≡ built_in_directives → (done es : Directives) → IsDistinct same_text (map (λ d. d.value.name) (done ++ es)) → each_after found_at (before ++ directive_items done) (directive_items es) ≡ []
 directives-none before is done [] d = refl
@@ -84,7 +80,7 @@ directives-none before is done (e ∷ es) d =
     here =
         ap (λ o. option_map_or (λ (kept : NodeView DirectiveDefinition). (e.value.name.location, errors.DirectiveDefinitionCollision kept.value.name.location e.value.name) ∷ []) o [])
         (ap (find (λ x. has_text e.value.name.text x && is_handed_in x)) known
-        ∙ find-append e.value.name.text (λ x. has_text e.value.name.text x && is_handed_in x) built_in_directives done
+        ∙ find-append (λ x. has_text e.value.name.text x && is_handed_in x) built_in_directives done
         ∙ (λ i. option_or (find-unmarked e.value.name.text built_in_directives built_in-marked i) (none-named e.value.name done absent i)))
 
 -- the names of a table's handed-in values differ

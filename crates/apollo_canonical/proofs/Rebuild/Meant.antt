@@ -13,7 +13,7 @@ use Rattle.apollo_built_in.specs.BuiltInTable.{built_in_definitions}
 use Rattle.apollo_component.proofs.Lists.Each.{each-append, each-filter, each-weaken}
 use Rattle.apollo_meaning.specs.Completion.Adoption.{adopted, adopted_by, extended_names, orphans_of, with_adopted}
 use Rattle.apollo_meaning.specs.Completion.ImpliedSchema.{implied_schema, schema_for, adopting_schema, rooted_schema, implicit_roots}
-use Rattle.apollo_meaning.specs.Items.ListItems.{ListItem, Defined, Extended, SchemaDefined, SchemaExtended, Other, Added, added, added_item, added_items, item_of, ignorable_if, defined_part, extended_part}
+use Rattle.apollo_meaning.specs.Items.ListItems.{ListItem, Defined, Extended, Other, Added, added, added_item, added_items, item_of, ignorable_if, defined_part, extended_part}
 use Rattle.apollo_meaning.specs.Items.Named.{first, extensions_of, first_schema, schema_extensions}
 use Rattle.apollo_meaning.specs.Items.Parts.{TypePart, SchemaPart, Root, key_of, roots_in}
 use Rattle.apollo_meaning.specs.Schema.Whole.{whole}
@@ -24,31 +24,16 @@ use Rattle.apollo_canonical.proofs.Rebuild.BuiltIns.{built_ins, no-extensions, f
 abbrev pub IsHandedIn : ListItem → Type 0
 IsHandedIn (Defined p) = is_built_in p.location ≡ false
 IsHandedIn (Extended p) = is_built_in p.location ≡ false
-IsHandedIn (SchemaDefined s) = Unit {0}
-IsHandedIn (SchemaExtended s) = Unit {0}
 IsHandedIn (Other d) = is_built_in (location_of d) ≡ false
+IsHandedIn _ = Unit {0}
 
 abbrev pub IsAddedByHand : Added → Type 0
 IsAddedByHand a = is_built_in (location_of a.1) ≡ false
 
 handed-item : (b : Bool) (d : Definition) → is_built_in (location_of d) ≡ false → IsHandedIn (ignorable_if b (item_of d))
-handed-item b (ast.OperationDefinition n) h = h
-handed-item b (ast.FragmentDefinition n) h = h
-handed-item b (ast.DirectiveDefinition n) h = h
 handed-item b (ast.SchemaDefinition n) h = tt
-handed-item b (ast.ScalarTypeDefinition n) h = h
-handed-item b (ast.ObjectTypeDefinition n) h = h
-handed-item b (ast.InterfaceTypeDefinition n) h = h
-handed-item b (ast.UnionTypeDefinition n) h = h
-handed-item b (ast.EnumTypeDefinition n) h = h
-handed-item b (ast.InputObjectTypeDefinition n) h = h
 handed-item b (ast.SchemaExtension n) h = tt
-handed-item b (ast.ScalarTypeExtension n) h = h
-handed-item b (ast.ObjectTypeExtension n) h = h
-handed-item b (ast.InterfaceTypeExtension n) h = h
-handed-item b (ast.UnionTypeExtension n) h = h
-handed-item b (ast.EnumTypeExtension n) h = h
-handed-item b (ast.InputObjectTypeExtension n) h = h
+handed-item b d h = h
 
 pub handed-items : (xs : List Added) → AllByRecursion IsAddedByHand xs → AllByRecursion IsHandedIn (added_items xs)
 handed-items [] a = tt
@@ -61,18 +46,12 @@ IsUnmarked p = is_built_in p.location ≡ false
 pub unmarked-definitions : (xs : List ListItem) → AllByRecursion IsHandedIn xs → AllByRecursion IsUnmarked (filter_map defined_part xs)
 unmarked-definitions [] a = tt
 unmarked-definitions (Defined p ∷ xs) a = (a.0, unmarked-definitions xs a.1)
-unmarked-definitions (Extended p ∷ xs) a = unmarked-definitions xs a.1
-unmarked-definitions (SchemaDefined s ∷ xs) a = unmarked-definitions xs a.1
-unmarked-definitions (SchemaExtended s ∷ xs) a = unmarked-definitions xs a.1
-unmarked-definitions (Other d ∷ xs) a = unmarked-definitions xs a.1
+unmarked-definitions (x ∷ xs) a = unmarked-definitions xs a.1
 
 unmarked-extensions : (xs : List ListItem) → AllByRecursion IsHandedIn xs → AllByRecursion IsUnmarked (filter_map extended_part xs)
 unmarked-extensions [] a = tt
-unmarked-extensions (Defined p ∷ xs) a = unmarked-extensions xs a.1
 unmarked-extensions (Extended p ∷ xs) a = (a.0, unmarked-extensions xs a.1)
-unmarked-extensions (SchemaDefined s ∷ xs) a = unmarked-extensions xs a.1
-unmarked-extensions (SchemaExtended s ∷ xs) a = unmarked-extensions xs a.1
-unmarked-extensions (Other d ∷ xs) a = unmarked-extensions xs a.1
+unmarked-extensions (x ∷ xs) a = unmarked-extensions xs a.1
 
 -- a schema definition that is implied defines no type
 pub handed-implied : (adopts : Bool) (xs : List ListItem) → AllByRecursion IsHandedIn (implied_schema adopts xs)

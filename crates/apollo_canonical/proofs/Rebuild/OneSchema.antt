@@ -33,9 +33,10 @@ use Rattle.apollo_canonical.specs.TypeSections.{no_components, node_of, placed}
 use Rattle.apollo_canonical.proofs.ComponentsKept.{kept, origins-split, roots-there, HasOrigins}
 use Rattle.apollo_canonical.proofs.DirectivesInOrder.{directives-in_order}
 use Rattle.apollo_canonical.proofs.FirstAppearance.{in_order}
+use Rattle.apollo_canonical.proofs.Kept.{find-first, find-made}
 use Rattle.apollo_canonical.proofs.TypeLemmas.{same-placed}
 use Rattle.apollo_canonical.proofs.Rebuild.Numbers.{numbered-distinct, paired, paired-self, renumbered, renumbered-distinct, renumbered-placed}
-use Rattle.apollo_canonical.proofs.Rebuild.SchemaAgain.{alone-permuted, filter-joined, find-first, find-made, from-values, in_operation_order, none-permuted, schema-parts_again}
+use Rattle.apollo_canonical.proofs.Rebuild.SchemaAgain.{alone-permuted, filter-joined, from-values, in_operation_order, none-permuted, schema-parts_again}
 use Rattle.apollo_canonical.proofs.Rebuild.SchemaSections.{IsSchemaRow, entries, is_op, roots-origin, roots_for, schema-components, schema-in_order, schema-row, schema_sections, schema_sorts}
 
 -- an extension's identity with what is written of it

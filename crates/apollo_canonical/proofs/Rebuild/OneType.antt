@@ -13,7 +13,7 @@ use Rattle.apollo_component.specs.declared.parts_by_origin.PartsByOrigin.{PartsB
 use Rattle.apollo_types.specs.BareTypes.{bare_extended_type}
 use Rattle.apollo_types.specs.TypeWriteOut.{type_location, type_name, write_type}
 use Rattle.apollo_types.specs.declared.extended_type.ExtendedType.{ExtendedType}
-use Rattle.apollo_meaning.specs.Items.Parts.{TypePart, TypeBody, ScalarBody, ObjectBody, InterfaceBody, UnionBody, EnumBody, InputObjectBody}
+use Rattle.apollo_meaning.specs.Items.Parts.{TypePart, TypeBody, ScalarBody}
 use Rattle.apollo_meaning.specs.Types.Components.{Sourced, component}
 use Rattle.apollo_meaning.specs.Types.Meaning.{type_at, type_from, extension_part}
 use Rattle.apollo_canonical.specs.MeaningLaws.{MeaningLaws}
@@ -61,11 +61,7 @@ module _ (head : TypePart) (es : List (ℕ × TypePart)) where
 
   directives-made : (body : TypeBody) (ps : List Sourced) → (type_sections (type_at body head ps)).directives ≡ shown_in of_directives ps
   directives-made ScalarBody ps = shown-made node_of component (λ o a. refl) of_directives ps
-  directives-made (ObjectBody interfaces fields) ps = shown-made node_of component (λ o a. refl) of_directives ps
-  directives-made (InterfaceBody interfaces fields) ps = shown-made node_of component (λ o a. refl) of_directives ps
-  directives-made (UnionBody members) ps = shown-made node_of component (λ o a. refl) of_directives ps
-  directives-made (EnumBody values) ps = shown-made node_of component (λ o a. refl) of_directives ps
-  directives-made (InputObjectBody fields) ps = shown-made node_of component (λ o a. refl) of_directives ps
+  directives-made body ps = shown-made node_of component (λ o a. refl) of_directives ps
 
   -- the directives stand in the order of the definition and the extensions
   directives-in_parts : (type_sections (made head es)).directives ≡ (sections_of directive_parts).directives
@@ -76,7 +72,7 @@ module _ (head : TypePart) (es : List (ℕ × TypePart)) where
       later (f ∷ fs) = ap (λ l. map (λ x. (Extension (extension_id f.0 f.1.location), x)) f.1.directives ++ l) (later fs)
 
 pub once : (t : ExtendedType) → IsMade t → HasEachNameOnce (type_sections t)
-once t m = subst (λ u. HasEachNameOnce (type_sections u)) (sym m.is) (made-once m.head.body m.head ((Definition, m.head) ∷ map extension_part m.extensions))
+once t m = subst (λ u. HasEachNameOnce (type_sections u)) (sym m.is) (made-once m.head ((Definition, m.head) ∷ map extension_part m.extensions) m.head.body)
 
 module _ (laws : MeaningLaws) (t : ExtendedType) (m : IsMade t) where
   named : HasNamedEntries t

@@ -8,8 +8,7 @@ use Rattle.graphql_nodes.specs.declared.operation_type.OperationType.TheVariants
 use Rattle.graphql_ast.specs.declared.definition_parts.DefinitionPart.TheVariants as parts
 use Rattle.graphql_ast.specs.declared.definition_parts.DefinitionParts.{DefinitionParts}
 use Rattle.apollo_component.specs.Extensions.{same_id, same_origin}
-use Rattle.apollo_component.specs.FirstOfEach.{first_of_each}
-use Rattle.apollo_component.specs.WriteOut.{origins_in, identities, of_origin, of_extensions}
+use Rattle.apollo_component.specs.WriteOut.{of_origin, of_extensions}
 use Rattle.apollo_component.specs.declared.component.ComponentName.{ComponentName}
 use Rattle.apollo_component.specs.declared.extension.ComponentOrigin.{ComponentOrigin}
 use Rattle.apollo_component.specs.declared.extension.ComponentOrigin.TheVariants.{Extension}
@@ -22,9 +21,8 @@ use Rattle.apollo_meaning.specs.Items.Parts.{Root}
 use Rattle.apollo_meaning.specs.Schema.Definition.{same_operation}
 use Rattle.apollo_canonical.specs.Sections.{Sections, as_parts, in_sections}
 use Rattle.apollo_canonical.specs.TypeSections.{node_of, no_components}
-use Rattle.apollo_canonical.proofs.FirstAppearance.{in_order, in_order-map, first-in_order}
-use Rattle.apollo_canonical.proofs.Kept.{each-of, filter-all}
-use Rattle.apollo_canonical.proofs.SectionLemmas.{same_id-equiv, ids_in, ids_in-append, ids_in-sections, picked, picked-append, of_origin-sections, parts_in, has_some, has_some-picked}
+use Rattle.apollo_canonical.proofs.FirstAppearance.{in_order}
+use Rattle.apollo_canonical.proofs.SectionLemmas.{ids_in, ids_in-append, ids_in-sections, picked, picked-append, of_origin-sections, parts_in, has_some, has_some-picked, written-in_order}
 use Rattle.std.proofs.lemmas.Simd.{map-map}
 
 -- the root of an operation type with its origin, if there is one
@@ -65,11 +63,10 @@ cond-nil false = refl
 module _ (o : ComponentOrigin) where
   piece : (op other : OperationType) (n : Option ComponentName) → filter (is_op op) (picked o (entries other n)) ≡ cond (same_operation op other) (picked o (entries other n)) []
   piece op other None = cond-nil (same_operation op other)
-  piece op other (Some n) = by (same_origin o n.origin)
-    where
-      by : (b : Bool) → filter (is_op op) (map (λ (x : ComponentOrigin × Root). x.1) (cond b ((n.origin, root_node (other, n)) ∷ []) [])) ≡ cond (same_operation op other) (map (λ (x : ComponentOrigin × Root). x.1) (cond b ((n.origin, root_node (other, n)) ∷ []) [])) []
-      by true = refl
-      by false = cond-nil (same_operation op other)
+  piece op other (Some n) = elim (same_origin o n.origin) as (λ b. filter (is_op op) (map (λ (x : ComponentOrigin × Root). x.1) (cond b ((n.origin, root_node (other, n)) ∷ []) [])) ≡ cond (same_operation op other) (map (λ (x : ComponentOrigin × Root). x.1) (cond b ((n.origin, root_node (other, n)) ∷ []) [])) []) [
+    | true ↦ refl
+    | false ↦ cond-nil (same_operation op other)
+  ]
 
   module _ (d : SchemaDefinition) where
     pub picked-roots : picked o (root_entries d) ≡ picked o (entries Query d.query) ++ (picked o (entries Mutation d.mutation) ++ (picked o (entries Subscription d.subscription) ++ []))
@@ -120,9 +117,6 @@ module _ (d : SchemaDefinition) where
     roots = (λ i. roots-origin o Query i ++ (roots-origin o Mutation i ++ (roots-origin o Subscription i ++ []))) ∙ sym (picked-roots o d) ∙ sym (ap (λ p. p.roots) (of_schema-origin o));
   }
 
-  abbrev ids : List ExtensionId
-  ids = identities (origins_in (schema_components d))
-
   abbrev id_lists : List (List ExtensionId)
   id_lists = ids_in (map node_of d.directives.0) ∷ ids_in (entries Query d.query) ∷ ids_in (entries Mutation d.mutation) ∷ ids_in (entries Subscription d.subscription) ∷ []
 
@@ -136,15 +130,10 @@ module _ (d : SchemaDefinition) where
 
   -- the parts of extensions are written in the order of these
   pub schema-in_order : in_order schema_sorts (map (λ e. e.1) (of_extensions (schema_components d))) ≡ true
-  schema-in_order =
-      ap (in_order schema_sorts) (map-map (λ (e : ExtensionId × DefinitionParts). e.1) (λ e. (e, of_origin (Extension e) (schema_components d))) ids)
-      ∙ in_order-map (λ e. of_origin (Extension e) (schema_components d)) schema_sorts ids
-      ∙ (λ i. in_order (
-      (λ e. (ap (λ p. has_some p.directives.0) (of_schema-origin (Extension e)) ∙ has_some-picked e (map node_of d.directives.0)) i)
-      ∷ (λ e. (ap has_some (roots-origin (Extension e) Query) ∙ has_some-picked e (entries Query d.query)) i)
-      ∷ (λ e. (ap has_some (roots-origin (Extension e) Mutation) ∙ has_some-picked e (entries Mutation d.mutation)) i)
-      ∷ (λ e. (ap has_some (roots-origin (Extension e) Subscription) ∙ has_some-picked e (entries Subscription d.subscription)) i)
-      ∷ []
-      ) ids)
-      ∙ ap (in_order (map (λ l e. list_any (same_id e) l) id_lists)) (ap (first_of_each same_id) ids-listed ∙ sym (filter-all (λ _. true) (first_of_each same_id (flat_map (λ l. l) id_lists)) (each-of (λ _. true ≡ true) (λ _. refl) (first_of_each same_id (flat_map (λ l. l) id_lists)))))
-      ∙ first-in_order same_id same_id-equiv (λ _. true) id_lists
+  schema-in_order = written-in_order (schema_components d) schema_sorts id_lists ids-listed (λ i. directives i ∷ roots Query i ∷ roots Mutation i ∷ roots Subscription i ∷ [])
+    where
+      directives : ◌≡◌ {A = ExtensionId → Bool} (λ e. has_some (of_origin (Extension e) (schema_components d)).directives.0) (λ e. list_any (same_id e) (ids_in (map node_of d.directives.0)))
+      directives = λ i e. (ap (λ (p : DefinitionParts). has_some p.directives.0) (of_schema-origin (Extension e)) ∙ has_some-picked e (map node_of d.directives.0)) i
+
+      roots : (op : OperationType) → ◌≡◌ {A = ExtensionId → Bool} (λ e. has_some (roots_for op (of_origin (Extension e) (schema_components d)))) (λ e. list_any (same_id e) (ids_in (entries op (root_of d op))))
+      roots op = λ i e. (ap has_some (roots-origin (Extension e) op) ∙ has_some-picked e (entries op (root_of d op))) i

@@ -1,5 +1,6 @@
 -- Tables by their keys, where no two keys have one text.
 use Rattle.std.proofs.Common.{◌≡◌, ℕ, Bool, true, false, cond, not, List, [], ◌∷◌, ◌++◌, None, Some, filter, find, flat_map, refl, sym, ap, ◌∙◌}
+use Rattle.std.proofs.lemmas.Bool.{not-true}
 use Rattle.std.specs.Cmp.{IsEquivalence}
 use Rattle.std.specs.List.{AllByRecursion, IsDistinct}
 use Rattle.std.specs.Option.{option_map_or}
@@ -17,14 +18,10 @@ each-found same laws [] = tt
 each-found same laws (x ∷ xs) = (
   ap (λ b. cond b (Some x) (find (same x) xs)) (laws.refl x),
   each-weaken (λ y. (find (same y) xs ≡ Some y) × (not (same x y) ≡ true)) (λ y. find (same y) (x ∷ xs) ≡ Some y)
-      (λ y h. ap (λ b. cond b (Some x) (find (same y) xs)) (laws.symm y x ∙ is_false (same x y) h.1) ∙ h.0)
+      (λ y h. ap (λ b. cond b (Some x) (find (same y) xs)) (laws.symm y x ∙ not-true (same x y) h.1) ∙ h.0)
       (filter (λ y. not (same x y)) (first_of_each same xs))
       (each-filter (λ y. find (same y) xs ≡ Some y) (λ y. not (same x y)) (first_of_each same xs) (each-found same laws xs)),
 )
-  where
-    is_false : (b : Bool) → not b ≡ true → b ≡ false
-    is_false false h = refl
-    is_false true h = sym h
 
 module _ {V : Type 0} where
   -- a key that differs from all is not found

@@ -127,67 +127,42 @@ module _ (t : ExtendedType) (is : List ℕ) where
         once-kept (type_sections t) (sections_of parts_again) (written-keeps (type_sections t) parts_again (ap (λ cs. (by_origin cs).definition) (components-sections t)) same_parts) once
 
 -- the type has what the parts have, sort by sort
+names-there : (t : ExtendedType) (is : List ℕ) → IsDistinct same_text (map (λ n. n.1) (sections_of (parts_again t is)).names) → (type_sections (type_again t is)).names ≡ (sections_of (parts_again t is)).names
+names-there (Object n) is once = names-again (Object n) is (λ p. body_interfaces p.body) refl (λ g. refl) once
+names-there (Interface n) is once = names-again (Interface n) is (λ p. body_interfaces p.body) refl (λ g. refl) once
+names-there (Union n) is once = names-again (Union n) is (λ p. body_members p.body) refl (λ g. refl) once
+names-there t is once = none-of t is (λ d. d.names) (λ o. ap (λ d. d.names) (of_sections t is o))
+
+fields-there : (t : ExtendedType) (is : List ℕ) → IsDistinct same_text (map (λ f. f.1.value.name) (sections_of (parts_again t is)).fields) → (type_sections (type_again t is)).fields ≡ (sections_of (parts_again t is)).fields
+fields-there (Object n) is once = entries-again (Object n) is (λ f. f.value.name) field_entry (λ o n. refl) (λ o n. refl) (λ p. body_fields p.body) (λ d. d.fields) refl (λ g. refl) once
+fields-there (Interface n) is once = entries-again (Interface n) is (λ f. f.value.name) field_entry (λ o n. refl) (λ o n. refl) (λ p. body_fields p.body) (λ d. d.fields) refl (λ g. refl) once
+fields-there t is once = none-of t is (λ d. d.fields) (λ o. ap (λ d. d.fields) (of_sections t is o))
+
+values-there : (t : ExtendedType) (is : List ℕ) → IsDistinct same_text (map (λ v. v.1.value.value) (sections_of (parts_again t is)).values) → (type_sections (type_again t is)).values ≡ (sections_of (parts_again t is)).values
+values-there (Enum n) is once = entries-again (Enum n) is (λ v. v.value.value) value_entry (λ o n. refl) (λ o n. refl) (λ p. body_values p.body) (λ d. d.values) refl (λ g. refl) once
+values-there t is once = none-of t is (λ d. d.values) (λ o. ap (λ d. d.values) (of_sections t is o))
+
+input_fields-there : (t : ExtendedType) (is : List ℕ) → IsDistinct same_text (map (λ f. f.1.value.name) (sections_of (parts_again t is)).input_fields) → (type_sections (type_again t is)).input_fields ≡ (sections_of (parts_again t is)).input_fields
+input_fields-there (InputObject n) is once = entries-again (InputObject n) is (λ f. f.value.name) input_field_entry (λ o n. refl) (λ o n. refl) (λ p. body_input_fields p.body) (λ d. d.input_fields) refl (λ g. refl) once
+input_fields-there t is once = none-of t is (λ d. d.input_fields) (λ o. ap (λ d. d.input_fields) (of_sections t is o))
+
+directives-there : (t : ExtendedType) (is : List ℕ) → (type_sections (type_again t is)).directives ≡ (sections_of (parts_again t is)).directives
+directives-there (Scalar n) is = directives-again (Scalar n) is
+directives-there t is = directives-again t is
+
+roots-there : (t : ExtendedType) (is : List ℕ) → (type_sections (type_again t is)).roots ≡ (sections_of (parts_again t is)).roots
+roots-there (Scalar n) is = none-of (Scalar n) is (λ d. d.roots) (λ o. ap (λ d. d.roots) (of_sections (Scalar n) is o))
+roots-there t is = none-of t is (λ d. d.roots) (λ o. ap (λ d. d.roots) (of_sections t is o))
+
 sections-again : (t : ExtendedType) (is : List ℕ) → HasEachNameOnce (sections_of (parts_again t is)) → type_sections (type_again t is) ≡ sections_of (parts_again t is)
-sections-again (Scalar n) is once =
-    let t : ExtendedType = Scalar n in
-    (λ i. record {
-      directives = directives-again t is i;
-      names = none-of t is (λ d. d.names) (λ o. ap (λ d. d.names) (of_sections t is o)) i;
-      fields = none-of t is (λ d. d.fields) (λ o. ap (λ d. d.fields) (of_sections t is o)) i;
-      values = none-of t is (λ d. d.values) (λ o. ap (λ d. d.values) (of_sections t is o)) i;
-      input_fields = none-of t is (λ d. d.input_fields) (λ o. ap (λ d. d.input_fields) (of_sections t is o)) i;
-      roots = none-of t is (λ d. d.roots) (λ o. ap (λ d. d.roots) (of_sections t is o)) i;
-    })
-sections-again (Object n) is once =
-    let t : ExtendedType = Object n in
-    (λ i. record {
-      directives = directives-again t is i;
-      names = names-again t is (λ p. body_interfaces p.body) refl (λ g. refl) once.names i;
-      fields = entries-again t is (λ f. f.value.name) field_entry (λ o n. refl) (λ o n. refl) (λ p. body_fields p.body) (λ d. d.fields) refl (λ g. refl) once.fields i;
-      values = none-of t is (λ d. d.values) (λ o. ap (λ d. d.values) (of_sections t is o)) i;
-      input_fields = none-of t is (λ d. d.input_fields) (λ o. ap (λ d. d.input_fields) (of_sections t is o)) i;
-      roots = none-of t is (λ d. d.roots) (λ o. ap (λ d. d.roots) (of_sections t is o)) i;
-    })
-sections-again (Interface n) is once =
-    let t : ExtendedType = Interface n in
-    (λ i. record {
-      directives = directives-again t is i;
-      names = names-again t is (λ p. body_interfaces p.body) refl (λ g. refl) once.names i;
-      fields = entries-again t is (λ f. f.value.name) field_entry (λ o n. refl) (λ o n. refl) (λ p. body_fields p.body) (λ d. d.fields) refl (λ g. refl) once.fields i;
-      values = none-of t is (λ d. d.values) (λ o. ap (λ d. d.values) (of_sections t is o)) i;
-      input_fields = none-of t is (λ d. d.input_fields) (λ o. ap (λ d. d.input_fields) (of_sections t is o)) i;
-      roots = none-of t is (λ d. d.roots) (λ o. ap (λ d. d.roots) (of_sections t is o)) i;
-    })
-sections-again (Union n) is once =
-    let t : ExtendedType = Union n in
-    (λ i. record {
-      directives = directives-again t is i;
-      names = names-again t is (λ p. body_members p.body) refl (λ g. refl) once.names i;
-      fields = none-of t is (λ d. d.fields) (λ o. ap (λ d. d.fields) (of_sections t is o)) i;
-      values = none-of t is (λ d. d.values) (λ o. ap (λ d. d.values) (of_sections t is o)) i;
-      input_fields = none-of t is (λ d. d.input_fields) (λ o. ap (λ d. d.input_fields) (of_sections t is o)) i;
-      roots = none-of t is (λ d. d.roots) (λ o. ap (λ d. d.roots) (of_sections t is o)) i;
-    })
-sections-again (Enum n) is once =
-    let t : ExtendedType = Enum n in
-    (λ i. record {
-      directives = directives-again t is i;
-      names = none-of t is (λ d. d.names) (λ o. ap (λ d. d.names) (of_sections t is o)) i;
-      fields = none-of t is (λ d. d.fields) (λ o. ap (λ d. d.fields) (of_sections t is o)) i;
-      values = entries-again t is (λ v. v.value.value) value_entry (λ o n. refl) (λ o n. refl) (λ p. body_values p.body) (λ d. d.values) refl (λ g. refl) once.values i;
-      input_fields = none-of t is (λ d. d.input_fields) (λ o. ap (λ d. d.input_fields) (of_sections t is o)) i;
-      roots = none-of t is (λ d. d.roots) (λ o. ap (λ d. d.roots) (of_sections t is o)) i;
-    })
-sections-again (InputObject n) is once =
-    let t : ExtendedType = InputObject n in
-    (λ i. record {
-      directives = directives-again t is i;
-      names = none-of t is (λ d. d.names) (λ o. ap (λ d. d.names) (of_sections t is o)) i;
-      fields = none-of t is (λ d. d.fields) (λ o. ap (λ d. d.fields) (of_sections t is o)) i;
-      values = none-of t is (λ d. d.values) (λ o. ap (λ d. d.values) (of_sections t is o)) i;
-      input_fields = entries-again t is (λ f. f.value.name) input_field_entry (λ o n. refl) (λ o n. refl) (λ p. body_input_fields p.body) (λ d. d.input_fields) refl (λ g. refl) once.input_fields i;
-      roots = none-of t is (λ d. d.roots) (λ o. ap (λ d. d.roots) (of_sections t is o)) i;
-    })
+sections-again t is once = (λ i. record {
+  directives = directives-there t is i;
+  names = names-there t is once.names i;
+  fields = fields-there t is once.fields i;
+  values = values-there t is once.values i;
+  input_fields = input_fields-there t is once.input_fields i;
+  roots = roots-there t is i;
+})
 
 -- so it has what is written of the first type
 pub has-what-is-written : MeaningLaws → (t : ExtendedType) → HasEachNameOnce (type_sections t) → (is : List ℕ) → length is ≡ length (written t).extensions → IsDistinct ◌==◌ is → HasWhatIsWritten t (type_again t is)

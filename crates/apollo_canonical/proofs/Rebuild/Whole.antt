@@ -1,5 +1,5 @@
 -- All that a list with a write-out means is what was written out.
-use Rattle.std.proofs.Common.{◌≡◌, ℕ, Bool, true, false, cond, not, ◌&&◌, List, [], ◌∷◌, ◌++◌, None, Option, Some, map, find, flat_map, option_map, refl, sym, ap, subst, ◌∙◌, ◌==◌, true≢false}
+use Rattle.std.proofs.Common.{◌≡◌, ℕ, Bool, true, false, cond, List, [], ◌∷◌, ◌++◌, None, Option, Some, map, find, flat_map, option_map, refl, sym, ap, subst, ◌∙◌, ◌==◌, true≢false, arith}
 use Rattle.std.proofs.lemmas.List.{append-nil}
 use Rattle.std.proofs.lemmas.List.Elements.{filter_map-append}
 use Rattle.std.specs.List.{AllByRecursion, IsDistinct, filter_map}
@@ -22,10 +22,10 @@ use Rattle.apollo_types.specs.SchemaRoots.{root_of}
 use Rattle.apollo_types.specs.TypeKinds.{is_object}
 use Rattle.apollo_types.specs.TypeWriteOut.{type_kind}
 use Rattle.apollo_types.specs.declared.extended_type.ExtendedType.{ExtendedType}
-use Rattle.apollo_types.specs.declared.extended_type.ExtendedType.TheVariants.{Scalar, Object, Interface, Union, Enum, InputObject}
+use Rattle.apollo_types.specs.declared.extended_type.ExtendedType.TheVariants.{Scalar}
 use Rattle.apollo_types.specs.declared.schema_definition.SchemaDefinition.{SchemaDefinition}
 use Rattle.apollo_meaning.specs.Completion.Adoption.{adopted, adopted_by, extended_names, orphans_of, with_adopted}
-use Rattle.apollo_meaning.specs.Completion.ImpliedSchema.{adopting_schema, default_root, implicit_roots, implied_schema, is_object_name, schema_for, schema_of_roots}
+use Rattle.apollo_meaning.specs.Completion.ImpliedSchema.{adopting_schema, implicit_roots, implied_schema, is_object_name, schema_for, schema_of_roots}
 use Rattle.apollo_meaning.specs.Directives.{AreDirectivesOf, directive_definitions}
 use Rattle.apollo_meaning.specs.Items.ListItems.{Added, ListItem, SchemaDefined, added_items, defined_schema, extended_schema}
 use Rattle.apollo_meaning.specs.Items.Named.{extensions_of, first, first_schema, schema_extensions}
@@ -52,11 +52,7 @@ use Rattle.apollo_canonical.proofs.Rebuild.WrittenParts.{kind-body, written}
 -- an object type is one by its kind, and by what `==` compares
 object-kind : (t : ExtendedType) → is_object t ≡ same_kind kinds.Object (type_kind t)
 object-kind (Scalar n) = refl
-object-kind (Object n) = refl
-object-kind (Interface n) = refl
-object-kind (Union n) = refl
-object-kind (Enum n) = refl
-object-kind (InputObject n) = refl
+object-kind t = refl
 
 is_bare_object : BareType → Bool
 is_bare_object (BareType.Object o) = true
@@ -65,11 +61,7 @@ is_bare_object _ = false
 object-bare : (t : ExtendedType) → is_object t ≡ is_bare_object (bare_extended_type t)
 unfolding is_bare_object
 object-bare (Scalar n) = refl
-object-bare (Object n) = refl
-object-bare (Interface n) = refl
-object-bare (Union n) = refl
-object-bare (Enum n) = refl
-object-bare (InputObject n) = refl
+object-bare t = refl
 
 -- whether an object type has the name
 abbrev pub object_at : List (NameView × ExtendedType) → OperationType → Bool
@@ -77,30 +69,22 @@ object_at types op = is_some_object (lookup (by_text (default_type_text op)) typ
 
 implied-cond : (types : List (NameView × ExtendedType)) (op : OperationType) → implied_name types op ≡ cond (has_one (object_at types Query) (object_at types Mutation) (object_at types Subscription) op) (Some (default_type_text op)) None
 implied-cond types Query = refl
-implied-cond types Mutation = refl
-implied-cond types Subscription = refl
+implied-cond types op = refl
+
+-- a schema definition that is implied is quiet and defines no directive
+implied : (ys : List ListItem) → AllByRecursion IsQuiet (implied_schema true ys) × (directive_definitions (implied_schema true ys) ≡ [])
+implied ys = by (first_schema ys) (roots_in (schema_extensions ys))
+  where
+    by : (o : Option SchemaPart) (rs : List Root) → AllByRecursion IsQuiet (option_map_or (λ _. []) o (schema_for true rs (implicit_roots ys))) × (directive_definitions (option_map_or (λ _. []) o (schema_for true rs (implicit_roots ys))) ≡ [])
+    by (Some s) rs = (tt, refl)
+    by None [] = ((tt, tt), refl)
+    by None (r ∷ rs) = ((tt, tt), refl)
 
 pub quiet-implied : (ys : List ListItem) → AllByRecursion IsQuiet (implied_schema true ys)
-quiet-implied ys = by (first_schema ys)
-  where
-    for : (rs is : List Root) → AllByRecursion IsQuiet (adopting_schema rs is)
-    for [] is = (tt, tt)
-    for (r ∷ rs) is = (tt, tt)
-
-    by : (o : Option SchemaPart) → AllByRecursion IsQuiet (option_map_or (λ _. []) o (schema_for true (roots_in (schema_extensions ys)) (implicit_roots ys)))
-    by (Some s) = tt
-    by None = for (roots_in (schema_extensions ys)) (implicit_roots ys)
+quiet-implied ys = (implied ys).0
 
 pub implied-directives : (ys : List ListItem) → directive_definitions (implied_schema true ys) ≡ []
-implied-directives ys = by (first_schema ys)
-  where
-    for : (rs is : List Root) → directive_definitions (adopting_schema rs is) ≡ []
-    for [] is = refl
-    for (r ∷ rs) is = refl
-
-    by : (o : Option SchemaPart) → directive_definitions (option_map_or (λ _. []) o (schema_for true (roots_in (schema_extensions ys)) (implicit_roots ys))) ≡ []
-    by (Some s) = refl
-    by None = for (roots_in (schema_extensions ys)) (implicit_roots ys)
+implied-directives ys = (implied ys).1
 
 no-orphans : (o : Option TypePart) (ps : List TypePart) → ps ≡ [] → option_map_or (λ _. []) o ps ≡ []
 no-orphans None ps e = e
@@ -121,8 +105,7 @@ no-roots es h op = by op
 
     by : (op : OperationType) → root_of (made_schema (schema_of_roots []) es) op ≡ None
     by Query = found Query
-    by Mutation = found Mutation
-    by Subscription = found Subscription
+    by op = found op
 
 module _ (laws : MeaningLaws) (adopts : Bool) (more : List Added) (handed : AllByRecursion IsAddedByHand more) (rooted : AllByRecursion NamesRoot (filter_map defined_schema (added_items more))) (start : ℕ)
     (types : List (NameView × ExtendedType)) (are : AreTypesOf start (folding_order (whole adopts (with_built_ins more))) (whole adopts (with_built_ins more)) types)
@@ -213,16 +196,10 @@ module _ (laws : MeaningLaws) (adopts : Bool) (more : List Added) (handed : AllB
   implied_here = roots_where (object_at types Query) (object_at types Mutation) (object_at types Subscription)
 
   implicit-listed : implicit_roots W ≡ implied_here
-  implicit-listed = (λ i. by (object-listed (default_type_text Query) i) Query ++ (by (object-listed (default_type_text Mutation) i) Mutation ++ (by (object-listed (default_type_text Subscription) i) Subscription ++ [])))
-    where
-      by : Bool → OperationType → List Root
-      by b op = cond b (default_root op ∷ []) []
+  implicit-listed = (λ i. roots_where (object-listed (default_type_text Query) i) (object-listed (default_type_text Mutation) i) (object-listed (default_type_text Subscription) i))
 
   pub implicit-again : implicit_roots Y ≡ implied_here
-  implicit-again = (λ i. by (object-again (default_type_text Query) i) Query ++ (by (object-again (default_type_text Mutation) i) Mutation ++ (by (object-again (default_type_text Subscription) i) Subscription ++ [])))
-    where
-      by : Bool → OperationType → List Root
-      by b op = cond b (default_root op ∷ []) []
+  implicit-again = (λ i. roots_where (object-again (default_type_text Query) i) (object-again (default_type_text Mutation) i) (object-again (default_type_text Subscription) i))
 
   abbrev d : SchemaDefinition
   d = node.value
@@ -315,11 +292,7 @@ module _ (laws : MeaningLaws) (adopts : Bool) (more : List Added) (handed : AllB
       where-extended f = by (roots_in (schema_extensions Y)) refl
         where
           own : has_own_root d ≡ false
-          own = left-false (has_own_root d) (is_implied types d) f e
-            where
-              left-false : (a b : Bool) → b ≡ false → (a && not b) ≡ false → a ≡ false
-              left-false false b g h = refl
-              left-false true b g h = sym (ap not g) ∙ h
+          own = grind (arith, f, e)
 
           written-head : (rs : List Root) → rs ≡ [] → IsWrittenHead d (schema_of_roots rs)
           written-head rs empty = record { description = sym (m.description own); directives = sym (m.directives own); roots = empty ∙ sym (no-own d own) }
