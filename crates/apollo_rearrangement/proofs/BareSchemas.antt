@@ -1,6 +1,6 @@
 -- What `==` compares of a schema definition that parts make is decided by the parts without the origins of their
 -- components.
-use Rattle.std.proofs.Common.{◌≡◌, Bool, true, false, cond, List, [], ◌∷◌, Option, Some, map, refl, sym, ap, ◌∙◌}
+use Rattle.std.proofs.Common.{◌≡◌, true, false, cond, List, [], ◌∷◌, Option, Some, map, refl, sym, ap, ◌∙◌}
 use Rattle.std.specs.List.{find, flat_map}
 use Rattle.std.specs.Option.{option_map}
 use Rattle.graphql_ast.specs.Bare.{bare_directive}
@@ -30,15 +30,7 @@ plain_root op ps = option_map (λ r. r.1) (find (λ r. same_operation op r.0) (p
 find-bare : (op : OperationType) (rs : List (OperationType × ComponentName))
     → option_map bare_component_name (option_map (λ r. r.1) (find (λ r. same_operation op r.0) rs)) ≡ option_map (λ r. r.1) (find (λ r. same_operation op r.0) (map bare_root rs))
 find-bare op [] = refl
-find-bare op (r ∷ rs) = by (same_operation op r.0) (find-bare op rs)
-  where
-    named : OperationType × ComponentName → Bool
-    named r = same_operation op r.0
-
-    by : (b : Bool) → option_map bare_component_name (option_map (λ r. r.1) (find named rs)) ≡ option_map (λ r. r.1) (find (λ r. same_operation op r.0) (map bare_root rs))
-        → option_map bare_component_name (option_map (λ r. r.1) (cond b (Some r) (find named rs))) ≡ option_map (λ r. r.1) (cond b (Some (bare_root r)) (find (λ r. same_operation op r.0) (map bare_root rs)))
-    by true rest = refl
-    by false rest = rest
+find-bare op (r ∷ rs) = elim (same_operation op r.0) as (λ b. option_map bare_component_name (option_map (λ r. r.1) (cond b (Some r) (find (λ r. same_operation op r.0) rs))) ≡ option_map (λ r. r.1) (cond b (Some (bare_root r)) (find (λ r. same_operation op r.0) (map bare_root rs)))) [ true ↦ refl | false ↦ find-bare op rs ]
 
 forget-root : (op : OperationType) (ps : List SourcedSchema) → option_map bare_component_name (root_in op ps) ≡ plain_root op (parts_of ps)
 forget-root op ps =

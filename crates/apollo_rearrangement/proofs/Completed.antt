@@ -20,7 +20,7 @@ use Rattle.apollo_rearrangement.proofs.Agreement.{extensions-agree, first-agree,
 use Rattle.apollo_rearrangement.proofs.Names.{first_of_each-permutation}
 use Rattle.apollo_rearrangement.proofs.Permutations.{filter-permutation, filter_map-permutation, flat_map-permutation, one-element-permutation}
 use Rattle.apollo_rearrangement.proofs.Rearranging.{rearranged-append, rearranged-refl}
-use Rattle.apollo_rearrangement.specs.Rearranged.{AreRearranged, Group, DefinitionsOf, ExtensionsOf, DirectiveDefinitionsOf, SchemaDefinitions, SchemaExtensions, is_in}
+use Rattle.apollo_rearrangement.specs.Rearranged.{AreRearranged, Group, DefinitionsOf, ExtensionsOf, SchemaDefinitions, SchemaExtensions, is_in}
 
 -- orphans of a name have it
 orphans-own : (xs : List ListItem) (n : List ℕ) → AllByRecursion (λ p. same n (key_of p) ≡ true) (orphans_of xs n)
@@ -78,10 +78,7 @@ module _ (xs ys : List ListItem) (r : AreRearranged xs ys) where
   adopted-in_order : (g : Group) → filter (is_in g) (adopted xs) ≡ filter (is_in g) (adopted ys)
   adopted-in_order (DefinitionsOf n) =
       one-element-permutation (adopted_by (orphans_of xs n)) _ _ (filter-permutation (is_in (DefinitionsOf n)) (adopted xs) (adopted ys) adopted-permutation) (adopted-own xs n (extended_names xs))
-  adopted-in_order (ExtensionsOf n) = adopted-none xs (is_in (ExtensionsOf n)) (λ p. refl) (extended_names xs) ∙ sym (adopted-none ys (is_in (ExtensionsOf n)) (λ p. refl) (extended_names ys))
-  adopted-in_order (DirectiveDefinitionsOf n) = adopted-none xs (is_in (DirectiveDefinitionsOf n)) (λ p. refl) (extended_names xs) ∙ sym (adopted-none ys (is_in (DirectiveDefinitionsOf n)) (λ p. refl) (extended_names ys))
-  adopted-in_order SchemaDefinitions = adopted-none xs (is_in SchemaDefinitions) (λ p. refl) (extended_names xs) ∙ sym (adopted-none ys (is_in SchemaDefinitions) (λ p. refl) (extended_names ys))
-  adopted-in_order SchemaExtensions = adopted-none xs (is_in SchemaExtensions) (λ p. refl) (extended_names xs) ∙ sym (adopted-none ys (is_in SchemaExtensions) (λ p. refl) (extended_names ys))
+  adopted-in_order g = adopted-none xs (is_in g) (λ p. refl) (extended_names xs) ∙ sym (adopted-none ys (is_in g) (λ p. refl) (extended_names ys))
 
   pub with_adopted-rearranged : (adopts : Bool) → AreRearranged (with_adopted adopts xs) (with_adopted adopts ys)
   with_adopted-rearranged false = r

@@ -1,6 +1,6 @@
 -- Lists with the same elements in another order.
-use Rattle.std.proofs.Common.{◌≡◌, ℕ, ◌<◌, Bool, true, false, cond, List, [], ◌∷◌, ◌++◌, length, zero, suc, set, get_or, swap, Option, Some, None, filter, refl, sym, ap, subst, ◌∙◌, append_assoc, arith}
-use Rattle.std.specs.List.{AllByRecursion, filter_map, flat_map}
+use Rattle.std.proofs.Common.{◌≡◌, ℕ, ◌<◌, Bool, cond, List, [], ◌∷◌, ◌++◌, length, zero, suc, set, get_or, swap, Option, Some, None, filter, refl, sym, ap, subst, ◌∙◌, append_assoc, arith}
+use Rattle.std.specs.List.{AllByRecursion, cons_option, filter_map, flat_map}
 use Rattle.std.specs.List.Sorted.{IsPermutation}
 use Rattle.std.specs.Option.{option_map_or}
 use Rattle.std.proofs.lemmas.List.Edits.{swap_is}
@@ -42,11 +42,7 @@ module _ {X Y : Type 0} (f : X → List Y) where
 module _ {X : Type 0} (p : X → Bool) where
   filter-flat : (xs : List X) → flat_map (λ x. cond (p x) (x ∷ []) []) xs ≡ filter p xs
   filter-flat [] = refl
-  filter-flat (x ∷ xs) = by (p x) (filter-flat xs)
-    where
-      by : (b : Bool) → flat_map (λ x. cond (p x) (x ∷ []) []) xs ≡ filter p xs → cond b (x ∷ []) [] ++ flat_map (λ x. cond (p x) (x ∷ []) []) xs ≡ cond b (x ∷ filter p xs) (filter p xs)
-      by true rest = ap (λ l. x ∷ l) rest
-      by false rest = rest
+  filter-flat (x ∷ xs) = grind (arith, filter-flat xs)
 
   pub filter-permutation : (xs ys : List X) → IsPermutation xs ys → IsPermutation (filter p xs) (filter p ys)
   filter-permutation xs ys s = rw (filter-flat xs, filter-flat ys) at (flat_map-permutation (λ x. cond (p x) (x ∷ []) []) xs ys s)
@@ -54,12 +50,7 @@ module _ {X : Type 0} (p : X → Bool) where
 module _ {X Y : Type 0} (which : X → Option Y) where
   filter_map-flat : (xs : List X) → flat_map (λ x. option_map_or (λ y. y ∷ []) (which x) []) xs ≡ filter_map which xs
   filter_map-flat [] = refl
-  filter_map-flat (x ∷ xs) = by (which x) refl (filter_map-flat xs)
-    where
-      by : (o : Option Y) → which x ≡ o → flat_map (λ x. option_map_or (λ y. y ∷ []) (which x) []) xs ≡ filter_map which xs
-          → flat_map (λ x. option_map_or (λ y. y ∷ []) (which x) []) (x ∷ xs) ≡ filter_map which (x ∷ xs)
-      by None e rest = rw e rest
-      by (Some y) e rest = rw e (ap (λ l. y ∷ l) rest)
+  filter_map-flat (x ∷ xs) = elim (which x) as (λ o. option_map_or (λ y. y ∷ []) o [] ++ flat_map (λ x. option_map_or (λ y. y ∷ []) (which x) []) xs ≡ cons_option o (filter_map which xs)) [ None ↦ filter_map-flat xs | Some y ↦ ap (λ l. y ∷ l) (filter_map-flat xs) ]
 
   pub filter_map-permutation : (xs ys : List X) → IsPermutation xs ys → IsPermutation (filter_map which xs) (filter_map which ys)
   filter_map-permutation xs ys s = rw (filter_map-flat xs, filter_map-flat ys) at (flat_map-permutation (λ x. option_map_or (λ y. y ∷ []) (which x) []) xs ys s)
@@ -73,10 +64,7 @@ one-element : {X : Type 0} (c : List X) (xs ys : List X) → AllByRecursion (λ 
 one-element c [] [] a b e = refl
 one-element c [] (y ∷ ys) a b e = absurd (omega (arith, e))
 one-element c (x ∷ xs) [] a b e = absurd (omega (arith, e))
-one-element c (x ∷ xs) (y ∷ ys) a b e = (λ i. head i ++ one-element c xs ys a.1 b.1 (omega (arith, e)) i)
-  where
-    head : x ∷ [] ≡ y ∷ []
-    head = sym a.0 ∙ b.0
+one-element c (x ∷ xs) (y ∷ ys) a b e = (λ i. (sym a.0 ∙ b.0) i ++ one-element c xs ys a.1 b.1 (omega (arith, e)) i)
 
 -- so are two orders of it
 pub one-element-permutation : {X : Type 0} (c : List X) (xs ys : List X) → IsPermutation xs ys → AllByRecursion (λ z. c ≡ z ∷ []) xs → xs ≡ ys
