@@ -21,7 +21,8 @@ pub mod SchemaMeant
 pub mod SchemaWritten
 pub mod DirectivesAgain
 pub mod LeftOut
-pub mod Whole
+pub mod WrittenList
+pub mod SameSchema
 pub mod Canonical
 pub mod RootFaults
 pub mod Faultless

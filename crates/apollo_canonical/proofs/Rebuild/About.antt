@@ -24,14 +24,14 @@ use Rattle.apollo_canonical.proofs.Rebuild.Names.{lookup-named}
 -- what an item is about
 pub data Topic : Type 0 where
   Name : List ℕ → Topic
-  Schema : Topic
+  TheSchema : Topic
   Others : Topic
 
 abbrev pub is_about : Topic → ListItem → Bool
 is_about (Name n) (Defined p) = same n (key_of p)
 is_about (Name n) (Extended p) = same n (key_of p)
-is_about Schema (SchemaDefined s) = true
-is_about Schema (SchemaExtended s) = true
+is_about TheSchema (SchemaDefined s) = true
+is_about TheSchema (SchemaExtended s) = true
 is_about Others (Other d) = true
 is_about _ _ = false
 
@@ -76,17 +76,17 @@ extensions-about n = chosen-about extended_part (λ p. same n (key_of p)) (Name 
 all-about : {P : Type 0} (which : ListItem → Option P) (topic : Topic) → ((x : ListItem) → is_about topic x ≡ false → option_map_or (λ _. true) (which x) false ≡ false) → (xs : List ListItem) → filter_map which xs ≡ filter_map which (about topic xs)
 all-about which topic falls xs = all-kept (filter_map which xs) ∙ chosen-about which (λ _. true) topic falls xs ∙ sym (all-kept (filter_map which (about topic xs)))
 
-pub first_schema-about : (xs : List ListItem) → first_schema xs ≡ first_schema (about Schema xs)
-first_schema-about xs = ap (λ l. slice_get l 0) (all-about defined_schema Schema falls xs)
+pub first_schema-about : (xs : List ListItem) → first_schema xs ≡ first_schema (about TheSchema xs)
+first_schema-about xs = ap (λ l. slice_get l 0) (all-about defined_schema TheSchema falls xs)
   where
-    falls : (x : ListItem) → is_about Schema x ≡ false → option_map_or (λ _. true) (defined_schema x) false ≡ false
+    falls : (x : ListItem) → is_about TheSchema x ≡ false → option_map_or (λ _. true) (defined_schema x) false ≡ false
     falls (SchemaDefined s) e = e
     falls x e = refl
 
-pub schema_extensions-about : (xs : List ListItem) → schema_extensions xs ≡ schema_extensions (about Schema xs)
-schema_extensions-about = all-about extended_schema Schema falls
+pub schema_extensions-about : (xs : List ListItem) → schema_extensions xs ≡ schema_extensions (about TheSchema xs)
+schema_extensions-about = all-about extended_schema TheSchema falls
   where
-    falls : (x : ListItem) → is_about Schema x ≡ false → option_map_or (λ _. true) (extended_schema x) false ≡ false
+    falls : (x : ListItem) → is_about TheSchema x ≡ false → option_map_or (λ _. true) (extended_schema x) false ≡ false
     falls (SchemaExtended s) e = e
     falls x e = refl
 
@@ -101,8 +101,8 @@ directives-about = all-about directive_part Others falls
 abbrev topic_of : ListItem → Topic
 topic_of (Defined p) = Name (key_of p)
 topic_of (Extended p) = Name (key_of p)
-topic_of (SchemaDefined s) = Schema
-topic_of (SchemaExtended s) = Schema
+topic_of (SchemaDefined s) = TheSchema
+topic_of (SchemaExtended s) = TheSchema
 topic_of (Other d) = Others
 
 is-about-own : (x : ListItem) → is_about (topic_of x) x ≡ true

@@ -18,14 +18,15 @@ use Rattle.apollo_component.specs.FirstOfEach.{first_of_each}
 use Rattle.apollo_component.proofs.Lists.Each.{each-filter, each-weaken}
 use Rattle.apollo_component.proofs.Tabled.{first_of_each-distinct}
 use Rattle.apollo_meaning.specs.Directives.{AreDirectivesOf, Directives, directive_definitions, directive_names, directive_of, directive_part, has_text, is_handed_in}
-use Rattle.apollo_meaning.specs.Items.ListItems.{Added, ListItem, Other}
+use Rattle.apollo_meaning.specs.Items.ListItems.{ListItem, Other}
 use Rattle.apollo_meaning.specs.Schema.Whole.{whole}
 use Rattle.apollo_component.proofs.FirstOfEachLemmas.{first_of_each-map, name_laws}
-use Rattle.apollo_canonical.specs.WrittenAgain.{with_built_ins}
+use Rattle.apollo_schema.specs.declared.schema.Schema.{Schema}
+use Rattle.apollo_canonical.specs.WrittenAgain.{IsMeantByList, with_built_ins}
 use Rattle.apollo_canonical.proofs.FirstAppearance.{first_of_each-again, new_to-same, new_to_these}
 use Rattle.apollo_canonical.proofs.Kept.{each-both, each-from_map, find-made, find-none, found-holds, found-passes, passes}
 use Rattle.apollo_canonical.proofs.Rebuild.BuiltIns.{built_ins}
-use Rattle.apollo_canonical.proofs.Rebuild.Meant.{IsAddedByHand, IsHandedIn, handed-later, later_items, whole-split}
+use Rattle.apollo_canonical.proofs.Rebuild.Meant.{IsHandedIn, handed, handed-later, later_items, whole-split}
 use Rattle.apollo_canonical.proofs.Rebuild.Tables.{each-entry, each-found, lookup-absent}
 
 abbrev pub built_in_directives : Directives
@@ -125,8 +126,15 @@ directive_names-first ds = first_of_each-map same_text (λ d. d.value.name) ds
 find-named : (k : NameView) (ds : Directives) → find (same_text k) (names_of ds) ≡ option_map (λ d. d.value.name) (find (has_text k.text) ds)
 find-named k ds = find-made (same_text k) (λ (d : NodeView DirectiveDefinition). d.value.name) ds
 
-module _ (adopts : Bool) (more : List Added) (handed : AllByRecursion IsAddedByHand more) (table : List (NameView × NodeView DirectiveDefinition))
-    (are : AreDirectivesOf (directive_definitions (whole adopts (with_built_ins more))) table) where
+module _ (schema : Schema) (list : IsMeantByList schema) where
+  open list use {adopts, more}
+
+  abbrev table : List (NameView × NodeView DirectiveDefinition)
+  table = schema.directive_definitions
+
+  abbrev are : AreDirectivesOf (directive_definitions (whole adopts (with_built_ins more))) table
+  are = list.means.directives
+
   abbrev later : Directives
   later = directive_definitions (later_items adopts more)
 
@@ -137,7 +145,7 @@ module _ (adopts : Bool) (more : List Added) (handed : AllByRecursion IsAddedByH
   split = ap directive_definitions (whole-split adopts more) ∙ filter_map-append directive_part built_ins (later_items adopts more)
 
   handed_later : AllHandedIn later
-  handed_later = handed-directives (later_items adopts more) (handed-later adopts more handed)
+  handed_later = handed-directives (later_items adopts more) (handed-later adopts more (handed schema list))
 
   each : (n : List ℕ) → lookup (by_text n) table ≡ option_or (find (has_text n) later) (built_in_of n)
   each n = are.each n ∙ ap (λ ds. directive_of ds n) split ∙ directive-after n later handed_later

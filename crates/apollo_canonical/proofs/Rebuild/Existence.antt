@@ -8,20 +8,20 @@ use Rattle.graphql_nodes.specs.Tables.{lookup}
 use Rattle.graphql_nodes.proofs.Texts.{same-true}
 use Rattle.apollo_types.specs.declared.extended_type.ExtendedType.{ExtendedType}
 use Rattle.apollo_meaning.specs.Directives.{directive_names, directive_of}
-use Rattle.apollo_meaning.specs.Items.ListItems.{Added, ListItem}
+use Rattle.apollo_meaning.specs.Items.ListItems.{ListItem}
 use Rattle.apollo_meaning.specs.Items.Named.{first}
 use Rattle.apollo_meaning.specs.Order.Places.{folding_order}
 use Rattle.apollo_meaning.specs.Types.Meaning.{parts, type_from, type_of}
 use Rattle.apollo_schema.specs.MeantSchema.{AreOf, MeansSchema}
 use Rattle.apollo_schema.specs.declared.schema.Schema.{Schema}
 use Rattle.apollo_canonical.specs.MeaningLaws.{MeaningLaws}
-use Rattle.apollo_canonical.specs.WrittenAgain.{IsUnmarkedAndRooted, with_built_ins, written_again}
+use Rattle.apollo_canonical.specs.WrittenAgain.{IsMeantByList, written_again}
 use Rattle.apollo_canonical.proofs.Rebuild.About.{first-about}
-use Rattle.apollo_canonical.proofs.Rebuild.Canonical.{all-listed, all_items, directive_list, handed, rooted, written_items}
+use Rattle.apollo_canonical.proofs.Rebuild.Canonical.{all-listed, all_items, directive_list, written_items}
 use Rattle.apollo_canonical.proofs.Rebuild.DirectivesAgain.{same_keys, same_meaning}
 use Rattle.apollo_canonical.proofs.Rebuild.SchemaMeant.{schema_node}
 use Rattle.apollo_canonical.proofs.Rebuild.TypesAgain.{first-again, names-again, view-nothing}
-use Rattle.apollo_canonical.proofs.Rebuild.Whole.{ends, others, quiet, quiet-implied}
+use Rattle.apollo_canonical.proofs.Rebuild.WrittenList.{ends, others, quiet, quiet-implied}
 
 -- a table with other values, by their keys
 module _ {V : Type 0} (g : List ℕ → Option V) where
@@ -35,9 +35,9 @@ module _ {V : Type 0} (g : List ℕ → Option V) where
     | false ↦ λ h. lookup-valued n es
   ] refl
 
-module _ (laws : MeaningLaws) (start : ℕ) (adopts c : Bool) (more : List Added) (schema : Schema) (within : IsUnmarkedAndRooted more) (means : MeansSchema start adopts (with_built_ins more) schema) (again : ℕ) where
+module _ (laws : MeaningLaws) (schema : Schema) (list : IsMeantByList schema) (c : Bool) (again : ℕ) where
   abbrev zs : List ListItem
-  zs = all_items laws start adopts c more schema within means
+  zs = all_items laws schema list c
 
   abbrev types_meant : List ℕ → Option ExtendedType
   types_meant = type_of again (folding_order zs) zs
@@ -49,17 +49,9 @@ module _ (laws : MeaningLaws) (start : ℕ) (adopts c : Bool) (more : List Added
       by None e =
           ap (option_map (unwrap_or (types_meant n))) e
           ∙ sym (ap (option_map (λ d. type_from d (parts again (folding_order zs) n d))) (first-about n zs ∙ ap (λ l. first l n)
-          (view-nothing laws adopts more (handed laws start adopts c more schema within means) start schema.types means.types c
-          (others laws adopts more (handed laws start adopts c more schema within means) (rooted laws start adopts c more schema within means) start schema.types means.types schema.directive_definitions means.directives c)
-          (ends laws adopts more (handed laws start adopts c more schema within means) (rooted laws start adopts c more schema within means) start schema.types means.types schema.directive_definitions means.directives c)
-          (quiet laws adopts more (handed laws start adopts c more schema within means) (rooted laws start adopts c more schema within means) start schema.types means.types schema.directive_definitions means.directives c)
-          (quiet-implied (written_items laws start adopts c more schema within means)) n e)))
+          (view-nothing laws schema list c (others laws schema list c) (ends laws schema list c) (quiet laws schema list c) (quiet-implied (written_items laws schema list c)) n e)))
       by (Some t) e =
-          let there = first-again laws adopts more (handed laws start adopts c more schema within means) start schema.types means.types c
-          (others laws adopts more (handed laws start adopts c more schema within means) (rooted laws start adopts c more schema within means) start schema.types means.types schema.directive_definitions means.directives c)
-          (ends laws adopts more (handed laws start adopts c more schema within means) (rooted laws start adopts c more schema within means) start schema.types means.types schema.directive_definitions means.directives c)
-          (quiet laws adopts more (handed laws start adopts c more schema within means) (rooted laws start adopts c more schema within means) start schema.types means.types schema.directive_definitions means.directives c)
-          (quiet-implied (written_items laws start adopts c more schema within means)) n t e in
+          let there = first-again laws schema list c (others laws schema list c) (ends laws schema list c) (quiet laws schema list c) (quiet-implied (written_items laws schema list c)) n t e in
           ap (option_map (unwrap_or (types_meant n))) e
           ∙ ap (λ o. Some (unwrap_or (option_map (λ d. type_from d (parts again (folding_order zs) n d)) o) t)) there
           ∙ sym (ap (option_map (λ d. type_from d (parts again (folding_order zs) n d))) there)
@@ -72,18 +64,14 @@ module _ (laws : MeaningLaws) (start : ℕ) (adopts c : Bool) (more : List Added
     definition = refl;
     types = record {
       names = map-map (λ (e : NameView × ExtendedType). e.0) (λ e. (e.0, unwrap_or (types_meant e.0.text) e.1)) schema.types
-          ∙ sym (names-again laws adopts more (handed laws start adopts c more schema within means) start schema.types means.types c
-          (others laws adopts more (handed laws start adopts c more schema within means) (rooted laws start adopts c more schema within means) start schema.types means.types schema.directive_definitions means.directives c)
-          (ends laws adopts more (handed laws start adopts c more schema within means) (rooted laws start adopts c more schema within means) start schema.types means.types schema.directive_definitions means.directives c)
-          (quiet laws adopts more (handed laws start adopts c more schema within means) (rooted laws start adopts c more schema within means) start schema.types means.types schema.directive_definitions means.directives c)
-          (quiet-implied (written_items laws start adopts c more schema within means)));
+          ∙ sym (names-again laws schema list c (others laws schema list c) (ends laws schema list c) (quiet laws schema list c) (quiet-implied (written_items laws schema list c)));
       each = meant-each;
     };
     directives = record {
-      names = sym (ap directive_names (directive_list laws start adopts c more schema within means) ∙ same_keys adopts more (handed laws start adopts c more schema within means) schema.directive_definitions means.directives);
-      each = (λ n. sym (ap (λ ds. directive_of ds n) (directive_list laws start adopts c more schema within means) ∙ same_meaning adopts more (handed laws start adopts c more schema within means) schema.directive_definitions means.directives n));
+      names = sym (ap directive_names (directive_list laws schema list c) ∙ same_keys schema list);
+      each = (λ n. sym (ap (λ ds. directive_of ds n) (directive_list laws schema list c) ∙ same_meaning schema list n));
     };
   }
 
   pub rebuilds : (rebuilt : Schema) × MeansSchema again true (written_again c schema) rebuilt
-  rebuilds = (rebuilt, subst (λ l. AreOf again (folding_order l) l rebuilt) (sym (all-listed laws start adopts c more schema within means)) is-meant)
+  rebuilds = (rebuilt, subst (λ l. AreOf again (folding_order l) l rebuilt) (sym (all-listed laws schema list c)) is-meant)

@@ -1,7 +1,7 @@
 -- The list of a schema: the built-in definitions, and after them what is handed in.
 use Rattle.std.proofs.Common.{◌≡◌, ℕ, Bool, true, false, cond, List, [], ◌∷◌, ◌++◌, None, Option, Some, flat_map, sym, ap, subst, ◌∙◌, append_assoc}
 use Rattle.std.proofs.lemmas.List.{append-nil, map-append}
-use Rattle.std.proofs.lemmas.List.Elements.{filter_map-append}
+use Rattle.std.proofs.lemmas.List.Elements.{filter_map-append, recursion_from_All}
 use Rattle.std.specs.List.{AllByRecursion, filter_map}
 use Rattle.std.specs.Option.{option_map_or}
 use Rattle.graphql_nodes.specs.BuiltIn.{is_built_in}
@@ -13,11 +13,13 @@ use Rattle.apollo_built_in.specs.BuiltInTable.{built_in_definitions}
 use Rattle.apollo_component.proofs.Lists.Each.{each-append, each-filter, each-weaken}
 use Rattle.apollo_meaning.specs.Completion.Adoption.{adopted, adopted_by, extended_names, orphans_of, with_adopted}
 use Rattle.apollo_meaning.specs.Completion.ImpliedSchema.{implied_schema, schema_for, adopting_schema, rooted_schema, implicit_roots}
-use Rattle.apollo_meaning.specs.Items.ListItems.{ListItem, Defined, Extended, Other, Added, added, added_item, added_items, item_of, ignorable_if, defined_part, extended_part}
+use Rattle.apollo_meaning.specs.Items.ListItems.{ListItem, Defined, Extended, Other, Added, added, added_item, added_items, item_of, ignorable_if, defined_part, defined_schema, extended_part}
 use Rattle.apollo_meaning.specs.Items.Named.{first, extensions_of, first_schema, schema_extensions}
 use Rattle.apollo_meaning.specs.Items.Parts.{TypePart, SchemaPart, Root, key_of, roots_in}
 use Rattle.apollo_meaning.specs.Schema.Whole.{whole}
-use Rattle.apollo_canonical.specs.WrittenAgain.{with_built_ins}
+use Rattle.std.specs.Prelude.{◌≢◌}
+use Rattle.apollo_schema.specs.declared.schema.Schema.{Schema}
+use Rattle.apollo_canonical.specs.WrittenAgain.{IsMeantByList, with_built_ins}
 use Rattle.apollo_canonical.proofs.Rebuild.BuiltIns.{built_ins, no-extensions, first-of}
 
 -- an item that isn't marked built-in
@@ -132,3 +134,11 @@ module _ (adopts : Bool) (more : List Added) where
 
     pub first-unmarked : (n : List ℕ) (d : TypePart) → first later_items n ≡ Some d → IsUnmarked d
     first-unmarked n d h = first-of IsUnmarked n (filter_map defined_part later_items) d (unmarked-definitions later_items handed-later) h
+
+-- of what a schema is meant by, nothing is marked built-in, and each schema definition names a root
+module _ (schema : Schema) (list : IsMeantByList schema) where
+  pub handed : AllByRecursion IsAddedByHand list.more
+  handed = recursion_from_All IsAddedByHand list.more list.within.unmarked
+
+  pub rooted : AllByRecursion (λ s. s.roots ≢ []) (filter_map defined_schema (added_items list.more))
+  rooted = recursion_from_All (λ s. s.roots ≢ []) (filter_map defined_schema (added_items list.more)) list.within.rooted

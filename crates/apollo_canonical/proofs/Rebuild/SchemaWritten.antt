@@ -22,31 +22,31 @@ use Rattle.apollo_meaning.specs.Items.ListItems.{Defined, Extended, ListItem, Ot
 use Rattle.apollo_meaning.specs.Items.Named.{first_schema, schema_extensions}
 use Rattle.apollo_meaning.specs.Items.Parts.{SchemaPart}
 use Rattle.apollo_schema.specs.SchemaWriteOut.{write_directives}
-use Rattle.apollo_canonical.proofs.Rebuild.About.{Others, Schema, about, directives-about, first_schema-about, is_about, schema_extensions-about}
+use Rattle.apollo_canonical.proofs.Rebuild.About.{Others, TheSchema, about, directives-about, first_schema-about, is_about, schema_extensions-about}
 use Rattle.apollo_canonical.proofs.Rebuild.BuiltIns.{built_ins, no-extensions}
 use Rattle.apollo_canonical.proofs.Rebuild.Held.{document_items, document_items-append, extension_items, held_items}
 use Rattle.apollo_canonical.proofs.Rebuild.OneSchema.{schema_extension_of, written_parts_of}
 use Rattle.apollo_canonical.proofs.Rebuild.TypesAgain.{IsQuiet, extends-quiet}
 use Rattle.apollo_canonical.proofs.Rebuild.WrittenParts.{written, definition_part, extension_of}
 
-no-schema-built_in : about Schema built_ins ≡ []
+no-schema-built_in : about TheSchema built_ins ≡ []
 unfolding built_in_definitions
 no-schema-built_in = refl
 
 -- types are about neither the schema nor directives
 module _ (c : Bool) where
-  types-else : (ts : List ExtendedType) → (about Schema (flat_map (held_items c) ts) ≡ []) × (about Others (flat_map (held_items c) ts) ≡ [])
+  types-else : (ts : List ExtendedType) → (about TheSchema (flat_map (held_items c) ts) ≡ []) × (about Others (flat_map (held_items c) ts) ≡ [])
   types-else [] = (refl, refl)
   types-else (t ∷ ts) = (
-    filter-append (is_about Schema) (held_items c t) (flat_map (held_items c) ts) ∙ (λ i. (held (is_built_in (type_location t))).0 i ++ (types-else ts).0 i),
+    filter-append (is_about TheSchema) (held_items c t) (flat_map (held_items c) ts) ∙ (λ i. (held (is_built_in (type_location t))).0 i ++ (types-else ts).0 i),
     filter-append (is_about Others) (held_items c t) (flat_map (held_items c) ts) ∙ (λ i. (held (is_built_in (type_location t))).1 i ++ (types-else ts).1 i),
   )
     where
-      extensions : (es : List (ExtensionId × DefinitionParts)) → (about Schema (map (λ e. Extended (extension_of t e)) es) ≡ []) × (about Others (map (λ e. Extended (extension_of t e)) es) ≡ [])
+      extensions : (es : List (ExtensionId × DefinitionParts)) → (about TheSchema (map (λ e. Extended (extension_of t e)) es) ≡ []) × (about Others (map (λ e. Extended (extension_of t e)) es) ≡ [])
       extensions [] = (refl, refl)
       extensions (e ∷ es) = extensions es
 
-      held : (b : Bool) → (about Schema (cond b (extension_items c t) (Defined (record (definition_part t) { ignorable = c }) ∷ extension_items c t)) ≡ []) × (about Others (cond b (extension_items c t) (Defined (record (definition_part t) { ignorable = c }) ∷ extension_items c t)) ≡ [])
+      held : (b : Bool) → (about TheSchema (cond b (extension_items c t) (Defined (record (definition_part t) { ignorable = c }) ∷ extension_items c t)) ≡ []) × (about Others (cond b (extension_items c t) (Defined (record (definition_part t) { ignorable = c }) ∷ extension_items c t)) ≡ [])
       held true = extensions (written t).extensions
       held false = extensions (written t).extensions
 
@@ -78,17 +78,17 @@ module _ (c : Bool) (d : SchemaDefinition) (place : Option SourceSpan) (types : 
       later (e ∷ es) = ap (λ l. SchemaExtended (schema_extension_of e) ∷ l) (later es)
 
   -- they are all about the schema
-  schema-about : (about Schema schema_items ≡ schema_items) × (about Others schema_items ≡ [])
-  schema-about = (ap (about Schema) schema-listed ∙ of_schema ∙ sym schema-listed, ap (about Others) schema-listed ∙ of_others)
+  schema-about : (about TheSchema schema_items ≡ schema_items) × (about Others schema_items ≡ [])
+  schema-about = (ap (about TheSchema) schema-listed ∙ of_schema ∙ sym schema-listed, ap (about Others) schema-listed ∙ of_others)
     where
-      exts : (es : List (ExtensionId × DefinitionParts)) → (about Schema (schema_extension_items es) ≡ schema_extension_items es) × (about Others (schema_extension_items es) ≡ [])
+      exts : (es : List (ExtensionId × DefinitionParts)) → (about TheSchema (schema_extension_items es) ≡ schema_extension_items es) × (about Others (schema_extension_items es) ≡ [])
       exts [] = (refl, refl)
       exts (e ∷ es) = (ap (λ l. SchemaExtended (schema_extension_of e) ∷ l) (exts es).0, (exts es).1)
 
-      of_schema : about Schema (head_items ++ schema_extension_items (written_parts_of d).extensions) ≡ head_items ++ schema_extension_items (written_parts_of d).extensions
+      of_schema : about TheSchema (head_items ++ schema_extension_items (written_parts_of d).extensions) ≡ head_items ++ schema_extension_items (written_parts_of d).extensions
       of_schema = by (is_written types d)
         where
-          by : (b : Bool) → about Schema (cond b (SchemaDefined (written_head d place) ∷ []) [] ++ schema_extension_items (written_parts_of d).extensions) ≡ cond b (SchemaDefined (written_head d place) ∷ []) [] ++ schema_extension_items (written_parts_of d).extensions
+          by : (b : Bool) → about TheSchema (cond b (SchemaDefined (written_head d place) ∷ []) [] ++ schema_extension_items (written_parts_of d).extensions) ≡ cond b (SchemaDefined (written_head d place) ∷ []) [] ++ schema_extension_items (written_parts_of d).extensions
           by true = ap (λ l. SchemaDefined (written_head d place) ∷ l) (exts (written_parts_of d).extensions).0
           by false = (exts (written_parts_of d).extensions).0
 
@@ -121,7 +121,7 @@ directives-listed c ds = go (filter is_handed_in ds)
     go [] = refl
     go (e ∷ es) = ap (λ l. Other (ast.DirectiveDefinition e) ∷ l) (go es)
 
-directives-else : (ds : Directives) → (about Schema (directive_items ds) ≡ []) × (about Others (directive_items ds) ≡ directive_items ds)
+directives-else : (ds : Directives) → (about TheSchema (directive_items ds) ≡ []) × (about Others (directive_items ds) ≡ directive_items ds)
 directives-else [] = (refl, refl)
 directives-else (d ∷ ds) = ((directives-else ds).0, ap (λ l. Other (ast.DirectiveDefinition d) ∷ l) (directives-else ds).1)
 
@@ -138,11 +138,11 @@ module _ (c : Bool) (d : SchemaDefinition) (place : Option SourceSpan) (types : 
   abbrev pub written_list : List ListItem
   written_list = built_ins ++ ((schema_items c d place types ++ directive_items ds) ++ flat_map (held_items c) ts)
 
-  pub list-about_schema : about Schema written_list ≡ schema_items c d place types
+  pub list-about_schema : about TheSchema written_list ≡ schema_items c d place types
   list-about_schema =
-      filter-append (is_about Schema) built_ins ((schema_items c d place types ++ directive_items ds) ++ flat_map (held_items c) ts)
-      ∙ (λ i. no-schema-built_in i ++ (filter-append (is_about Schema) (schema_items c d place types ++ directive_items ds) (flat_map (held_items c) ts)
-      ∙ (λ j. (filter-append (is_about Schema) (schema_items c d place types) (directive_items ds) ∙ (λ k. (schema-about c d place types).0 k ++ (directives-else ds).0 k) ∙ append-nil (schema_items c d place types)) j ++ (types-else c ts).0 j)
+      filter-append (is_about TheSchema) built_ins ((schema_items c d place types ++ directive_items ds) ++ flat_map (held_items c) ts)
+      ∙ (λ i. no-schema-built_in i ++ (filter-append (is_about TheSchema) (schema_items c d place types ++ directive_items ds) (flat_map (held_items c) ts)
+      ∙ (λ j. (filter-append (is_about TheSchema) (schema_items c d place types) (directive_items ds) ∙ (λ k. (schema-about c d place types).0 k ++ (directives-else ds).0 k) ∙ append-nil (schema_items c d place types)) j ++ (types-else c ts).0 j)
       ∙ append-nil (schema_items c d place types)) i)
 
   pub list-about_others : about Others written_list ≡ about Others built_ins ++ directive_items ds

@@ -17,23 +17,24 @@ use Rattle.apollo_component.proofs.Lists.Each.{each-weaken}
 use Rattle.apollo_types.specs.BareTypes.{bare_extended_type}
 use Rattle.apollo_types.specs.TypeWriteOut.{type_location, type_name}
 use Rattle.apollo_types.specs.declared.extended_type.ExtendedType.{ExtendedType}
-use Rattle.apollo_meaning.specs.Items.ListItems.{ListItem, Defined, Extended, Added, defined_part, extended_part}
+use Rattle.apollo_meaning.specs.Items.ListItems.{ListItem, Defined, Extended, defined_part, extended_part}
 use Rattle.apollo_meaning.specs.Items.Named.{first, extensions_of, of_kind}
 use Rattle.apollo_meaning.specs.Items.Parts.{TypePart, kind_of}
 use Rattle.apollo_meaning.specs.Order.Places.{folding_order}
 use Rattle.apollo_meaning.specs.Schema.Whole.{whole}
 use Rattle.apollo_meaning.specs.Types.Components.{Sourced}
 use Rattle.apollo_meaning.specs.Types.Meaning.{AreTypesOf, extension_part, type_names, type_from, parts}
+use Rattle.apollo_schema.specs.declared.schema.Schema.{Schema}
 use Rattle.apollo_canonical.specs.MeaningLaws.{MeaningLaws}
 use Rattle.apollo_component.proofs.FirstOfEachLemmas.{name_laws}
 use Rattle.apollo_component.proofs.Tabled.{first_of_each-distinct}
-use Rattle.apollo_canonical.specs.WrittenAgain.{with_built_ins}
+use Rattle.apollo_canonical.specs.WrittenAgain.{IsMeantByList, with_built_ins}
 use Rattle.apollo_canonical.proofs.FirstAppearance.{first_of_each-again, new_to_these}
 use Rattle.apollo_canonical.proofs.Kept.{each-both, each-from_map, filter-all, passes}
 use Rattle.apollo_canonical.proofs.Rebuild.About.{Name, about, is_about, first-about, extensions-about}
 use Rattle.apollo_canonical.proofs.Rebuild.BuiltIns.{built_ins, built_in_names, about-built_ins, first-built_in}
 use Rattle.apollo_canonical.proofs.Rebuild.Held.{held_items, extension_items, about-types, defines-types}
-use Rattle.apollo_canonical.proofs.Rebuild.Meant.{IsAddedByHand, later_items, whole-split, first-unmarked}
+use Rattle.apollo_canonical.proofs.Rebuild.Meant.{first-unmarked, handed, later_items, whole-split}
 use Rattle.apollo_canonical.proofs.Rebuild.Names.{defined_names, defined_names-append, names-of_first, among-defined, first-key}
 use Rattle.apollo_canonical.proofs.Rebuild.Numbers.{numbers_of, numbers-rise, rising-distinct}
 use Rattle.apollo_canonical.proofs.Rebuild.OneType.{IsMade, IsAgain, made, rebuilt}
@@ -110,10 +111,17 @@ extends-quiet (Extended p ∷ xs) q = absurd q.0
 extends-quiet (x ∷ xs) q = extends-quiet xs q.1
 
 -- the types of a list of which nothing but its head is built in
-module _ (laws : MeaningLaws) (adopts : Bool) (more : List Added) (handed : AllByRecursion IsAddedByHand more) (start : ℕ) (types : List (NameView × ExtendedType))
-    (are : AreTypesOf start (folding_order (whole adopts (with_built_ins more))) (whole adopts (with_built_ins more)) types) where
+module _ (laws : MeaningLaws) (schema : Schema) (list : IsMeantByList schema) where
+  open list use {start, adopts, more}
+
   abbrev xs : List ListItem
   xs = whole adopts (with_built_ins more)
+
+  abbrev types : List (NameView × ExtendedType)
+  types = schema.types
+
+  abbrev are : AreTypesOf start (folding_order xs) xs types
+  are = list.means.types
 
   first-split : (n : List ℕ) → first xs n ≡ option_or (first built_ins n) (first (later_items adopts more) n)
   first-split n = ap (λ l. first l n) (whole-split adopts more) ∙ laws.joined built_ins (later_items adopts more) n
@@ -136,7 +144,7 @@ module _ (laws : MeaningLaws) (adopts : Bool) (more : List Added) (handed : AllB
     marked-where (Some b) e =
         let head_is : m.head ≡ b = ap (λ o. unwrap_or o b) (sym m.first_one ∙ first-split n ∙ ap (λ o. option_or o (first (later_items adopts more) n)) e) in
         ap is_built_in (location ∙ ap (λ (p : TypePart). p.location) head_is) ∙ (first-built_in n b e).marked
-    marked-where None e = ap is_built_in location ∙ first-unmarked adopts more handed n m.head (sym (first-split n ∙ ap (λ o. option_or o (first (later_items adopts more) n)) e) ∙ m.first_one)
+    marked-where None e = ap is_built_in location ∙ first-unmarked adopts more (handed schema list) n m.head (sym (first-split n ∙ ap (λ o. option_or o (first (later_items adopts more) n)) e) ∙ m.first_one)
 
     -- the built-in definition, or else what is written of the type, is the type's definition with its extensions
     pub written-view : (c : Bool) → (b : Bool) × (about (Name n) built_ins ++ held_items c t ≡ Defined (record (definition_part t) { ignorable = b }) ∷ extension_items c t)

@@ -8,6 +8,6 @@ use Rattle.apollo_canonical.proofs.laws.equal_write_outs_have_equal_schemas.Goal
 
 pub returns : goal.returns
 returns c = λ schema other m o alike.
-    let there = rebuilds c.laws_of_lists.ensures m.start m.adopts false m.more schema m.within m.means 0 in
-    sym (equal c.laws_of_lists.ensures m.start m.adopts false m.more schema m.within m.means 0 there.0 there.1)
-    ∙ equal c.laws_of_lists.ensures o.start o.adopts false o.more other o.within o.means 0 there.0 (subst (λ ds. MeansSchema 0 true (with_built_ins (added false ds)) there.0) alike there.1)
+    let there = rebuilds c.laws_of_lists.ensures schema m false 0 in
+    sym (equal c.laws_of_lists.ensures schema m false 0 there.0 there.1)
+    ∙ equal c.laws_of_lists.ensures other o false 0 there.0 (subst (λ ds. MeansSchema 0 true (with_built_ins (added false ds)) there.0) alike there.1)
