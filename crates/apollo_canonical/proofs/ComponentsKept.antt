@@ -20,8 +20,7 @@ use Rattle.apollo_component.proofs.FirstOfEachLemmas.{list_any-first_of_each}
 use Rattle.apollo_component.proofs.Lists.Each.{each-weaken}
 use Rattle.apollo_component.proofs.Tabled.{first_of_each-distinct}
 use Rattle.apollo_canonical.specs.Sections.{Sections, HasSameComponents, as_parts, in_sections, with_origins, joined, sections_of}
-use Rattle.apollo_canonical.proofs.Kept.{each-from_map, each-map, each-of, each-split, map-flat_map}
-use Rattle.apollo_canonical.proofs.Partition.{groups}
+use Rattle.apollo_canonical.proofs.Kept.{each-from_map, each-map, each-of, each-split, map-flat_map, groups}
 use Rattle.apollo_canonical.proofs.SectionLemmas.{same_id-equiv, ids_in, picked, of_origin-sections}
 
 same_origin-equiv : IsEquivalence same_origin

@@ -8,8 +8,7 @@ use Rattle.std.specs.List.{AllByRecursion, IsDistinct, flat_map, list_any}
 use Rattle.apollo_component.specs.FirstOfEach.{first_of_each}
 use Rattle.apollo_component.proofs.Lists.Each.{each-filter, each-weaken, filter-fails, filter-map}
 use Rattle.apollo_component.proofs.Tabled.{first_of_each-distinct}
-use Rattle.apollo_canonical.proofs.Kept.{filter-filter, filter-all, each-of, passes}
-use Rattle.apollo_canonical.proofs.Once.{all-first}
+use Rattle.apollo_canonical.proofs.Kept.{filter-filter, filter-all, each-of, passes, all-first}
 
 -- whether no element that fails comes before one that passes
 abbrev pub leads : List Bool → Bool

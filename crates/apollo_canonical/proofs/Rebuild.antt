@@ -10,11 +10,9 @@ pub mod OwnDefinition
 pub mod BuiltIns
 pub mod OnceInParts
 pub mod Meant
-pub mod Names
 pub mod Held
 pub mod TypesAgain
 pub mod SchemaSections
-pub mod SchemaAgain
 pub mod OneSchema
 pub mod SchemaSaid
 pub mod SchemaMeant
@@ -26,8 +24,6 @@ pub mod SameSchema
 pub mod Canonical
 pub mod RootFaults
 pub mod Faultless
-pub mod Existence
 pub mod FoldedOnce
 pub mod OriginsOfParts
-pub mod WrittenFew
 pub mod FoldsNoMore

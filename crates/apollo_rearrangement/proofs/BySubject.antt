@@ -11,8 +11,7 @@ use Rattle.apollo_component.specs.EachAfter.{each_after}
 use Rattle.apollo_component.proofs.Lists.Each.{each-filter, each-weaken}
 use Rattle.apollo_component.proofs.Lists.EachAfter.{each_after-push}
 use Rattle.apollo_component.proofs.Lists.Ends.{snoc_ind}
-use Rattle.apollo_rearrangement.proofs.Filters.{filter-apart, filter-wider}
-use Rattle.apollo_rearrangement.proofs.Permutations.{each-permutation}
+use Rattle.apollo_rearrangement.proofs.Filters.{filter-apart, filter-wider, each-permutation}
 
 -- subjects that a test tells apart
 pub record IsTest {K : Type 0} (same : K → K → Bool) : Type 0 where

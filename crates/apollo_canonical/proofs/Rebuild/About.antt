@@ -19,7 +19,7 @@ use Rattle.apollo_meaning.specs.Items.Parts.{key_of}
 use Rattle.apollo_meaning.specs.Steps.Joining.{type_begun_faults, schema_begun_faults}
 use Rattle.apollo_meaning.specs.Steps.Prefixes.{found_at, found}
 use Rattle.apollo_canonical.proofs.Kept.{both-empty, find-first}
-use Rattle.apollo_canonical.proofs.Rebuild.Names.{lookup-named}
+use Rattle.apollo_canonical.proofs.Rebuild.Tables.{lookup-named}
 
 -- what an item is about
 pub data Topic : Type 0 where

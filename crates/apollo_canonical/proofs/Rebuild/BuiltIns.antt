@@ -15,7 +15,7 @@ use Rattle.apollo_meaning.specs.Items.Named.{named, first}
 use Rattle.apollo_meaning.specs.Items.Parts.{TypePart, key_of}
 use Rattle.apollo_canonical.proofs.Kept.{found-holds}
 use Rattle.apollo_canonical.proofs.Rebuild.About.{Name, about}
-use Rattle.apollo_canonical.proofs.Rebuild.Names.{lookup-named}
+use Rattle.apollo_canonical.proofs.Rebuild.Tables.{lookup-named}
 use Rattle.apollo_canonical.proofs.Rebuild.TypeFaults.{HaveEachNameOnce, interfaces_in, members_in, fields_in, values_in, input_fields_in}
 use Rattle.std.specs.Prelude.{flat_map}
 

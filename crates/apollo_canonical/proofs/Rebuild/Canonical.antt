@@ -1,10 +1,10 @@
--- Every schema's write-out means an equal schema, with the same write-out.
-use Rattle.std.proofs.Common.{◌≡◌, ℕ, Bool, true, cond, List, [], ◌++◌, drop, filter, flat_map, option_map, sym, ap, subst, ◌∙◌}
+-- Every schema's write-out means an equal schema, with the same write-out, and there is one that it means.
+use Rattle.std.proofs.Common.{◌≡◌, ℕ, Bool, true, cond, List, [], ◌++◌, drop, filter, flat_map, option_map, sym, ap, subst, ◌∙◌, false, ◌∷◌, None, Option, Some, map, refl}
 use Rattle.std.proofs.lemmas.List.{append-nil}
 use Rattle.std.proofs.lemmas.List.Elements.{filter_map-append}
 use Rattle.graphql_nodes.specs.BuiltIn.{is_built_in}
 use Rattle.graphql_nodes.specs.NodeView.{NodeView}
-use Rattle.graphql_nodes.specs.SameText.{by_text}
+use Rattle.graphql_nodes.specs.SameText.{by_text, same}
 use Rattle.graphql_nodes.specs.Tables.{keys_of, lookup, values_of}
 use Rattle.graphql_ast.specs.BareTypeSystem.{bare_directive_definition}
 use Rattle.apollo_component.proofs.FirstOfEachLemmas.{name_laws}
@@ -14,7 +14,7 @@ use Rattle.apollo_types.specs.SchemaDefinitionWriteOut.{write_schema_definition}
 use Rattle.apollo_types.specs.declared.extended_type.ExtendedType.{ExtendedType}
 use Rattle.apollo_types.specs.declared.schema_definition.SchemaDefinition.{SchemaDefinition}
 use Rattle.apollo_meaning.specs.Completion.ImpliedSchema.{completed, implied_schema}
-use Rattle.apollo_meaning.specs.Directives.{directive_definitions, directive_part, is_handed_in}
+use Rattle.apollo_meaning.specs.Directives.{directive_definitions, directive_part, is_handed_in, directive_names, directive_of}
 use Rattle.apollo_meaning.specs.Faults.ListFaults.{faults_in, faults_of}
 use Rattle.apollo_meaning.specs.Items.ListItems.{ListItem, added, added_items}
 use Rattle.apollo_meaning.specs.Order.Places.{folding_order}
@@ -26,16 +26,23 @@ use Rattle.apollo_schema.specs.declared.schema.Schema.{Schema}
 use Rattle.apollo_canonical.specs.MeaningLaws.{MeaningLaws}
 use Rattle.apollo_canonical.specs.WrittenAgain.{IsMeantByList, with_built_ins, written_again}
 use Rattle.apollo_canonical.proofs.Rebuild.BuiltIns.{built_ins}
-use Rattle.apollo_canonical.proofs.Rebuild.DirectivesAgain.{directives-again, unique, written_directives}
+use Rattle.apollo_canonical.proofs.Rebuild.DirectivesAgain.{directives-again, unique, written_directives, same_keys, same_meaning}
 use Rattle.apollo_canonical.proofs.Rebuild.Faultless.{faults-none}
 use Rattle.apollo_canonical.proofs.Rebuild.Held.{document_items, document_items-append, items-types}
 use Rattle.apollo_canonical.proofs.Rebuild.Meant.{items-split}
 use Rattle.apollo_canonical.proofs.Rebuild.OneType.{IsAgain}
 use Rattle.apollo_canonical.proofs.Rebuild.SchemaMeant.{schema_node}
 use Rattle.apollo_canonical.proofs.Rebuild.SchemaWritten.{directives-listed, list-directives, written_list}
-use Rattle.apollo_canonical.proofs.Rebuild.TypesAgain.{equal_types, same_written}
+use Rattle.apollo_canonical.proofs.Rebuild.TypesAgain.{equal_types, same_written, first-again, names-again, view-nothing}
 use Rattle.apollo_canonical.proofs.Rebuild.SameSchema.{same-schema}
 use Rattle.apollo_canonical.proofs.Rebuild.WrittenList.{Y, Z, ends, others, quiet, implied-directives, quiet-implied, with-adopted}
+use Rattle.std.proofs.lemmas.Simd.{map-map}
+use Rattle.std.specs.Option.{unwrap_or}
+use Rattle.graphql_nodes.specs.NameView.{NameView}
+use Rattle.graphql_nodes.proofs.Texts.{same-true}
+use Rattle.apollo_meaning.specs.Items.Named.{first}
+use Rattle.apollo_meaning.specs.Types.Meaning.{parts, type_from, type_of}
+use Rattle.apollo_canonical.proofs.Rebuild.About.{first-about}
 
 -- the items of a list with a schema's write-out
 pub items-listed : (c : Bool) (schema : Schema)
@@ -101,8 +108,8 @@ module _ (laws : MeaningLaws) (schema : Schema) (list : IsMeantByList schema) (c
         definition = ap (λ (n : NodeView SchemaDefinition). bare_schema_definition n.value) are_again.definition ∙ same_definition.0 ∙ ap (λ (n : NodeView SchemaDefinition). bare_schema_definition n.value) (sym means.definition)
 
     -- with the same write-out
-    pub same : write_schema rebuilt ≡ write_schema schema
-    same = (λ i. (definition i ++ ap (λ es. write_directives (values_of es)) same_table i) ++ types i)
+    pub same-written : write_schema rebuilt ≡ write_schema schema
+    same-written = (λ i. (definition i ++ ap (λ es. write_directives (values_of es)) same_table i) ++ types i)
       where
         definition : write_held_schema_definition rebuilt ≡ write_held_schema_definition schema
         definition =
@@ -125,3 +132,56 @@ module _ (laws : MeaningLaws) (schema : Schema) (list : IsMeantByList schema) (c
   -- and is without fault
   pub faultless : faults_of true (written_again c schema) ≡ []
   faultless = ap (faults_in true) listed ∙ faults-none laws schema list c
+
+-- a table with other values, by their keys
+module _ {V : Type 0} (g : List ℕ → Option V) where
+  abbrev valued : List (NameView × V) → List (NameView × V)
+  valued = map (λ e. (e.0, unwrap_or (g e.0.text) e.1))
+
+  lookup-valued : (n : List ℕ) (es : List (NameView × V)) → lookup (by_text n) (valued es) ≡ option_map (unwrap_or (g n)) (lookup (by_text n) es)
+  lookup-valued n [] = refl
+  lookup-valued n (e ∷ es) = elim (same n e.0.text) as (λ b. same n e.0.text ≡ b → cond b (Some (unwrap_or (g e.0.text) e.1)) (lookup (by_text n) (valued es)) ≡ option_map (unwrap_or (g n)) (cond b (Some e.1) (lookup (by_text n) es))) [
+    | true ↦ λ h. ap (λ (m : List ℕ). Some (unwrap_or (g m) e.1)) (sym (same-true n e.0.text h))
+    | false ↦ λ h. lookup-valued n es
+  ] refl
+
+module _ (laws : MeaningLaws) (schema : Schema) (list : IsMeantByList schema) (c : Bool) (again : ℕ) where
+  abbrev zs : List ListItem
+  zs = all_items laws schema list c
+
+  abbrev types_meant : List ℕ → Option ExtendedType
+  types_meant = type_of again (folding_order zs) zs
+
+  meant-each : (n : List ℕ) → lookup (by_text n) (valued types_meant schema.types) ≡ types_meant n
+  meant-each n = lookup-valued types_meant n schema.types ∙ by (lookup (by_text n) schema.types) refl
+    where
+      by : (o : Option ExtendedType) → lookup (by_text n) schema.types ≡ o → option_map (unwrap_or (types_meant n)) (lookup (by_text n) schema.types) ≡ types_meant n
+      by None e =
+          ap (option_map (unwrap_or (types_meant n))) e
+          ∙ sym (ap (option_map (λ d. type_from d (parts again (folding_order zs) n d))) (first-about n zs ∙ ap (λ l. first l n)
+          (view-nothing laws schema list c (others laws schema list c) (ends laws schema list c) (quiet laws schema list c) (quiet-implied (written_items laws schema list c)) n e)))
+      by (Some t) e =
+          let there = first-again laws schema list c (others laws schema list c) (ends laws schema list c) (quiet laws schema list c) (quiet-implied (written_items laws schema list c)) n t e in
+          ap (option_map (unwrap_or (types_meant n))) e
+          ∙ ap (λ o. Some (unwrap_or (option_map (λ d. type_from d (parts again (folding_order zs) n d)) o) t)) there
+          ∙ sym (ap (option_map (λ d. type_from d (parts again (folding_order zs) n d))) there)
+
+  abbrev rebuilt : Schema
+  rebuilt = record schema { schema_definition = schema_node again zs; types = valued types_meant schema.types }
+
+  is-meant : AreOf again (folding_order zs) zs rebuilt
+  is-meant = record {
+    definition = refl;
+    types = record {
+      names = map-map (λ (e : NameView × ExtendedType). e.0) (λ e. (e.0, unwrap_or (types_meant e.0.text) e.1)) schema.types
+          ∙ sym (names-again laws schema list c (others laws schema list c) (ends laws schema list c) (quiet laws schema list c) (quiet-implied (written_items laws schema list c)));
+      each = meant-each;
+    };
+    directives = record {
+      names = sym (ap directive_names (directive_list laws schema list c) ∙ same_keys schema list);
+      each = (λ n. sym (ap (λ ds. directive_of ds n) (directive_list laws schema list c) ∙ same_meaning schema list n));
+    };
+  }
+
+  pub rebuilds : (rebuilt : Schema) × MeansSchema again true (written_again c schema) rebuilt
+  rebuilds = (rebuilt, subst (λ l. AreOf again (folding_order l) l rebuilt) (sym (all-listed laws schema list c)) is-meant)

@@ -34,7 +34,7 @@ use Rattle.apollo_component.proofs.FirstOfEachLemmas.{each-first, name_laws}
 use Rattle.apollo_canonical.specs.Sections.{Sections, HasSameComponents}
 use Rattle.apollo_canonical.specs.TypeSections.{node_of, name_of, type_sections, HasEachNameOnce}
 use Rattle.apollo_canonical.proofs.NamesOnce.{IsNamed, all-named}
-use Rattle.apollo_canonical.proofs.Once.{found-permuted}
+use Rattle.apollo_canonical.proofs.Kept.{found-permuted}
 
 -- what `==` compares of components of each sort
 abbrev directives_in : Sections → List Directive

@@ -12,8 +12,8 @@ use Rattle.graphql_ast.specs.declared.definition.Definition.TheVariants as ast
 use Rattle.apollo_built_in.specs.BuiltInTable.{built_in_definitions}
 use Rattle.apollo_component.proofs.Lists.Each.{each-append, each-filter, each-weaken}
 use Rattle.apollo_meaning.specs.Completion.Adoption.{adopted, adopted_by, extended_names, orphans_of, with_adopted}
-use Rattle.apollo_meaning.specs.Completion.ImpliedSchema.{implied_schema, schema_for, adopting_schema, rooted_schema, implicit_roots}
-use Rattle.apollo_meaning.specs.Items.ListItems.{ListItem, Defined, Extended, Other, Added, added, added_item, added_items, item_of, ignorable_if, defined_part, defined_schema, extended_part}
+use Rattle.apollo_meaning.specs.Completion.ImpliedSchema.{implied_schema, schema_for, schema_of_roots, implicit_roots}
+use Rattle.apollo_meaning.specs.Items.ListItems.{ListItem, Defined, Extended, Other, SchemaDefined, Added, added, added_item, added_items, item_of, ignorable_if, defined_part, defined_schema, extended_part}
 use Rattle.apollo_meaning.specs.Items.Named.{first, extensions_of, first_schema, schema_extensions}
 use Rattle.apollo_meaning.specs.Items.Parts.{TypePart, SchemaPart, Root, key_of, roots_in}
 use Rattle.apollo_meaning.specs.Schema.Whole.{whole}
@@ -55,25 +55,16 @@ unmarked-extensions [] a = tt
 unmarked-extensions (Extended p ∷ xs) a = (a.0, unmarked-extensions xs a.1)
 unmarked-extensions (x ∷ xs) a = unmarked-extensions xs a.1
 
--- a schema definition that is implied defines no type
-pub handed-implied : (adopts : Bool) (xs : List ListItem) → AllByRecursion IsHandedIn (implied_schema adopts xs)
-handed-implied adopts xs = by (first_schema xs)
+-- what a list is completed with is nothing or a schema definition
+pub by_implied : (P : List ListItem → Type 0) → P [] → ((s : SchemaPart) → P (SchemaDefined s ∷ [])) → (adopts : Bool) (xs : List ListItem) → P (implied_schema adopts xs)
+by_implied P none one adopts xs = by (first_schema xs) adopts (roots_in (schema_extensions xs)) (implicit_roots xs)
   where
-    adopting : (rs is : List Root) → AllByRecursion IsHandedIn (adopting_schema rs is)
-    adopting [] is = (tt, tt)
-    adopting (r ∷ rs) is = (tt, tt)
-
-    rooted : (is : List Root) → AllByRecursion IsHandedIn (rooted_schema is)
-    rooted [] = tt
-    rooted (i ∷ is) = (tt, tt)
-
-    for : (b : Bool) (rs is : List Root) → AllByRecursion IsHandedIn (schema_for b rs is)
-    for true rs is = adopting rs is
-    for false rs is = rooted is
-
-    by : (o : Option SchemaPart) → AllByRecursion IsHandedIn (option_map_or (λ _. []) o (schema_for adopts (roots_in (schema_extensions xs)) (implicit_roots xs)))
-    by (Some s) = tt
-    by None = for adopts (roots_in (schema_extensions xs)) (implicit_roots xs)
+    by : (o : Option SchemaPart) (b : Bool) (rs is : List Root) → P (option_map_or (λ _. []) o (schema_for b rs is))
+    by (Some s) b rs is = none
+    by None true [] is = one (schema_of_roots is)
+    by None true (r ∷ rs) is = one (schema_of_roots [])
+    by None false rs [] = none
+    by None false rs (i ∷ is) = one (schema_of_roots (i ∷ is))
 
 module _ (adopts : Bool) (more : List Added) where
   abbrev pub items : List ListItem
@@ -126,7 +117,7 @@ module _ (adopts : Bool) (more : List Added) where
     pub handed-later : AllByRecursion IsHandedIn later_items
     handed-later =
         each-append IsHandedIn (added_items more ++ adopted_items) (implied_schema adopts (with_adopted adopts items))
-        (each-append IsHandedIn (added_items more) adopted_items (handed-items more handed) (by adopts)) (handed-implied adopts (with_adopted adopts items))
+        (each-append IsHandedIn (added_items more) adopted_items (handed-items more handed) (by adopts)) (by_implied (AllByRecursion IsHandedIn) tt (λ s. (tt, tt)) adopts (with_adopted adopts items))
       where
         by : (b : Bool) → AllByRecursion IsHandedIn (cond b (adopted items) [])
         by true = handed-adopted

@@ -34,7 +34,8 @@ use Rattle.apollo_canonical.specs.Sections.{with_origins}
 use Rattle.apollo_canonical.specs.TypeSections.{placed}
 use Rattle.apollo_canonical.proofs.DirectivesInOrder.{has_none}
 use Rattle.apollo_canonical.proofs.SectionLemmas.{definition-alone, has_some, of-alone, picked}
-use Rattle.apollo_canonical.proofs.Rebuild.OneSchema.{IsSchemaAgain, directives-in_parts, extension_written, made_schema, numbered_directives, only_directives, root_under, written_parts_of}
+use Rattle.apollo_canonical.proofs.Rebuild.Numbers.{directives_alone, numbered_parts}
+use Rattle.apollo_canonical.proofs.Rebuild.OneSchema.{IsSchemaAgain, directives-in_parts, extension_written, made_schema, root_under, written_parts_of}
 use Rattle.apollo_canonical.proofs.Rebuild.SchemaSections.{entries, of_schema-origin, picked-roots}
 
 -- whether a root is of the definition
@@ -102,7 +103,7 @@ no-own d h = has_none (written_parts_of d).definition.roots (sym (own-said d) �
 -- where a definition has no directive of its own, none is written of it
 pub no-directives : (head : SchemaPart) (es : List (ℕ × SchemaPart)) → head.directives ≡ [] → (written_parts_of (made_schema head es)).definition.directives.0 ≡ []
 no-directives head es e =
-    let p : PartsByOrigin = record { definition = only_directives head; extensions = map numbered_directives es } in
+    let p : PartsByOrigin = record { definition = directives_alone head.directives; extensions = map (numbered_parts (λ (s : SchemaPart). s.location) (λ s. directives_alone s.directives)) es } in
     ap (λ q. q.directives.0) (of_schema-origin (made_schema head es) origins.Definition)
     ∙ ap (picked origins.Definition) (directives-in_parts head es)
     ∙ of-alone origins.Definition (λ q. q.directives.0) (with_origins p) (origins.Definition, p.definition) (definition-alone p) ∙ e

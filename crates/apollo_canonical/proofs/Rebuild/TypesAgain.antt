@@ -35,11 +35,10 @@ use Rattle.apollo_canonical.proofs.Rebuild.About.{Name, about, is_about, first-a
 use Rattle.apollo_canonical.proofs.Rebuild.BuiltIns.{built_ins, built_in_names, about-built_ins, first-built_in}
 use Rattle.apollo_canonical.proofs.Rebuild.Held.{held_items, extension_items, about-types, defines-types}
 use Rattle.apollo_canonical.proofs.Rebuild.Meant.{first-unmarked, handed, later_items, whole-split}
-use Rattle.apollo_canonical.proofs.Rebuild.Names.{defined_names, defined_names-append, names-of_first, among-defined, first-key}
 use Rattle.apollo_canonical.proofs.Rebuild.Numbers.{numbers_of, numbers-rise, rising-distinct}
 use Rattle.apollo_canonical.proofs.Rebuild.OneType.{IsMade, IsAgain, made, rebuilt}
 use Rattle.apollo_canonical.proofs.Rebuild.OwnDefinition.{definition-own}
-use Rattle.apollo_canonical.proofs.Rebuild.Tables.{each-entry, values-by_keys}
+use Rattle.apollo_canonical.proofs.Rebuild.Tables.{each-entry, values-by_keys, defined_names, defined_names-append, names-of_first, among-defined, first-key}
 use Rattle.apollo_canonical.proofs.Rebuild.TypeFaults.{Fits, fits-of_kind}
 use Rattle.apollo_canonical.proofs.Rebuild.WrittenParts.{written, definition_part, extension_of, kind-body}
 

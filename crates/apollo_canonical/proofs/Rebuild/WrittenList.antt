@@ -20,11 +20,11 @@ use Rattle.apollo_types.specs.declared.extended_type.ExtendedType.{ExtendedType}
 use Rattle.apollo_types.specs.declared.extended_type.ExtendedType.TheVariants.{Scalar}
 use Rattle.apollo_types.specs.declared.schema_definition.SchemaDefinition.{SchemaDefinition}
 use Rattle.apollo_meaning.specs.Completion.Adoption.{adopted, adopted_by, extended_names, orphans_of, with_adopted}
-use Rattle.apollo_meaning.specs.Completion.ImpliedSchema.{implicit_roots, implied_schema, is_object_name, schema_for}
+use Rattle.apollo_meaning.specs.Completion.ImpliedSchema.{implicit_roots, implied_schema, is_object_name}
 use Rattle.apollo_meaning.specs.Directives.{directive_definitions}
 use Rattle.apollo_meaning.specs.Items.ListItems.{ListItem}
-use Rattle.apollo_meaning.specs.Items.Named.{extensions_of, first, first_schema, schema_extensions}
-use Rattle.apollo_meaning.specs.Items.Parts.{Root, SchemaPart, TypePart, kind_of, roots_in, same_kind}
+use Rattle.apollo_meaning.specs.Items.Named.{extensions_of, first}
+use Rattle.apollo_meaning.specs.Items.Parts.{Root, TypePart, kind_of, same_kind}
 use Rattle.apollo_meaning.specs.Order.Places.{folding_order}
 use Rattle.apollo_meaning.specs.Schema.Whole.{whole}
 use Rattle.apollo_meaning.specs.Types.Meaning.{AreTypesOf}
@@ -34,7 +34,7 @@ use Rattle.apollo_canonical.specs.WrittenAgain.{IsMeantByList, with_built_ins}
 use Rattle.apollo_canonical.proofs.Rebuild.About.{Name, about, extensions-about, first-about}
 use Rattle.apollo_canonical.proofs.Rebuild.DirectivesAgain.{written_directives}
 use Rattle.apollo_canonical.proofs.Rebuild.LeftOut.{roots_where}
-use Rattle.apollo_canonical.proofs.Rebuild.Meant.{items}
+use Rattle.apollo_canonical.proofs.Rebuild.Meant.{by_implied, items}
 use Rattle.apollo_canonical.proofs.Rebuild.SchemaMeant.{schema_node}
 use Rattle.apollo_canonical.proofs.Rebuild.SchemaWritten.{directive_items, directives-quiet, schema-quiet, schema_items, written_list}
 use Rattle.apollo_canonical.proofs.Rebuild.TypesAgain.{IsQuiet, again_items, first-again, meant, unmeant, view-nothing}
@@ -50,19 +50,11 @@ abbrev pub object_at : List (NameView × ExtendedType) → OperationType → Boo
 object_at types op = is_some_object (lookup (by_text (default_type_text op)) types)
 
 -- a schema definition that is implied is quiet and defines no directive
-implied : (ys : List ListItem) → AllByRecursion IsQuiet (implied_schema true ys) × (directive_definitions (implied_schema true ys) ≡ [])
-implied ys = by (first_schema ys) (roots_in (schema_extensions ys))
-  where
-    by : (o : Option SchemaPart) (rs : List Root) → AllByRecursion IsQuiet (option_map_or (λ _. []) o (schema_for true rs (implicit_roots ys))) × (directive_definitions (option_map_or (λ _. []) o (schema_for true rs (implicit_roots ys))) ≡ [])
-    by (Some s) rs = (tt, refl)
-    by None [] = ((tt, tt), refl)
-    by None (r ∷ rs) = ((tt, tt), refl)
-
 pub quiet-implied : (ys : List ListItem) → AllByRecursion IsQuiet (implied_schema true ys)
-quiet-implied ys = (implied ys).0
+quiet-implied = by_implied (AllByRecursion IsQuiet) tt (λ s. (tt, tt)) true
 
 pub implied-directives : (ys : List ListItem) → directive_definitions (implied_schema true ys) ≡ []
-implied-directives ys = (implied ys).1
+implied-directives = by_implied (λ l. directive_definitions l ≡ []) refl (λ s. refl) true
 
 no-orphans : (o : Option TypePart) (ps : List TypePart) → ps ≡ [] → option_map_or (λ _. []) o ps ≡ []
 no-orphans None ps e = e
@@ -131,17 +123,7 @@ module _ (laws : MeaningLaws) (schema : Schema) (list : IsMeantByList schema) (c
   object-listed n = by (lookup (by_text n) types) refl
     where
       same_first : first xs n ≡ first W n
-      same_first = laws.joined W (implied_schema adopts W) n ∙ ap (λ l. option_or (first W n) l) (nothing (first_schema W)) ∙ or-none (first W n)
-        where
-          for : (b : Bool) (rs is : List Root) → first (schema_for b rs is) n ≡ None
-          for true [] is = refl
-          for true (r ∷ rs) is = refl
-          for false rs [] = refl
-          for false rs (i ∷ is) = refl
-
-          nothing : (o : Option SchemaPart) → first (option_map_or (λ _. []) o (schema_for adopts (roots_in (schema_extensions W)) (implicit_roots W))) n ≡ None
-          nothing (Some s) = refl
-          nothing None = for adopts (roots_in (schema_extensions W)) (implicit_roots W)
+      same_first = laws.joined W (implied_schema adopts W) n ∙ ap (λ o. option_or (first W n) o) (by_implied (λ l. first l n ≡ None) refl (λ s. refl) adopts W) ∙ or-none (first W n)
 
       by : (o : Option ExtendedType) → lookup (by_text n) types ≡ o → is_object_name W n ≡ is_some_object (lookup (by_text n) types)
       by None e = ap (λ o. option_map_or (λ p. same_kind kinds.Object (kind_of p)) o false) (sym same_first ∙ unmeant start xs types are n e) ∙ sym (ap is_some_object e)
