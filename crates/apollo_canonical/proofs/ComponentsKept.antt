@@ -1,5 +1,6 @@
 -- The parts that are written out have all components of the sections.
 use Rattle.std.proofs.Common.{map-id, ◌≡◌, Bool, true, false, ◌||◌, List, [], ◌∷◌, ◌++◌, map, filter, refl, sym, ap, subst, ◌∙◌, true≢false}
+use Rattle.std.proofs.lemmas.Bool.{or_right}
 use Rattle.std.proofs.lemmas.List.Folds.{flat_map-map}
 use Rattle.std.proofs.lemmas.List.Sorted.{IsPermutation-map}
 use Rattle.std.proofs.lemmas.Simd.{map-map}
@@ -19,8 +20,7 @@ use Rattle.apollo_component.proofs.FirstOfEachLemmas.{list_any-first_of_each}
 use Rattle.apollo_component.proofs.Lists.Each.{each-weaken}
 use Rattle.apollo_component.proofs.Tabled.{first_of_each-distinct}
 use Rattle.apollo_canonical.specs.Sections.{Sections, HasSameComponents, as_parts, in_sections, with_origins, joined, sections_of}
-use Rattle.apollo_canonical.proofs.Kept.{each-from_map}
-use Rattle.apollo_canonical.proofs.Partition.{groups, map-flat_map}
+use Rattle.apollo_canonical.proofs.Kept.{each-from_map, each-map, each-of, each-split, map-flat_map, groups}
 use Rattle.apollo_canonical.proofs.SectionLemmas.{same_id-equiv, ids_in, picked, of_origin-sections}
 
 same_origin-equiv : IsEquivalence same_origin
@@ -38,10 +38,9 @@ same_origin-equiv = record { refl = itself; symm = both-ways; congr = alike }
 
     alike : (a b c : ComponentOrigin) → same_origin a b ≡ true → same_origin a c ≡ same_origin b c
     alike Definition Definition c e = refl
-    alike Definition (Extension b) c e = absurd (true≢false (sym e))
-    alike (Extension a) Definition c e = absurd (true≢false (sym e))
     alike (Extension a) (Extension b) Definition e = refl
     alike (Extension a) (Extension b) (Extension c) e = same_id-equiv.congr a b c e
+    alike a b c e = absurd (true≢false (sym e))
 
 -- whether an origin is the definition or among these identities
 abbrev pub is_among : List ExtensionId → ComponentOrigin → Bool
@@ -51,11 +50,7 @@ is_among ids (Extension e) = list_any (same_id e) ids
 is_among-more : (ids : List ExtensionId) (a b : ComponentOrigin) → is_among ids b ≡ true → is_among (cons_option (id_of a) ids) b ≡ true
 is_among-more ids a Definition h = refl
 is_among-more ids Definition (Extension e) h = h
-is_among-more ids (Extension d) (Extension e) h = ap (λ c. same_id e d || c) h ∙ or-true (same_id e d)
-  where
-    or-true : (b : Bool) → (b || true) ≡ true
-    or-true true = refl
-    or-true false = refl
+is_among-more ids (Extension d) (Extension e) h = or_right (same_id e d) (list_any (same_id e) ids) h
 
 pub each-among : {A : Type 0} (cs : List (ComponentOrigin × A)) → AllByRecursion (λ c. is_among (ids_in cs) c.0 ≡ true) cs
 each-among [] = tt
@@ -68,23 +63,11 @@ each-among (c ∷ cs) = (here c.0, each-weaken (λ d. is_among (ids_in cs) d.0 �
 distinct-origins : (ids : List ExtensionId) → IsDistinct same_id ids → IsDistinct same_origin (map (λ e. Extension e) ids)
 unfolding IsDistinct
 distinct-origins [] d = tt
-distinct-origins (e ∷ ids) d = (apart ids d.0, distinct-origins ids d.1)
-  where
-    apart : (ks : List ExtensionId) → AllByRecursion (λ k. same_id e k ≡ false) ks → AllByRecursion (λ o. same_origin (Extension e) o ≡ false) (map (λ k. Extension k) ks)
-    apart [] a = tt
-    apart (k ∷ ks) a = (a.0, apart ks a.1)
+distinct-origins (e ∷ ids) d = (each-map (λ o. same_origin (Extension e) o ≡ false) (λ k. Extension k) ids d.0, distinct-origins ids d.1)
 
 distinct-with_definition : (ids : List ExtensionId) → IsDistinct same_id ids → IsDistinct same_origin (Definition ∷ map (λ e. Extension e) ids)
 unfolding IsDistinct
-distinct-with_definition ids d = (apart ids, distinct-origins ids d)
-  where
-    apart : (ks : List ExtensionId) → AllByRecursion (λ o. same_origin Definition o ≡ false) (map (λ k. Extension k) ks)
-    apart [] = tt
-    apart (k ∷ ks) = (refl, apart ks)
-
-each-split : {X : Type 0} (P : X → Type 0) (xs ys : List X) → AllByRecursion P (xs ++ ys) → AllByRecursion P xs × AllByRecursion P ys
-each-split P [] ys a = (tt, a)
-each-split P (x ∷ xs) ys a = let rest : AllByRecursion P xs × AllByRecursion P ys = each-split P xs ys a.1 in ((a.0, rest.0), rest.1)
+distinct-with_definition ids d = (each-map (λ o. same_origin Definition o ≡ false) (λ k. Extension k) ids (each-of (λ k. false ≡ false) (λ k. refl) ids), distinct-origins ids d)
 
 -- what parts have of one sort, without origins
 pub joined-values : {A : Type 0} (sort : DefinitionParts → List A) (gs : List (ComponentOrigin × DefinitionParts)) → map (λ x. x.1) (joined sort gs) ≡ flat_map (λ g. sort g.1) gs
@@ -139,29 +122,26 @@ module _ (s : Sections) (p : PartsByOrigin) (same_definition : p.definition ≡ 
   all_there : AllByRecursion Among (in_sections s)
   all_there = each-weaken (λ c. is_among (ids_in (in_sections s)) c.0 ≡ true) (λ c. list_any (λ a. same_origin a c.0) origins ≡ true) (λ c h. has_origin c.0 h) (in_sections s) (each-among (in_sections s))
 
+  -- section by section
+  sections-there : HasOrigins s.directives × HasOrigins s.names × HasOrigins s.fields × HasOrigins s.values × HasOrigins s.input_fields × HasOrigins s.roots
+  sections-there =
+      let a = each-split Among (as_parts parts.Directive s.directives) _ all_there in
+      let b = each-split Among (as_parts parts.Name s.names) _ a.1 in
+      let c = each-split Among (as_parts parts.Field s.fields) _ b.1 in
+      let d = each-split Among (as_parts parts.EnumValue s.values) _ c.1 in
+      let e = each-split Among (as_parts parts.InputField s.input_fields) _ d.1 in
+      let f = each-split Among (as_parts parts.Root s.roots) _ e.1 in
+      (section parts.Directive s.directives a.0, section parts.Name s.names b.0, section parts.Field s.fields c.0, section parts.EnumValue s.values d.0, section parts.InputField s.input_fields e.0, section parts.Root s.roots f.0)
+
   pub roots-there : HasOrigins s.roots
-  roots-there =
-      let a1 = each-split Among (as_parts parts.Directive s.directives) _ all_there in
-      let a2 = each-split Among (as_parts parts.Name s.names) _ a1.1 in
-      let a3 = each-split Among (as_parts parts.Field s.fields) _ a2.1 in
-      let a4 = each-split Among (as_parts parts.EnumValue s.values) _ a3.1 in
-      let a5 = each-split Among (as_parts parts.InputField s.input_fields) _ a4.1 in
-      let a6 = each-split Among (as_parts parts.Root s.roots) _ a5.1 in
-      section parts.Root s.roots a6.0
+  roots-there = sections-there.5
 
   pub written-keeps : HasSameComponents s (sections_of p)
-  written-keeps =
-      let a1 = each-split Among (as_parts parts.Directive s.directives) _ all_there in
-      let a2 = each-split Among (as_parts parts.Name s.names) _ a1.1 in
-      let a3 = each-split Among (as_parts parts.Field s.fields) _ a2.1 in
-      let a4 = each-split Among (as_parts parts.EnumValue s.values) _ a3.1 in
-      let a5 = each-split Among (as_parts parts.InputField s.input_fields) _ a4.1 in
-      let a6 = each-split Among (as_parts parts.Root s.roots) _ a5.1 in
-      record {
-        directives = kept (λ d. d.directives.0) s.directives (λ o. ap (λ d. d.directives.0) (of_origin-sections o s)) (section parts.Directive s.directives a1.0);
-        names = kept (λ d. d.names) s.names (λ o. ap (λ d. d.names) (of_origin-sections o s)) (section parts.Name s.names a2.0);
-        fields = kept (λ d. d.fields) s.fields (λ o. ap (λ d. d.fields) (of_origin-sections o s)) (section parts.Field s.fields a3.0);
-        values = kept (λ d. d.values) s.values (λ o. ap (λ d. d.values) (of_origin-sections o s)) (section parts.EnumValue s.values a4.0);
-        input_fields = kept (λ d. d.input_fields) s.input_fields (λ o. ap (λ d. d.input_fields) (of_origin-sections o s)) (section parts.InputField s.input_fields a5.0);
-        roots = kept (λ d. d.roots) s.roots (λ o. ap (λ d. d.roots) (of_origin-sections o s)) (section parts.Root s.roots a6.0);
-      }
+  written-keeps = record {
+    directives = kept (λ d. d.directives.0) s.directives (λ o. ap (λ d. d.directives.0) (of_origin-sections o s)) sections-there.0;
+    names = kept (λ d. d.names) s.names (λ o. ap (λ d. d.names) (of_origin-sections o s)) sections-there.1;
+    fields = kept (λ d. d.fields) s.fields (λ o. ap (λ d. d.fields) (of_origin-sections o s)) sections-there.2;
+    values = kept (λ d. d.values) s.values (λ o. ap (λ d. d.values) (of_origin-sections o s)) sections-there.3;
+    input_fields = kept (λ d. d.input_fields) s.input_fields (λ o. ap (λ d. d.input_fields) (of_origin-sections o s)) sections-there.4;
+    roots = kept (λ d. d.roots) s.roots (λ o. ap (λ d. d.roots) (of_origin-sections o s)) sections-there.5;
+  }

@@ -1,5 +1,6 @@
 -- Directives that stand in the order of the definition and its extensions are written in that order.
-use Rattle.std.proofs.Common.{◌≡◌, Bool, true, false, cond, not, List, [], ◌∷◌, ◌++◌, map, filter, refl, sym, ap, ◌∙◌, true≢false}
+use Rattle.std.proofs.Common.{◌≡◌, Bool, true, false, List, [], ◌∷◌, ◌++◌, map, filter, refl, sym, ap, ◌∙◌, true≢false, arith}
+use Rattle.std.proofs.lemmas.Bool.{not-true}
 use Rattle.std.proofs.lemmas.List.{append-nil}
 use Rattle.std.proofs.lemmas.List.Concat.{flat_map-append}
 use Rattle.std.proofs.lemmas.List.Folds.{flat_map-map}
@@ -19,8 +20,8 @@ use Rattle.apollo_canonical.specs.Sections.{Sections, in_sections, with_origins,
 use Rattle.apollo_canonical.proofs.ComponentsKept.{joined-values, written-values}
 use Rattle.apollo_canonical.proofs.FirstAppearance.{new_to_these, first_of_each-append}
 use Rattle.apollo_canonical.proofs.Kept.{passes}
-use Rattle.apollo_canonical.proofs.Regrouped.{own-group, marked, first-shown}
-use Rattle.apollo_canonical.proofs.SectionLemmas.{same_id-equiv, ids_in, ids_in-sections, picked, picked-joined, of_origin-sections, definition-alone, extension-alone, shown-joined, marks, has_some, has_some-picked}
+use Rattle.apollo_canonical.proofs.Regrouped.{marked, first-shown}
+use Rattle.apollo_canonical.proofs.SectionLemmas.{same_id-equiv, ids_in, ids_in-sections, picked, of-alone, of_origin-sections, definition-alone, each-alone, extension-alone, shown-joined, marks, has_some, has_some-picked}
 
 flat_map-nothing : {X Y : Type 0} (f : X → List Y) (xs : List X) → AllByRecursion (λ x. f x ≡ []) xs → flat_map f xs ≡ []
 flat_map-nothing f [] a = refl
@@ -29,11 +30,7 @@ flat_map-nothing f (x ∷ xs) a = rw (a.0) (flat_map-nothing f xs a.1)
 -- what a filter leaves out may be empty
 flat_map-filter : {X Y : Type 0} (f : X → List Y) (p : X → Bool) → ((x : X) → p x ≡ false → f x ≡ []) → (xs : List X) → flat_map f (filter p xs) ≡ flat_map f xs
 flat_map-filter f p out [] = refl
-flat_map-filter f p out (x ∷ xs) = by (p x) refl (flat_map-filter f p out xs)
-  where
-    by : (b : Bool) → p x ≡ b → flat_map f (filter p xs) ≡ flat_map f xs → flat_map f (cond b (x ∷ filter p xs) (filter p xs)) ≡ f x ++ flat_map f xs
-    by true e rest = ap (λ l. f x ++ l) rest
-    by false e rest = rest ∙ sym (ap (λ l. l ++ flat_map f xs) (out x e))
+flat_map-filter f p out (x ∷ xs) = grind (arith, out x, flat_map-filter f p out xs)
 
 pub has_none : {A : Type 0} (xs : List A) → has_some xs ≡ false → xs ≡ []
 has_none [] h = refl
@@ -59,8 +56,7 @@ module _ (q : PartsByOrigin) (distinct : IsDistinct same_id (map (λ e. e.0) q.e
 
   of_each : AllByRecursion (λ g. picked (Extension g.0) directives ≡ of_parts g.1) q.extensions
   of_each = each-weaken (λ g. filter (λ h. same_id g.0 h.0) q.extensions ≡ g ∷ []) (λ g. picked (Extension g.0) directives ≡ of_parts g.1)
-      (λ g alone. picked-joined (Extension g.0) of_parts (with_origins q) ∙ ap (flat_map (λ g. of_parts g.1)) (extension-alone q g alone) ∙ append-nil (of_parts g.1))
-      q.extensions (own-group same_id same_id-equiv (λ e. e.0) q.extensions distinct)
+      (λ g alone. of-alone (Extension g.0) of_parts (with_origins q) (Extension g.0, g.1) (extension-alone q g alone)) q.extensions (each-alone q distinct)
 
   -- those with directives have all of them
   of_first : flat_map (λ e. picked (Extension e) directives) (map (λ e. e.0) (filter has_directives q.extensions)) ≡ flat_map (λ g. of_parts g.1) q.extensions
@@ -73,12 +69,8 @@ module _ (q : PartsByOrigin) (distinct : IsDistinct same_id (map (λ e. e.0) q.e
   -- and the others have none
   of_later : (later : List ExtensionId) → flat_map (λ e. picked (Extension e) directives) (filter (new_to_these same_id (ids_in directives)) later) ≡ []
   of_later later = flat_map-nothing (λ e. picked (Extension e) directives) (filter (new_to_these same_id (ids_in directives)) later)
-      (each-weaken (λ e. new_to_these same_id (ids_in directives) e ≡ true) (λ e. picked (Extension e) directives ≡ []) (λ e new. has_none (picked (Extension e) directives) (has_some-picked e directives ∙ absent (list_any (same_id e) (ids_in directives)) new))
+      (each-weaken (λ e. new_to_these same_id (ids_in directives) e ≡ true) (λ e. picked (Extension e) directives ≡ []) (λ e new. has_none (picked (Extension e) directives) (has_some-picked e directives ∙ not-true (list_any (same_id e) (ids_in directives)) new))
       (filter (new_to_these same_id (ids_in directives)) later) (passes (new_to_these same_id (ids_in directives)) later))
-    where
-      absent : (b : Bool) → not b ≡ true → b ≡ false
-      absent false h = refl
-      absent true h = sym h
 
   all_directives : (later : List ExtensionId) → picked Definition directives ++ flat_map (λ e. picked (Extension e) directives) (first_of_each same_id (ids_in directives ++ later)) ≡ map (λ d. d.1) directives
   all_directives later =
@@ -87,7 +79,7 @@ module _ (q : PartsByOrigin) (distinct : IsDistinct same_id (map (λ e. e.0) q.e
       ∙ (λ i. of_first i ++ of_later (first_of_each same_id later) i) ∙ append-nil (flat_map (λ g. of_parts g.1) q.extensions)
       ∙ sym (flat_map-map (λ (g : ComponentOrigin × DefinitionParts). of_parts g.1) (λ e. (Extension e.0, e.1)) q.extensions))
       ∙ ap (λ l. l ++ flat_map (λ (g : ComponentOrigin × DefinitionParts). of_parts g.1) (map (λ e. (Extension e.0, e.1)) q.extensions))
-      (picked-joined Definition of_parts (with_origins q) ∙ ap (flat_map (λ g. of_parts g.1)) (definition-alone q) ∙ append-nil (of_parts q.definition))
+      (of-alone Definition of_parts (with_origins q) (Definition, q.definition) (definition-alone q))
       ∙ sym (joined-values of_parts (with_origins q))
 
 pub directives-in_order : (s : Sections) (q p : PartsByOrigin) → IsDistinct same_id (map (λ e. e.0) q.extensions) → s.directives ≡ (sections_of q).directives

@@ -1,18 +1,19 @@
 -- The first of each among joined lists, and lists in the order in which tests take their elements.
-use Rattle.std.proofs.Common.{◌≡◌, Bool, true, false, cond, not, ◌||◌, ◌&&◌, List, [], ◌∷◌, ◌++◌, map, filter, refl, sym, ap, ◌∙◌, true≢false, arith}
+use Rattle.std.proofs.Common.{◌≡◌, Bool, true, false, cond, not, ◌||◌, ◌&&◌, List, [], ◌∷◌, ◌++◌, map, map-id, filter, refl, sym, ap, subst, ◌∙◌, arith}
+use Rattle.std.proofs.lemmas.Bool.{not-true, or_right}
 use Rattle.std.proofs.lemmas.List.Elements.{filter-append}
 use Rattle.std.proofs.lemmas.Simd.{map-map}
 use Rattle.std.specs.Cmp.{IsEquivalence}
-use Rattle.std.specs.List.{AllByRecursion, flat_map, list_any}
+use Rattle.std.specs.List.{AllByRecursion, IsDistinct, flat_map, list_any}
 use Rattle.apollo_component.specs.FirstOfEach.{first_of_each}
 use Rattle.apollo_component.proofs.Lists.Each.{each-filter, each-weaken, filter-fails, filter-map}
-use Rattle.apollo_canonical.proofs.Kept.{filter-filter, filter-all, each-of, passes}
+use Rattle.apollo_component.proofs.Tabled.{first_of_each-distinct}
+use Rattle.apollo_canonical.proofs.Kept.{filter-filter, filter-all, each-of, passes, all-first}
 
 -- whether no element that fails comes before one that passes
 abbrev pub leads : List Bool → Bool
 leads [] = true
-leads (true ∷ bs) = leads bs
-leads (false ∷ bs) = not (list_any (λ b. b) bs)
+leads (b ∷ bs) = cond b (leads bs) (not (list_any (λ b. b) bs))
 
 abbrev pub is_nothing : {X : Type 0} → List X → Bool
 is_nothing [] = true
@@ -27,12 +28,9 @@ none-pass : {X : Type 0} (t : X → Bool) (xs : List X) → AllByRecursion (λ x
 none-pass t [] a = refl
 none-pass t (x ∷ xs) a = rw (a.0) (none-pass t xs a.1)
 
-leads-none : {X : Type 0} (t : X → Bool) (xs : List X) → AllByRecursion (λ x. t x ≡ false) xs → leads (map t xs) ≡ true
-leads-none t [] a = refl
-leads-none t (x ∷ xs) a = rw (a.0) (ap not (none-pass t xs a.1))
-
 leads-append : {X : Type 0} (t : X → Bool) (xs ys : List X) → AllByRecursion (λ x. t x ≡ true) xs → AllByRecursion (λ x. t x ≡ false) ys → leads (map t (xs ++ ys)) ≡ true
-leads-append t [] ys a b = leads-none t ys b
+leads-append t [] [] a b = refl
+leads-append t [] (y ∷ ys) a b = rw (b.0) (ap not (none-pass t ys b.1))
 leads-append t (x ∷ xs) ys a b = rw (a.0) (leads-append t xs ys a.1 b)
 
 -- the order is one of what the tests see
@@ -44,23 +42,18 @@ in_order-map f (t ∷ ts) xs =
     ∙ ap (λ b. leads (map (λ x. t (f x)) xs) && b) (in_order-map f ts (filter (λ x. not (t (f x))) xs))
 
 -- those that pass, then the others, are all in order
-pub leads-filter : {X : Type 0} (t : X → Bool) (xs : List X) → leads (map t xs) ≡ true → filter t xs ++ filter (λ x. not (t x)) xs ≡ xs
-leads-filter t [] h = refl
-leads-filter t (x ∷ xs) h = by (t x) h (leads-filter t xs)
-  where
-    none : (ys : List _) → not (list_any (λ b. b) (map t ys)) ≡ true → (filter t ys ≡ []) × (filter (λ y. not (t y)) ys ≡ ys)
-    none [] h = (refl, refl)
-    none (y ∷ ys) h = at (t y) h (none ys)
-      where
-        at : (b : Bool) → not (b || list_any (λ b. b) (map t ys)) ≡ true → (not (list_any (λ b. b) (map t ys)) ≡ true → (filter t ys ≡ []) × (filter (λ y. not (t y)) ys ≡ ys))
-            → (cond b (y ∷ filter t ys) (filter t ys) ≡ []) × (cond (not b) (y ∷ filter (λ y. not (t y)) ys) (filter (λ y. not (t y)) ys) ≡ y ∷ ys)
-        at true h rest = absurd (true≢false (sym h))
-        at false h rest = ((rest h).0, ap (λ l. y ∷ l) (rest h).1)
+module _ {X : Type 0} (t : X → Bool) where
+  none-taken : (xs : List X) → list_any (λ b. b) (map t xs) ≡ false → filter t xs ≡ []
+  none-taken [] h = refl
+  none-taken (x ∷ xs) h = grind (arith, none-taken xs)
 
-    by : (b : Bool) → leads (b ∷ map t xs) ≡ true → (leads (map t xs) ≡ true → filter t xs ++ filter (λ y. not (t y)) xs ≡ xs)
-        → cond b (x ∷ filter t xs) (filter t xs) ++ cond (not b) (x ∷ filter (λ y. not (t y)) xs) (filter (λ y. not (t y)) xs) ≡ x ∷ xs
-    by true h rest = ap (λ l. x ∷ l) (rest h)
-    by false h rest = (λ i. (none xs h).0 i ++ x ∷ (none xs h).1 i)
+  all-left : (xs : List X) → list_any (λ b. b) (map t xs) ≡ false → filter (λ x. not (t x)) xs ≡ xs
+  all-left [] h = refl
+  all-left (x ∷ xs) h = grind (arith, all-left xs)
+
+  pub leads-filter : (xs : List X) → leads (map t xs) ≡ true → filter t xs ++ filter (λ x. not (t x)) xs ≡ xs
+  leads-filter [] h = refl
+  leads-filter (x ∷ xs) h = grind (arith, leads-filter xs, none-taken xs, all-left xs)
 
 -- whether it is the same as none of these
 abbrev pub new_to_these : {X : Type 0} → (X → X → Bool) → List X → X → Bool
@@ -87,12 +80,7 @@ module _ {X : Type 0} (same : X → X → Bool) (laws : IsEquivalence same) wher
   module _ (p : X → Bool) (respects : (a b : X) → same a b ≡ true → p a ≡ p b) where
     others : (x : X) → p x ≡ false → (ys : List X) → filter p (filter (λ y. not (same x y)) ys) ≡ filter p ys
     others x fails [] = refl
-    others x fails (y ∷ ys) = by (same x y) refl (others x fails ys)
-      where
-        by : (b : Bool) → same x y ≡ b → filter p (filter (λ y. not (same x y)) ys) ≡ filter p ys
-            → filter p (cond (not b) (y ∷ filter (λ y. not (same x y)) ys) (filter (λ y. not (same x y)) ys)) ≡ filter p (y ∷ ys)
-        by true e rest = rest ∙ sym (ap (λ c. cond c (y ∷ filter p ys) (filter p ys)) (sym (respects x y e) ∙ fails))
-        by false e rest = ap (λ l. cond (p y) (y ∷ l) l) rest
+    others x fails (y ∷ ys) = grind (arith, respects x y, others x fails ys)
 
     swapped : (q : X → Bool) (ys : List X) → filter p (filter q ys) ≡ filter q (filter p ys)
     swapped q [] = refl
@@ -101,26 +89,38 @@ module _ {X : Type 0} (same : X → X → Bool) (laws : IsEquivalence same) wher
     -- a test that doesn't tell apart what is the same
     pub first_of_each-filter : (xs : List X) → filter p (first_of_each same xs) ≡ first_of_each same (filter p xs)
     first_of_each-filter [] = refl
-    first_of_each-filter (x ∷ xs) = by (p x) refl (first_of_each-filter xs)
-      where
-        by : (b : Bool) → p x ≡ b → filter p (first_of_each same xs) ≡ first_of_each same (filter p xs)
-            → cond b (x ∷ filter p (filter (λ y. not (same x y)) (first_of_each same xs))) (filter p (filter (λ y. not (same x y)) (first_of_each same xs)))
-            ≡ first_of_each same (cond b (x ∷ filter p xs) (filter p xs))
-        by true e rest = ap (λ l. x ∷ l) (swapped (λ y. not (same x y)) (first_of_each same xs) ∙ ap (filter (λ y. not (same x y))) rest)
-        by false e rest = others x e (first_of_each same xs) ∙ rest
+    first_of_each-filter (x ∷ xs) = grind (arith, swapped (λ y. not (same x y)) (first_of_each same xs), others x, first_of_each-filter xs)
 
   -- each of the first is there
-  pub first-there : (xs : List X) → AllByRecursion (λ x. list_any (same x) xs ≡ true) (first_of_each same xs)
+  first-there : (xs : List X) → AllByRecursion (λ x. list_any (same x) xs ≡ true) (first_of_each same xs)
   first-there [] = tt
   first-there (x ∷ xs) = (
     ap (λ b. b || list_any (same x) xs) (laws.refl x),
-    each-weaken (λ y. (list_any (same y) xs ≡ true) × (not (same x y) ≡ true)) (λ y. list_any (same y) (x ∷ xs) ≡ true) (λ y h. ap (λ b. same y x || b) h.0 ∙ or-true (same y x)) (filter (λ y. not (same x y)) (first_of_each same xs))
+    each-weaken (λ y. (list_any (same y) xs ≡ true) × (not (same x y) ≡ true)) (λ y. list_any (same y) (x ∷ xs) ≡ true) (λ y h. or_right (same y x) (list_any (same y) xs) h.0) (filter (λ y. not (same x y)) (first_of_each same xs))
         (each-filter (λ y. list_any (same y) xs ≡ true) (λ y. not (same x y)) (first_of_each same xs) (first-there xs)),
   )
-    where
-      or-true : (b : Bool) → (b || true) ≡ true
-      or-true true = refl
-      or-true false = refl
+
+  -- what leaves the same new things after these, in order, leaves the same
+  module _ (known more : List X) where
+    abbrev new : X → Bool
+    new = new_to known
+
+    -- what is new in the first of each
+    new-left : filter new (first_of_each same (known ++ more)) ≡ filter new (first_of_each same more)
+    new-left =
+        ap (filter new) (first_of_each-append known more) ∙ filter-append new (first_of_each same known) (filter new (first_of_each same more))
+        ∙ (λ i. filter-fails (λ k. list_any (same k) known ≡ true) new (λ k e. ap not e) (first_of_each same known) (first-there known) i
+        ++ filter-all new (filter new (first_of_each same more)) (passes new (first_of_each same more)) i)
+
+    pub first_of_each-again : (others : List X) → filter new others ≡ filter new (first_of_each same (known ++ more)) → first_of_each same (known ++ others) ≡ first_of_each same (known ++ more)
+    first_of_each-again others alike =
+        first_of_each-append known others
+        ∙ ap (λ l. first_of_each same known ++ l) (first_of_each-filter new (new_to-same known) others
+        ∙ ap (first_of_each same) (alike ∙ new-left ∙ first_of_each-filter new (new_to-same known) more) ∙ twice (filter new more) ∙ sym (first_of_each-filter new (new_to-same known) more))
+        ∙ sym (first_of_each-append known more)
+      where
+        twice : (xs : List X) → first_of_each same (first_of_each same xs) ≡ first_of_each same xs
+        twice xs = all-first same (λ k. k) (first_of_each same xs) (subst (IsDistinct same) (sym (map-id (first_of_each same xs))) (first_of_each-distinct same xs))
 
   module _ (p : X → Bool) (xs : List X) (later : List X) where
     abbrev there : X → Bool
@@ -140,13 +140,6 @@ module _ {X : Type 0} (same : X → X → Bool) (laws : IsEquivalence same) wher
 
     back-absent : AllByRecursion (λ x. there x ≡ false) back
     back-absent = each-weaken (λ x. (new_to xs x ≡ true) × (p x ≡ true)) (λ x. there x ≡ false) (λ x h. not-true (there x) h.0) back (each-filter (λ x. new_to xs x ≡ true) p (filter (new_to xs) later) (passes (new_to xs) later))
-      where
-        not-true : (b : Bool) → not b ≡ true → b ≡ false
-        not-true false e = refl
-        not-true true e = sym e
-
-    front-first : leads (map there (front ++ back)) ≡ true
-    front-first = leads-append there front back front-there back-absent
 
     left : filter (new_to xs) (front ++ back) ≡ filter kept later
     left =
@@ -156,10 +149,16 @@ module _ {X : Type 0} (same : X → X → Bool) (laws : IsEquivalence same) wher
         ∙ filter-filter (new_to xs) (λ x. new_to xs x && p x) later
 
   -- the first of each of joined lists come in the order of the lists
-  pub first-in_order : (p : X → Bool) (xss : List (List X)) → in_order (map (λ xs x. list_any (same x) xs) xss) (filter p (first_of_each same (flat_map (λ xs. xs) xss))) ≡ true
-  first-in_order p [] = refl
-  first-in_order p (xs ∷ xss) =
-      let rest : List X = flat_map (λ xs. xs) xss in
-      ap (in_order (map (λ xs x. list_any (same x) xs) (xs ∷ xss))) (ap (filter p) (first_of_each-append xs rest) ∙ filter-append p (first_of_each same xs) (filter (new_to xs) (first_of_each same rest)))
-      ∙ (λ i. front-first p xs (first_of_each same rest) i && in_order (map (λ xs x. list_any (same x) xs) xss) (left p xs (first_of_each same rest) i))
-      ∙ first-in_order (kept p xs (first_of_each same rest)) xss
+  first-kept_in_order : (p : X → Bool) (xss : List (List X)) → in_order (map (λ xs x. list_any (same x) xs) xss) (filter p (first_of_each same (flat_map (λ xs. xs) xss))) ≡ true
+  first-kept_in_order p [] = refl
+  first-kept_in_order p (xs ∷ xss) =
+      let rest : List X = first_of_each same (flat_map (λ xs. xs) xss) in
+      ap (λ l. in_order (map (λ xs x. list_any (same x) xs) (xs ∷ xss)) (filter p l)) (first_of_each-append xs (flat_map (λ xs. xs) xss))
+      ∙ ap (in_order (map (λ xs x. list_any (same x) xs) (xs ∷ xss))) (filter-append p (first_of_each same xs) (filter (new_to xs) rest))
+      ∙ (λ i. leads-append (there p xs rest) (front p xs rest) (back p xs rest) (front-there p xs rest) (back-absent p xs rest) i && in_order (map (λ xs x. list_any (same x) xs) xss) (left p xs rest i))
+      ∙ first-kept_in_order (kept p xs rest) xss
+
+  pub first-in_order : (xss : List (List X)) → in_order (map (λ xs x. list_any (same x) xs) xss) (first_of_each same (flat_map (λ xs. xs) xss)) ≡ true
+  first-in_order xss =
+      let firsts : List X = first_of_each same (flat_map (λ xs. xs) xss) in
+      ap (in_order (map (λ xs x. list_any (same x) xs) xss)) (sym (filter-all (λ _. true) firsts (each-of (λ _. true ≡ true) (λ _. refl) firsts))) ∙ first-kept_in_order (λ _. true) xss

@@ -1,12 +1,9 @@
 pub mod ComponentsKept
 pub mod DirectivesInOrder
 pub mod FirstAppearance
-pub mod Groups
 pub mod Kept
 pub mod NamesOnce
-pub mod Partition
 pub mod Regrouped
 pub mod SectionLemmas
 pub mod TypeLemmas
-pub mod Once
 pub mod Rebuild

@@ -27,7 +27,7 @@ use Rattle.apollo_meaning.specs.Types.Components as components
 use Rattle.apollo_meaning.specs.Types.Meaning.{parts, type_at, type_from, type_of}
 use Rattle.apollo_canonical.specs.Sections.{Sections, HasSameComponents}
 use Rattle.apollo_canonical.specs.TypeSections.{node_of, name_of, type_sections, HasWhatIsWritten, HasEachNameOnce}
-use Rattle.apollo_canonical.proofs.Kept.{map-each}
+use Rattle.apollo_canonical.proofs.Kept.{each-map, each-of, map-each}
 use Rattle.apollo_canonical.proofs.TypeLemmas.{components-again}
 
 -- names of the same components stand once in both
@@ -72,40 +72,21 @@ module _ {T : Type 0} (name : NodeView T → NameView) where
   pub all-named : (nodes : Sourced → List (NodeView T)) (entry : ComponentOrigin → NodeView T → NameView × Component T) → ((o : ComponentOrigin) (n : NodeView T) → IsNamed (entry o n)) → (ps : List Sourced)
       → AllByRecursion IsNamed (flat_map (λ s. map (entry s.0) (nodes s)) ps)
   all-named nodes entry is [] = tt
-  all-named nodes entry is (s ∷ ps) = each-append IsNamed (map (entry s.0) (nodes s)) (flat_map (λ s. map (entry s.0) (nodes s)) ps) (of (nodes s)) (all-named nodes entry is ps)
-    where
-      of : (ns : List (NodeView T)) → AllByRecursion IsNamed (map (entry s.0) ns)
-      of [] = tt
-      of (n ∷ ns) = (is s.0 n, of ns)
+  all-named nodes entry is (s ∷ ps) =
+      each-append IsNamed (map (entry s.0) (nodes s)) (flat_map (λ s. map (entry s.0) (nodes s)) ps) (each-map IsNamed (entry s.0) (nodes s) (each-of (λ n. IsNamed (entry s.0 n)) (is s.0) (nodes s))) (all-named nodes entry is ps)
 
-pub made-once : (body : TypeBody) (head : TypePart) (ps : List Sourced) → HasEachNameOnce (type_sections (type_at body head ps))
-unfolding IsDistinct
-made-once ScalarBody head ps = record { names = tt; fields = tt; values = tt; input_fields = tt }
-made-once (ObjectBody interfaces fields) head ps = record {
-  names = names-once (flat_map interfaces_of ps);
-  fields = entries-once (λ f. f.value.name) (flat_map fields_of ps) (all-named (λ f. f.value.name) (λ s. body_fields s.1.body) field_entry (λ o n. refl) ps);
-  values = tt;
-  input_fields = tt;
-}
-made-once (InterfaceBody interfaces fields) head ps = record {
-  names = names-once (flat_map interfaces_of ps);
-  fields = entries-once (λ f. f.value.name) (flat_map fields_of ps) (all-named (λ f. f.value.name) (λ s. body_fields s.1.body) field_entry (λ o n. refl) ps);
-  values = tt;
-  input_fields = tt;
-}
-made-once (UnionBody members) head ps = record { names = names-once (flat_map members_of ps); fields = tt; values = tt; input_fields = tt }
-made-once (EnumBody values) head ps = record {
-  names = tt;
-  fields = tt;
-  values = entries-once (λ v. v.value.value) (flat_map components.values_of ps) (all-named (λ v. v.value.value) (λ s. body_values s.1.body) value_entry (λ o n. refl) ps);
-  input_fields = tt;
-}
-made-once (InputObjectBody fields) head ps = record {
-  names = tt;
-  fields = tt;
-  values = tt;
-  input_fields = entries-once (λ f. f.value.name) (flat_map input_fields_of ps) (all-named (λ f. f.value.name) (λ s. body_input_fields s.1.body) input_field_entry (λ o n. refl) ps);
-}
+module _ (head : TypePart) (ps : List Sourced) where
+  fields-once : IsDistinct same_text (map (λ x. x.1.value.name) (map node_of (values_of (distinct_entries (flat_map fields_of ps)))))
+  fields-once = entries-once (λ f. f.value.name) (flat_map fields_of ps) (all-named (λ f. f.value.name) (λ s. body_fields s.1.body) field_entry (λ o n. refl) ps)
+
+  pub made-once : (body : TypeBody) → HasEachNameOnce (type_sections (type_at body head ps))
+  unfolding IsDistinct
+  made-once ScalarBody = record { names = tt; fields = tt; values = tt; input_fields = tt }
+  made-once (ObjectBody interfaces fields) = record { names = names-once (flat_map interfaces_of ps); fields = fields-once; values = tt; input_fields = tt }
+  made-once (InterfaceBody interfaces fields) = record { names = names-once (flat_map interfaces_of ps); fields = fields-once; values = tt; input_fields = tt }
+  made-once (UnionBody members) = record { names = names-once (flat_map members_of ps); fields = tt; values = tt; input_fields = tt }
+  made-once (EnumBody values) = record { names = tt; fields = tt; values = entries-once (λ v. v.value.value) (flat_map components.values_of ps) (all-named (λ v. v.value.value) (λ s. body_values s.1.body) value_entry (λ o n. refl) ps); input_fields = tt }
+  made-once (InputObjectBody fields) = record { names = tt; fields = tt; values = tt; input_fields = entries-once (λ f. f.value.name) (flat_map input_fields_of ps) (all-named (λ f. f.value.name) (λ s. body_input_fields s.1.body) input_field_entry (λ o n. refl) ps) }
 
 -- each type that a list means has each name once
 pub meant-once : (start : ℕ) (folded : List Folding) (xs : List ListItem) (n : List ℕ) (t : ExtendedType) → type_of start folded xs n ≡ Some t → HasEachNameOnce (type_sections t)
@@ -113,4 +94,4 @@ meant-once start folded xs n t h = by (first xs n) h
   where
     by : (d : Option TypePart) → option_map (λ d. type_from d (parts start folded n d)) d ≡ Some t → HasEachNameOnce (type_sections t)
     by None e = absurd (true≢false (sym (ap is_some e)))
-    by (Some d) e = subst (λ u. HasEachNameOnce (type_sections u)) (ap (λ o. unwrap_or o t) e) (made-once d.body d (parts start folded n d))
+    by (Some d) e = subst (λ u. HasEachNameOnce (type_sections u)) (ap (λ o. unwrap_or o t) e) (made-once d (parts start folded n d) d.body)

@@ -1,5 +1,5 @@
 -- Groups with distinct keys: what is found of each key, and the order in which the keys appear again.
-use Rattle.std.proofs.Common.{◌≡◌, Bool, true, false, cond, not, ◌||◌, ◌&&◌, List, [], ◌∷◌, ◌++◌, map, filter, refl, sym, ap, ◌∙◌, true≢false}
+use Rattle.std.proofs.Common.{◌≡◌, Bool, true, false, cond, not, ◌&&◌, List, [], ◌∷◌, ◌++◌, map, filter, refl, sym, ap, ◌∙◌, true≢false, arith}
 use Rattle.std.proofs.lemmas.Bool.{and_parts}
 use Rattle.std.proofs.lemmas.List.{map-append}
 use Rattle.std.proofs.lemmas.List.Elements.{filter-append}
@@ -45,20 +45,12 @@ module _ {X : Type 0} (same : X → X → Bool) (laws : IsEquivalence same) wher
 
     apart-filter : (k : X) (t : G → Bool) (gs : List G) → AllByRecursion (λ x. same k x ≡ false) (map key gs) → AllByRecursion (λ x. same k x ≡ false) (map key (filter t gs))
     apart-filter k t [] a = tt
-    apart-filter k t (g ∷ gs) a = by (t g) (apart-filter k t gs a.1)
-      where
-        by : (b : Bool) → AllByRecursion (λ x. same k x ≡ false) (map key (filter t gs)) → AllByRecursion (λ x. same k x ≡ false) (map key (cond b (g ∷ filter t gs) (filter t gs)))
-        by true rest = (a.0, rest)
-        by false rest = rest
+    apart-filter k t (g ∷ gs) a = elim (t g) as (λ b. AllByRecursion (λ x. same k x ≡ false) (map key (cond b (g ∷ filter t gs) (filter t gs)))) [ true ↦ (a.0, apart-filter k t gs a.1) | false ↦ apart-filter k t gs a.1 ]
 
     distinct-filter : (t : G → Bool) (gs : List G) → IsDistinct same (map key gs) → IsDistinct same (map key (filter t gs))
     unfolding IsDistinct
     distinct-filter t [] d = tt
-    distinct-filter t (g ∷ gs) d = by (t g) (distinct-filter t gs d.1)
-      where
-        by : (b : Bool) → IsDistinct same (map key (filter t gs)) → IsDistinct same (map key (cond b (g ∷ filter t gs) (filter t gs)))
-        by true rest = (apart-filter (key g) t gs d.0, rest)
-        by false rest = rest
+    distinct-filter t (g ∷ gs) d = elim (t g) as (λ b. IsDistinct same (map key (cond b (g ∷ filter t gs) (filter t gs)))) [ true ↦ (apart-filter (key g) t gs d.0, distinct-filter t gs d.1) | false ↦ distinct-filter t gs d.1 ]
 
     pub first-shown : (marks : G → List (Unit {0})) (gs : List G) → IsDistinct same (map key gs) → first_of_each same (shown key marks gs) ≡ map key (filter (marked marks) gs)
     unfolding IsDistinct
@@ -75,28 +67,12 @@ module _ {X : Type 0} (same : X → X → Bool) (laws : IsEquivalence same) wher
 
     any-repeated : {A : Type 0} (k x : X) (us : List A) → list_any (same k) (map (λ _. x) us) ≡ (not (is_nothing us) && same k x)
     any-repeated k x [] = refl
-    any-repeated k x (u ∷ us) = ap (λ b. same k x || b) (any-repeated k x us) ∙ twice (not (is_nothing us)) (same k x)
-      where
-        twice : (a b : Bool) → (b || (a && b)) ≡ b
-        twice true true = refl
-        twice true false = refl
-        twice false true = refl
-        twice false false = refl
+    any-repeated k x (u ∷ us) = grind (arith, any-repeated k x us)
 
     -- a key is shown where a group of that key is marked
     any-shown : (marks : G → List (Unit {0})) (k : X) (gs : List G) → list_any (same k) (shown key marks gs) ≡ list_any (marked marks) (filter (λ h. same k (key h)) gs)
     any-shown marks k [] = refl
-    any-shown marks k (g ∷ gs) =
-        list_any-append (same k) (map (λ _. key g) (marks g)) (shown key marks gs)
-        ∙ (λ i. any-repeated k (key g) (marks g) i || any-shown marks k gs i)
-        ∙ by (marked marks g) refl (same k (key g))
-      where
-        by : (a : Bool) → marked marks g ≡ a → (b : Bool)
-            → ((a && b) || list_any (marked marks) (filter (λ h. same k (key h)) gs)) ≡ list_any (marked marks) (cond b (g ∷ filter (λ h. same k (key h)) gs) (filter (λ h. same k (key h)) gs))
-        by true e true = sym (ap (λ c. c || list_any (marked marks) (filter (λ h. same k (key h)) gs)) e)
-        by false e true = sym (ap (λ c. c || list_any (marked marks) (filter (λ h. same k (key h)) gs)) e)
-        by true e false = refl
-        by false e false = refl
+    any-shown marks k (g ∷ gs) = grind (arith, list_any-append (same k) (map (λ _. key g) (marks g)) (shown key marks gs), any-repeated k (key g) (marks g), any-shown marks k gs)
 
     -- what is left of what is shown, without what these marks show
     shown-others : (marks more : G → List (Unit {0})) (gs : List G) → IsDistinct same (map key gs)
@@ -107,27 +83,14 @@ module _ {X : Type 0} (same : X → X → Bool) (laws : IsEquivalence same) wher
       where
         filter-shown : (p : X → Bool) (hs : List G) → filter p (shown key more hs) ≡ shown key more (filter (λ g. p (key g)) hs)
         filter-shown p [] = refl
-        filter-shown p (h ∷ hs) = filter-append p (map (λ _. key h) (more h)) (shown key more hs) ∙ (λ i. filter-repeated (more h) i ++ filter-shown p hs i) ∙ by (p (key h))
+        filter-shown p (h ∷ hs) = grind (arith, filter-append p (map (λ _. key h) (more h)) (shown key more hs), filter-repeated (more h), filter-shown p hs)
           where
             filter-repeated : (us : List (Unit {0})) → filter p (map (λ _. key h) us) ≡ cond (p (key h)) (map (λ _. key h) us) []
-            filter-repeated us = at (p (key h)) refl us
-              where
-                at : (b : Bool) → p (key h) ≡ b → (us : List (Unit {0})) → filter p (map (λ _. key h) us) ≡ cond b (map (λ _. key h) us) []
-                at true e [] = refl
-                at false e [] = refl
-                at true e (u ∷ us) = rw (e) (ap (λ l. key h ∷ l) (at true e us))
-                at false e (u ∷ us) = rw (e) (at false e us)
-
-            by : (b : Bool) → cond b (map (λ _. key h) (more h)) [] ++ shown key more (filter (λ g. p (key g)) hs) ≡ shown key more (cond b (h ∷ filter (λ g. p (key g)) hs) (filter (λ g. p (key g)) hs))
-            by true = refl
-            by false = refl
+            filter-repeated [] = grind arith
+            filter-repeated (u ∷ us) = grind (arith, filter-repeated us)
 
         unmarked : (g : G) → filter (λ h. same (key g) (key h)) gs ≡ g ∷ [] → new_to_these same (shown key marks gs) (key g) ≡ not (marked marks g)
-        unmarked g own = ap not (any-shown marks (key g) gs ∙ ap (list_any (marked marks)) own ∙ or-false (marked marks g))
-          where
-            or-false : (b : Bool) → (b || false) ≡ b
-            or-false true = refl
-            or-false false = refl
+        unmarked g own = ap not (any-shown marks (key g) gs ∙ ap (list_any (marked marks)) own ∙ grind arith)
 
     -- groups in the order of these marks show their keys in that order
     pub first-shown_again : (marks : List (G → List (Unit {0}))) (gs : List G) → IsDistinct same (map key gs) → in_order (map marked marks) gs ≡ true

@@ -1,10 +1,10 @@
 -- Components in sections: their identities, what is of one origin, and what parts make again.
-use Rattle.std.proofs.Common.{◌≡◌, Bool, true, false, cond, not, ◌||◌, List, [], ◌∷◌, ◌++◌, Option, None, Some, map, filter, refl, sym, ap, ◌∙◌}
+use Rattle.std.proofs.Common.{◌≡◌, Bool, true, false, cond, not, ◌||◌, List, [], ◌∷◌, ◌++◌, Option, map, filter, refl, sym, ap, ◌∙◌, arith}
 use Rattle.std.proofs.lemmas.List.{map-append, append-nil, map-id}
 use Rattle.std.proofs.lemmas.List.Elements.{filter-append, filter_map-append}
 use Rattle.std.proofs.lemmas.Simd.{map-map}
 use Rattle.std.specs.Cmp.{IsEquivalence, on_equiv, nat_eq_equiv}
-use Rattle.std.specs.List.{IsDistinct, filter_map, cons_option, flat_map, list_any}
+use Rattle.std.specs.List.{AllByRecursion, IsDistinct, filter_map, cons_option, flat_map, list_any}
 use Rattle.graphql_ast.specs.DefinitionParts.{directive_in, name_in, field_in, value_in, input_field_in, root_in}
 use Rattle.graphql_ast.specs.declared.definition_parts.DefinitionPart.{DefinitionPart}
 use Rattle.graphql_ast.specs.declared.definition_parts.DefinitionPart.TheVariants as parts
@@ -19,8 +19,8 @@ use Rattle.apollo_component.specs.declared.parts_by_origin.PartsByOrigin.{PartsB
 use Rattle.apollo_component.proofs.Lists.Each.{each-weaken, filter-map}
 use Rattle.apollo_canonical.specs.Sections.{Sections, as_parts, in_sections, with_origins, joined, sections_of}
 use Rattle.apollo_canonical.proofs.FirstAppearance.{in_order, is_nothing, in_order-map, first-in_order}
-use Rattle.apollo_canonical.proofs.Kept.{filter-all, each-of, map-each}
-use Rattle.apollo_canonical.proofs.Regrouped.{own-group, shown, first-shown_again}
+use Rattle.apollo_canonical.proofs.Kept.{filter_map-none, filter_map-some, map-each}
+use Rattle.apollo_canonical.proofs.Regrouped.{own-group, marked, shown, first-shown_again}
 
 pub same_id-equiv : IsEquivalence same_id
 same_id-equiv = on_equiv number_of nat_eq_equiv
@@ -62,6 +62,12 @@ module _ (origin : ComponentOrigin) where
   pub picked-append : {A : Type 0} (xs ys : List (ComponentOrigin × A)) → picked (xs ++ ys) ≡ picked xs ++ picked ys
   picked-append xs ys = ap (map (λ x. x.1)) (filter-append (λ x. same_origin origin x.0) xs ys) ∙ map-append (λ x. x.1) (filter (λ x. same_origin origin x.0) xs) (filter (λ x. same_origin origin x.0) ys)
 
+  -- what a choice takes of parts of one sort, and of parts of several
+  found-in : {A B : Type 0} (part : A → DefinitionPart) (which : DefinitionPart → Option B) (xs : List (ComponentOrigin × A)) → filter_map which (picked (as_parts part xs)) ≡ filter_map (λ a. which (part a)) (picked xs)
+  found-in part which [] = refl
+  found-in part which (x ∷ xs) = elim (same_origin origin x.0) as (λ b. filter_map which (map (λ c. c.1) (cond b ((x.0, part x.1) ∷ filter (λ c. same_origin origin c.0) (as_parts part xs)) (filter (λ c. same_origin origin c.0) (as_parts part xs))))
+      ≡ filter_map (λ a. which (part a)) (map (λ c. c.1) (cond b (x ∷ filter (λ c. same_origin origin c.0) xs) (filter (λ c. same_origin origin c.0) xs)))) [ true ↦ ap (cons_option (which (part x.1))) (found-in part which xs) | false ↦ found-in part which xs ]
+
   found-joined : {A : Type 0} (which : DefinitionPart → Option A) (css : List (List SourcedPart)) → filter_map which (picked (flat_map (λ cs. cs) css)) ≡ flat_map (λ cs. filter_map which (picked cs)) css
   found-joined which [] = refl
   found-joined which (cs ∷ css) =
@@ -69,72 +75,20 @@ module _ (origin : ComponentOrigin) where
       ∙ filter_map-append which (picked cs) (picked (flat_map (λ cs. cs) css))
       ∙ ap (λ l. filter_map which (picked cs) ++ l) (found-joined which css)
 
-  -- a section has parts of its own sort, and no others
-  own : {A : Type 0} (part : A → DefinitionPart) (which : DefinitionPart → Option A) → ((a : A) → which (part a) ≡ Some a) → (xs : List (ComponentOrigin × A)) → filter_map which (picked (as_parts part xs)) ≡ picked xs
-  own part which is [] = refl
-  own part which is (x ∷ xs) = by (same_origin origin x.0) (own part which is xs)
-    where
-      by : (b : Bool) → filter_map which (picked (as_parts part xs)) ≡ picked xs
-          → filter_map which (map (λ c. c.1) (cond b ((x.0, part x.1) ∷ filter (λ c. same_origin origin c.0) (as_parts part xs)) (filter (λ c. same_origin origin c.0) (as_parts part xs))))
-          ≡ map (λ c. c.1) (cond b (x ∷ filter (λ c. same_origin origin c.0) xs) (filter (λ c. same_origin origin c.0) xs))
-      by true rest = (λ i. cons_option (is x.1 i) (rest i))
-      by false rest = rest
-
-  none : {A B : Type 0} (part : A → DefinitionPart) (which : DefinitionPart → Option B) → ((a : A) → which (part a) ≡ None) → (xs : List (ComponentOrigin × A)) → filter_map which (picked (as_parts part xs)) ≡ []
-  none part which is [] = refl
-  none part which is (x ∷ xs) = by (same_origin origin x.0) (none part which is xs)
-    where
-      by : (b : Bool) → filter_map which (picked (as_parts part xs)) ≡ []
-          → filter_map which (map (λ c. c.1) (cond b ((x.0, part x.1) ∷ filter (λ c. same_origin origin c.0) (as_parts part xs)) (filter (λ c. same_origin origin c.0) (as_parts part xs)))) ≡ []
-      by true rest = (λ i. cons_option (is x.1 i) (rest i))
-      by false rest = rest
-
   module _ (s : Sections) where
-    abbrev sections : List (List SourcedPart)
-    sections = as_parts parts.Directive s.directives ∷ as_parts parts.Name s.names ∷ as_parts parts.Field s.fields
+    -- a choice that takes one sort finds that section
+    found : {A : Type 0} (which : DefinitionPart → Option A) (l : List A)
+        → filter_map (λ a. which (parts.Directive a)) (picked s.directives) ++ (filter_map (λ a. which (parts.Name a)) (picked s.names) ++ (filter_map (λ a. which (parts.Field a)) (picked s.fields)
+        ++ (filter_map (λ a. which (parts.EnumValue a)) (picked s.values) ++ (filter_map (λ a. which (parts.InputField a)) (picked s.input_fields) ++ (filter_map (λ a. which (parts.Root a)) (picked s.roots) ++ []))))) ≡ l
+        → filter_map which (picked (in_sections s)) ≡ l
+    found which l e =
+        found-joined which (
+        as_parts parts.Directive s.directives ∷ as_parts parts.Name s.names ∷ as_parts parts.Field s.fields
         ∷ as_parts parts.EnumValue s.values ∷ as_parts parts.InputField s.input_fields ∷ as_parts parts.Root s.roots ∷ []
-
-    directives-found : filter_map directive_in (picked (in_sections s)) ≡ picked s.directives
-    directives-found =
-        found-joined directive_in sections
-        ∙ (λ i. own parts.Directive directive_in (λ a. refl) s.directives i ++ (none parts.Name directive_in (λ a. refl) s.names i ++ (none parts.Field directive_in (λ a. refl) s.fields i
-        ++ (none parts.EnumValue directive_in (λ a. refl) s.values i ++ (none parts.InputField directive_in (λ a. refl) s.input_fields i ++ (none parts.Root directive_in (λ a. refl) s.roots i ++ []))))))
-        ∙ append-nil (picked s.directives)
-
-    names-found : filter_map name_in (picked (in_sections s)) ≡ picked s.names
-    names-found =
-        found-joined name_in sections
-        ∙ (λ i. none parts.Directive name_in (λ a. refl) s.directives i ++ (own parts.Name name_in (λ a. refl) s.names i ++ (none parts.Field name_in (λ a. refl) s.fields i
-        ++ (none parts.EnumValue name_in (λ a. refl) s.values i ++ (none parts.InputField name_in (λ a. refl) s.input_fields i ++ (none parts.Root name_in (λ a. refl) s.roots i ++ []))))))
-        ∙ append-nil (picked s.names)
-
-    fields-found : filter_map field_in (picked (in_sections s)) ≡ picked s.fields
-    fields-found =
-        found-joined field_in sections
-        ∙ (λ i. none parts.Directive field_in (λ a. refl) s.directives i ++ (none parts.Name field_in (λ a. refl) s.names i ++ (own parts.Field field_in (λ a. refl) s.fields i
-        ++ (none parts.EnumValue field_in (λ a. refl) s.values i ++ (none parts.InputField field_in (λ a. refl) s.input_fields i ++ (none parts.Root field_in (λ a. refl) s.roots i ++ []))))))
-        ∙ append-nil (picked s.fields)
-
-    values-found : filter_map value_in (picked (in_sections s)) ≡ picked s.values
-    values-found =
-        found-joined value_in sections
-        ∙ (λ i. none parts.Directive value_in (λ a. refl) s.directives i ++ (none parts.Name value_in (λ a. refl) s.names i ++ (none parts.Field value_in (λ a. refl) s.fields i
-        ++ (own parts.EnumValue value_in (λ a. refl) s.values i ++ (none parts.InputField value_in (λ a. refl) s.input_fields i ++ (none parts.Root value_in (λ a. refl) s.roots i ++ []))))))
-        ∙ append-nil (picked s.values)
-
-    input_fields-found : filter_map input_field_in (picked (in_sections s)) ≡ picked s.input_fields
-    input_fields-found =
-        found-joined input_field_in sections
-        ∙ (λ i. none parts.Directive input_field_in (λ a. refl) s.directives i ++ (none parts.Name input_field_in (λ a. refl) s.names i ++ (none parts.Field input_field_in (λ a. refl) s.fields i
-        ++ (none parts.EnumValue input_field_in (λ a. refl) s.values i ++ (own parts.InputField input_field_in (λ a. refl) s.input_fields i ++ (none parts.Root input_field_in (λ a. refl) s.roots i ++ []))))))
-        ∙ append-nil (picked s.input_fields)
-
-    roots-found : filter_map root_in (picked (in_sections s)) ≡ picked s.roots
-    roots-found =
-        found-joined root_in sections
-        ∙ (λ i. none parts.Directive root_in (λ a. refl) s.directives i ++ (none parts.Name root_in (λ a. refl) s.names i ++ (none parts.Field root_in (λ a. refl) s.fields i
-        ++ (none parts.EnumValue root_in (λ a. refl) s.values i ++ (none parts.InputField root_in (λ a. refl) s.input_fields i ++ (own parts.Root root_in (λ a. refl) s.roots i ++ []))))))
-        ∙ append-nil (picked s.roots)
+        )
+        ∙ (λ i. found-in parts.Directive which s.directives i ++ (found-in parts.Name which s.names i ++ (found-in parts.Field which s.fields i
+        ++ (found-in parts.EnumValue which s.values i ++ (found-in parts.InputField which s.input_fields i ++ (found-in parts.Root which s.roots i ++ []))))))
+        ∙ e
 
     -- what is of one origin, sort by sort
     abbrev pub parts_in : DefinitionParts
@@ -149,45 +103,36 @@ module _ (origin : ComponentOrigin) where
 
     pub of_origin-sections : of_origin origin (in_sections s) ≡ parts_in
     of_origin-sections = (λ i. record {
-      directives = record { 0 = directives-found i };
-      names = names-found i;
-      fields = fields-found i;
-      values = values-found i;
-      input_fields = input_fields-found i;
-      roots = roots-found i;
+      directives = record { 0 = found directive_in (picked s.directives) (simp (filter_map-some, filter_map-none, append-nil)) i };
+      names = found name_in (picked s.names) (simp (filter_map-some, filter_map-none, append-nil)) i;
+      fields = found field_in (picked s.fields) (simp (filter_map-some, filter_map-none, append-nil)) i;
+      values = found value_in (picked s.values) (simp (filter_map-some, filter_map-none, append-nil)) i;
+      input_fields = found input_field_in (picked s.input_fields) (simp (filter_map-some, filter_map-none, append-nil)) i;
+      roots = found root_in (picked s.roots) (simp (filter_map-some, filter_map-none, append-nil)) i;
     })
 
   -- of joined parts
   pub picked-of : {A : Type 0} (o : ComponentOrigin) (xs : List A) → picked (map (λ x. (o, x)) xs) ≡ cond (same_origin origin o) xs []
-  picked-of {A} o xs = by (same_origin origin o) refl xs
-    where
-      by : (b : Bool) → same_origin origin o ≡ b → (xs : List A) → picked (map (λ x. (o, x)) xs) ≡ cond b xs []
-      by true e [] = refl
-      by false e [] = refl
-      by true e (x ∷ xs) = rw e (ap (λ l. x ∷ l) (by true e xs))
-      by false e (x ∷ xs) = rw e (by false e xs)
+  picked-of o [] = grind arith
+  picked-of o (x ∷ xs) = grind (arith, picked-of o xs)
 
   pub picked-joined : {A : Type 0} (sort : DefinitionParts → List A) (gs : List (ComponentOrigin × DefinitionParts)) → picked (joined sort gs) ≡ flat_map (λ g. sort g.1) (filter (λ g. same_origin origin g.0) gs)
   picked-joined sort [] = refl
-  picked-joined sort (g ∷ gs) = picked-append (map (λ x. (g.0, x)) (sort g.1)) (joined sort gs) ∙ (λ i. picked-of g.0 (sort g.1) i ++ picked-joined sort gs i) ∙ by (same_origin origin g.0)
-    where
-      by : (b : Bool) → cond b (sort g.1) [] ++ flat_map (λ g. sort g.1) (filter (λ g. same_origin origin g.0) gs) ≡ flat_map (λ g. sort g.1) (cond b (g ∷ filter (λ g. same_origin origin g.0) gs) (filter (λ g. same_origin origin g.0) gs))
-      by true = refl
-      by false = refl
+  picked-joined sort (g ∷ gs) = grind (arith, picked-append (map (λ x. (g.0, x)) (sort g.1)) (joined sort gs), picked-of g.0 (sort g.1), picked-joined sort gs)
 
   -- where one group alone is of the origin
+  pub of-alone : {A : Type 0} (sort : DefinitionParts → List A) (gs : List (ComponentOrigin × DefinitionParts)) (g : ComponentOrigin × DefinitionParts) → filter (λ g. same_origin origin g.0) gs ≡ g ∷ [] → picked (joined sort gs) ≡ sort g.1
+  of-alone sort gs g alone = picked-joined sort gs ∙ ap (flat_map (λ g. sort g.1)) alone ∙ append-nil (sort g.1)
+
   of_origin-again : (p : PartsByOrigin) (g : ComponentOrigin × DefinitionParts) → filter (λ g. same_origin origin g.0) (with_origins p) ≡ g ∷ [] → of_origin origin (in_sections (sections_of p)) ≡ g.1
   of_origin-again p g alone = of_origin-sections (sections_of p) ∙ (λ i. record {
-    directives = record { 0 = row (λ d. d.directives.0) i };
-    names = row (λ d. d.names) i;
-    fields = row (λ d. d.fields) i;
-    values = row (λ d. d.values) i;
-    input_fields = row (λ d. d.input_fields) i;
-    roots = row (λ d. d.roots) i;
+    directives = record { 0 = of-alone (λ d. d.directives.0) (with_origins p) g alone i };
+    names = of-alone (λ d. d.names) (with_origins p) g alone i;
+    fields = of-alone (λ d. d.fields) (with_origins p) g alone i;
+    values = of-alone (λ d. d.values) (with_origins p) g alone i;
+    input_fields = of-alone (λ d. d.input_fields) (with_origins p) g alone i;
+    roots = of-alone (λ d. d.roots) (with_origins p) g alone i;
   })
-    where
-      row : {A : Type 0} (sort : DefinitionParts → List A) → picked (joined sort (with_origins p)) ≡ sort g.1
-      row sort = picked-joined sort (with_origins p) ∙ ap (flat_map (λ g. sort g.1)) alone ∙ append-nil (sort g.1)
 
 -- a mark for each of these
 abbrev pub marks : {A : Type 0} → List A → List (Unit {0})
@@ -202,46 +147,30 @@ has_some-picked id [] = refl
 has_some-picked {A} id (x ∷ xs) = by x.0 (has_some-picked id xs)
   where
     by : (o : ComponentOrigin) → has_some (picked (Extension id) xs) ≡ list_any (same_id id) (ids_in xs)
-        → has_some (map (λ c. c.1) (cond (same_origin (Extension id) o) (x ∷ filter (λ c. same_origin (Extension id) c.0) xs) (filter (λ c. same_origin (Extension id) c.0) xs)))
-        ≡ list_any (same_id id) (cons_option (id_of o) (ids_in xs))
+        → has_some (map (λ c. c.1) (cond (same_origin (Extension id) o) (x ∷ filter (λ c. same_origin (Extension id) c.0) xs) (filter (λ c. same_origin (Extension id) c.0) xs))) ≡ list_any (same_id id) (cons_option (id_of o) (ids_in xs))
     by Definition rest = rest
-    by (Extension e) rest = at (same_id id e) rest
-      where
-        at : (b : Bool) → has_some (picked (Extension id) xs) ≡ list_any (same_id id) (ids_in xs)
-            → has_some (map (λ c. c.1) (cond b (x ∷ filter (λ c. same_origin (Extension id) c.0) xs) (filter (λ c. same_origin (Extension id) c.0) xs))) ≡ (b || list_any (same_id id) (ids_in xs))
-        at true rest = refl
-        at false rest = rest
+    by (Extension e) rest = elim (same_id id e) as (λ b. has_some (map (λ c. c.1) (cond b (x ∷ filter (λ c. same_origin (Extension id) c.0) xs) (filter (λ c. same_origin (Extension id) c.0) xs))) ≡ (b || list_any (same_id id) (ids_in xs))) [ true ↦ refl | false ↦ rest ]
+
+-- the parts of extensions are written in the order in which these tests take them, where what they see is which of the identities there are
+pub written-in_order : (cs : List SourcedPart) (tests : List (DefinitionParts → Bool)) (lists : List (List ExtensionId)) → ids_in cs ≡ flat_map (λ ids. ids) lists
+    → map {B = ExtensionId → Bool} (λ t e. t (of_origin (Extension e) cs)) tests ≡ map (λ ids e. list_any (same_id e) ids) lists → in_order tests (map (λ e. e.1) (of_extensions cs)) ≡ true
+written-in_order cs tests lists listed seen =
+    ap (in_order tests) (map-map (λ (e : ExtensionId × DefinitionParts). e.1) (λ e. (e, of_origin (Extension e) cs)) (identities (origins_in cs)))
+    ∙ in_order-map (λ e. of_origin (Extension e) cs) tests (identities (origins_in cs))
+    ∙ (λ i. in_order (seen i) (first_of_each same_id (listed i)))
+    ∙ first-in_order same_id same_id-equiv lists
 
 -- whether parts have some of each sort
 abbrev sorts : List (DefinitionParts → Bool)
 sorts = (λ d. has_some d.directives.0) ∷ (λ d. has_some d.names) ∷ (λ d. has_some d.fields) ∷ (λ d. has_some d.values) ∷ (λ d. has_some d.input_fields) ∷ (λ d. has_some d.roots) ∷ []
 
-module _ (s : Sections) where
-  abbrev ids : List ExtensionId
-  ids = identities (origins_in (in_sections s))
-
-  abbrev tests : List (ExtensionId → Bool)
-  tests = map (λ xs e. list_any (same_id e) xs) (section_ids s)
-
-  abbrev firsts : List ExtensionId
-  firsts = first_of_each same_id (flat_map (λ xs. xs) (section_ids s))
-
-  -- the parts of extensions are written in the order of their first sorts
-  written-in_order : in_order sorts (map (λ e. e.1) (of_extensions (in_sections s))) ≡ true
-  written-in_order =
-      ap (in_order sorts) (map-map (λ e. e.1) (λ e. (e, of_origin (Extension e) (in_sections s))) ids)
-      ∙ in_order-map (λ e. of_origin (Extension e) (in_sections s)) sorts ids
-      ∙ (λ i. in_order (
-      (λ e. (ap (λ d. has_some d.directives.0) (of_origin-sections (Extension e) s) ∙ has_some-picked e s.directives) i)
-      ∷ (λ e. (ap (λ d. has_some d.names) (of_origin-sections (Extension e) s) ∙ has_some-picked e s.names) i)
-      ∷ (λ e. (ap (λ d. has_some d.fields) (of_origin-sections (Extension e) s) ∙ has_some-picked e s.fields) i)
-      ∷ (λ e. (ap (λ d. has_some d.values) (of_origin-sections (Extension e) s) ∙ has_some-picked e s.values) i)
-      ∷ (λ e. (ap (λ d. has_some d.input_fields) (of_origin-sections (Extension e) s) ∙ has_some-picked e s.input_fields) i)
-      ∷ (λ e. (ap (λ d. has_some d.roots) (of_origin-sections (Extension e) s) ∙ has_some-picked e s.roots) i)
-      ∷ []
-      ) ids)
-      ∙ ap (in_order tests) (ap (first_of_each same_id) (ids_in-sections s) ∙ sym (filter-all (λ _. true) firsts (each-of (λ _. true ≡ true) (λ _. refl) firsts)))
-      ∙ first-in_order same_id same_id-equiv (λ _. true) (section_ids s)
+sections-in_order : (s : Sections) → in_order sorts (map (λ e. e.1) (of_extensions (in_sections s))) ≡ true
+sections-in_order s =
+    written-in_order (in_sections s) sorts (section_ids s) (ids_in-sections s) (ap (λ (f : ExtensionId → DefinitionParts). map (λ t e. t (f e)) sorts) (λ i e. of_origin-sections (Extension e) s i) ∙ (λ i. seen s.directives i
+    ∷ seen s.names i ∷ seen s.fields i ∷ seen s.values i ∷ seen s.input_fields i ∷ seen s.roots i ∷ []))
+  where
+    seen : {A : Type 0} (xs : List (ComponentOrigin × A)) → ◌≡◌ {A = ExtensionId → Bool} (λ e. has_some (picked (Extension e) xs)) (λ e. list_any (same_id e) (ids_in xs))
+    seen xs = λ i e. has_some-picked e xs i
 
 -- the definition's parts alone are of the definition, and those of an extension of its identity
 pub definition-alone : (p : PartsByOrigin) → filter (λ g. same_origin Definition g.0) (with_origins p) ≡ (Definition, p.definition) ∷ []
@@ -271,39 +200,32 @@ shown-joined p {A} sort = ids_in-append (map (λ x. (Definition, x)) (sort p.def
     of_each (e ∷ es) = ids_in-append (map (λ x. (Extension e.0, x)) (sort e.1)) (joined sort (map (λ e. (Extension e.0, e.1)) es)) ∙ (λ i. of_one e.0 (sort e.1) i ++ of_each es i)
 
 module _ (p : PartsByOrigin) (distinct : IsDistinct same_id (map (λ e. e.0) p.extensions)) where
-  abbrev again : List SourcedPart
-  again = in_sections (sections_of p)
-
-  definition-again : of_origin Definition again ≡ p.definition
-  definition-again = of_origin-again Definition p (Definition, p.definition) (definition-alone p)
-
-  extension-again : (e : ExtensionId × DefinitionParts) → filter (λ h. same_id e.0 h.0) p.extensions ≡ e ∷ [] → of_origin (Extension e.0) again ≡ e.1
-  extension-again e alone = of_origin-again (Extension e.0) p (Extension e.0, e.1) (extension-alone p e alone)
-
-  abbrev all_marks : List (ExtensionId × DefinitionParts → List (Unit {0}))
-  all_marks = (λ e. marks e.1.directives.0) ∷ (λ e. marks e.1.names) ∷ (λ e. marks e.1.fields) ∷ (λ e. marks e.1.values) ∷ (λ e. marks e.1.input_fields) ∷ (λ e. marks e.1.roots) ∷ []
+  -- each extension is alone of its identity
+  pub each-alone : AllByRecursion (λ e. filter (λ h. same_id e.0 h.0) p.extensions ≡ e ∷ []) p.extensions
+  each-alone = own-group same_id same_id-equiv (λ e. e.0) p.extensions distinct
 
   -- parts that stand in the order in which they are written are written again as themselves
-  pub written-again : in_order sorts (map (λ e. e.1) p.extensions) ≡ true → by_origin again ≡ p
-  written-again ordered = (λ i. record { definition = definition-again i; extensions = extensions-again i })
+  pub parts-again : (cs : List SourcedPart) (sorts : List (ExtensionId × DefinitionParts → List (Unit {0}))) → ids_in cs ≡ flat_map (λ m. shown (λ e. e.0) m p.extensions) sorts → in_order (map marked sorts) p.extensions ≡ true
+      → of_origin Definition cs ≡ p.definition → AllByRecursion (λ e. of_origin (Extension e.0) cs ≡ e.1) p.extensions → by_origin cs ≡ p
+  parts-again cs sorts listed ordered first each = (λ i. record { definition = first i; extensions = extensions-again i })
     where
-      ids-again : identities (origins_in again) ≡ map (λ e. e.0) p.extensions
-      ids-again =
-          ap (first_of_each same_id) (ids_in-sections (sections_of p)
-          ∙ (λ i. flat_map (λ ids. ids) (
-          shown-joined p (λ d. d.directives.0) i ∷ shown-joined p (λ d. d.names) i ∷ shown-joined p (λ d. d.fields) i
-          ∷ shown-joined p (λ d. d.values) i ∷ shown-joined p (λ d. d.input_fields) i ∷ shown-joined p (λ d. d.roots) i ∷ []
-          )))
-          ∙ first-shown_again same_id same_id-equiv (λ e. e.0) all_marks p.extensions distinct (sym (in_order-map (λ e. e.1) sorts p.extensions) ∙ ordered)
-
-      extensions-again : of_extensions again ≡ p.extensions
+      extensions-again : of_extensions cs ≡ p.extensions
       extensions-again =
-          ap (map (λ e. (e, of_origin (Extension e) again))) ids-again
-          ∙ map-map (λ e. (e, of_origin (Extension e) again)) (λ e. e.0) p.extensions
-          ∙ map-each (λ e. (e.0, of_origin (Extension e.0) again)) (λ e. e) p.extensions
-          (each-weaken (λ e. filter (λ h. same_id e.0 h.0) p.extensions ≡ e ∷ []) (λ e. (e.0, of_origin (Extension e.0) again) ≡ e) (λ e alone. ap (λ d. (e.0, d)) (extension-again e alone)) p.extensions
-          (own-group same_id same_id-equiv (λ e. e.0) p.extensions distinct))
+          ap (map (λ e. (e, of_origin (Extension e) cs))) (ap (first_of_each same_id) listed ∙ first-shown_again same_id same_id-equiv (λ e. e.0) sorts p.extensions distinct ordered)
+          ∙ map-map (λ e. (e, of_origin (Extension e) cs)) (λ (e : ExtensionId × DefinitionParts). e.0) p.extensions
+          ∙ map-each (λ e. (e.0, of_origin (Extension e.0) cs)) (λ e. e) p.extensions (each-weaken (λ e. of_origin (Extension e.0) cs ≡ e.1) (λ e. (e.0, of_origin (Extension e.0) cs) ≡ e) (λ e same. ap (λ d. (e.0, d)) same) p.extensions each)
           ∙ map-id p.extensions
 
+  written-again : in_order sorts (map (λ e. e.1) p.extensions) ≡ true → by_origin (in_sections (sections_of p)) ≡ p
+  written-again ordered =
+      parts-again (in_sections (sections_of p)) all_marks (ids_in-sections (sections_of p) ∙ shown_all) (sym (in_order-map (λ e. e.1) sorts p.extensions) ∙ ordered) (of_origin-again Definition p (Definition, p.definition) (definition-alone p))
+      (each-weaken (λ e. filter (λ h. same_id e.0 h.0) p.extensions ≡ e ∷ []) (λ e. of_origin (Extension e.0) (in_sections (sections_of p)) ≡ e.1) (λ e alone. of_origin-again (Extension e.0) p (Extension e.0, e.1) (extension-alone p e alone)) p.extensions each-alone)
+    where
+      all_marks : List (ExtensionId × DefinitionParts → List (Unit {0}))
+      all_marks = (λ e. marks e.1.directives.0) ∷ (λ e. marks e.1.names) ∷ (λ e. marks e.1.fields) ∷ (λ e. marks e.1.values) ∷ (λ e. marks e.1.input_fields) ∷ (λ e. marks e.1.roots) ∷ []
+
+      shown_all : flat_map (λ ids. ids) (section_ids (sections_of p)) ≡ flat_map (λ m. shown (λ e. e.0) m p.extensions) all_marks
+      shown_all = (λ i. shown-joined p (λ d. d.directives.0) i ++ (shown-joined p (λ d. d.names) i ++ (shown-joined p (λ d. d.fields) i ++ (shown-joined p (λ d. d.values) i ++ (shown-joined p (λ d. d.input_fields) i ++ (shown-joined p (λ d. d.roots) i ++ []))))))
+
 pub written-parts-again : (s : Sections) (p : PartsByOrigin) → map (λ e. e.1) p.extensions ≡ map (λ e. e.1) (of_extensions (in_sections s)) → IsDistinct same_id (map (λ e. e.0) p.extensions) → by_origin (in_sections (sections_of p)) ≡ p
-written-parts-again s p same_parts distinct = written-again p distinct (ap (in_order sorts) same_parts ∙ written-in_order s)
+written-parts-again s p same_parts distinct = written-again p distinct (ap (in_order sorts) same_parts ∙ sections-in_order s)

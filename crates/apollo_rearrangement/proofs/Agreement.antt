@@ -1,5 +1,5 @@
 -- What lists say of a subject, where those of its groups stand in both in the same order.
-use Rattle.std.proofs.Common.{◌≡◌, ℕ, Bool, true, false, cond, ◌&&◌, List, [], ◌∷◌, Option, Some, None, filter, slice_get, refl, sym, ap, ◌∙◌}
+use Rattle.std.proofs.Common.{◌≡◌, ℕ, ◌&&◌, List, [], ◌∷◌, Option, Some, None, filter, slice_get, refl, sym, ap, ◌∙◌, arith}
 use Rattle.std.specs.List.{filter_map, find, last_or}
 use Rattle.std.specs.Map.{lookup}
 use Rattle.std.specs.Option.{option_map_or, option_or}
@@ -29,12 +29,7 @@ definitions_of xs n = filter (λ p. same n (key_of p)) (filter_map defined_part 
 
 lookup-first : (n : List ℕ) (ps : List TypePart) → lookup (same n) (named ps) ≡ slice_get (filter (λ p. same n (key_of p)) ps) 0
 lookup-first n [] = refl
-lookup-first n (p ∷ ps) = by (same n (key_of p)) (lookup-first n ps)
-  where
-    by : (b : Bool) → lookup (same n) (named ps) ≡ slice_get (filter (λ p. same n (key_of p)) ps) 0
-        → cond b (Some p) (lookup (same n) (named ps)) ≡ slice_get (cond b (p ∷ filter (λ p. same n (key_of p)) ps) (filter (λ p. same n (key_of p)) ps)) 0
-    by true rest = refl
-    by false rest = rest
+lookup-first n (p ∷ ps) = grind (arith, lookup-first n ps)
 
 pub first-is : (xs : List ListItem) (n : List ℕ) → first xs n ≡ slice_get (definitions_of xs n) 0
 first-is xs n = lookup-first n (filter_map defined_part xs)

@@ -1,6 +1,6 @@
--- What `==` compares of a type that parts make is decided by the parts without the origins of their components.
-use Rattle.std.proofs.Common.{◌≡◌, ℕ, Bool, ◌||◌, List, [], ◌∷◌, ◌++◌, Option, Some, None, map, refl, sym, ap, ◌∙◌}
-use Rattle.std.specs.List.{flat_map, list_any}
+-- What `==` compares of a type, and of a schema definition, that parts make is decided by the parts without the origins of their components.
+use Rattle.std.proofs.Common.{◌≡◌, ℕ, Bool, ◌||◌, List, [], ◌∷◌, ◌++◌, Option, Some, None, map, refl, sym, ap, ◌∙◌, true, false, cond}
+use Rattle.std.specs.List.{flat_map, list_any, find}
 use Rattle.std.specs.Map.{lookup}
 use Rattle.std.specs.Option.{option_map}
 use Rattle.std.proofs.lemmas.List.{map-append}
@@ -12,16 +12,19 @@ use Rattle.graphql_nodes.specs.Comparing.{bare_name, entries_by_text, members_by
 use Rattle.graphql_nodes.specs.NameView.{NameView}
 use Rattle.graphql_nodes.specs.NodeView.{NodeView}
 use Rattle.graphql_nodes.specs.SameText.{by_text, same_text}
-use Rattle.apollo_component.specs.BareComponents.{bare_component, bare_directives}
+use Rattle.apollo_component.specs.BareComponents.{bare_component, bare_directives, bare_component_name}
 use Rattle.apollo_component.specs.FirstOfEach.{first_of_each, same_key}
 use Rattle.apollo_component.proofs.FirstOfEachLemmas.{first_of_each-map}
 use Rattle.apollo_component.specs.declared.component.Component.{Component}
 use Rattle.apollo_component.specs.declared.component.ComponentName.{ComponentName}
 use Rattle.apollo_component.specs.declared.extension.ComponentOrigin.{ComponentOrigin}
-use Rattle.apollo_types.specs.BareTypes.{BareType, bare_extended_type}
-use Rattle.apollo_meaning.specs.Items.Parts.{TypePart, TypeBody, ScalarBody, ObjectBody, InterfaceBody, UnionBody, EnumBody, InputObjectBody}
+use Rattle.apollo_types.specs.BareTypes.{BareType, bare_extended_type, BareSchemaDefinition, bare_schema_definition}
+use Rattle.apollo_meaning.specs.Items.Parts.{TypePart, TypeBody, ScalarBody, ObjectBody, InterfaceBody, UnionBody, EnumBody, InputObjectBody, SchemaPart}
 use Rattle.apollo_meaning.specs.Types.Components.{Sourced, body_fields, body_input_fields, body_interfaces, body_members, body_values, component, component_name, directives_of, distinct_entries, distinct_names, fields_of, input_fields_of, interfaces_of, members_of, values_of}
 use Rattle.apollo_meaning.specs.Types.Meaning.{type_at, type_from}
+use Rattle.graphql_nodes.specs.declared.operation_type.OperationType.{OperationType}
+use Rattle.graphql_nodes.specs.declared.operation_type.OperationType.TheVariants.{Query, Mutation, Subscription}
+use Rattle.apollo_meaning.specs.Schema.Definition.{SourcedSchema, root_in, roots_of, same_operation, schema_definition_of, schema_directives_of}
 
 -- parts without the origins of their components
 abbrev pub parts_of : {P : Type 0} → List (ComponentOrigin × P) → List P
@@ -126,3 +129,53 @@ module _ (head : TypePart) (ps qs : List Sourced) (alike : parts_of ps ≡ parts
       by (UnionBody members) = λ i. BareType.Union (record { description = description; name = name; directives = directives-alike i; members = members-alike i })
       by (EnumBody values) = λ i. BareType.Enum (record { description = description; name = name; directives = directives-alike i; values = values-alike i })
       by (InputObjectBody fields) = λ i. BareType.InputObject (record { description = description; name = name; directives = directives-alike i; fields = input_fields-alike i })
+
+-- a root with the operation that it is named for, without its place and origin
+abbrev bare_root : OperationType × ComponentName → OperationType × NameView
+bare_root r = (r.0, bare_component_name r.1)
+
+abbrev plain_roots : List SchemaPart → List (OperationType × NameView)
+plain_roots = flat_map (λ s. map (λ r. (r.value.0, bare_name r.value.1)) s.roots)
+
+abbrev plain_root : OperationType → List SchemaPart → Option NameView
+plain_root op ps = option_map (λ r. r.1) (find (λ r. same_operation op r.0) (plain_roots ps))
+
+find-bare : (op : OperationType) (rs : List (OperationType × ComponentName))
+    → option_map bare_component_name (option_map (λ r. r.1) (find (λ r. same_operation op r.0) rs)) ≡ option_map (λ r. r.1) (find (λ r. same_operation op r.0) (map bare_root rs))
+find-bare op [] = refl
+find-bare op (r ∷ rs) = elim (same_operation op r.0) as (λ b. option_map bare_component_name (option_map (λ r. r.1) (cond b (Some r) (find (λ r. same_operation op r.0) rs))) ≡ option_map (λ r. r.1) (cond b (Some (bare_root r)) (find (λ r. same_operation op r.0) (map bare_root rs)))) [ true ↦ refl | false ↦ find-bare op rs ]
+
+forget-root : (op : OperationType) (ps : List SourcedSchema) → option_map bare_component_name (root_in op ps) ≡ plain_root op (parts_of ps)
+forget-root op ps =
+    find-bare op (flat_map roots_of ps)
+    ∙ ap (λ rs. option_map (λ r. r.1) (find (λ r. same_operation op r.0) rs)) (forget bare_root (λ o r. (r.value.0, component_name o r.value.1)) (λ r. (r.value.0, bare_name r.value.1)) (λ o r. refl) (λ s. s.roots) ps)
+
+abbrev plain_schema_directives : List SchemaPart → List Directive
+plain_schema_directives = flat_map (λ s. map (λ d. bare_directive d.value) s.directives)
+
+forget-schema_directives : (ps : List SourcedSchema) → bare_directives (record { 0 = flat_map schema_directives_of ps }) ≡ plain_schema_directives (parts_of ps)
+forget-schema_directives = forget (bare_component bare_directive) component (λ d. bare_directive d.value) (λ o d. refl) (λ s. s.directives)
+
+-- what `==` compares of the definition, by its head and its parts
+plain_definition : SchemaPart → List SchemaPart → BareSchemaDefinition
+plain_definition head ps = record {
+  description = option_map bare_name head.description;
+  directives = plain_schema_directives ps;
+  query = plain_root Query ps;
+  mutation = plain_root Mutation ps;
+  subscription = plain_root Subscription ps;
+}
+
+forget-definition : (head : SchemaPart) (ps : List SourcedSchema) → bare_schema_definition (schema_definition_of head ps) ≡ plain_definition head (parts_of ps)
+unfolding plain_definition
+forget-definition head ps = λ i. record {
+  description = option_map bare_name head.description;
+  directives = forget-schema_directives ps i;
+  query = forget-root Query ps i;
+  mutation = forget-root Mutation ps i;
+  subscription = forget-root Subscription ps i;
+}
+
+-- parts that are alike but for the origins of their components make equal definitions
+pub definitions-alike : (head : SchemaPart) (ps qs : List SourcedSchema) → parts_of ps ≡ parts_of qs → bare_schema_definition (schema_definition_of head ps) ≡ bare_schema_definition (schema_definition_of head qs)
+definitions-alike head ps qs alike = forget-definition head ps ∙ ap (plain_definition head) alike ∙ sym (forget-definition head qs)

@@ -1,6 +1,6 @@
 -- What the elements of a list add one after another, where each adds what it does by those of its own subject alone, is
 -- what is added subject by subject, in another order.
-use Rattle.std.proofs.Common.{◌≡◌, Bool, true, false, cond, not, ◌||◌, List, [], ◌∷◌, ◌++◌, map, filter, refl, sym, ap, subst, ◌∙◌, append_assoc, true≢false}
+use Rattle.std.proofs.Common.{◌≡◌, Bool, true, false, cond, not, ◌||◌, List, [], ◌∷◌, ◌++◌, map, filter, refl, sym, ap, subst, ◌∙◌, append_assoc, true≢false, arith}
 use Rattle.std.proofs.lemmas.Bool.{or_right}
 use Rattle.std.specs.List.{AllByRecursion, list_any}
 use Rattle.std.specs.List.Sorted.{IsPermutation}
@@ -11,8 +11,7 @@ use Rattle.apollo_component.specs.EachAfter.{each_after}
 use Rattle.apollo_component.proofs.Lists.Each.{each-filter, each-weaken}
 use Rattle.apollo_component.proofs.Lists.EachAfter.{each_after-push}
 use Rattle.apollo_component.proofs.Lists.Ends.{snoc_ind}
-use Rattle.apollo_rearrangement.proofs.Filters.{filter-apart, filter-wider}
-use Rattle.apollo_rearrangement.proofs.Permutations.{each-permutation}
+use Rattle.apollo_rearrangement.proofs.Filters.{filter-apart, filter-wider, each-permutation}
 
 -- subjects that a test tells apart
 pub record IsTest {K : Type 0} (same : K → K → Bool) : Type 0 where
@@ -104,24 +103,16 @@ module _ {K X Y : Type 0} (same : K → K → Bool) (laws : IsTest same) (subjec
         others : List X → List X
         others = filter (not_about k)
 
-        cancel : (c d : Bool) → (c || d) ≡ true → not c ≡ true → d ≡ true
-        cancel true d h e = absurd (true≢false (sym e))
-        cancel false d h e = h
-
         left : (zs : List X) → AllByRecursion (IsAmong (k ∷ ks)) zs → AllByRecursion (IsAmong ks) (others zs)
         left zs h =
-            each-weaken (λ x. IsAmong (k ∷ ks) x × (not_about k x ≡ true)) (IsAmong ks) (λ x both. cancel (about k x) (list_any (λ j. about j x) ks) both.0 both.1) (others zs)
+            each-weaken (λ x. IsAmong (k ∷ ks) x × (not_about k x ≡ true)) (IsAmong ks) (λ x both. grind (arith, both.0, both.1)) (others zs)
             (each-filter (IsAmong (k ∷ ks)) (not_about k) zs h)
 
         gone : (j : K) → same j k ≡ true → (zs : List X) → filter (about j) (others zs) ≡ []
         gone j e = filter-apart (not_about k) (about j) (λ x h. ap not (ap (λ i. same i (subject x)) (sym (laws.is j k e)) ∙ h))
 
         stay : (j : K) → same j k ≡ false → (zs : List X) → filter (about j) (others zs) ≡ filter (about j) zs
-        stay j e = filter-wider (not_about k) (about j) (λ x h. differs x h (about k x) refl)
-          where
-            differs : (x : X) → about j x ≡ true → (c : Bool) → about k x ≡ c → not (about k x) ≡ true
-            differs x h false f = ap not f
-            differs x h true f = absurd (true≢false (sym (ap (same j) (laws.is k (subject x) f) ∙ h) ∙ e))
+        stay j e = filter-wider (not_about k) (about j) (λ x h. grind (arith, e, h, laws.is k (subject x)))
 
         rest : (j : K) → IsPermutation (all_of (filter (about j) (others xs))) (all_of (filter (about j) (others ys)))
         rest j = by (same j k) refl

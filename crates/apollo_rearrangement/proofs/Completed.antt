@@ -1,26 +1,63 @@
--- What rearranged lists are completed with: the same adopted types, in another order, and the same schema definition.
+-- What rearranged lists are completed with.
 use Rattle.std.proofs.Common.{◌≡◌, ℕ, Bool, true, false, cond, List, [], ◌∷◌, ◌++◌, Option, Some, None, map, filter, refl, sym, ap, subst, ◌∙◌}
-use Rattle.std.specs.List.{AllByRecursion, filter_map, flat_map}
+use Rattle.std.specs.List.{AllByRecursion, filter_map, flat_map, list_any}
 use Rattle.std.specs.List.Sorted.{IsPermutation}
 use Rattle.std.specs.Option.{option_map_or}
 use Rattle.std.proofs.lemmas.List.Elements.{filter-append, filter_passes, recursion_from_All}
-use Rattle.std.proofs.lemmas.List.Sorted.{IsPermutation-map}
-use Rattle.graphql_nodes.proofs.Texts.{same-true}
+use Rattle.std.proofs.lemmas.List.Sorted.{IsPermutation-map, IsPermutation-refl}
+use Rattle.graphql_nodes.proofs.Texts.{same-true, same-is}
 use Rattle.graphql_nodes.specs.OperationTexts.{default_type_text}
 use Rattle.graphql_nodes.specs.SameText.{same}
 use Rattle.graphql_nodes.specs.declared.operation_type.OperationType.TheVariants.{Query, Mutation, Subscription}
 use Rattle.graphql_nodes.specs.declared.type_kind.TypeKind.TheVariants as kinds
-use Rattle.apollo_component.proofs.Lists.Each.{each-append}
+use Rattle.apollo_component.proofs.Lists.Each.{each-append, each-weaken}
 use Rattle.apollo_meaning.specs.Completion.Adoption.{adopted, adopted_by, adopted_part, extended_names, orphans_of, with_adopted}
 use Rattle.apollo_meaning.specs.Completion.ImpliedSchema.{completed, default_root, implicit_roots, implied_schema, schema_for}
 use Rattle.apollo_meaning.specs.Items.ListItems.{ListItem, Defined, extended_part}
 use Rattle.apollo_meaning.specs.Items.Named.{extensions_of, first}
 use Rattle.apollo_meaning.specs.Items.Parts.{TypePart, key_of, kind_of, roots_in, same_kind}
 use Rattle.apollo_rearrangement.proofs.Agreement.{extensions-agree, first-agree, first_schema-agree, schema_extensions-agree}
-use Rattle.apollo_rearrangement.proofs.Names.{first_of_each-permutation}
-use Rattle.apollo_rearrangement.proofs.Permutations.{filter-permutation, filter_map-permutation, flat_map-permutation, one-element-permutation}
+use Rattle.apollo_rearrangement.proofs.Filters.{filter-permutation, filter_map-permutation, flat_map-permutation, one-element-permutation}
 use Rattle.apollo_rearrangement.proofs.Rearranging.{rearranged-append, rearranged-refl}
-use Rattle.apollo_rearrangement.specs.Rearranged.{AreRearranged, Group, DefinitionsOf, ExtensionsOf, DirectiveDefinitionsOf, SchemaDefinitions, SchemaExtensions, is_in}
+use Rattle.apollo_rearrangement.specs.Rearranged.{AreRearranged, Group, DefinitionsOf, ExtensionsOf, SchemaDefinitions, SchemaExtensions, is_in}
+use Rattle.std.specs.Cmp.Lexicographic.{nat_list_eq_equiv}
+use Rattle.std.proofs.lemmas.List.{append-nil}
+use Rattle.std.proofs.lemmas.Map.Views.{any-filter_same}
+use Rattle.apollo_component.specs.EachAfter.{each_after}
+use Rattle.apollo_component.specs.FirstOfEach.{first_of_each}
+use Rattle.apollo_component.proofs.FirstOfEachLemmas.{first_of_each-push_new, first_of_each-push_old}
+use Rattle.apollo_component.proofs.Lists.EachAfter.{each_after-push}
+use Rattle.apollo_component.proofs.Lists.Ends.{snoc_ind}
+use Rattle.apollo_rearrangement.proofs.BySubject.{IsOwn, IsTest, by_subject}
+
+-- the first of each name, of names in another order
+same_laws : IsTest same
+same_laws = record { is = same-true; itself = λ n. same-is n n refl }
+
+-- a name is added where it is not among those before it
+abbrev new_name : List (List ℕ) → List ℕ → List (List ℕ)
+new_name before n = cond (list_any (same n) before) [] (n ∷ [])
+
+first-one_by_one : (ns : List (List ℕ)) → first_of_each same ns ≡ each_after new_name [] ns
+first-one_by_one = snoc_ind (λ ns. first_of_each same ns ≡ each_after new_name [] ns) refl (λ ns n so_far. by ns n (list_any (same n) ns) refl ∙ ap (λ l. l ++ new_name ns n) so_far ∙ sym (each_after-push new_name [] ns n))
+  where
+    by : (ns : List (List ℕ)) (n : List ℕ) (b : Bool) → list_any (same n) ns ≡ b → first_of_each same (ns ++ n ∷ []) ≡ first_of_each same ns ++ new_name ns n
+    by ns n true e = first_of_each-push_old same nat_list_eq_equiv ns n e ∙ sym (append-nil (first_of_each same ns)) ∙ ap (λ b. first_of_each same ns ++ cond b [] (n ∷ [])) (sym e)
+    by ns n false e = first_of_each-push_new same nat_list_eq_equiv ns n e ∙ ap (λ b. first_of_each same ns ++ cond b [] (n ∷ [])) (sym e)
+
+new_name-own : IsOwn same same_laws (λ n. n) new_name
+new_name-own p respects before n e = ap (λ b. cond b [] (n ∷ [])) (any-filter_same (same n) p true (λ m h. respects m n (sym (same-true n m h)) ∙ e) before)
+
+pub first_of_each-permutation : (ns ms : List (List ℕ)) → IsPermutation ns ms → IsPermutation (first_of_each same ns) (first_of_each same ms)
+first_of_each-permutation ns ms s =
+    rw (first-one_by_one ns, first-one_by_one ms) (by_subject same same_laws (λ n. n) new_name new_name-own ns ms s (λ n.
+    subst (λ l. IsPermutation (each_after new_name [] (filter (same n) ns)) (each_after new_name [] l)) (one n) (IsPermutation-refl (each_after new_name [] (filter (same n) ns)))))
+  where
+    one : (n : List ℕ) → filter (same n) ns ≡ filter (same n) ms
+    one n =
+        one-element-permutation (n ∷ []) (filter (same n) ns) (filter (same n) ms) (filter-permutation (same n) ns ms s)
+        (each-weaken (λ m. same n m ≡ true) (λ m. n ∷ [] ≡ m ∷ []) (λ m h. ap (λ k. k ∷ []) (same-true n m h)) (filter (same n) ns)
+        (recursion_from_All (λ m. same n m ≡ true) (filter (same n) ns) (filter_passes (same n) ns)))
 
 -- orphans of a name have it
 orphans-own : (xs : List ListItem) (n : List ℕ) → AllByRecursion (λ p. same n (key_of p) ≡ true) (orphans_of xs n)
@@ -78,10 +115,7 @@ module _ (xs ys : List ListItem) (r : AreRearranged xs ys) where
   adopted-in_order : (g : Group) → filter (is_in g) (adopted xs) ≡ filter (is_in g) (adopted ys)
   adopted-in_order (DefinitionsOf n) =
       one-element-permutation (adopted_by (orphans_of xs n)) _ _ (filter-permutation (is_in (DefinitionsOf n)) (adopted xs) (adopted ys) adopted-permutation) (adopted-own xs n (extended_names xs))
-  adopted-in_order (ExtensionsOf n) = adopted-none xs (is_in (ExtensionsOf n)) (λ p. refl) (extended_names xs) ∙ sym (adopted-none ys (is_in (ExtensionsOf n)) (λ p. refl) (extended_names ys))
-  adopted-in_order (DirectiveDefinitionsOf n) = adopted-none xs (is_in (DirectiveDefinitionsOf n)) (λ p. refl) (extended_names xs) ∙ sym (adopted-none ys (is_in (DirectiveDefinitionsOf n)) (λ p. refl) (extended_names ys))
-  adopted-in_order SchemaDefinitions = adopted-none xs (is_in SchemaDefinitions) (λ p. refl) (extended_names xs) ∙ sym (adopted-none ys (is_in SchemaDefinitions) (λ p. refl) (extended_names ys))
-  adopted-in_order SchemaExtensions = adopted-none xs (is_in SchemaExtensions) (λ p. refl) (extended_names xs) ∙ sym (adopted-none ys (is_in SchemaExtensions) (λ p. refl) (extended_names ys))
+  adopted-in_order g = adopted-none xs (is_in g) (λ p. refl) (extended_names xs) ∙ sym (adopted-none ys (is_in g) (λ p. refl) (extended_names ys))
 
   pub with_adopted-rearranged : (adopts : Bool) → AreRearranged (with_adopted adopts xs) (with_adopted adopts ys)
   with_adopted-rearranged false = r

@@ -1,60 +1,109 @@
--- Tests over what other tests keep.
-use Rattle.std.proofs.Common.{◌≡◌, Bool, true, false, cond, ◌&&◌, List, [], ◌∷◌, Option, Some, None, is_some, filter, refl, sym, ap, ◌∙◌, true≢false}
-use Rattle.std.specs.List.{filter_map, find}
+-- Tests over what other tests keep, and lists with the same elements in another order.
+use Rattle.std.proofs.Common.{◌≡◌, Bool, true, false, cond, ◌&&◌, List, [], ◌∷◌, Option, Some, None, is_some, filter, refl, ap, ◌∙◌, arith, ℕ, ◌<◌, ◌++◌, length, zero, suc, set, get_or, swap, sym, subst, append_assoc}
+use Rattle.std.specs.List.{cons_option, filter_map, find, AllByRecursion, flat_map}
 use Rattle.std.specs.Option.{option_map_or}
+use Rattle.std.proofs.lemmas.List.Elements.{filter_agree, All-from_recursion, recursion_from_All}
+use Rattle.apollo_component.proofs.Lists.Ends.{all-kept}
+use Rattle.std.specs.List.Sorted.{IsPermutation}
+use Rattle.std.proofs.lemmas.List.Edits.{swap_is}
+use Rattle.std.proofs.lemmas.List.Sorted.{All-permutation, IsPermutation-refl, IsPermutation-trans, IsPermutation-keeps, IsPermutation-append_left, IsPermutation-append_right, IsPermutation-append_comm, length_permutation}
 
 module _ {X : Type 0} (p q : X → Bool) where
   -- where all that pass the second pass the first
   pub filter-wider : ((x : X) → q x ≡ true → p x ≡ true) → (xs : List X) → filter q (filter p xs) ≡ filter q xs
   filter-wider wider [] = refl
-  filter-wider wider (x ∷ xs) = by (q x) refl (p x) refl (filter-wider wider xs)
-    where
-      by : (b : Bool) → q x ≡ b → (c : Bool) → p x ≡ c → filter q (filter p xs) ≡ filter q xs → filter q (filter p (x ∷ xs)) ≡ filter q (x ∷ xs)
-      by true e true f rest = rw (e, f, e) (ap (λ l. x ∷ l) rest)
-      by true e false f rest = absurd (true≢false (sym (wider x e) ∙ f))
-      by false e true f rest = rw (e, f, e) rest
-      by false e false f rest = rw (e, f) rest
+  filter-wider wider (x ∷ xs) = grind (arith, wider x, filter-wider wider xs)
 
   -- where none that pass the second pass the first
   pub filter-apart : ((x : X) → q x ≡ true → p x ≡ false) → (xs : List X) → filter q (filter p xs) ≡ []
   filter-apart apart [] = refl
-  filter-apart apart (x ∷ xs) = by (p x) refl (q x) refl (filter-apart apart xs)
-    where
-      by : (c : Bool) → p x ≡ c → (b : Bool) → q x ≡ b → filter q (filter p xs) ≡ [] → filter q (filter p (x ∷ xs)) ≡ []
-      by false f b e rest = rw f rest
-      by true f true e rest = absurd (true≢false (sym f ∙ apart x e))
-      by true f false e rest = rw (f, e) rest
+  filter-apart apart (x ∷ xs) = grind (arith, apart x, filter-apart apart xs)
 
 -- those of what a choice takes that pass a test
 pub filter-filter_map : {X Y : Type 0} (which : X → Option Y) (q : Y → Bool) (xs : List X) → filter q (filter_map which xs) ≡ filter_map which (filter (λ x. option_map_or q (which x) false) xs)
 filter-filter_map which q [] = refl
 filter-filter_map {X} {Y} which q (x ∷ xs) = by (which x) refl (filter-filter_map which q xs)
   where
-    takes : X → Bool
-    takes z = option_map_or q (which z) false
+    kept : List X
+    kept = filter (λ z. option_map_or q (which z) false) xs
 
-    by : (o : Option Y) → which x ≡ o → filter q (filter_map which xs) ≡ filter_map which (filter takes xs) → filter q (filter_map which (x ∷ xs)) ≡ filter_map which (filter takes (x ∷ xs))
+    by : (o : Option Y) → which x ≡ o → filter q (filter_map which xs) ≡ filter_map which kept → filter q (cons_option (which x) (filter_map which xs)) ≡ filter_map which (cond (option_map_or q (which x) false) (x ∷ kept) kept)
     by None e rest = rw e rest
-    by (Some y) e rest = test (q y) refl
-      where
-        test : (b : Bool) → q y ≡ b → filter q (filter_map which (x ∷ xs)) ≡ filter_map which (filter takes (x ∷ xs))
-        test true f = rw (e, f, e) (ap (λ l. y ∷ l) rest)
-        test false f = rw (e, f) rest
+    by (Some y) e rest = rw e (elim (q y) as (λ b. cond b (y ∷ filter q (filter_map which xs)) (filter q (filter_map which xs)) ≡ filter_map which (cond b (x ∷ kept) kept)) [ true ↦ rw e (ap (λ l. y ∷ l) rest) | false ↦ rest ])
 
 -- all that a choice takes
 pub filter_map-takes : {X Y : Type 0} (which : X → Option Y) (xs : List X) → filter_map which xs ≡ filter_map which (filter (λ x. is_some (which x)) xs)
-filter_map-takes which [] = refl
-filter_map-takes {X} {Y} which (x ∷ xs) = by (which x) refl (filter_map-takes which xs)
+filter_map-takes {X} {Y} which xs =
+    all-kept (filter_map which xs) ∙ filter-filter_map which (λ _. true) xs ∙ ap (filter_map which) (filter_agree (λ x. option_map_or (λ _. true) (which x) false) (λ x. is_some (which x)) (λ x. same (which x)) xs)
   where
-    by : (o : Option Y) → which x ≡ o → filter_map which xs ≡ filter_map which (filter (λ x. is_some (which x)) xs) → filter_map which (x ∷ xs) ≡ filter_map which (filter (λ x. is_some (which x)) (x ∷ xs))
-    by None e rest = rw e rest
-    by (Some y) e rest = rw (e, e) (ap (λ l. y ∷ l) rest)
+    same : (o : Option Y) → option_map_or (λ _. true) o false ≡ is_some o
+    same None = refl
+    same (Some y) = refl
 
 -- the first that passes two tests is, of those that pass one, the first that passes the other
 pub find-filter : {X : Type 0} (p q : X → Bool) (xs : List X) → find (λ x. p x && q x) xs ≡ find q (filter p xs)
 find-filter p q [] = refl
-find-filter p q (x ∷ xs) = by (p x) (find-filter p q xs)
-  where
-    by : (b : Bool) → find (λ x. p x && q x) xs ≡ find q (filter p xs) → cond (b && q x) (Some x) (find (λ x. p x && q x) xs) ≡ find q (cond b (x ∷ filter p xs) (filter p xs))
-    by true rest = ap (λ o. cond (q x) (Some x) o) rest
-    by false rest = rest
+find-filter p q (x ∷ xs) = grind (arith, find-filter p q xs)
+
+-- the first two of three parts in each other's place
+pub exchange : {X : Type 0} (p q r : List X) → IsPermutation (p ++ (q ++ r)) (q ++ (p ++ r))
+exchange p q r = rw (append_assoc p q r, append_assoc q p r) at (IsPermutation-append_left r (p ++ q) (q ++ p) (IsPermutation-append_comm p q))
+
+module _ {X Y : Type 0} (f : X → List Y) where
+  -- an element in another's place
+  flat_map-set : (l : List X) (j : ℕ) (x d : X) → j < length l → IsPermutation (f x ++ flat_map f l) (f (get_or l j d) ++ flat_map f (set l j x))
+  flat_map-set [] j x d lt = absurd (omega (arith, lt))
+  flat_map-set (y ∷ l) zero x d lt = exchange (f x) (f y) (flat_map f l)
+  flat_map-set (y ∷ l) (suc j) x d lt =
+      let z = f (get_or l j d) in
+      let rest = flat_map f (set l j x) in
+      IsPermutation-trans _ _ _ (exchange (f x) (f y) (flat_map f l))
+      (IsPermutation-trans _ _ _ (IsPermutation-append_right (f y) (f x ++ flat_map f l) (z ++ rest) (flat_map-set l j x d (omega (arith, lt)))) (exchange (f y) z rest))
+
+  -- two elements in each other's place
+  flat_map-swap : (l : List X) (i j : ℕ) (d : X) → i < length l → j < length l → IsPermutation (flat_map f l) (flat_map f (set (set l i (get_or l j d)) j (get_or l i d)))
+  flat_map-swap [] i j d a b = absurd (omega (arith, a))
+  flat_map-swap (y ∷ l) zero zero d a b = IsPermutation-refl (flat_map f (y ∷ l))
+  flat_map-swap (y ∷ l) zero (suc j) d a b = flat_map-set l j y d (omega (arith, b))
+  flat_map-swap (y ∷ l) (suc i) zero d a b = flat_map-set l i y d (omega (arith, a))
+  flat_map-swap (y ∷ l) (suc i) (suc j) d a b = IsPermutation-append_right (f y) _ _ (flat_map-swap l i j d (omega (arith, a)) (omega (arith, b)))
+
+  pub flat_map-permutation : (xs ys : List X) → IsPermutation xs ys → IsPermutation (flat_map f xs) (flat_map f ys)
+  flat_map-permutation xs ys =
+      IsPermutation-keeps xs (λ l. IsPermutation (flat_map f xs) (flat_map f l)) (IsPermutation-refl (flat_map f xs)) (λ l i j a b so_far. IsPermutation-trans _ _ _ so_far (step l i j a b)) ys
+    where
+      step : (l : List X) (i j : ℕ) → i < length l → j < length l → IsPermutation (flat_map f l) (flat_map f (swap l i j))
+      step [] i j a b = absurd (omega (arith, a))
+      step (d ∷ l) i j a b = subst (λ m. IsPermutation (flat_map f (d ∷ l)) (flat_map f m)) (swap_is (d ∷ l) i j d a b) (flat_map-swap (d ∷ l) i j d a b)
+
+-- those that pass a test, and what a choice makes of those that it takes
+module _ {X : Type 0} (p : X → Bool) where
+  filter-flat : (xs : List X) → flat_map (λ x. cond (p x) (x ∷ []) []) xs ≡ filter p xs
+  filter-flat [] = refl
+  filter-flat (x ∷ xs) = grind (arith, filter-flat xs)
+
+  pub filter-permutation : (xs ys : List X) → IsPermutation xs ys → IsPermutation (filter p xs) (filter p ys)
+  filter-permutation xs ys s = rw (filter-flat xs, filter-flat ys) at (flat_map-permutation (λ x. cond (p x) (x ∷ []) []) xs ys s)
+
+module _ {X Y : Type 0} (which : X → Option Y) where
+  filter_map-flat : (xs : List X) → flat_map (λ x. option_map_or (λ y. y ∷ []) (which x) []) xs ≡ filter_map which xs
+  filter_map-flat [] = refl
+  filter_map-flat (x ∷ xs) = elim (which x) as (λ o. option_map_or (λ y. y ∷ []) o [] ++ flat_map (λ x. option_map_or (λ y. y ∷ []) (which x) []) xs ≡ cons_option o (filter_map which xs)) [ None ↦ filter_map-flat xs | Some y ↦ ap (λ l. y ∷ l) (filter_map-flat xs) ]
+
+  pub filter_map-permutation : (xs ys : List X) → IsPermutation xs ys → IsPermutation (filter_map which xs) (filter_map which ys)
+  filter_map-permutation xs ys s = rw (filter_map-flat xs, filter_map-flat ys) at (flat_map-permutation (λ x. option_map_or (λ y. y ∷ []) (which x) []) xs ys s)
+
+-- what holds of each element holds of each in another order
+pub each-permutation : {X : Type 0} (P : X → Type 0) (xs ys : List X) → IsPermutation xs ys → AllByRecursion P xs → AllByRecursion P ys
+each-permutation P xs ys s a = recursion_from_All P ys (All-permutation P xs ys s (All-from_recursion P xs a))
+
+-- lists of one element, as often as it may be, are one where they are as long
+one-element : {X : Type 0} (c : List X) (xs ys : List X) → AllByRecursion (λ z. c ≡ z ∷ []) xs → AllByRecursion (λ z. c ≡ z ∷ []) ys → length xs ≡ length ys → xs ≡ ys
+one-element c [] [] a b e = refl
+one-element c [] (y ∷ ys) a b e = absurd (omega (arith, e))
+one-element c (x ∷ xs) [] a b e = absurd (omega (arith, e))
+one-element c (x ∷ xs) (y ∷ ys) a b e = (λ i. (sym a.0 ∙ b.0) i ++ one-element c xs ys a.1 b.1 (omega (arith, e)) i)
+
+-- so are two orders of it
+pub one-element-permutation : {X : Type 0} (c : List X) (xs ys : List X) → IsPermutation xs ys → AllByRecursion (λ z. c ≡ z ∷ []) xs → xs ≡ ys
+one-element-permutation c xs ys s a = one-element c xs ys a (each-permutation (λ z. c ≡ z ∷ []) xs ys s a) (sym (length_permutation xs ys s))

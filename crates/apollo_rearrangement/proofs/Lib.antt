@@ -1,5 +1,4 @@
 mod Agreement
-mod BareSchemas
 mod BareTypes
 mod BySubject
 mod Completed
@@ -7,12 +6,8 @@ mod Documents
 mod FaultSubjects
 mod Filters
 mod Found
-mod Names
-mod Permutations
 mod Rearranging
 mod Regrouped
 mod Reported
-mod SchemaDefinitions
 mod Subjects
 mod Types
-mod WholeFaults

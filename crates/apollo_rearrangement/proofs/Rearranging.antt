@@ -1,5 +1,5 @@
 -- Rearranged lists: an equivalence that goes on in longer lists.
-use Rattle.std.proofs.Common.{◌≡◌, Bool, true, false, List, [], ◌∷◌, ◌++◌, filter, refl, sym, ◌∙◌}
+use Rattle.std.proofs.Common.{◌≡◌, true, false, List, [], ◌∷◌, ◌++◌, refl, sym, ◌∙◌, arith}
 use Rattle.std.proofs.lemmas.List.Elements.{filter-append}
 use Rattle.std.proofs.lemmas.List.Sorted.{IsPermutation-append, IsPermutation-append_comm, IsPermutation-refl, IsPermutation-sym, IsPermutation-trans}
 use Rattle.apollo_meaning.specs.Items.ListItems.{ListItem}
@@ -25,12 +25,5 @@ pub neighbours-rearranged : (before after : List ListItem) (x y : ListItem) → 
 neighbours-rearranged before after x y apart =
     rearranged-append before before (x ∷ y ∷ after) (y ∷ x ∷ after) (rearranged-refl before) (rearranged-append (x ∷ y ∷ []) (y ∷ x ∷ []) after after two (rearranged-refl after))
   where
-    in_order : (g : Group) → filter (is_in g) (x ∷ y ∷ []) ≡ filter (is_in g) (y ∷ x ∷ [])
-    in_order g = by (is_in g x) refl
-      where
-        by : (b : Bool) → is_in g x ≡ b → filter (is_in g) (x ∷ y ∷ []) ≡ filter (is_in g) (y ∷ x ∷ [])
-        by true e = rw (e, apart g e) refl
-        by false e = rw e refl
-
     two : AreRearranged (x ∷ y ∷ []) (y ∷ x ∷ [])
-    two = record { same_definitions = IsPermutation-append_comm (x ∷ []) (y ∷ []); in_order = in_order }
+    two = record { same_definitions = IsPermutation-append_comm (x ∷ []) (y ∷ []); in_order = λ g. grind (arith, apart g) }

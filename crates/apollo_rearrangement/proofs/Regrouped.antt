@@ -90,53 +90,49 @@ module _ {P : Type 0} (f : Family P) (n : List ℕ) (by_kind : Finding P) (k : S
     taken which o e =
         ap (filter has) (filter_map-append which xs (x ∷ []) ∙ ap (λ o. filter_map which xs ++ cons_option o []) e) ∙ filter-append has (filter_map which xs) (cons_option o [])
 
-    pub taken-none : (which : ListItem → Option P) → which x ≡ None → filter has (filter_map which (xs ++ x ∷ [])) ≡ filter has (filter_map which xs)
+    taken-none : (which : ListItem → Option P) → which x ≡ None → filter has (filter_map which (xs ++ x ∷ [])) ≡ filter has (filter_map which xs)
     taken-none which e = taken which None e ∙ append-nil (filter has (filter_map which xs))
 
-    pub taken-some : (which : ListItem → Option P) (p : P) (b : Bool) → which x ≡ Some p → has p ≡ b → filter has (filter_map which (xs ++ x ∷ [])) ≡ filter has (filter_map which xs) ++ cond b (p ∷ []) []
+    taken-some : (which : ListItem → Option P) (p : P) (b : Bool) → which x ≡ Some p → has p ≡ b → filter has (filter_map which (xs ++ x ∷ [])) ≡ filter has (filter_map which xs) ++ cond b (p ∷ []) []
     taken-some which p b e own = taken which (Some p) e ∙ ap (λ b. filter has (filter_map which xs) ++ cond b (p ∷ []) []) own
 
+    taken-other : (which : ListItem → Option P) (p : P) → which x ≡ Some p → has p ≡ false → filter has (filter_map which (xs ++ x ∷ [])) ≡ filter has (filter_map which xs)
+    taken-other which p e own = taken-some which p false e own ∙ append-nil (filter has (filter_map which xs))
+
+  -- what holds of no item, and stays with one of another subject, with a definition and with an extension, holds of each list, its definitions and its extensions
+  pub by_plays : (Q : List ListItem → List P → List P → Type 0) → Q [] [] [] → ((xs : List ListItem) (x : ListItem) (ds es : List P) → about x ≡ false → Q xs ds es → Q (xs ++ x ∷ []) ds es)
+      → ((xs : List ListItem) (x : ListItem) (ds es : List P) (p : P) → about x ≡ true → found_at xs x ≡ at_definition by_kind ds es p → Q xs ds es → Q (xs ++ x ∷ []) (ds ++ p ∷ []) es)
+      → ((xs : List ListItem) (x : ListItem) (ds es : List P) (e : P) → about x ≡ true → found_at xs x ≡ at_extension by_kind ds es e → Q xs ds es → Q (xs ++ x ∷ []) ds (es ++ e ∷ []))
+      → ((x : ListItem) → Plays x) → (xs : List ListItem) → Q xs (defined_of xs) (extended_of xs)
+  by_plays Q none other defines extends plays = snoc_ind (λ xs. Q xs (defined_of xs) (extended_of xs)) none (λ xs x so_far. more xs x so_far (plays x))
+    where
+      more : (xs : List ListItem) (x : ListItem) → Q xs (defined_of xs) (extended_of xs) → Plays x → Q (xs ++ x ∷ []) (defined_of (xs ++ x ∷ [])) (extended_of (xs ++ x ∷ []))
+      more xs x so_far (Neither d e a) = rw (taken-none xs x f.defined d, taken-none xs x f.extended e) (other xs x (defined_of xs) (extended_of xs) a so_far)
+      more xs x so_far (Defines p d e a at) = by (has p) refl
+        where
+          by : (b : Bool) → has p ≡ b → Q (xs ++ x ∷ []) (defined_of (xs ++ x ∷ [])) (extended_of (xs ++ x ∷ []))
+          by false own = rw (taken-other xs x f.defined p d own, taken-none xs x f.extended e) (other xs x (defined_of xs) (extended_of xs) (a ∙ own) so_far)
+          by true own = rw (taken-some xs x f.defined p true d own, taken-none xs x f.extended e) (defines xs x (defined_of xs) (extended_of xs) p (a ∙ own) (at xs own) so_far)
+      more xs x so_far (Extends p d e a at) = by (has p) refl
+        where
+          by : (b : Bool) → has p ≡ b → Q (xs ++ x ∷ []) (defined_of (xs ++ x ∷ [])) (extended_of (xs ++ x ∷ []))
+          by false own = rw (taken-none xs x f.defined d, taken-other xs x f.extended p e own) (other xs x (defined_of xs) (extended_of xs) (a ∙ own) so_far)
+          by true own = rw (taken-none xs x f.defined d, taken-some xs x f.extended p true e own) (extends xs x (defined_of xs) (extended_of xs) p (a ∙ own) (at xs own) so_far)
+
   -- what is found at those of the subject is grouped
-  abbrev IsGrouped : List ListItem → Type 0
-  IsGrouped xs = IsPermutation (found (filter about xs)) (grouped by_kind (defined_of xs) (extended_of xs))
+  regrouped : ((x : ListItem) → Plays x) → (xs : List ListItem) → IsPermutation (found (filter about xs)) (grouped by_kind (defined_of xs) (extended_of xs))
+  regrouped =
+      by_plays (λ xs ds es. IsPermutation (found (filter about xs)) (grouped by_kind ds es)) (IsPermutation-refl []) (λ xs x ds es a so_far. rw (dropped xs x a) so_far)
+      (λ xs x ds es p a at so_far. rw (kept xs x a, at, grouped-definition by_kind ds es p) (IsPermutation-append_left (at_definition by_kind ds es p) _ _ so_far))
+      (λ xs x ds es e a at so_far. rw (kept xs x a, at) (IsPermutation-trans _ _ _ (IsPermutation-append_left (at_extension by_kind ds es e) _ _ so_far) (grouped-extension by_kind ds es e)))
+    where
+      kept : (xs : List ListItem) (x : ListItem) → about x ≡ true → found (filter about (xs ++ x ∷ [])) ≡ found (filter about xs) ++ found_at xs x
+      kept xs x e =
+          ap found (filter-append about xs (x ∷ []) ∙ ap (λ b. filter about xs ++ cond b (x ∷ []) []) e) ∙ found-push (filter about xs) x
+          ∙ ap (λ l. found (filter about xs) ++ l) (found_at-own about (λ y z s. ap (same_subject k) s) xs x e)
 
-  module _ (xs : List ListItem) (x : ListItem) (so_far : IsGrouped xs) where
-    abbrev more : List ListItem
-    more = xs ++ x ∷ []
-
-    kept : about x ≡ true → found (filter about more) ≡ found (filter about xs) ++ found_at xs x
-    kept e =
-        ap found (filter-append about xs (x ∷ []) ∙ ap (λ b. filter about xs ++ cond b (x ∷ []) []) e) ∙ found-push (filter about xs) x
-        ∙ ap (λ l. found (filter about xs) ++ l) (found_at-own about (λ y z s. ap (same_subject k) s) xs x e)
-
-    dropped : about x ≡ false → found (filter about more) ≡ found (filter about xs)
-    dropped e = ap found (filter-append about xs (x ∷ []) ∙ ap (λ b. filter about xs ++ cond b (x ∷ []) []) e ∙ append-nil (filter about xs))
-
-    unchanged : about x ≡ false → defined_of more ≡ defined_of xs → extended_of more ≡ extended_of xs → IsGrouped more
-    unchanged e d x = rw (dropped e, d, x) so_far
-
-    longer : (l : List Fault) → found_at xs x ≡ l → about x ≡ true → IsPermutation (found (filter about more)) (grouped by_kind (defined_of xs) (extended_of xs) ++ l)
-    longer l at e = rw (kept e, at) (IsPermutation-append_left l (found (filter about xs)) (grouped by_kind (defined_of xs) (extended_of xs)) so_far)
-
-    pub grouped-more : Plays x → IsGrouped more
-    grouped-more (Neither d e a) = unchanged a (taken-none xs x f.defined d) (taken-none xs x f.extended e)
-    grouped-more (Defines p d e a at) = by (has p) refl
-      where
-        by : (b : Bool) → has p ≡ b → IsGrouped more
-        by false own = unchanged (a ∙ own) (taken-some xs x f.defined p false d own ∙ append-nil (defined_of xs)) (taken-none xs x f.extended e)
-        by true own =
-            rw (taken-some xs x f.defined p true d own, taken-none xs x f.extended e, grouped-definition by_kind (defined_of xs) (extended_of xs) p)
-            (longer (at_definition by_kind (defined_of xs) (extended_of xs) p) (at xs own) (a ∙ own))
-    grouped-more (Extends p d e a at) = by (has p) refl
-      where
-        by : (b : Bool) → has p ≡ b → IsGrouped more
-        by false own = unchanged (a ∙ own) (taken-none xs x f.defined d) (taken-some xs x f.extended p false e own ∙ append-nil (extended_of xs))
-        by true own =
-            rw (taken-none xs x f.defined d, taken-some xs x f.extended p true e own)
-            (IsPermutation-trans _ _ _ (longer (at_extension by_kind (defined_of xs) (extended_of xs) p) (at xs own) (a ∙ own)) (grouped-extension by_kind (defined_of xs) (extended_of xs) p))
-
-  pub regrouped : ((x : ListItem) → Plays x) → (xs : List ListItem) → IsGrouped xs
-  regrouped plays = snoc_ind IsGrouped (IsPermutation-refl []) (λ xs x so_far. grouped-more xs x so_far (plays x))
+      dropped : (xs : List ListItem) (x : ListItem) → about x ≡ false → found (filter about (xs ++ x ∷ [])) ≡ found (filter about xs)
+      dropped xs x e = ap found (filter-append about xs (x ∷ []) ∙ ap (λ b. filter about xs ++ cond b (x ∷ []) []) e ∙ append-nil (filter about xs))
 
 -- what is found of a type
 abbrev pub finding_types : Finding TypePart

@@ -1,15 +1,14 @@
 -- The faults of a list that say that a component, or a root, is given a second time are those of what is dropped from a type,
 -- or from the schema, in order.
-use Rattle.std.proofs.Common.{◌≡◌, ℕ, Bool, true, false, List, [], ◌∷◌, ◌++◌, map, Option, Some, None, filter, slice_get, refl, sym, ap, ◌∙◌}
+use Rattle.std.proofs.Common.{◌≡◌, ℕ, Bool, false, List, [], ◌∷◌, ◌++◌, map, Option, Some, None, filter, slice_get, refl, sym, ap, ◌∙◌}
 use Rattle.std.specs.List.{filter_map, flat_map}
 use Rattle.std.specs.Option.{option_map_or}
 use Rattle.std.proofs.lemmas.List.{append-nil}
 use Rattle.std.proofs.lemmas.List.Elements.{filter-append, filter_agree}
 use Rattle.graphql_nodes.proofs.Texts.{same-is}
-use Rattle.graphql_nodes.specs.SameText.{same}
 use Rattle.apollo_component.specs.EachAfter.{each_after}
 use Rattle.apollo_component.proofs.Lists.EachAfter.{each_after-append}
-use Rattle.apollo_component.proofs.Lists.Ends.{all-kept, snoc_ind}
+use Rattle.apollo_component.proofs.Lists.Ends.{all-kept}
 use Rattle.apollo_meaning.proofs.Completion.CompletionLemmas.{faults-completed}
 use Rattle.apollo_meaning.proofs.Faults.FoundLemmas.{schema_faults_with, schema_faults_with-joining}
 use Rattle.apollo_meaning.proofs.Items.ItemLemmas.{found-push}
@@ -32,8 +31,8 @@ use Rattle.apollo_meaning.specs.declared.build_error.BuildError.{BuildError}
 use Rattle.apollo_meaning.specs.declared.build_error.BuildError.TheVariants as errors
 use Rattle.apollo_rearrangement.proofs.Agreement.{first-is}
 use Rattle.apollo_rearrangement.proofs.FaultSubjects.{AllFrom, all-stay, begun-from, begun-joined, dropped_from, found_at-apart, further-from, is_from, joined-from, none-stay}
-use Rattle.apollo_rearrangement.proofs.Regrouped.{Finding, Plays, Defines, Extends, Neither, at_definition, at_extension, defined_of, extended_of, finding_schemas, finding_types, plays-schema, plays-type, taken-none, taken-some}
-use Rattle.apollo_rearrangement.proofs.Subjects.{Subject, NoSubject, TheSchema, TypeNamed, same_subject, subject}
+use Rattle.apollo_rearrangement.proofs.Regrouped.{Finding, Plays, at_definition, at_extension, by_plays, defined_of, extended_of, finding_schemas, finding_types, plays-schema, plays-type}
+use Rattle.apollo_rearrangement.proofs.Subjects.{Subject, NoSubject, TheSchema, TypeNamed, same_subject}
 use Rattle.apollo_rearrangement.specs.Reported.{is_collision_of, is_repeated_root}
 
 module _ (k : Subject) (none : same_subject k NoSubject ≡ false) where
@@ -73,48 +72,16 @@ module _ (k : Subject) (none : same_subject k NoSubject ≡ false) where
     told-extension [] es e = refl
     told-extension (d ∷ ds) es e = ap (filter (is_from k)) (by_kind.more d es e) ∙ filter-append (is_from k) (by_kind.begun d es) (by_kind.joins d es e)
 
-    -- the definitions and the extensions of a list that have the key
-    abbrev defs : List ListItem → List P
-    defs = defined_of f n by_kind k
-
-    abbrev exts : List ListItem → List P
-    exts = extended_of f n by_kind k
-
     -- all that is found in a list and is dropped from the subject is dropped at its first definition, with its extensions
-    abbrev IsTold : List ListItem → Type 0
-    IsTold xs = filter (is_from k) (found xs) ≡ told (defs xs) (exts xs)
-
-    module _ (xs : List ListItem) (x : ListItem) (so_far : IsTold xs) where
-      -- one more item adds what is dropped at it
-      pushed : (l : List Fault) → found_at xs x ≡ l → filter (is_from k) (found (xs ++ x ∷ [])) ≡ told (defs xs) (exts xs) ++ filter (is_from k) l
-      pushed l at = ap (filter (is_from k)) (found-push xs x) ∙ filter-append (is_from k) (found xs) (found_at xs x) ∙ (λ i. so_far i ++ filter (is_from k) (at i))
-
-      -- one of another subject adds nothing
-      unchanged : same_subject k (subject x) ≡ false → defs (xs ++ x ∷ []) ≡ defs xs → exts (xs ++ x ∷ []) ≡ exts xs → IsTold (xs ++ x ∷ [])
-      unchanged apart d e =
-          pushed (found_at xs x) refl ∙ ap (λ l. told (defs xs) (exts xs) ++ l) (found_at-apart k none xs x apart) ∙ append-nil (told (defs xs) (exts xs)) ∙ sym (λ i. told (d i) (e i))
-
-      -- so it stays with each item
-      told-more : Plays f n by_kind k x → IsTold (xs ++ x ∷ [])
-      told-more (Neither d e a) = unchanged a (taken-none f n by_kind k xs x f.defined d) (taken-none f n by_kind k xs x f.extended e)
-      told-more (Defines p d e a at) = by (same n (f.key p)) refl
-        where
-          by : (b : Bool) → same n (f.key p) ≡ b → IsTold (xs ++ x ∷ [])
-          by false own = unchanged (a ∙ own) (taken-some f n by_kind k xs x f.defined p false d own ∙ append-nil (defs xs)) (taken-none f n by_kind k xs x f.extended e)
-          by true own =
-              pushed (at_definition by_kind (defs xs) (exts xs) p) (at xs own)
-              ∙ sym ((λ i. told (taken-some f n by_kind k xs x f.defined p true d own i) (taken-none f n by_kind k xs x f.extended e i)) ∙ told-definition (defs xs) (exts xs) p)
-      told-more (Extends p d e a at) = by (same n (f.key p)) refl
-        where
-          by : (b : Bool) → same n (f.key p) ≡ b → IsTold (xs ++ x ∷ [])
-          by false own = unchanged (a ∙ own) (taken-none f n by_kind k xs x f.defined d) (taken-some f n by_kind k xs x f.extended p false e own ∙ append-nil (exts xs))
-          by true own =
-              pushed (at_extension by_kind (defs xs) (exts xs) p) (at xs own)
-              ∙ sym ((λ i. told (taken-none f n by_kind k xs x f.defined d i) (taken-some f n by_kind k xs x f.extended p true e own i)) ∙ told-extension (defs xs) (exts xs) p)
-
-    -- and is so of each list
-    found-told : (xs : List ListItem) → IsTold xs
-    found-told = snoc_ind IsTold refl (λ xs x so_far. told-more xs x so_far (plays x))
+    found-told : (xs : List ListItem) → filter (is_from k) (found xs) ≡ told (defined_of f n by_kind k xs) (extended_of f n by_kind k xs)
+    found-told =
+        by_plays f n by_kind k (λ xs ds es. filter (is_from k) (found xs) ≡ told ds es) refl
+        (λ xs x ds es a so_far. pushed xs x ds es (found_at xs x) refl so_far ∙ ap (λ l. told ds es ++ l) (found_at-apart k none xs x a) ∙ append-nil (told ds es))
+        (λ xs x ds es p a at so_far. pushed xs x ds es (at_definition by_kind ds es p) at so_far ∙ sym (told-definition ds es p))
+        (λ xs x ds es e a at so_far. pushed xs x ds es (at_extension by_kind ds es e) at so_far ∙ sym (told-extension ds es e)) plays
+      where
+        pushed : (xs : List ListItem) (x : ListItem) (ds es : List P) (l : List Fault) → found_at xs x ≡ l → filter (is_from k) (found xs) ≡ told ds es → filter (is_from k) (found (xs ++ x ∷ [])) ≡ told ds es ++ filter (is_from k) l
+        pushed xs x ds es l at so_far = ap (filter (is_from k)) (found-push xs x) ∙ filter-append (is_from k) (found xs) (found_at xs x) ∙ (λ i. so_far i ++ filter (is_from k) (at i))
 
 -- the collisions of a name that are reported are dropped at its first definition, with all its extensions
 reported-type : (adopts : Bool) (xs : List ListItem) (n : List ℕ) (o : Option TypePart) → first (completed adopts xs) n ≡ o

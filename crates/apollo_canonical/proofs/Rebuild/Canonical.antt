@@ -1,15 +1,12 @@
--- Every schema's write-out means an equal schema, with the same write-out.
-use Rattle.std.proofs.Common.{◌≡◌, ℕ, Bool, true, false, cond, List, [], ◌++◌, drop, filter, flat_map, option_map, sym, ap, subst, ◌∙◌, filter_map}
+-- Every schema's write-out means an equal schema, with the same write-out, and there is one that it means.
+use Rattle.std.proofs.Common.{◌≡◌, ℕ, Bool, true, cond, List, [], ◌++◌, drop, filter, flat_map, option_map, sym, ap, subst, ◌∙◌, false, ◌∷◌, None, Option, Some, map, refl}
 use Rattle.std.proofs.lemmas.List.{append-nil}
-use Rattle.std.proofs.lemmas.List.Elements.{filter_map-append, recursion_from_All}
-use Rattle.std.specs.List.{AllByRecursion}
-use Rattle.std.specs.Prelude.{◌≢◌}
+use Rattle.std.proofs.lemmas.List.Elements.{filter_map-append}
 use Rattle.graphql_nodes.specs.BuiltIn.{is_built_in}
 use Rattle.graphql_nodes.specs.NodeView.{NodeView}
-use Rattle.graphql_nodes.specs.SameText.{by_text}
+use Rattle.graphql_nodes.specs.SameText.{by_text, same}
 use Rattle.graphql_nodes.specs.Tables.{keys_of, lookup, values_of}
 use Rattle.graphql_ast.specs.BareTypeSystem.{bare_directive_definition}
-use Rattle.graphql_ast.specs.Definitions.{location_of}
 use Rattle.apollo_component.proofs.FirstOfEachLemmas.{name_laws}
 use Rattle.apollo_component.proofs.Tabled.{entries_from_lookups}
 use Rattle.apollo_types.specs.BareTypes.{bare_schema_definition}
@@ -17,9 +14,9 @@ use Rattle.apollo_types.specs.SchemaDefinitionWriteOut.{write_schema_definition}
 use Rattle.apollo_types.specs.declared.extended_type.ExtendedType.{ExtendedType}
 use Rattle.apollo_types.specs.declared.schema_definition.SchemaDefinition.{SchemaDefinition}
 use Rattle.apollo_meaning.specs.Completion.ImpliedSchema.{completed, implied_schema}
-use Rattle.apollo_meaning.specs.Directives.{directive_definitions, directive_part, is_handed_in}
+use Rattle.apollo_meaning.specs.Directives.{directive_definitions, directive_part, is_handed_in, directive_names, directive_of}
 use Rattle.apollo_meaning.specs.Faults.ListFaults.{faults_in, faults_of}
-use Rattle.apollo_meaning.specs.Items.ListItems.{Added, ListItem, added, added_items, defined_schema}
+use Rattle.apollo_meaning.specs.Items.ListItems.{ListItem, added, added_items}
 use Rattle.apollo_meaning.specs.Order.Places.{folding_order}
 use Rattle.apollo_meaning.specs.Schema.Whole.{whole}
 use Rattle.apollo_schema.specs.EqualSchemas.{AreEqualSchemas}
@@ -27,17 +24,25 @@ use Rattle.apollo_schema.specs.MeantSchema.{AreOf, MeansSchema}
 use Rattle.apollo_schema.specs.SchemaWriteOut.{write_directives, write_held_schema_definition, write_held_type, write_schema}
 use Rattle.apollo_schema.specs.declared.schema.Schema.{Schema}
 use Rattle.apollo_canonical.specs.MeaningLaws.{MeaningLaws}
-use Rattle.apollo_canonical.specs.WrittenAgain.{IsUnmarkedAndRooted, with_built_ins, written_again}
+use Rattle.apollo_canonical.specs.WrittenAgain.{IsMeantByList, with_built_ins, written_again}
 use Rattle.apollo_canonical.proofs.Rebuild.BuiltIns.{built_ins}
-use Rattle.apollo_canonical.proofs.Rebuild.DirectivesAgain.{directives-again, unique, written_directives}
+use Rattle.apollo_canonical.proofs.Rebuild.DirectivesAgain.{directives-again, unique, written_directives, same_keys, same_meaning}
 use Rattle.apollo_canonical.proofs.Rebuild.Faultless.{faults-none}
 use Rattle.apollo_canonical.proofs.Rebuild.Held.{document_items, document_items-append, items-types}
-use Rattle.apollo_canonical.proofs.Rebuild.Meant.{IsAddedByHand, items-split}
+use Rattle.apollo_canonical.proofs.Rebuild.Meant.{items-split}
 use Rattle.apollo_canonical.proofs.Rebuild.OneType.{IsAgain}
-use Rattle.apollo_canonical.proofs.Rebuild.SchemaMeant.{NamesRoot, schema_node}
+use Rattle.apollo_canonical.proofs.Rebuild.SchemaMeant.{schema_node}
 use Rattle.apollo_canonical.proofs.Rebuild.SchemaWritten.{directives-listed, list-directives, written_list}
-use Rattle.apollo_canonical.proofs.Rebuild.TypesAgain.{equal_types, same_written}
-use Rattle.apollo_canonical.proofs.Rebuild.Whole.{Y, Z, ends, others, quiet, implied-directives, quiet-implied, same-schema, with-adopted}
+use Rattle.apollo_canonical.proofs.Rebuild.TypesAgain.{equal_types, same_written, first-again, names-again, view-nothing}
+use Rattle.apollo_canonical.proofs.Rebuild.SameSchema.{same-schema}
+use Rattle.apollo_canonical.proofs.Rebuild.WrittenList.{Y, Z, ends, others, quiet, implied-directives, quiet-implied, with-adopted}
+use Rattle.std.proofs.lemmas.Simd.{map-map}
+use Rattle.std.specs.Option.{unwrap_or}
+use Rattle.graphql_nodes.specs.NameView.{NameView}
+use Rattle.graphql_nodes.proofs.Texts.{same-true}
+use Rattle.apollo_meaning.specs.Items.Named.{first}
+use Rattle.apollo_meaning.specs.Types.Meaning.{parts, type_from, type_of}
+use Rattle.apollo_canonical.proofs.Rebuild.About.{first-about}
 
 -- the items of a list with a schema's write-out
 pub items-listed : (c : Bool) (schema : Schema)
@@ -48,21 +53,17 @@ items-listed c schema =
     ∙ (λ i. (document_items-append c (write_held_schema_definition schema) (write_directives (values_of schema.directive_definitions))
     ∙ ap (λ l. document_items c (write_held_schema_definition schema) ++ l) (directives-listed c (values_of schema.directive_definitions))) i ++ items-types c (values_of schema.types) i))
 
-module _ (laws : MeaningLaws) (start : ℕ) (adopts c : Bool) (more : List Added) (schema : Schema) (within : IsUnmarkedAndRooted more) (means : MeansSchema start adopts (with_built_ins more) schema) where
-  pub handed : AllByRecursion IsAddedByHand more
-  handed = recursion_from_All (λ a. is_built_in (location_of a.1) ≡ false) more within.unmarked
-
-  pub rooted : AllByRecursion NamesRoot (filter_map defined_schema (added_items more))
-  rooted = recursion_from_All (λ s. s.roots ≢ []) (filter_map defined_schema (added_items more)) within.rooted
+module _ (laws : MeaningLaws) (schema : Schema) (list : IsMeantByList schema) (c : Bool) where
+  open list use {start, adopts, more, means}
 
   abbrev xs : List ListItem
   xs = whole adopts (with_built_ins more)
 
   abbrev pub written_items : List ListItem
-  written_items = Y laws adopts more handed rooted start schema.types means.types schema.directive_definitions means.directives c
+  written_items = Y laws schema list c
 
   abbrev pub all_items : List ListItem
-  all_items = Z laws adopts more handed rooted start schema.types means.types schema.directive_definitions means.directives c
+  all_items = Z laws schema list c
 
   -- the items of the list with the write-out
   pub listed : added_items (written_again c schema) ≡ written_items
@@ -73,14 +74,14 @@ module _ (laws : MeaningLaws) (start : ℕ) (adopts c : Bool) (more : List Added
   pub all-listed : whole true (written_again c schema) ≡ all_items
   all-listed =
       ap (completed true) listed
-      ∙ (λ i. with-adopted laws adopts more handed rooted start schema.types means.types schema.directive_definitions means.directives c i ++ implied_schema true (with-adopted laws adopts more handed rooted start schema.types means.types schema.directive_definitions means.directives c i))
+      ∙ (λ i. with-adopted laws schema list c i ++ implied_schema true (with-adopted laws schema list c i))
 
-  pub directive_list : directive_definitions all_items ≡ directive_definitions built_ins ++ written_directives adopts more handed schema.directive_definitions means.directives
+  pub directive_list : directive_definitions all_items ≡ directive_definitions built_ins ++ written_directives schema list
   directive_list =
-      filter_map-append directive_part written_items (ends laws adopts more handed rooted start schema.types means.types schema.directive_definitions means.directives c)
-      ∙ (λ i. list-directives c (schema_node start xs).value (schema_node start xs).location schema.types (written_directives adopts more handed schema.directive_definitions means.directives) (values_of schema.types) i
+      filter_map-append directive_part written_items (ends laws schema list c)
+      ∙ (λ i. list-directives c (schema_node start xs).value (schema_node start xs).location schema.types (written_directives schema list) (values_of schema.types) i
       ++ implied-directives written_items i)
-      ∙ append-nil (directive_definitions built_ins ++ written_directives adopts more handed schema.directive_definitions means.directives)
+      ∙ append-nil (directive_definitions built_ins ++ written_directives schema list)
 
   module _ (again : ℕ) (rebuilt : Schema) (means_again : MeansSchema again true (written_again c schema) rebuilt) where
     are_again : AreOf again (folding_order all_items) all_items rebuilt
@@ -88,18 +89,18 @@ module _ (laws : MeaningLaws) (start : ℕ) (adopts c : Bool) (more : List Added
 
     same_definition : (bare_schema_definition (schema_node again all_items).value ≡ bare_schema_definition (schema_node start xs).value)
         × (write_schema_definition (schema_node again all_items).value (schema_node again all_items).location rebuilt.types ≡ write_schema_definition (schema_node start xs).value (schema_node start xs).location schema.types)
-    same_definition = same-schema laws adopts more handed rooted start schema.types means.types schema.directive_definitions means.directives c again rebuilt.types are_again.types
+    same_definition = same-schema laws schema list c again rebuilt.types are_again.types
 
     same_directives : (keys_of rebuilt.directive_definitions ≡ keys_of schema.directive_definitions) × ((n : List ℕ) → lookup (by_text n) rebuilt.directive_definitions ≡ lookup (by_text n) schema.directive_definitions)
-    same_directives = directives-again adopts more handed schema.directive_definitions means.directives all_items rebuilt.directive_definitions directive_list are_again.directives
+    same_directives = directives-again schema list all_items rebuilt.directive_definitions directive_list are_again.directives
 
     -- an equal schema
     pub equal : AreEqualSchemas rebuilt schema
     equal = (λ i. record {
       definition = definition i;
       directive_definitions = (λ n. option_map (λ d. bare_directive_definition d.value) (same_directives.1 n i));
-      types = equal_types laws adopts more handed start schema.types means.types c (others laws adopts more handed rooted start schema.types means.types schema.directive_definitions means.directives c)
-          (ends laws adopts more handed rooted start schema.types means.types schema.directive_definitions means.directives c) (quiet laws adopts more handed rooted start schema.types means.types schema.directive_definitions means.directives c) (quiet-implied written_items)
+      types = equal_types laws schema list c (others laws schema list c)
+          (ends laws schema list c) (quiet laws schema list c) (quiet-implied written_items)
           again rebuilt.types are_again.types i;
     })
       where
@@ -107,8 +108,8 @@ module _ (laws : MeaningLaws) (start : ℕ) (adopts c : Bool) (more : List Added
         definition = ap (λ (n : NodeView SchemaDefinition). bare_schema_definition n.value) are_again.definition ∙ same_definition.0 ∙ ap (λ (n : NodeView SchemaDefinition). bare_schema_definition n.value) (sym means.definition)
 
     -- with the same write-out
-    pub same : write_schema rebuilt ≡ write_schema schema
-    same = (λ i. (definition i ++ ap (λ es. write_directives (values_of es)) same_table i) ++ types i)
+    pub same-written : write_schema rebuilt ≡ write_schema schema
+    same-written = (λ i. (definition i ++ ap (λ es. write_directives (values_of es)) same_table i) ++ types i)
       where
         definition : write_held_schema_definition rebuilt ≡ write_held_schema_definition schema
         definition =
@@ -117,19 +118,70 @@ module _ (laws : MeaningLaws) (start : ℕ) (adopts c : Bool) (more : List Added
 
         same_table : rebuilt.directive_definitions ≡ schema.directive_definitions
         same_table =
-            entries_from_lookups name_laws schema.directive_definitions rebuilt.directive_definitions (unique adopts more handed schema.directive_definitions means.directives)
+            entries_from_lookups name_laws schema.directive_definitions rebuilt.directive_definitions (unique schema list)
             same_directives.0 (λ k. same_directives.1 k.text)
 
         held : (t u : ExtendedType) → IsAgain t u → write_held_type u ≡ write_held_type t
         held t u a = (λ i. cond (is_built_in (a.location i)) (drop 1 (a.same i)) (a.same i))
 
         types : flat_map write_held_type (values_of rebuilt.types) ≡ flat_map write_held_type (values_of schema.types)
-        types = same_written laws adopts more handed start schema.types means.types c (others laws adopts more handed rooted start schema.types means.types schema.directive_definitions means.directives c)
-            (ends laws adopts more handed rooted start schema.types means.types schema.directive_definitions means.directives c) (quiet laws adopts more handed rooted start schema.types means.types schema.directive_definitions means.directives c) (quiet-implied written_items)
+        types = same_written laws schema list c (others laws schema list c)
+            (ends laws schema list c) (quiet laws schema list c) (quiet-implied written_items)
             again rebuilt.types are_again.types write_held_type held
 
--- and is without fault
-pub faultless : MeaningLaws → (start : ℕ) (adopts c : Bool) (more : List Added) (schema : Schema) → IsUnmarkedAndRooted more → MeansSchema start adopts (with_built_ins more) schema → faults_of true (written_again c schema) ≡ []
-faultless laws start adopts c more schema within means =
-    ap (faults_in true) (listed laws start adopts c more schema within means)
-    ∙ faults-none laws adopts more (handed laws start adopts c more schema within means) (rooted laws start adopts c more schema within means) start schema.types means.types schema.directive_definitions means.directives c
+  -- and is without fault
+  pub faultless : faults_of true (written_again c schema) ≡ []
+  faultless = ap (faults_in true) listed ∙ faults-none laws schema list c
+
+-- a table with other values, by their keys
+module _ {V : Type 0} (g : List ℕ → Option V) where
+  abbrev valued : List (NameView × V) → List (NameView × V)
+  valued = map (λ e. (e.0, unwrap_or (g e.0.text) e.1))
+
+  lookup-valued : (n : List ℕ) (es : List (NameView × V)) → lookup (by_text n) (valued es) ≡ option_map (unwrap_or (g n)) (lookup (by_text n) es)
+  lookup-valued n [] = refl
+  lookup-valued n (e ∷ es) = elim (same n e.0.text) as (λ b. same n e.0.text ≡ b → cond b (Some (unwrap_or (g e.0.text) e.1)) (lookup (by_text n) (valued es)) ≡ option_map (unwrap_or (g n)) (cond b (Some e.1) (lookup (by_text n) es))) [
+    | true ↦ λ h. ap (λ (m : List ℕ). Some (unwrap_or (g m) e.1)) (sym (same-true n e.0.text h))
+    | false ↦ λ h. lookup-valued n es
+  ] refl
+
+module _ (laws : MeaningLaws) (schema : Schema) (list : IsMeantByList schema) (c : Bool) (again : ℕ) where
+  abbrev zs : List ListItem
+  zs = all_items laws schema list c
+
+  abbrev types_meant : List ℕ → Option ExtendedType
+  types_meant = type_of again (folding_order zs) zs
+
+  meant-each : (n : List ℕ) → lookup (by_text n) (valued types_meant schema.types) ≡ types_meant n
+  meant-each n = lookup-valued types_meant n schema.types ∙ by (lookup (by_text n) schema.types) refl
+    where
+      by : (o : Option ExtendedType) → lookup (by_text n) schema.types ≡ o → option_map (unwrap_or (types_meant n)) (lookup (by_text n) schema.types) ≡ types_meant n
+      by None e =
+          ap (option_map (unwrap_or (types_meant n))) e
+          ∙ sym (ap (option_map (λ d. type_from d (parts again (folding_order zs) n d))) (first-about n zs ∙ ap (λ l. first l n)
+          (view-nothing laws schema list c (others laws schema list c) (ends laws schema list c) (quiet laws schema list c) (quiet-implied (written_items laws schema list c)) n e)))
+      by (Some t) e =
+          let there = first-again laws schema list c (others laws schema list c) (ends laws schema list c) (quiet laws schema list c) (quiet-implied (written_items laws schema list c)) n t e in
+          ap (option_map (unwrap_or (types_meant n))) e
+          ∙ ap (λ o. Some (unwrap_or (option_map (λ d. type_from d (parts again (folding_order zs) n d)) o) t)) there
+          ∙ sym (ap (option_map (λ d. type_from d (parts again (folding_order zs) n d))) there)
+
+  abbrev rebuilt : Schema
+  rebuilt = record schema { schema_definition = schema_node again zs; types = valued types_meant schema.types }
+
+  is-meant : AreOf again (folding_order zs) zs rebuilt
+  is-meant = record {
+    definition = refl;
+    types = record {
+      names = map-map (λ (e : NameView × ExtendedType). e.0) (λ e. (e.0, unwrap_or (types_meant e.0.text) e.1)) schema.types
+          ∙ sym (names-again laws schema list c (others laws schema list c) (ends laws schema list c) (quiet laws schema list c) (quiet-implied (written_items laws schema list c)));
+      each = meant-each;
+    };
+    directives = record {
+      names = sym (ap directive_names (directive_list laws schema list c) ∙ same_keys schema list);
+      each = (λ n. sym (ap (λ ds. directive_of ds n) (directive_list laws schema list c) ∙ same_meaning schema list n));
+    };
+  }
+
+  pub rebuilds : (rebuilt : Schema) × MeansSchema again true (written_again c schema) rebuilt
+  rebuilds = (rebuilt, subst (λ l. AreOf again (folding_order l) l rebuilt) (sym (all-listed laws schema list c)) is-meant)

@@ -1,7 +1,9 @@
 -- The directive definitions of a list with a write-out are those that were written out.
-use Rattle.std.proofs.Common.{◌≡◌, ℕ, Bool, true, false, cond, not, ◌&&◌, List, [], ◌∷◌, ◌++◌, None, Option, Some, map, map-id, filter, find, option_map, refl, sym, ap, subst, ◌∙◌, true≢false}
+use Rattle.std.proofs.Common.{◌≡◌, ℕ, Bool, true, false, cond, not, ◌&&◌, List, [], ◌∷◌, ◌++◌, None, Option, Some, map, filter, find, option_map, refl, sym, ap, subst, ◌∙◌, true≢false, arith}
+use Rattle.std.proofs.lemmas.Bool.{not-true}
 use Rattle.std.proofs.lemmas.List.{append-nil, map-append}
 use Rattle.std.proofs.lemmas.List.Elements.{filter-append, filter_map-append}
+use Rattle.std.proofs.lemmas.List.Folds.{find-append}
 use Rattle.std.specs.List.{AllByRecursion, IsDistinct, last_or, list_any}
 use Rattle.std.specs.Option.{option_or, unwrap_or}
 use Rattle.graphql_nodes.specs.NameView.{NameView}
@@ -13,18 +15,18 @@ use Rattle.graphql_ast.specs.declared.definition.Definition.TheVariants as ast
 use Rattle.graphql_ast.specs.declared.type_system.DirectiveDefinition.{DirectiveDefinition}
 use Rattle.apollo_built_in.specs.BuiltInTable.{built_in_definitions}
 use Rattle.apollo_component.specs.FirstOfEach.{first_of_each}
-use Rattle.apollo_component.proofs.Lists.Each.{each-filter, each-weaken, filter-fails}
+use Rattle.apollo_component.proofs.Lists.Each.{each-filter, each-weaken}
 use Rattle.apollo_component.proofs.Tabled.{first_of_each-distinct}
 use Rattle.apollo_meaning.specs.Directives.{AreDirectivesOf, Directives, directive_definitions, directive_names, directive_of, directive_part, has_text, is_handed_in}
-use Rattle.apollo_meaning.specs.Items.ListItems.{Added, Defined, Extended, ListItem, Other, SchemaDefined, SchemaExtended}
+use Rattle.apollo_meaning.specs.Items.ListItems.{ListItem, Other}
 use Rattle.apollo_meaning.specs.Schema.Whole.{whole}
 use Rattle.apollo_component.proofs.FirstOfEachLemmas.{first_of_each-map, name_laws}
-use Rattle.apollo_canonical.specs.WrittenAgain.{with_built_ins}
-use Rattle.apollo_canonical.proofs.FirstAppearance.{first-there, first_of_each-append, first_of_each-filter, new_to-same, new_to_these}
-use Rattle.apollo_canonical.proofs.Kept.{each-both, each-from_map, filter-all, find-none, passes}
-use Rattle.apollo_canonical.proofs.Once.{all-first}
+use Rattle.apollo_schema.specs.declared.schema.Schema.{Schema}
+use Rattle.apollo_canonical.specs.WrittenAgain.{IsMeantByList, with_built_ins}
+use Rattle.apollo_canonical.proofs.FirstAppearance.{first_of_each-again, new_to-same, new_to_these}
+use Rattle.apollo_canonical.proofs.Kept.{each-both, each-from_map, find-made, find-none, found-holds, found-passes, passes}
 use Rattle.apollo_canonical.proofs.Rebuild.BuiltIns.{built_ins}
-use Rattle.apollo_canonical.proofs.Rebuild.Meant.{IsAddedByHand, IsHandedIn, handed-later, later_items, whole-split}
+use Rattle.apollo_canonical.proofs.Rebuild.Meant.{IsHandedIn, handed, handed-later, later_items, whole-split}
 use Rattle.apollo_canonical.proofs.Rebuild.Tables.{each-entry, each-found, lookup-absent}
 
 abbrev pub built_in_directives : Directives
@@ -40,71 +42,28 @@ pub built_in-marked : AllByRecursion (λ d. is_handed_in d ≡ false) built_in_d
 unfolding built_in_definitions
 built_in-marked = (refl, (refl, (refl, (refl, tt))))
 
-built_in-names : first_of_each same_text (names_of built_in_directives) ≡ names_of built_in_directives
-unfolding built_in_definitions
-built_in-names = refl
-
 -- directive definitions that are handed in
 handed-directives : (xs : List ListItem) → AllByRecursion IsHandedIn xs → AllHandedIn (directive_definitions xs)
 handed-directives [] a = tt
-handed-directives (Defined p ∷ xs) a = handed-directives xs a.1
-handed-directives (Extended p ∷ xs) a = handed-directives xs a.1
-handed-directives (SchemaDefined s ∷ xs) a = handed-directives xs a.1
-handed-directives (SchemaExtended s ∷ xs) a = handed-directives xs a.1
-handed-directives (Other (ast.OperationDefinition n) ∷ xs) a = handed-directives xs a.1
-handed-directives (Other (ast.FragmentDefinition n) ∷ xs) a = handed-directives xs a.1
 handed-directives (Other (ast.DirectiveDefinition n) ∷ xs) a = (ap not a.0, handed-directives xs a.1)
-handed-directives (Other (ast.SchemaDefinition n) ∷ xs) a = handed-directives xs a.1
-handed-directives (Other (ast.ScalarTypeDefinition n) ∷ xs) a = handed-directives xs a.1
-handed-directives (Other (ast.ObjectTypeDefinition n) ∷ xs) a = handed-directives xs a.1
-handed-directives (Other (ast.InterfaceTypeDefinition n) ∷ xs) a = handed-directives xs a.1
-handed-directives (Other (ast.UnionTypeDefinition n) ∷ xs) a = handed-directives xs a.1
-handed-directives (Other (ast.EnumTypeDefinition n) ∷ xs) a = handed-directives xs a.1
-handed-directives (Other (ast.InputObjectTypeDefinition n) ∷ xs) a = handed-directives xs a.1
-handed-directives (Other (ast.SchemaExtension n) ∷ xs) a = handed-directives xs a.1
-handed-directives (Other (ast.ScalarTypeExtension n) ∷ xs) a = handed-directives xs a.1
-handed-directives (Other (ast.ObjectTypeExtension n) ∷ xs) a = handed-directives xs a.1
-handed-directives (Other (ast.InterfaceTypeExtension n) ∷ xs) a = handed-directives xs a.1
-handed-directives (Other (ast.UnionTypeExtension n) ∷ xs) a = handed-directives xs a.1
-handed-directives (Other (ast.EnumTypeExtension n) ∷ xs) a = handed-directives xs a.1
-handed-directives (Other (ast.InputObjectTypeExtension n) ∷ xs) a = handed-directives xs a.1
+handed-directives (x ∷ xs) a = handed-directives xs a.1
 
 -- the last built-in one of a name
 abbrev built_in_of : List ℕ → Option (NodeView DirectiveDefinition)
 built_in_of n = last_or None (filter (has_text n) built_in_directives)
 
 module _ (n : List ℕ) where
-  pub find-append : {X : Type 0} (q : X → Bool) (xs ys : List X) → find q (xs ++ ys) ≡ option_or (find q xs) (find q ys)
-  find-append q [] ys = refl
-  find-append q (x ∷ xs) ys = by (q x) (find-append q xs ys)
-    where
-      by : (b : Bool) → find q (xs ++ ys) ≡ option_or (find q xs) (find q ys) → cond b (Some x) (find q (xs ++ ys)) ≡ option_or (cond b (Some x) (find q xs)) (find q ys)
-      by true rest = refl
-      by false rest = rest
-
   pub find-unmarked : (ds : Directives) → AllByRecursion (λ d. is_handed_in d ≡ false) ds → find (λ d. has_text n d && is_handed_in d) ds ≡ None
   find-unmarked [] a = refl
-  find-unmarked (d ∷ ds) a = ap (λ b. cond b (Some d) (find (λ d. has_text n d && is_handed_in d) ds)) (ap (λ b. has_text n d && b) a.0 ∙ and-false (has_text n d)) ∙ find-unmarked ds a.1
-    where
-      and-false : (b : Bool) → (b && false) ≡ false
-      and-false true = refl
-      and-false false = refl
+  find-unmarked (d ∷ ds) a = grind (arith, a.0, find-unmarked ds a.1)
 
   find-handed : (ds : Directives) → AllHandedIn ds → find (λ d. has_text n d && is_handed_in d) ds ≡ find (has_text n) ds
   find-handed [] a = refl
-  find-handed (d ∷ ds) a = (λ i. cond (and-true (has_text n d) i) (Some d) (find-handed ds a.1 i))
-    where
-      and-true : (b : Bool) → (b && is_handed_in d) ≡ b
-      and-true true = a.0
-      and-true false = refl
+  find-handed (d ∷ ds) a = grind (arith, a.0, find-handed ds a.1)
 
   none-left : (ds : Directives) → find (has_text n) ds ≡ None → filter (has_text n) ds ≡ []
   none-left [] h = refl
-  none-left (d ∷ ds) h = by (has_text n d) h (none-left ds)
-    where
-      by : (b : Bool) → cond b (Some d) (find (has_text n) ds) ≡ None → (find (has_text n) ds ≡ None → filter (has_text n) ds ≡ []) → cond b (d ∷ filter (has_text n) ds) (filter (has_text n) ds) ≡ []
-      by true h rest = absurd (let g : Some d ≡ None = h in cc)
-      by false h rest = rest h
+  none-left (d ∷ ds) h = grind (arith, h, none-left ds)
 
   -- what a name means after the built-in definitions
   pub directive-after : (ds : Directives) → AllHandedIn ds → directive_of (built_in_directives ++ ds) n ≡ option_or (find (has_text n) ds) (built_in_of n)
@@ -116,27 +75,10 @@ module _ (n : List ℕ) where
       by (Some d) e = ap (λ o. option_or o (last_or None (filter (has_text n) (built_in_directives ++ ds)))) e ∙ sym (ap (λ o. option_or o (built_in_of n)) e)
       by None e = ap (λ l. option_or (find (has_text n) ds) (last_or None l)) (filter-append (has_text n) built_in_directives ds ∙ ap (λ l. filter (has_text n) built_in_directives ++ l) (none-left ds e) ∙ append-nil (filter (has_text n) built_in_directives))
 
-  -- what is found has the name
-  found-text : (ds : Directives) (d : NodeView DirectiveDefinition) → find (has_text n) ds ≡ Some d → has_text n d ≡ true
-  found-text [] d h = absurd (let g : None ≡ Some d = h in cc)
-  found-text (x ∷ ds) d h = by (has_text n x) refl h (found-text ds d)
-    where
-      by : (b : Bool) → has_text n x ≡ b → cond b (Some x) (find (has_text n) ds) ≡ Some d → (find (has_text n) ds ≡ Some d → has_text n d ≡ true) → has_text n d ≡ true
-      by true e h rest = subst (λ y. has_text n y ≡ true) (ap (λ o. unwrap_or o x) h) e
-      by false e h rest = rest h
-
-  -- and what is the last of those that pass
+  -- what holds of each holds of the last
   last-property : {X : Type 0} (P : X → Type 0) (o : Option X) (xs : List X) (d : X) → ((x : X) → o ≡ Some x → P x) → AllByRecursion P xs → last_or o xs ≡ Some d → P d
   last-property P o [] d start a h = start d h
   last-property P o (x ∷ xs) d start a h = last-property P (Some x) xs d (λ y e. subst P (ap (λ o. unwrap_or o x) e) a.0) a.1 h
-
-  handed-found : (ds : Directives) (d : NodeView DirectiveDefinition) → AllHandedIn ds → find (has_text n) ds ≡ Some d → is_handed_in d ≡ true
-  handed-found [] d a h = absurd (let g : None ≡ Some d = h in cc)
-  handed-found (x ∷ ds) d a h = by (has_text n x) h (handed-found ds d a.1)
-    where
-      by : (b : Bool) → cond b (Some x) (find (has_text n) ds) ≡ Some d → (find (has_text n) ds ≡ Some d → is_handed_in d ≡ true) → is_handed_in d ≡ true
-      by true h rest = subst (λ y. is_handed_in y ≡ true) (ap (λ o. unwrap_or o x) h) a.0
-      by false h rest = rest h
 
   -- the handed-in one, if it is
   abbrev if_handed : Option (NodeView DirectiveDefinition) → Option (NodeView DirectiveDefinition)
@@ -158,7 +100,7 @@ module _ (n : List ℕ) where
   text-of_meant ds d h = by (find (has_text n) ds) refl
     where
       by : (o : Option (NodeView DirectiveDefinition)) → find (has_text n) ds ≡ o → has_text n d ≡ true
-      by (Some x) e = found-text ds d (e ∙ sym (ap (λ o. option_or o (built_in_of n)) e) ∙ h)
+      by (Some x) e = found-passes (has_text n) ds d (e ∙ sym (ap (λ o. option_or o (built_in_of n)) e) ∙ h)
       by None e = last-property (λ d. has_text n d ≡ true) None (filter (has_text n) built_in_directives) d (λ x h. absurd (let g : None ≡ Some x = h in cc)) (passes (has_text n) built_in_directives) (sym (ap (λ o. option_or o (built_in_of n)) e) ∙ h)
 
   -- what is found among the handed-in values of a table
@@ -182,16 +124,17 @@ pub directive_names-first : (ds : Directives) → directive_names ds ≡ first_o
 directive_names-first ds = first_of_each-map same_text (λ d. d.value.name) ds
 
 find-named : (k : NameView) (ds : Directives) → find (same_text k) (names_of ds) ≡ option_map (λ d. d.value.name) (find (has_text k.text) ds)
-find-named k [] = refl
-find-named k (d ∷ ds) = by (same k.text d.value.name.text) (find-named k ds)
-  where
-    by : (b : Bool) → find (same_text k) (names_of ds) ≡ option_map (λ d. d.value.name) (find (has_text k.text) ds)
-        → cond b (Some d.value.name) (find (same_text k) (names_of ds)) ≡ option_map (λ (d : NodeView DirectiveDefinition). d.value.name) (cond b (Some d) (find (has_text k.text) ds))
-    by true rest = refl
-    by false rest = rest
+find-named k ds = find-made (same_text k) (λ (d : NodeView DirectiveDefinition). d.value.name) ds
 
-module _ (adopts : Bool) (more : List Added) (handed : AllByRecursion IsAddedByHand more) (table : List (NameView × NodeView DirectiveDefinition))
-    (are : AreDirectivesOf (directive_definitions (whole adopts (with_built_ins more))) table) where
+module _ (schema : Schema) (list : IsMeantByList schema) where
+  open list use {adopts, more}
+
+  abbrev table : List (NameView × NodeView DirectiveDefinition)
+  table = schema.directive_definitions
+
+  abbrev are : AreDirectivesOf (directive_definitions (whole adopts (with_built_ins more))) table
+  are = list.means.directives
+
   abbrev later : Directives
   later = directive_definitions (later_items adopts more)
 
@@ -202,7 +145,7 @@ module _ (adopts : Bool) (more : List Added) (handed : AllByRecursion IsAddedByH
   split = ap directive_definitions (whole-split adopts more) ∙ filter_map-append directive_part built_ins (later_items adopts more)
 
   handed_later : AllHandedIn later
-  handed_later = handed-directives (later_items adopts more) (handed-later adopts more handed)
+  handed_later = handed-directives (later_items adopts more) (handed-later adopts more (handed schema list))
 
   each : (n : List ℕ) → lookup (by_text n) table ≡ option_or (find (has_text n) later) (built_in_of n)
   each n = are.each n ∙ ap (λ ds. directive_of ds n) split ∙ directive-after n later handed_later
@@ -228,7 +171,7 @@ module _ (adopts : Bool) (more : List Added) (handed : AllByRecursion IsAddedByH
       by : (o : Option (NodeView DirectiveDefinition)) → find (has_text n) later ≡ o → option_or (if_handed n (option_or (find (has_text n) later) (built_in_of n))) (built_in_of n) ≡ option_or (find (has_text n) later) (built_in_of n)
       by (Some d) e =
           ap (λ o. option_or (if_handed n (option_or o (built_in_of n))) (built_in_of n)) e
-          ∙ ap (λ b. option_or (cond b (Some d) None) (built_in_of n)) (handed-found n later d handed_later e)
+          ∙ ap (λ b. option_or (cond b (Some d) None) (built_in_of n)) (found-holds (λ x. is_handed_in x ≡ true) (has_text n) later d handed_later e)
           ∙ sym (ap (λ o. option_or o (built_in_of n)) e)
       by None e =
           ap (λ o. option_or (if_handed n (option_or o (built_in_of n))) (built_in_of n)) e ∙ ap (λ o. option_or o (built_in_of n)) (built_in-dropped n) ∙ sym (ap (λ o. option_or o (built_in_of n)) e)
@@ -241,10 +184,6 @@ module _ (adopts : Bool) (more : List Added) (handed : AllByRecursion IsAddedByH
       (subst (AllByRecursion (λ k. find (same_text k) (names_of (built_in_directives ++ later)) ≡ Some k)) (sym keys) (each-found same_text name_laws (names_of (built_in_directives ++ later)))))
       (each-entry table unique)
     where
-      not-true : (b : Bool) → not b ≡ true → b ≡ false
-      not-true false h = refl
-      not-true true h = sym h
-
       one : (e : NameView × NodeView DirectiveDefinition) → find (same_text e.0) (names_of (built_in_directives ++ later)) ≡ Some e.0 → lookup (by_text e.0.text) table ≡ Some e.1 → new e.0 ≡ true → (is_handed_in e.1 ≡ true) × (e.1.value.name ≡ e.0)
       one e first found is_new = by (find (has_text e.0.text) later) refl
         where
@@ -252,14 +191,14 @@ module _ (adopts : Bool) (more : List Added) (handed : AllByRecursion IsAddedByH
           among =
               sym (find-named e.0 later)
               ∙ sym (ap (λ o. option_or o (find (same_text e.0) (names_of later))) (find-none (same_text e.0) (names_of built_in_directives) (not-true (list_any (same_text e.0) (names_of built_in_directives)) is_new)))
-              ∙ sym (find-append [] (same_text e.0) (names_of built_in_directives) (names_of later))
+              ∙ sym (find-append (same_text e.0) (names_of built_in_directives) (names_of later))
               ∙ ap (find (same_text e.0)) (sym (map-append (λ d. d.value.name) built_in_directives later)) ∙ first
 
           by : (o : Option (NodeView DirectiveDefinition)) → find (has_text e.0.text) later ≡ o → (is_handed_in e.1 ≡ true) × (e.1.value.name ≡ e.0)
           by None g = absurd (let f : None ≡ Some e.0 = sym (ap (option_map (λ (d : NodeView DirectiveDefinition). d.value.name)) g) ∙ among in cc)
           by (Some d) g =
               let is : d ≡ e.1 = ap (λ o. unwrap_or o d) (sym (ap (λ o. option_or o (built_in_of e.0.text)) g) ∙ sym (each e.0.text) ∙ found) in (
-                ap is_handed_in (sym is) ∙ handed-found e.0.text later d handed_later g,
+                ap is_handed_in (sym is) ∙ found-holds (λ x. is_handed_in x ≡ true) (has_text e.0.text) later d handed_later g,
                 ap (λ (x : NodeView DirectiveDefinition). x.value.name) (sym is) ∙ ap (λ o. unwrap_or o e.0) (sym (ap (option_map (λ (d : NodeView DirectiveDefinition). d.value.name)) g) ∙ among),
               )
 
@@ -282,33 +221,12 @@ module _ (adopts : Bool) (more : List Added) (handed : AllByRecursion IsAddedByH
   -- the same names, in order
   pub same_keys : directive_names (built_in_directives ++ written_directives) ≡ keys_of table
   same_keys =
-      directive_names-first (built_in_directives ++ written_directives) ∙ after written_directives
-      ∙ ap (λ l. names_of built_in_directives ++ l) (first_of_each-filter same_text name_laws new (new_to-same same_text name_laws (names_of built_in_directives)) (names_of written_directives)
-      ∙ ap (first_of_each same_text) (new-written table texts own_names ∙ ap (filter new) (keys ∙ after later) ∙ twice)
-      ∙ first-twice)
-      ∙ sym (keys ∙ after later)
+      listed written_directives
+      ∙ first_of_each-again same_text name_laws (names_of built_in_directives) (names_of later) (names_of written_directives) (new-written table texts own_names ∙ ap (filter new) (are.names ∙ ap directive_names split ∙ listed later))
+      ∙ sym (are.names ∙ ap directive_names split ∙ listed later)
     where
-      rest : List NameView
-      rest = filter new (first_of_each same_text (names_of later))
-
-      after : (ds : Directives) → first_of_each same_text (names_of (built_in_directives ++ ds)) ≡ names_of built_in_directives ++ filter new (first_of_each same_text (names_of ds))
-      after ds =
-          ap (first_of_each same_text) (map-append (λ d. d.value.name) built_in_directives ds) ∙ first_of_each-append same_text name_laws (names_of built_in_directives) (names_of ds)
-          ∙ ap (λ l. l ++ filter new (first_of_each same_text (names_of ds))) built_in-names
-
-      known : AllByRecursion (λ k. list_any (same_text k) (names_of built_in_directives) ≡ true) (names_of built_in_directives)
-      known = subst (AllByRecursion (λ k. list_any (same_text k) (names_of built_in_directives) ≡ true)) built_in-names (first-there same_text name_laws (names_of built_in_directives))
-
-      twice : filter new (names_of built_in_directives ++ rest) ≡ rest
-      twice =
-          filter-append new (names_of built_in_directives) rest
-          ∙ (λ i. filter-fails (λ k. list_any (same_text k) (names_of built_in_directives) ≡ true) new (λ k e. ap not e) (names_of built_in_directives) known i ++ filter-all new rest (passes new (first_of_each same_text (names_of later))) i)
-
-      first-twice : first_of_each same_text rest ≡ rest
-      first-twice =
-          ap (first_of_each same_text) (first_of_each-filter same_text name_laws new (new_to-same same_text name_laws (names_of built_in_directives)) (names_of later))
-          ∙ all-first same_text (λ k. k) (first_of_each same_text (filter new (names_of later))) (subst (IsDistinct same_text) (sym (map-id (first_of_each same_text (filter new (names_of later))))) (first_of_each-distinct same_text (filter new (names_of later))))
-          ∙ sym (first_of_each-filter same_text name_laws new (new_to-same same_text name_laws (names_of built_in_directives)) (names_of later))
+      listed : (ds : Directives) → directive_names (built_in_directives ++ ds) ≡ first_of_each same_text (names_of built_in_directives ++ names_of ds)
+      listed ds = directive_names-first (built_in_directives ++ ds) ∙ ap (first_of_each same_text) (map-append (λ d. d.value.name) built_in_directives ds)
 
   -- a table of the written list is this one
   pub directives-again : (xs : List ListItem) (again : List (NameView × NodeView DirectiveDefinition)) → directive_definitions xs ≡ built_in_directives ++ written_directives → AreDirectivesOf (directive_definitions xs) again

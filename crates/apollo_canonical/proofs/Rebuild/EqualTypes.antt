@@ -14,6 +14,9 @@ use Rattle.graphql_nodes.specs.declared.type_kind.TypeKind.TheVariants as kinds
 use Rattle.graphql_ast.specs.Bare.{bare_directive}
 use Rattle.graphql_ast.specs.BareTypeSystem.{bare_field_definition, bare_enum_value_definition, bare_input_value_definition}
 use Rattle.graphql_ast.specs.declared.directive.Directive.{Directive}
+use Rattle.graphql_ast.specs.declared.type_system.EnumValueDefinition.{EnumValueDefinition}
+use Rattle.graphql_ast.specs.declared.type_system.FieldDefinition.{FieldDefinition}
+use Rattle.graphql_ast.specs.declared.type_system.InputValueDefinition.{InputValueDefinition}
 use Rattle.apollo_component.specs.BareComponents.{bare_component}
 use Rattle.apollo_component.specs.FirstOfEach.{same_key}
 use Rattle.apollo_component.specs.declared.component.Component.{Component}
@@ -31,7 +34,7 @@ use Rattle.apollo_component.proofs.FirstOfEachLemmas.{each-first, name_laws}
 use Rattle.apollo_canonical.specs.Sections.{Sections, HasSameComponents}
 use Rattle.apollo_canonical.specs.TypeSections.{node_of, name_of, type_sections, HasEachNameOnce}
 use Rattle.apollo_canonical.proofs.NamesOnce.{IsNamed, all-named}
-use Rattle.apollo_canonical.proofs.Once.{found-permuted}
+use Rattle.apollo_canonical.proofs.Kept.{found-permuted}
 
 -- what `==` compares of components of each sort
 abbrev directives_in : Sections → List Directive
@@ -43,35 +46,31 @@ names_in s = λ text. list_any (by_text text) (map (λ x. x.1) s.names)
 abbrev entries_in : {T B : Type 0} → (NodeView T → NameView) → (T → B) → List (ComponentOrigin × NodeView T) → List ℕ → Option B
 entries_in name bare xs = λ text. option_map (λ n. bare n.value) (find (λ n. by_text text (name n)) (map (λ x. x.1) xs))
 
-abbrev bare_of : TypeKind → Option NameView → NameView → Sections → BareType
-bare_of kinds.Scalar d n s = BareType.Scalar (record { description = option_map bare_name d; name = bare_name n; directives = directives_in s })
-bare_of kinds.Object d n s = BareType.Object (record {
-  description = option_map bare_name d;
-  name = bare_name n;
-  implements_interfaces = names_in s;
+-- of the components of all sorts
+record Seen : Type 0 where
+  directives : List Directive
+  names : List ℕ → Bool
+  fields : List ℕ → Option FieldDefinition
+  values : List ℕ → Option EnumValueDefinition
+  input_fields : List ℕ → Option InputValueDefinition
+
+abbrev seen : Sections → Seen
+seen s = record {
   directives = directives_in s;
+  names = names_in s;
   fields = entries_in (λ f. f.value.name) bare_field_definition s.fields;
-})
-bare_of kinds.Interface d n s = BareType.Interface (record {
-  description = option_map bare_name d;
-  name = bare_name n;
-  implements_interfaces = names_in s;
-  directives = directives_in s;
-  fields = entries_in (λ f. f.value.name) bare_field_definition s.fields;
-})
-bare_of kinds.Union d n s = BareType.Union (record { description = option_map bare_name d; name = bare_name n; directives = directives_in s; members = names_in s })
-bare_of kinds.Enum d n s = BareType.Enum (record {
-  description = option_map bare_name d;
-  name = bare_name n;
-  directives = directives_in s;
   values = entries_in (λ v. v.value.value) bare_enum_value_definition s.values;
-})
-bare_of kinds.InputObject d n s = BareType.InputObject (record {
-  description = option_map bare_name d;
-  name = bare_name n;
-  directives = directives_in s;
-  fields = entries_in (λ f. f.value.name) bare_input_value_definition s.input_fields;
-})
+  input_fields = entries_in (λ f. f.value.name) bare_input_value_definition s.input_fields;
+}
+
+-- and of a type of a kind
+abbrev bare_of : TypeKind → Option NameView → NameView → Seen → BareType
+bare_of kinds.Scalar d n s = BareType.Scalar (record { description = d; name = n; directives = s.directives })
+bare_of kinds.Object d n s = BareType.Object (record { description = d; name = n; implements_interfaces = s.names; directives = s.directives; fields = s.fields })
+bare_of kinds.Interface d n s = BareType.Interface (record { description = d; name = n; implements_interfaces = s.names; directives = s.directives; fields = s.fields })
+bare_of kinds.Union d n s = BareType.Union (record { description = d; name = n; directives = s.directives; members = s.names })
+bare_of kinds.Enum d n s = BareType.Enum (record { description = d; name = n; directives = s.directives; values = s.values })
+bare_of kinds.InputObject d n s = BareType.InputObject (record { description = d; name = n; directives = s.directives; fields = s.input_fields })
 
 pub directives-bare : (cs : List (Component Directive)) → map (bare_component bare_directive) cs ≡ map (λ d. bare_directive d.value) (map (λ x. x.1) (map node_of cs))
 directives-bare [] = refl
@@ -90,12 +89,9 @@ entries-bare {T} {B} name bare es named = λ i text. by text es named i
     by : (text : List ℕ) (es : List (NameView × Component T)) → AllByRecursion (IsNamed name) es
         → option_map (bare_component bare) (lookup (by_text text) es) ≡ option_map (λ n. bare n.value) (find (λ n. by_text text (name n)) (map (λ x. x.1) (map node_of (values_of es))))
     by text [] named = refl
-    by text (e ∷ es) named = ap (λ k. option_map (bare_component bare) (cond (by_text text k) (Some e.1) (lookup (by_text text) es))) named.0 ∙ at (by_text text (name e.1.node)) (by text es named.1)
-      where
-        at : (b : Bool) → option_map (bare_component bare) (lookup (by_text text) es) ≡ option_map (λ n. bare n.value) (find (λ n. by_text text (name n)) (map (λ x. x.1) (map node_of (values_of es))))
-            → option_map (bare_component bare) (cond b (Some e.1) (lookup (by_text text) es)) ≡ option_map (λ n. bare n.value) (cond b (Some e.1.node) (find (λ n. by_text text (name n)) (map (λ x. x.1) (map node_of (values_of es)))))
-        at true rest = refl
-        at false rest = rest
+    by text (e ∷ es) named =
+        ap (λ k. option_map (bare_component bare) (cond (by_text text k) (Some e.1) (lookup (by_text text) es))) named.0
+        ∙ elim (by_text text (name e.1.node)) as (λ b. option_map (bare_component bare) (cond b (Some e.1) (lookup (by_text text) es)) ≡ option_map (λ n. bare n.value) (cond b (Some e.1.node) (find (λ n. by_text text (name n)) (map (λ x. x.1) (map node_of (values_of es)))))) [ true ↦ refl | false ↦ by text es named.1 ]
 
 -- each entry stands under its own name
 abbrev pub HasNamedEntries : ExtendedType → Type 0
@@ -115,88 +111,33 @@ named-made (EnumBody values) head ps = each-first (IsNamed (λ v. v.value.value)
 named-made (InputObjectBody fields) head ps = each-first (IsNamed (λ f. f.value.name)) (same_key same_text) (flat_map input_fields_of ps) (all-named (λ f. f.value.name) (λ s. body_input_fields s.1.body) input_field_entry (λ o n. refl) ps)
 
 -- so `==` compares its sections
-bare-sections : (t : ExtendedType) → HasNamedEntries t → bare_extended_type t ≡ bare_of (type_kind t) (type_description t) (type_name t) (type_sections t)
-bare-sections (Scalar n) named = (λ i. BareType.Scalar (record { description = option_map bare_name n.value.description; name = bare_name n.value.name; directives = directives-bare n.value.directives.0 i }))
-bare-sections (Object n) named = (λ i. BareType.Object (record {
-  description = option_map bare_name n.value.description;
-  name = bare_name n.value.name;
-  implements_interfaces = names-bare n.value.implements_interfaces i;
-  directives = directives-bare n.value.directives.0 i;
-  fields = entries-bare (λ f. f.value.name) bare_field_definition n.value.fields named i;
-}))
-bare-sections (Interface n) named = (λ i. BareType.Interface (record {
-  description = option_map bare_name n.value.description;
-  name = bare_name n.value.name;
-  implements_interfaces = names-bare n.value.implements_interfaces i;
-  directives = directives-bare n.value.directives.0 i;
-  fields = entries-bare (λ f. f.value.name) bare_field_definition n.value.fields named i;
-}))
-bare-sections (Union n) named = (λ i. BareType.Union (record {
-  description = option_map bare_name n.value.description;
-  name = bare_name n.value.name;
-  directives = directives-bare n.value.directives.0 i;
-  members = names-bare n.value.members i;
-}))
-bare-sections (Enum n) named = (λ i. BareType.Enum (record {
-  description = option_map bare_name n.value.description;
-  name = bare_name n.value.name;
-  directives = directives-bare n.value.directives.0 i;
-  values = entries-bare (λ v. v.value.value) bare_enum_value_definition n.value.values named i;
-}))
-bare-sections (InputObject n) named = (λ i. BareType.InputObject (record {
-  description = option_map bare_name n.value.description;
-  name = bare_name n.value.name;
-  directives = directives-bare n.value.directives.0 i;
-  fields = entries-bare (λ f. f.value.name) bare_input_value_definition n.value.fields named i;
-}))
+bare-sections : (t : ExtendedType) → HasNamedEntries t → bare_extended_type t ≡ bare_of (type_kind t) (option_map bare_name (type_description t)) (bare_name (type_name t)) (seen (type_sections t))
+bare-sections (Scalar n) named = (λ i. bare_of kinds.Scalar (option_map bare_name n.value.description) (bare_name n.value.name) (record (seen (type_sections (Scalar n))) { directives = directives-bare n.value.directives.0 i }))
+bare-sections (Object n) named = (λ i. bare_of kinds.Object (option_map bare_name n.value.description) (bare_name n.value.name) (record (seen (type_sections (Object n))) { names = names-bare n.value.implements_interfaces i; directives = directives-bare n.value.directives.0 i; fields = entries-bare (λ f. f.value.name) bare_field_definition n.value.fields named i }))
+bare-sections (Interface n) named = (λ i. bare_of kinds.Interface (option_map bare_name n.value.description) (bare_name n.value.name) (record (seen (type_sections (Interface n))) { names = names-bare n.value.implements_interfaces i; directives = directives-bare n.value.directives.0 i; fields = entries-bare (λ f. f.value.name) bare_field_definition n.value.fields named i }))
+bare-sections (Union n) named = (λ i. bare_of kinds.Union (option_map bare_name n.value.description) (bare_name n.value.name) (record (seen (type_sections (Union n))) { names = names-bare n.value.members i; directives = directives-bare n.value.directives.0 i }))
+bare-sections (Enum n) named = (λ i. bare_of kinds.Enum (option_map bare_name n.value.description) (bare_name n.value.name) (record (seen (type_sections (Enum n))) { directives = directives-bare n.value.directives.0 i; values = entries-bare (λ v. v.value.value) bare_enum_value_definition n.value.values named i }))
+bare-sections (InputObject n) named = (λ i. bare_of kinds.InputObject (option_map bare_name n.value.description) (bare_name n.value.name) (record (seen (type_sections (InputObject n))) { directives = directives-bare n.value.directives.0 i; input_fields = entries-bare (λ f. f.value.name) bare_input_value_definition n.value.fields named i }))
 
 entries-same : {T B : Type 0} (name : NodeView T → NameView) (bare : T → B) (xs ys : List (ComponentOrigin × NodeView T)) → IsPermutation (map (λ x. x.1) xs) (map (λ x. x.1) ys) → IsDistinct same_text (map (λ x. name x.1) xs)
     → entries_in name bare ys ≡ entries_in name bare xs
 entries-same {T} name bare xs ys p d = λ i text. option_map (λ n. bare n.value) (found-permuted same_text name_laws name (record { text = text; location = None }) (map (λ x. x.1) xs) (map (λ x. x.1) ys) p
     (subst (IsDistinct same_text) (sym (map-map name (λ (x : ComponentOrigin × NodeView T). x.1) xs)) d) i)
 
-module _ (s u : Sections) (same_directives : map (λ d. d.1) u.directives ≡ map (λ d. d.1) s.directives) (all : HasSameComponents s u) (once : HasEachNameOnce s) where
-  directives-same : directives_in u ≡ directives_in s
-  directives-same = ap (map (λ d. bare_directive d.value)) same_directives
-
-  names-same : names_in u ≡ names_in s
-  names-same = λ i text. sym (list_any-IsPermutation (by_text text) (map (λ x. x.1) s.names) (map (λ x. x.1) u.names) all.names) i
-
-  -- the same components of a kind, in another order, make no difference
-  bare-same : (k : TypeKind) (d : Option NameView) (n : NameView) → bare_of k d n u ≡ bare_of k d n s
-  bare-same kinds.Scalar d n = (λ i. BareType.Scalar (record { description = option_map bare_name d; name = bare_name n; directives = directives-same i }))
-  bare-same kinds.Object d n = (λ i. BareType.Object (record {
-    description = option_map bare_name d;
-    name = bare_name n;
-    implements_interfaces = names-same i;
-    directives = directives-same i;
-    fields = entries-same (λ f. f.value.name) bare_field_definition s.fields u.fields all.fields once.fields i;
-  }))
-  bare-same kinds.Interface d n = (λ i. BareType.Interface (record {
-    description = option_map bare_name d;
-    name = bare_name n;
-    implements_interfaces = names-same i;
-    directives = directives-same i;
-    fields = entries-same (λ f. f.value.name) bare_field_definition s.fields u.fields all.fields once.fields i;
-  }))
-  bare-same kinds.Union d n = (λ i. BareType.Union (record { description = option_map bare_name d; name = bare_name n; directives = directives-same i; members = names-same i }))
-  bare-same kinds.Enum d n = (λ i. BareType.Enum (record {
-    description = option_map bare_name d;
-    name = bare_name n;
-    directives = directives-same i;
-    values = entries-same (λ v. v.value.value) bare_enum_value_definition s.values u.values all.values once.values i;
-  }))
-  bare-same kinds.InputObject d n = (λ i. BareType.InputObject (record {
-    description = option_map bare_name d;
-    name = bare_name n;
-    directives = directives-same i;
-    fields = entries-same (λ f. f.value.name) bare_input_value_definition s.input_fields u.input_fields all.input_fields once.input_fields i;
-  }))
+-- the same components, in another order, make no difference
+seen-same : (s u : Sections) → map (λ d. d.1) u.directives ≡ map (λ d. d.1) s.directives → HasSameComponents s u → HasEachNameOnce s → seen u ≡ seen s
+seen-same s u same_directives all once = (λ i. record {
+  directives = map (λ d. bare_directive d.value) (same_directives i);
+  names = (λ text. sym (list_any-IsPermutation (by_text text) (map (λ x. x.1) s.names) (map (λ x. x.1) u.names) all.names) i);
+  fields = entries-same (λ f. f.value.name) bare_field_definition s.fields u.fields all.fields once.fields i;
+  values = entries-same (λ v. v.value.value) bare_enum_value_definition s.values u.values all.values once.values i;
+  input_fields = entries-same (λ f. f.value.name) bare_input_value_definition s.input_fields u.input_fields all.input_fields once.input_fields i;
+})
 
 pub equal-types : (t u : ExtendedType) → HasNamedEntries t → HasNamedEntries u → type_kind u ≡ type_kind t → type_description u ≡ type_description t → type_name u ≡ type_name t
     → map (λ d. d.1) (type_sections u).directives ≡ map (λ d. d.1) (type_sections t).directives → HasSameComponents (type_sections t) (type_sections u) → HasEachNameOnce (type_sections t)
     → bare_extended_type u ≡ bare_extended_type t
 equal-types t u named_t named_u kind description name same_directives all once =
-    bare-sections u named_u ∙ (λ i. bare_of (kind i) (description i) (name i) (type_sections u))
-    ∙ bare-same (type_sections t) (type_sections u) same_directives all once (type_kind t) (type_description t) (type_name t)
+    bare-sections u named_u
+    ∙ (λ i. bare_of (kind i) (option_map bare_name (description i)) (bare_name (name i)) (seen-same (type_sections t) (type_sections u) same_directives all once i))
     ∙ sym (bare-sections t named_t)

@@ -1,9 +1,10 @@
 -- A list with a write-out is without fault.
-use Rattle.std.proofs.Common.{◌≡◌, ℕ, Bool, true, false, cond, ◌||◌, ◌&&◌, List, [], ◌∷◌, ◌++◌, None, Option, Some, map, filter, find, flat_map, refl, sym, ap, subst, ◌∙◌, append_assoc}
+use Rattle.std.proofs.Common.{◌≡◌, ℕ, Bool, true, false, cond, ◌&&◌, List, [], ◌∷◌, ◌++◌, None, Option, Some, map, filter, find, flat_map, refl, sym, ap, subst, ◌∙◌, append_assoc, arith}
 use Rattle.std.proofs.lemmas.List.{append-nil, map-append}
 use Rattle.std.proofs.lemmas.List.Elements.{filter_map-append}
+use Rattle.std.proofs.lemmas.List.Folds.{find-append}
 use Rattle.std.proofs.lemmas.Simd.{map-map}
-use Rattle.std.specs.List.{AllByRecursion, IsDistinct, filter_map, list_any}
+use Rattle.std.specs.List.{AllByRecursion, IsDistinct, list_any}
 use Rattle.std.specs.Option.{option_map_or, option_or}
 use Rattle.graphql_nodes.specs.NameView.{NameView}
 use Rattle.graphql_nodes.specs.NodeView.{NodeView}
@@ -21,37 +22,35 @@ use Rattle.apollo_types.specs.declared.extended_type.ExtendedType.{ExtendedType}
 use Rattle.apollo_types.specs.declared.schema_definition.SchemaDefinition.{SchemaDefinition}
 use Rattle.apollo_meaning.specs.Completion.Adoption.{extended_names, orphans_of, schema_orphans}
 use Rattle.apollo_meaning.specs.Completion.ImpliedSchema.{adopting_schema, implicit_roots, implied_schema, schema_for, schema_of_roots}
-use Rattle.apollo_meaning.specs.Directives.{AreDirectivesOf, Directives, directive_definitions, directive_part, has_text, is_handed_in}
+use Rattle.apollo_meaning.specs.Directives.{Directives, directive_definitions, directive_part, has_text, is_handed_in}
 use Rattle.apollo_meaning.specs.Faults.Collisions.{Fault}
 use Rattle.apollo_meaning.specs.Faults.ListFaults.{faults_in}
 use Rattle.apollo_meaning.specs.Faults.RootFaults.{further_schema, same_root, schema_orphan}
 use Rattle.apollo_meaning.specs.Faults.TypeFaults.{orphan}
-use Rattle.apollo_meaning.specs.Items.ListItems.{Added, Defined, Extended, ListItem, Other, SchemaDefined, SchemaExtended, added_items, defined_schema}
+use Rattle.apollo_meaning.specs.Items.ListItems.{Defined, Extended, ListItem, Other, SchemaDefined, SchemaExtended}
 use Rattle.apollo_meaning.specs.Items.Named.{first_schema, schema_extensions}
 use Rattle.apollo_meaning.specs.Items.Parts.{Root, SchemaPart, roots_in}
-use Rattle.apollo_meaning.specs.Order.Places.{folding_order}
 use Rattle.apollo_meaning.specs.Schema.Whole.{whole}
 use Rattle.apollo_meaning.specs.Steps.Joining.{schema_begun_faults}
 use Rattle.apollo_meaning.specs.Steps.Prefixes.{found, found_at}
-use Rattle.apollo_meaning.specs.Types.Meaning.{AreTypesOf}
 use Rattle.apollo_meaning.specs.declared.build_error.BuildError.TheVariants as errors
+use Rattle.apollo_schema.specs.declared.schema.Schema.{Schema}
 use Rattle.apollo_canonical.specs.MeaningLaws.{MeaningLaws}
 use Rattle.apollo_component.proofs.FirstOfEachLemmas.{name_laws}
-use Rattle.apollo_canonical.specs.WrittenAgain.{with_built_ins}
-use Rattle.apollo_canonical.proofs.Rebuild.About.{Name, Others, Schema, Topic, about, directives-about, faultless-by_topic}
+use Rattle.apollo_canonical.specs.WrittenAgain.{IsMeantByList, with_built_ins}
+use Rattle.apollo_canonical.proofs.Rebuild.About.{Name, Others, TheSchema, Topic, about, directives-about, faultless-by_topic}
 use Rattle.apollo_canonical.proofs.Rebuild.BuiltIns.{built_ins}
-use Rattle.apollo_canonical.proofs.Rebuild.DirectivesAgain.{built_in-marked, built_in_directives, find-append, find-unmarked, texts, unique, written_directives}
+use Rattle.apollo_canonical.proofs.Rebuild.DirectivesAgain.{built_in-marked, built_in_directives, find-unmarked, texts, unique, written_directives}
 use Rattle.apollo_canonical.proofs.Rebuild.LeftOut.{roots_where}
-use Rattle.apollo_canonical.proofs.Rebuild.Meant.{IsAddedByHand}
 use Rattle.apollo_canonical.proofs.Rebuild.OnceInParts.{once-in_parts, written_parts}
 use Rattle.apollo_canonical.proofs.Rebuild.OneSchema.{schema_extension_of, written_parts_of}
 use Rattle.apollo_canonical.proofs.Rebuild.OneType.{once}
 use Rattle.apollo_canonical.proofs.Rebuild.RootFaults.{begun-none, early-none, schema-faultless, written-distinct}
-use Rattle.apollo_canonical.proofs.Rebuild.SchemaMeant.{NamesRoot, first_schema-append, schema_node}
+use Rattle.apollo_canonical.proofs.Rebuild.SchemaMeant.{first_schema-append, schema_node}
 use Rattle.apollo_canonical.proofs.Rebuild.SchemaWritten.{directive_items, directives-of_items, list-about_others, list-about_schema, list-first_schema, list-schema_extensions, schema-listed, written_head}
 use Rattle.apollo_canonical.proofs.Rebuild.TypeFaults.{HaveEachNameOnce, new-after, type-faultless}
 use Rattle.apollo_canonical.proofs.Rebuild.TypesAgain.{fits, flag, is-made, view-type}
-use Rattle.apollo_canonical.proofs.Rebuild.Whole.{Y, Z, alone, first-nothing, implicit-again, object_at, orphans-none, others, quiet, with-adopted}
+use Rattle.apollo_canonical.proofs.Rebuild.WrittenList.{Y, Z, alone, first-nothing, implicit-again, object_at, orphans-none, others, quiet, with-adopted}
 use Rattle.apollo_canonical.proofs.Rebuild.WrittenParts.{definition_part, extension_of, written}
 
 -- handed-in directive definitions whose names differ
@@ -61,12 +60,7 @@ others-built_in = refl
 
 none-named : (k : NameView) (ds : Directives) → list_any (same_text k) (map (λ d. d.value.name) ds) ≡ false → find (λ d. has_text k.text d && is_handed_in d) ds ≡ None
 none-named k [] h = refl
-none-named k (d ∷ ds) h = by (has_text k.text d) h (none-named k ds)
-  where
-    by : (b : Bool) → (b || list_any (same_text k) (map (λ d. d.value.name) ds)) ≡ false → (list_any (same_text k) (map (λ d. d.value.name) ds) ≡ false → find (λ d. has_text k.text d && is_handed_in d) ds ≡ None)
-        → cond (b && is_handed_in d) (Some d) (find (λ d. has_text k.text d && is_handed_in d) ds) ≡ None
-    by true h rest = absurd (let g : true ≡ false = h in cc)
-    by false h rest = rest h
+none-named k (d ∷ ds) h = grind (arith, h, none-named k ds)
 
 directives-none : (before : List ListItem) → directive_definitions before ≡ built_in_directives → (done es : Directives) → IsDistinct same_text (map (λ d. d.value.name) (done ++ es)) → each_after found_at (before ++ directive_items done) (directive_items es) ≡ []
 directives-none before is done [] d = refl
@@ -84,7 +78,7 @@ directives-none before is done (e ∷ es) d =
     here =
         ap (λ o. option_map_or (λ (kept : NodeView DirectiveDefinition). (e.value.name.location, errors.DirectiveDefinitionCollision kept.value.name.location e.value.name) ∷ []) o [])
         (ap (find (λ x. has_text e.value.name.text x && is_handed_in x)) known
-        ∙ find-append e.value.name.text (λ x. has_text e.value.name.text x && is_handed_in x) built_in_directives done
+        ∙ find-append (λ x. has_text e.value.name.text x && is_handed_in x) built_in_directives done
         ∙ (λ i. option_or (find-unmarked e.value.name.text built_in_directives built_in-marked i) (none-named e.value.name done absent i)))
 
 -- the names of a table's handed-in values differ
@@ -123,36 +117,39 @@ implied-distinct true false true = ((refl, tt), (tt, tt))
 implied-distinct true true false = ((refl, tt), (tt, tt))
 implied-distinct true true true = ((refl, (refl, tt)), ((refl, tt), (tt, tt)))
 
-module _ (laws : MeaningLaws) (adopts : Bool) (more : List Added) (handed : AllByRecursion IsAddedByHand more) (rooted : AllByRecursion NamesRoot (filter_map defined_schema (added_items more))) (start : ℕ)
-    (types : List (NameView × ExtendedType)) (are : AreTypesOf start (folding_order (whole adopts (with_built_ins more))) (whole adopts (with_built_ins more)) types)
-    (table : List (NameView × NodeView DirectiveDefinition)) (are_directives : AreDirectivesOf (directive_definitions (whole adopts (with_built_ins more))) table) (c : Bool) where
+module _ (laws : MeaningLaws) (schema : Schema) (list : IsMeantByList schema) (c : Bool) where
+  open list use {start, adopts, more}
+
+  abbrev types : List (NameView × ExtendedType)
+  types = schema.types
+
   abbrev ys : List ListItem
-  ys = Y laws adopts more handed rooted start types are table are_directives c
+  ys = Y laws schema list c
 
   abbrev zs : List ListItem
-  zs = Z laws adopts more handed rooted start types are table are_directives c
+  zs = Z laws schema list c
 
   abbrev node : NodeView SchemaDefinition
   node = schema_node start (whole adopts (with_built_ins more))
 
   abbrev ds : Directives
-  ds = written_directives adopts more handed table are_directives
+  ds = written_directives schema list
 
   abbrev exts : List SchemaPart
   exts = map schema_extension_of (written_parts_of node.value).extensions
 
   type-none : (n : List ℕ) (t : ExtendedType) → lookup (by_text n) types ≡ Some t → found (about (Name n) ys) ≡ []
   type-none n t e =
-      let b : Bool = flag laws adopts more handed start types are c (others laws adopts more handed rooted start types are table are_directives c) [] (quiet laws adopts more handed rooted start types are table are_directives c) tt n t e in
-      let h : HaveEachNameOnce (written_parts t) = once-in_parts t (once t (is-made laws adopts more handed start types are n t e)) in
-      ap found (ap (about (Name n)) (sym (alone laws adopts more handed rooted start types are table are_directives c))
-      ∙ view-type laws adopts more handed start types are c (others laws adopts more handed rooted start types are table are_directives c) [] (quiet laws adopts more handed rooted start types are table are_directives c) tt n t e
+      let b : Bool = flag laws schema list c (others laws schema list c) [] (quiet laws schema list c) tt n t e in
+      let h : HaveEachNameOnce (written_parts t) = once-in_parts t (once t (is-made laws schema list n t e)) in
+      ap found (ap (about (Name n)) (sym (alone laws schema list c))
+      ∙ view-type laws schema list c (others laws schema list c) [] (quiet laws schema list c) tt n t e
       ∙ ap (λ l. Defined (record (definition_part t) { ignorable = b }) ∷ l) (sym (map-map Extended (extension_of t) (written t).extensions)))
       ∙ type-faultless laws.own_kind (record (definition_part t) { ignorable = b }) (map (extension_of t) (written t).extensions)
-      (fits laws adopts more handed start types are c (others laws adopts more handed rooted start types are table are_directives c) [] (quiet laws adopts more handed rooted start types are table are_directives c) tt n t e (written t).extensions)
+      (fits laws schema list c (others laws schema list c) [] (quiet laws schema list c) tt n t e (written t).extensions)
       (record { interfaces = h.interfaces; members = h.members; fields = h.fields; values = h.values; input_fields = h.input_fields })
 
-  schema-items-none : found (about Schema ys) ≡ []
+  schema-items-none : found (about TheSchema ys) ≡ []
   schema-items-none =
       ap found (list-about_schema c node.value node.location types ds (values_of types) ∙ schema-listed c node.value node.location types
       ∙ ap (λ l. cond (is_written types node.value) (SchemaDefined (written_head node.value node.location) ∷ []) [] ++ l) (sym (map-map SchemaExtended schema_extension_of (written_parts_of node.value).extensions)))
@@ -167,18 +164,18 @@ module _ (laws : MeaningLaws) (adopts : Bool) (more : List Added) (handed : AllB
       ap found (list-about_others c node.value node.location types ds (values_of types))
       ∙ each_after-append found_at [] (about Others built_ins) (directive_items ds)
       ∙ (λ i. others-built_in i ++ (ap (λ l. each_after found_at l (directive_items ds)) (sym (append-nil (about Others built_ins)))
-      ∙ directives-none (about Others built_ins) (sym (directives-about built_ins)) [] ds (values-distinct table (unique adopts more handed table are_directives) (texts adopts more handed table are_directives))) i)
+      ∙ directives-none (about Others built_ins) (sym (directives-about built_ins)) [] ds (values-distinct schema.directive_definitions (unique schema list) (texts schema list))) i)
 
   found-none : found ys ≡ []
   found-none = faultless-by_topic ys by
     where
       named : (n : List ℕ) (o : Option ExtendedType) → lookup (by_text n) types ≡ o → found (about (Name n) ys) ≡ []
-      named n None e = ap found (first-nothing laws adopts more handed rooted start types are table are_directives c n e)
+      named n None e = ap found (first-nothing laws schema list c n e)
       named n (Some t) e = type-none n t e
 
       by : (topic : Topic) → found (about topic ys) ≡ []
       by (Name n) = named n (lookup (by_text n) types) refl
-      by Schema = schema-items-none
+      by TheSchema = schema-items-none
       by Others = others-none
 
   orphaned-none : flat_map (orphans_of ys) (extended_names ys) ≡ []
@@ -186,7 +183,7 @@ module _ (laws : MeaningLaws) (adopts : Bool) (more : List Added) (handed : AllB
     where
       go : (ns : List (List ℕ)) → flat_map (orphans_of ys) ns ≡ []
       go [] = refl
-      go (n ∷ ns) = (λ i. orphans-none laws adopts more handed rooted start types are table are_directives c n i ++ go ns i)
+      go (n ∷ ns) = (λ i. orphans-none laws schema list c n i ++ go ns i)
 
   first-ys : first_schema ys ≡ cond (is_written types node.value) (Some (written_head node.value node.location)) None
   first-ys = list-first_schema c node.value node.location types ds (values_of types)
@@ -227,12 +224,12 @@ module _ (laws : MeaningLaws) (adopts : Bool) (more : List Added) (handed : AllB
           unnamed (r ∷ rs) g = at (schema_of_roots []) none (are_ends ∙ ap (λ l. adopting_schema l (implicit_roots ys)) g) (distinct-back (written_parts_of node.value).definition.roots (roots_in exts) (written-distinct laws.same_root node.value))
           unnamed [] g =
               at (schema_of_roots (implicit_roots ys)) none (are_ends ∙ ap (λ l. adopting_schema l (implicit_roots ys)) g)
-              (subst (IsDistinct same_root) (sym ((λ i. implicit-again laws adopts more handed rooted start types are table are_directives c i ++ (ap roots_in (sym same_exts) ∙ g) i) ∙ append-nil (roots_where (object_at types Query) (object_at types Mutation) (object_at types Subscription))))
+              (subst (IsDistinct same_root) (sym ((λ i. implicit-again laws schema list c i ++ (ap roots_in (sym same_exts) ∙ g) i) ∙ append-nil (roots_where (object_at types Query) (object_at types Mutation) (object_at types Subscription))))
               (implied-distinct (object_at types Query) (object_at types Mutation) (object_at types Subscription)))
 
   pub faults-none : faults_in true ys ≡ []
   faults-none =
-      laws.faults true ys ∙ ap all (with-adopted laws adopts more handed rooted start types are table are_directives c)
+      laws.faults true ys ∙ ap all (with-adopted laws schema list c)
       ∙ (λ i. found-none i ++ (map orphan (orphaned-none i) ++ (end-none.0 i ++ map schema_orphan (end-none.1 i))))
     where
       all : List ListItem → List Fault

@@ -8,14 +8,15 @@ use Rattle.std.specs.Option.{option_map_or}
 use Rattle.apollo_component.proofs.Lists.Each.{each-weaken}
 use Rattle.apollo_component.proofs.Lists.Ends.{filter_map-numbered}
 use Rattle.apollo_meaning.specs.Completion.Adoption.{adopted, adopted_by, extended_names, orphans_of, with_adopted}
-use Rattle.apollo_meaning.specs.Completion.ImpliedSchema.{adopting_schema, implicit_roots, implied_schema, schema_for}
+use Rattle.apollo_meaning.specs.Completion.ImpliedSchema.{implied_schema}
 use Rattle.apollo_meaning.specs.Items.ListItems.{Added, ListItem, OfSchema, OfType, added_items, extended_part, extended_schema}
-use Rattle.apollo_meaning.specs.Items.Named.{first_schema, schema_extensions}
-use Rattle.apollo_meaning.specs.Items.Parts.{Root, SchemaPart, TypePart, roots_in}
+use Rattle.apollo_meaning.specs.Items.Named.{schema_extensions}
+use Rattle.apollo_meaning.specs.Items.Parts.{SchemaPart, TypePart}
 use Rattle.apollo_meaning.specs.Order.Places.{Family, Placed, extension_places, first_place, folded_when, folding_order, is_folded, is_met, met_when, once_if_defined, schemas, times_met, types}
 use Rattle.apollo_meaning.specs.Schema.Whole.{folds, whole}
 use Rattle.apollo_canonical.specs.MeaningLaws.{MeaningLaws}
-use Rattle.apollo_canonical.proofs.Groups.{grouped-few}
+use Rattle.apollo_canonical.proofs.Kept.{grouped-few}
+use Rattle.apollo_canonical.proofs.Rebuild.Meant.{by_implied}
 
 -- how many extensions a list has, of types and of the schema
 abbrev pub extensions_in : List ListItem → ℕ
@@ -81,15 +82,7 @@ module _ (xs : List ListItem) where
 
   -- and nor does an implied schema definition
   implied-none : extensions_in (implied_schema true xs) ≡ 0
-  implied-none = by (first_schema xs)
-    where
-      for : (rs is : List Root) → extensions_in (adopting_schema rs is) ≡ 0
-      for [] is = refl
-      for (r ∷ rs) is = refl
-
-      by : (o : Option SchemaPart) → extensions_in (option_map_or (λ _. []) o (schema_for true (roots_in (schema_extensions xs)) (implicit_roots xs))) ≡ 0
-      by (Some s) = refl
-      by None = for (roots_in (schema_extensions xs)) (implicit_roots xs)
+  implied-none = by_implied (λ l. extensions_in l ≡ 0) refl (λ s. refl) true xs
 
 -- so where extensions are adopted no more are folded than there are
 pub folds-few : MeaningLaws → (xs : List Added) → folds true xs ≤ extensions_in (added_items xs)

@@ -30,8 +30,7 @@ use Rattle.apollo_schema.specs.declared.schema.Schema.{Schema}
 use Rattle.apollo_component.proofs.FirstOfEachLemmas.{name_laws}
 use Rattle.apollo_canonical.specs.MeaningLaws.{MeaningLaws}
 use Rattle.apollo_canonical.specs.WrittenAgain.{written_again}
-use Rattle.apollo_canonical.proofs.Groups.{grouped-few, passed, same-once}
-use Rattle.apollo_canonical.proofs.Kept.{each-of}
+use Rattle.apollo_canonical.proofs.Kept.{each-of, grouped-few, passed, same-once}
 use Rattle.apollo_canonical.proofs.Rebuild.Canonical.{items-listed}
 use Rattle.apollo_canonical.proofs.Rebuild.FoldedOnce.{extensions_in, folds-few}
 use Rattle.apollo_canonical.proofs.Rebuild.Held.{extension_items, held_items}
@@ -40,7 +39,7 @@ use Rattle.apollo_canonical.proofs.Rebuild.OneSchema.{schema_extension_of, writt
 use Rattle.apollo_canonical.proofs.Rebuild.SchemaWritten.{list-extended, list-schema_extensions}
 use Rattle.apollo_canonical.proofs.Rebuild.Tables.{each-entry}
 use Rattle.apollo_canonical.proofs.Rebuild.TypesAgain.{unique}
-use Rattle.apollo_canonical.proofs.Rebuild.WrittenFew.{schema-few, type-few}
+use Rattle.apollo_canonical.proofs.Rebuild.OriginsOfParts.{schema-few, type-few}
 use Rattle.apollo_canonical.proofs.Rebuild.WrittenParts.{definition_part, extension_of, written}
 
 -- those that are folded of types and of the schema are all that are folded

@@ -1,5 +1,5 @@
 -- What types of a table are written out as, and what that says of one name.
-use Rattle.std.proofs.Common.{◌≡◌, ℕ, Bool, true, false, cond, not, List, [], ◌∷◌, ◌++◌, Some, drop, map, filter, flat_map, refl, sym, ap, ◌∙◌}
+use Rattle.std.proofs.Common.{◌≡◌, ℕ, Bool, true, false, cond, not, List, [], ◌∷◌, ◌++◌, Some, drop, map, filter, flat_map, refl, ap, ◌∙◌}
 use Rattle.std.proofs.lemmas.List.{append-nil, map-append}
 use Rattle.std.proofs.lemmas.List.Elements.{filter-append}
 use Rattle.std.specs.List.{AllByRecursion, IsDistinct, list_any}
@@ -16,9 +16,9 @@ use Rattle.apollo_types.specs.declared.extended_type.ExtendedType.{ExtendedType}
 use Rattle.apollo_meaning.specs.Items.ListItems.{ListItem, Defined, Extended, added, added_item, added_items}
 use Rattle.apollo_schema.specs.SchemaWriteOut.{write_held_type}
 use Rattle.apollo_canonical.proofs.FirstAppearance.{new_to_these}
+use Rattle.apollo_canonical.proofs.Kept.{each-map, each-of, filter-alike}
 use Rattle.apollo_canonical.proofs.Rebuild.About.{Name, about, is_about}
-use Rattle.apollo_canonical.proofs.Rebuild.Names.{defined_names, defined_names-append}
-use Rattle.apollo_canonical.proofs.Rebuild.Tables.{lookup-absent}
+use Rattle.apollo_canonical.proofs.Rebuild.Tables.{lookup-absent, defined_names, defined_names-append}
 use Rattle.apollo_canonical.proofs.Rebuild.WrittenParts.{written, definition_part, extension_of, items-extensions, items-written}
 
 -- the items of a document
@@ -48,31 +48,16 @@ module _ (c : Bool) where
   items-types (t ∷ ts) = document_items-append c (write_held_type t) (flat_map write_held_type ts) ∙ (λ i. items-held t i ++ items-types ts i)
 
   module _ (n : List ℕ) where
-    about-extensions : (t : ExtendedType) (b : Bool) → same n (type_name t).text ≡ b → (es : List (ExtensionId × DefinitionParts)) → about (Name n) (map (λ e. Extended (extension_of t e)) es) ≡ cond b (map (λ e. Extended (extension_of t e)) es) []
-    about-extensions t true h [] = refl
-    about-extensions t false h [] = refl
-    about-extensions t true h (e ∷ es) =
-        ap (λ b. cond b (Extended (extension_of t e) ∷ about (Name n) (map (λ e. Extended (extension_of t e)) es)) (about (Name n) (map (λ e. Extended (extension_of t e)) es))) h
-        ∙ ap (λ l. Extended (extension_of t e) ∷ l) (about-extensions t true h es)
-    about-extensions t false h (e ∷ es) =
-        ap (λ b. cond b (Extended (extension_of t e) ∷ about (Name n) (map (λ e. Extended (extension_of t e)) es)) (about (Name n) (map (λ e. Extended (extension_of t e)) es))) h
-        ∙ about-extensions t false h es
-
     -- the items of a type are about its name
-    about-held : (t : ExtendedType) → about (Name n) (held_items t) ≡ cond (same n (type_name t).text) (held_items t) []
-    about-held t = by (is_built_in (type_location t)) (same n (type_name t).text) refl
+    each-held : (t : ExtendedType) → AllByRecursion (λ x. is_about (Name n) x ≡ same n (type_name t).text) (held_items t)
+    each-held t = by (is_built_in (type_location t))
       where
-        by : (b s : Bool) → same n (type_name t).text ≡ s
-            → about (Name n) (cond b (extension_items t) (Defined (record (definition_part t) { ignorable = c }) ∷ extension_items t)) ≡ cond (same n (type_name t).text) (cond b (extension_items t) (Defined (record (definition_part t) { ignorable = c }) ∷ extension_items t)) []
-        by true s h = about-extensions t (same n (type_name t).text) refl (written t).extensions
-        by false true h =
-            ap (λ s. cond s (Defined (record (definition_part t) { ignorable = c }) ∷ about (Name n) (extension_items t)) (about (Name n) (extension_items t))) h
-            ∙ ap (λ l. Defined (record (definition_part t) { ignorable = c }) ∷ l) (about-extensions t true h (written t).extensions)
-            ∙ sym (ap (λ s. cond s (Defined (record (definition_part t) { ignorable = c }) ∷ extension_items t) []) h)
-        by false false h =
-            ap (λ s. cond s (Defined (record (definition_part t) { ignorable = c }) ∷ about (Name n) (extension_items t)) (about (Name n) (extension_items t))) h
-            ∙ about-extensions t false h (written t).extensions
-            ∙ sym (ap (λ s. cond s (Defined (record (definition_part t) { ignorable = c }) ∷ extension_items t) []) h)
+        extensions : AllByRecursion (λ x. is_about (Name n) x ≡ same n (type_name t).text) (extension_items t)
+        extensions = each-map (λ x. is_about (Name n) x ≡ same n (type_name t).text) (λ e. Extended (extension_of t e)) (written t).extensions (each-of (λ e. same n (type_name t).text ≡ same n (type_name t).text) (λ e. refl) (written t).extensions)
+
+        by : (b : Bool) → AllByRecursion (λ x. is_about (Name n) x ≡ same n (type_name t).text) (cond b (extension_items t) (Defined (record (definition_part t) { ignorable = c }) ∷ extension_items t))
+        by true = extensions
+        by false = (refl, extensions)
 
     -- so a table of types says of a name what its type does
     pub about-types : (es : List (NameView × ExtendedType)) → HasUniqueKeys same_text es → AllByRecursion (λ e. type_name e.1 ≡ e.0) es → about (Name n) (flat_map held_items (values_of es)) ≡ option_map_or held_items (lookup (by_text n) es) []
@@ -80,7 +65,7 @@ module _ (c : Bool) where
     about-types [] d named = refl
     about-types (e ∷ es) d named =
         filter-append (is_about (Name n)) (held_items e.1) (flat_map held_items (values_of es))
-        ∙ (λ i. (about-held e.1 ∙ ap (λ (k : NameView). cond (same n k.text) (held_items e.1) []) named.0) i ++ about-types es d.1 named.1 i)
+        ∙ (λ i. (filter-alike (is_about (Name n)) (same n (type_name e.1).text) (held_items e.1) (each-held e.1) ∙ ap (λ (k : NameView). cond (same n k.text) (held_items e.1) []) named.0) i ++ about-types es d.1 named.1 i)
         ∙ by (same n e.0.text) refl
       where
         by : (b : Bool) → same n e.0.text ≡ b → cond b (held_items e.1) [] ++ option_map_or held_items (lookup (by_text n) es) [] ≡ option_map_or held_items (cond b (Some e.1) (lookup (by_text n) es)) []

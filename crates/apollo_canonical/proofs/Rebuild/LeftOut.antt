@@ -43,41 +43,24 @@ has_one q m s Query = q
 has_one q m s Mutation = m
 has_one q m s Subscription = s
 
-root-three : (q m s : Bool) (op : OperationType) → option_map (λ n. n.name.text) (root_of (implied_schema_of q m s) op) ≡ cond (has_one q m s op) (Some (default_type_text op)) None
-root-three true true true Query = refl
-root-three true true true Mutation = refl
-root-three true true true Subscription = refl
-root-three true true false Query = refl
-root-three true true false Mutation = refl
-root-three true true false Subscription = refl
-root-three true false true Query = refl
-root-three true false true Mutation = refl
-root-three true false true Subscription = refl
-root-three true false false Query = refl
-root-three true false false Mutation = refl
-root-three true false false Subscription = refl
-root-three false true true Query = refl
-root-three false true true Mutation = refl
-root-three false true true Subscription = refl
-root-three false true false Query = refl
-root-three false true false Mutation = refl
-root-three false true false Subscription = refl
-root-three false false true Query = refl
-root-three false false true Mutation = refl
-root-three false false true Subscription = refl
-root-three false false false Query = refl
-root-three false false false Mutation = refl
-root-three false false false Subscription = refl
+-- its roots, and that it has no extension, computed
+abbrev HasRoot : Bool → Bool → Bool → OperationType → Type 0
+HasRoot q m s op = option_map (λ n. n.name.text) (root_of (implied_schema_of q m s) op) ≡ cond (has_one q m s op) (Some (default_type_text op)) None
 
-no-identities : (q m s : Bool) → identities (origins_in (schema_components (implied_schema_of q m s))) ≡ []
-no-identities true true true = refl
-no-identities true true false = refl
-no-identities true false true = refl
-no-identities true false false = refl
-no-identities false true true = refl
-no-identities false true false = refl
-no-identities false false true = refl
-no-identities false false false = refl
+computed : (q m s : Bool) → (HasRoot q m s Query × HasRoot q m s Mutation × HasRoot q m s Subscription) × (identities (origins_in (schema_components (implied_schema_of q m s))) ≡ [])
+computed true true true = ((refl, refl, refl), refl)
+computed true true false = ((refl, refl, refl), refl)
+computed true false true = ((refl, refl, refl), refl)
+computed true false false = ((refl, refl, refl), refl)
+computed false true true = ((refl, refl, refl), refl)
+computed false true false = ((refl, refl, refl), refl)
+computed false false true = ((refl, refl, refl), refl)
+computed false false false = ((refl, refl, refl), refl)
+
+root-three : (q m s : Bool) (op : OperationType) → HasRoot q m s op
+root-three q m s Query = (computed q m s).0.0
+root-three q m s Mutation = (computed q m s).0.1
+root-three q m s Subscription = (computed q m s).0.2
 
 -- the text of a root that equals an implied one
 implied-text : (a b : Option (List ℕ)) → option_eq (pointwise nat_eq) a b ≡ true → a ≡ b
@@ -155,20 +138,16 @@ module _ (types : List (NameView × ExtendedType)) (q m s : Bool) (are : (op : O
   implied-root op = (λ i. option_eq (pointwise nat_eq) (root-three q m s op i) (are op i)) ∙ text-implied (cond (has_one q m s op) (Some (default_type_text op)) None)
 
   implied-again : is_implied types (implied_schema_of q m s) ≡ true
-  implied-again = (λ i. is_none (implied_schema_of q m s).description && (length (implied_schema_of q m s).directives.0 == 0) && (length (no-identities q m s i) == 0) && (implied-root Query i && (implied-root Mutation i && (implied-root Subscription i && true))))
+  implied-again = (λ i. is_none (implied_schema_of q m s).description && (length (implied_schema_of q m s).directives.0 == 0) && (length ((computed q m s).1 i) == 0) && (implied-root Query i && (implied-root Mutation i && (implied-root Subscription i && true))))
 
 -- nothing is written of it
 pub left-out-written : (d : SchemaDefinition) (place : Option SourceSpan) (types : List (NameView × ExtendedType)) → is_implied types d ≡ true → identities (origins_in (schema_components d)) ≡ [] → write_schema_definition d place types ≡ []
 left-out-written d place types implied none =
     (λ i. (cond (unwritten i) (schema_definition d.description (written_parts_of d).definition place ∷ []) []) ++ map (λ e. schema_extension e.1 (place_of e.0)) (map (extension_written d) (none i)))
   where
-    and-false : (b : Bool) → (b && false) ≡ false
-    and-false true = refl
-    and-false false = refl
-
     unwritten : is_written types d ≡ false
-    unwritten = ap (λ b. has_own_root d && not b) implied ∙ and-false (has_own_root d)
+    unwritten = ap (λ b. has_own_root d && not b) implied ∙ grind arith
 
 pub implied-unwritten : (types : List (NameView × ExtendedType)) (q m s : Bool) → ((op : OperationType) → implied_name types op ≡ cond (has_one q m s op) (Some (default_type_text op)) None) → (place : Option SourceSpan)
     → write_schema_definition (implied_schema_of q m s) place types ≡ []
-implied-unwritten types q m s are place = left-out-written (implied_schema_of q m s) place types (implied-again types q m s are) (no-identities q m s)
+implied-unwritten types q m s are place = left-out-written (implied_schema_of q m s) place types (implied-again types q m s are) (computed q m s).1

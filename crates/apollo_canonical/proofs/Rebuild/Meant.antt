@@ -1,7 +1,7 @@
 -- The list of a schema: the built-in definitions, and after them what is handed in.
 use Rattle.std.proofs.Common.{◌≡◌, ℕ, Bool, true, false, cond, List, [], ◌∷◌, ◌++◌, None, Option, Some, flat_map, sym, ap, subst, ◌∙◌, append_assoc}
 use Rattle.std.proofs.lemmas.List.{append-nil, map-append}
-use Rattle.std.proofs.lemmas.List.Elements.{filter_map-append}
+use Rattle.std.proofs.lemmas.List.Elements.{filter_map-append, recursion_from_All}
 use Rattle.std.specs.List.{AllByRecursion, filter_map}
 use Rattle.std.specs.Option.{option_map_or}
 use Rattle.graphql_nodes.specs.BuiltIn.{is_built_in}
@@ -12,43 +12,30 @@ use Rattle.graphql_ast.specs.declared.definition.Definition.TheVariants as ast
 use Rattle.apollo_built_in.specs.BuiltInTable.{built_in_definitions}
 use Rattle.apollo_component.proofs.Lists.Each.{each-append, each-filter, each-weaken}
 use Rattle.apollo_meaning.specs.Completion.Adoption.{adopted, adopted_by, extended_names, orphans_of, with_adopted}
-use Rattle.apollo_meaning.specs.Completion.ImpliedSchema.{implied_schema, schema_for, adopting_schema, rooted_schema, implicit_roots}
-use Rattle.apollo_meaning.specs.Items.ListItems.{ListItem, Defined, Extended, SchemaDefined, SchemaExtended, Other, Added, added, added_item, added_items, item_of, ignorable_if, defined_part, extended_part}
+use Rattle.apollo_meaning.specs.Completion.ImpliedSchema.{implied_schema, schema_for, schema_of_roots, implicit_roots}
+use Rattle.apollo_meaning.specs.Items.ListItems.{ListItem, Defined, Extended, Other, SchemaDefined, Added, added, added_item, added_items, item_of, ignorable_if, defined_part, defined_schema, extended_part}
 use Rattle.apollo_meaning.specs.Items.Named.{first, extensions_of, first_schema, schema_extensions}
 use Rattle.apollo_meaning.specs.Items.Parts.{TypePart, SchemaPart, Root, key_of, roots_in}
 use Rattle.apollo_meaning.specs.Schema.Whole.{whole}
-use Rattle.apollo_canonical.specs.WrittenAgain.{with_built_ins}
+use Rattle.std.specs.Prelude.{◌≢◌}
+use Rattle.apollo_schema.specs.declared.schema.Schema.{Schema}
+use Rattle.apollo_canonical.specs.WrittenAgain.{IsMeantByList, with_built_ins}
 use Rattle.apollo_canonical.proofs.Rebuild.BuiltIns.{built_ins, no-extensions, first-of}
 
 -- an item that isn't marked built-in
 abbrev pub IsHandedIn : ListItem → Type 0
 IsHandedIn (Defined p) = is_built_in p.location ≡ false
 IsHandedIn (Extended p) = is_built_in p.location ≡ false
-IsHandedIn (SchemaDefined s) = Unit {0}
-IsHandedIn (SchemaExtended s) = Unit {0}
 IsHandedIn (Other d) = is_built_in (location_of d) ≡ false
+IsHandedIn _ = Unit {0}
 
 abbrev pub IsAddedByHand : Added → Type 0
 IsAddedByHand a = is_built_in (location_of a.1) ≡ false
 
 handed-item : (b : Bool) (d : Definition) → is_built_in (location_of d) ≡ false → IsHandedIn (ignorable_if b (item_of d))
-handed-item b (ast.OperationDefinition n) h = h
-handed-item b (ast.FragmentDefinition n) h = h
-handed-item b (ast.DirectiveDefinition n) h = h
 handed-item b (ast.SchemaDefinition n) h = tt
-handed-item b (ast.ScalarTypeDefinition n) h = h
-handed-item b (ast.ObjectTypeDefinition n) h = h
-handed-item b (ast.InterfaceTypeDefinition n) h = h
-handed-item b (ast.UnionTypeDefinition n) h = h
-handed-item b (ast.EnumTypeDefinition n) h = h
-handed-item b (ast.InputObjectTypeDefinition n) h = h
 handed-item b (ast.SchemaExtension n) h = tt
-handed-item b (ast.ScalarTypeExtension n) h = h
-handed-item b (ast.ObjectTypeExtension n) h = h
-handed-item b (ast.InterfaceTypeExtension n) h = h
-handed-item b (ast.UnionTypeExtension n) h = h
-handed-item b (ast.EnumTypeExtension n) h = h
-handed-item b (ast.InputObjectTypeExtension n) h = h
+handed-item b d h = h
 
 pub handed-items : (xs : List Added) → AllByRecursion IsAddedByHand xs → AllByRecursion IsHandedIn (added_items xs)
 handed-items [] a = tt
@@ -61,38 +48,23 @@ IsUnmarked p = is_built_in p.location ≡ false
 pub unmarked-definitions : (xs : List ListItem) → AllByRecursion IsHandedIn xs → AllByRecursion IsUnmarked (filter_map defined_part xs)
 unmarked-definitions [] a = tt
 unmarked-definitions (Defined p ∷ xs) a = (a.0, unmarked-definitions xs a.1)
-unmarked-definitions (Extended p ∷ xs) a = unmarked-definitions xs a.1
-unmarked-definitions (SchemaDefined s ∷ xs) a = unmarked-definitions xs a.1
-unmarked-definitions (SchemaExtended s ∷ xs) a = unmarked-definitions xs a.1
-unmarked-definitions (Other d ∷ xs) a = unmarked-definitions xs a.1
+unmarked-definitions (x ∷ xs) a = unmarked-definitions xs a.1
 
 unmarked-extensions : (xs : List ListItem) → AllByRecursion IsHandedIn xs → AllByRecursion IsUnmarked (filter_map extended_part xs)
 unmarked-extensions [] a = tt
-unmarked-extensions (Defined p ∷ xs) a = unmarked-extensions xs a.1
 unmarked-extensions (Extended p ∷ xs) a = (a.0, unmarked-extensions xs a.1)
-unmarked-extensions (SchemaDefined s ∷ xs) a = unmarked-extensions xs a.1
-unmarked-extensions (SchemaExtended s ∷ xs) a = unmarked-extensions xs a.1
-unmarked-extensions (Other d ∷ xs) a = unmarked-extensions xs a.1
+unmarked-extensions (x ∷ xs) a = unmarked-extensions xs a.1
 
--- a schema definition that is implied defines no type
-pub handed-implied : (adopts : Bool) (xs : List ListItem) → AllByRecursion IsHandedIn (implied_schema adopts xs)
-handed-implied adopts xs = by (first_schema xs)
+-- what a list is completed with is nothing or a schema definition
+pub by_implied : (P : List ListItem → Type 0) → P [] → ((s : SchemaPart) → P (SchemaDefined s ∷ [])) → (adopts : Bool) (xs : List ListItem) → P (implied_schema adopts xs)
+by_implied P none one adopts xs = by (first_schema xs) adopts (roots_in (schema_extensions xs)) (implicit_roots xs)
   where
-    adopting : (rs is : List Root) → AllByRecursion IsHandedIn (adopting_schema rs is)
-    adopting [] is = (tt, tt)
-    adopting (r ∷ rs) is = (tt, tt)
-
-    rooted : (is : List Root) → AllByRecursion IsHandedIn (rooted_schema is)
-    rooted [] = tt
-    rooted (i ∷ is) = (tt, tt)
-
-    for : (b : Bool) (rs is : List Root) → AllByRecursion IsHandedIn (schema_for b rs is)
-    for true rs is = adopting rs is
-    for false rs is = rooted is
-
-    by : (o : Option SchemaPart) → AllByRecursion IsHandedIn (option_map_or (λ _. []) o (schema_for adopts (roots_in (schema_extensions xs)) (implicit_roots xs)))
-    by (Some s) = tt
-    by None = for adopts (roots_in (schema_extensions xs)) (implicit_roots xs)
+    by : (o : Option SchemaPart) (b : Bool) (rs is : List Root) → P (option_map_or (λ _. []) o (schema_for b rs is))
+    by (Some s) b rs is = none
+    by None true [] is = one (schema_of_roots is)
+    by None true (r ∷ rs) is = one (schema_of_roots [])
+    by None false rs [] = none
+    by None false rs (i ∷ is) = one (schema_of_roots (i ∷ is))
 
 module _ (adopts : Bool) (more : List Added) where
   abbrev pub items : List ListItem
@@ -145,7 +117,7 @@ module _ (adopts : Bool) (more : List Added) where
     pub handed-later : AllByRecursion IsHandedIn later_items
     handed-later =
         each-append IsHandedIn (added_items more ++ adopted_items) (implied_schema adopts (with_adopted adopts items))
-        (each-append IsHandedIn (added_items more) adopted_items (handed-items more handed) (by adopts)) (handed-implied adopts (with_adopted adopts items))
+        (each-append IsHandedIn (added_items more) adopted_items (handed-items more handed) (by adopts)) (by_implied (AllByRecursion IsHandedIn) tt (λ s. (tt, tt)) adopts (with_adopted adopts items))
       where
         by : (b : Bool) → AllByRecursion IsHandedIn (cond b (adopted items) [])
         by true = handed-adopted
@@ -153,3 +125,11 @@ module _ (adopts : Bool) (more : List Added) where
 
     pub first-unmarked : (n : List ℕ) (d : TypePart) → first later_items n ≡ Some d → IsUnmarked d
     first-unmarked n d h = first-of IsUnmarked n (filter_map defined_part later_items) d (unmarked-definitions later_items handed-later) h
+
+-- of what a schema is meant by, nothing is marked built-in, and each schema definition names a root
+module _ (schema : Schema) (list : IsMeantByList schema) where
+  pub handed : AllByRecursion IsAddedByHand list.more
+  handed = recursion_from_All IsAddedByHand list.more list.within.unmarked
+
+  pub rooted : AllByRecursion (λ s. s.roots ≢ []) (filter_map defined_schema (added_items list.more))
+  rooted = recursion_from_All (λ s. s.roots ≢ []) (filter_map defined_schema (added_items list.more)) list.within.rooted

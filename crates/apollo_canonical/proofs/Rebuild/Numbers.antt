@@ -4,6 +4,10 @@ use Rattle.std.proofs.lemmas.Bool.Decides.{nat_tests}
 use Rattle.std.specs.List.{AllByRecursion, IsDistinct, filter_map, enumerate_from}
 use Rattle.graphql_nodes.specs.SameText.{same}
 use Rattle.graphql_nodes.specs.declared.source.SourceSpan.{SourceSpan}
+use Rattle.graphql_nodes.specs.NodeView.{NodeView}
+use Rattle.graphql_ast.specs.declared.directive.Directive.{Directive}
+use Rattle.apollo_component.specs.declared.extension.ComponentOrigin.{ComponentOrigin}
+use Rattle.apollo_component.specs.declared.extension.ComponentOrigin.TheVariants.{Extension}
 use Rattle.graphql_ast.specs.declared.definition_parts.DefinitionParts.{DefinitionParts}
 use Rattle.apollo_component.specs.Extensions.{extension_id, place_of, same_id}
 use Rattle.apollo_component.specs.declared.extension.ExtensionId.{ExtensionId}
@@ -86,6 +90,10 @@ renumbered-distinct (i ∷ is) (e ∷ es) d = (apart is es d.0, renumbered-disti
     apart (j ∷ js) [] a = tt
     apart (j ∷ js) (f ∷ fs) a = (a.0, apart js fs a.1)
 
+-- the directives of a part alone
+abbrev pub directives_alone : List (NodeView Directive) → DefinitionParts
+directives_alone ds = record { directives = record { 0 = ds }; names = []; fields = []; values = []; input_fields = []; roots = [] }
+
 -- a part of any kind under its number, where it stands
 abbrev pub numbered_parts : {P : Type 0} → (P → Option SourceSpan) → (P → DefinitionParts) → ℕ × P → ExtensionId × DefinitionParts
 numbered_parts place parts e = (extension_id e.0 (place e.1), parts e.1)
@@ -100,3 +108,10 @@ numbered-distinct {P} place parts (f ∷ fs) d = (others fs d.0, numbered-distin
         → AllByRecursion (λ k. same_id (extension_id f.0 (place f.1)) k ≡ false) (map (λ e. e.0) (map (numbered_parts place parts) gs))
     others [] a = tt
     others (g ∷ gs) a = (a.0, others gs a.1)
+
+-- written parts under their numbers are parts of a list under theirs
+pub numbered-written : {P : Type 0} (place : P → Option SourceSpan) (part : Option SourceSpan → DefinitionParts → P) → ((s : Option SourceSpan) (d : DefinitionParts) → place (part s d) ≡ s) → (is : List ℕ) (es : List (ExtensionId × DefinitionParts))
+    → map {B = ComponentOrigin × P} (λ e. (Extension (extension_id e.0 (place e.1)), e.1)) (paired is (map (λ e. part (place_of e.0) e.1) es)) ≡ map (λ g. (Extension g.0, part (place_of g.0) g.1)) (renumbered is es)
+numbered-written place part at [] es = refl
+numbered-written place part at (i ∷ is) [] = refl
+numbered-written place part at (i ∷ is) (e ∷ es) = (λ j. (Extension (extension_id i (at (place_of e.0) e.1 j)), part (place_of e.0) e.1) ∷ numbered-written place part at is es j)

@@ -10,13 +10,13 @@ use Rattle.apollo_component.specs.declared.extension.ComponentOrigin.{ComponentO
 use Rattle.apollo_component.specs.declared.extension.ComponentOrigin.TheVariants.{Extension}
 use Rattle.apollo_component.specs.declared.extension.ExtensionId.{ExtensionId}
 use Rattle.apollo_types.specs.declared.extended_type.ExtendedType.{ExtendedType}
-use Rattle.apollo_types.specs.declared.extended_type.ExtendedType.TheVariants.{Scalar, Object, Interface, Union, Enum, InputObject}
+use Rattle.apollo_types.specs.declared.extended_type.ExtendedType.TheVariants.{Object, Interface, Union, Enum, InputObject}
 use Rattle.apollo_meaning.specs.Items.Parts.{TypePart}
 use Rattle.apollo_canonical.specs.Sections.{with_origins, joined, sections_of}
 use Rattle.apollo_canonical.specs.TypeSections.{type_sections, HasEachNameOnce}
 use Rattle.apollo_canonical.proofs.ComponentsKept.{joined-values, written-keeps}
 use Rattle.apollo_canonical.proofs.NamesOnce.{once-kept}
-use Rattle.apollo_canonical.proofs.Partition.{map-flat_map}
+use Rattle.apollo_canonical.proofs.Kept.{map-flat_map}
 use Rattle.apollo_canonical.proofs.TypeLemmas.{components-sections}
 use Rattle.apollo_canonical.proofs.Rebuild.TypeFaults.{HaveEachNameOnce, interfaces_in, members_in, fields_in, values_in, input_fields_in}
 use Rattle.apollo_canonical.proofs.Rebuild.WrittenParts.{written, definition_part, extension_of}
@@ -62,49 +62,30 @@ module _ (t : ExtendedType) where
   names-in : (of : TypePart → List NameView) → of (definition_part t) ≡ (written t).definition.names → ((e : ExtensionId × DefinitionParts) → of (extension_of t e) ≡ e.1.names) → HasEachNameOnce (sections_of (written t)) → IsDistinct same_text (flat_map of written_parts)
   names-in of first each once = once-in (λ n. n) (λ d. d.names) of (first ∙ sym (map-id (written t).definition.names)) (λ e. each e ∙ sym (map-id e.1.names)) once.names
 
-once-by_kind : (t : ExtendedType) → HasEachNameOnce (sections_of (written t)) → HaveEachNameOnce (written_parts t)
-once-by_kind (Scalar n) once = record {
-  interfaces = nothing-in (Scalar n) interfaces_in refl (λ e. refl);
-  members = nothing-in (Scalar n) members_in refl (λ e. refl);
-  fields = nothing-in (Scalar n) fields_in refl (λ e. refl);
-  values = nothing-in (Scalar n) values_in refl (λ e. refl);
-  input_fields = nothing-in (Scalar n) input_fields_in refl (λ e. refl);
-}
-once-by_kind (Object n) once = record {
-  interfaces = names-in (Object n) interfaces_in refl (λ e. refl) once;
-  members = nothing-in (Object n) members_in refl (λ e. refl);
-  fields = once-in (Object n) (λ f. f.value.name) (λ d. d.fields) fields_in refl (λ e. refl) once.fields;
-  values = nothing-in (Object n) values_in refl (λ e. refl);
-  input_fields = nothing-in (Object n) input_fields_in refl (λ e. refl);
-}
-once-by_kind (Interface n) once = record {
-  interfaces = names-in (Interface n) interfaces_in refl (λ e. refl) once;
-  members = nothing-in (Interface n) members_in refl (λ e. refl);
-  fields = once-in (Interface n) (λ f. f.value.name) (λ d. d.fields) fields_in refl (λ e. refl) once.fields;
-  values = nothing-in (Interface n) values_in refl (λ e. refl);
-  input_fields = nothing-in (Interface n) input_fields_in refl (λ e. refl);
-}
-once-by_kind (Union n) once = record {
-  interfaces = nothing-in (Union n) interfaces_in refl (λ e. refl);
-  members = names-in (Union n) members_in refl (λ e. refl) once;
-  fields = nothing-in (Union n) fields_in refl (λ e. refl);
-  values = nothing-in (Union n) values_in refl (λ e. refl);
-  input_fields = nothing-in (Union n) input_fields_in refl (λ e. refl);
-}
-once-by_kind (Enum n) once = record {
-  interfaces = nothing-in (Enum n) interfaces_in refl (λ e. refl);
-  members = nothing-in (Enum n) members_in refl (λ e. refl);
-  fields = nothing-in (Enum n) fields_in refl (λ e. refl);
-  values = once-in (Enum n) (λ v. v.value.value) (λ d. d.values) values_in refl (λ e. refl) once.values;
-  input_fields = nothing-in (Enum n) input_fields_in refl (λ e. refl);
-}
-once-by_kind (InputObject n) once = record {
-  interfaces = nothing-in (InputObject n) interfaces_in refl (λ e. refl);
-  members = nothing-in (InputObject n) members_in refl (λ e. refl);
-  fields = nothing-in (InputObject n) fields_in refl (λ e. refl);
-  values = nothing-in (InputObject n) values_in refl (λ e. refl);
-  input_fields = once-in (InputObject n) (λ f. f.value.name) (λ d. d.input_fields) input_fields_in refl (λ e. refl) once.input_fields;
-}
+-- sort by sort
+interfaces-once : (t : ExtendedType) → HasEachNameOnce (sections_of (written t)) → IsDistinct same_text (flat_map interfaces_in (written_parts t))
+interfaces-once (Object n) once = names-in (Object n) interfaces_in refl (λ e. refl) once
+interfaces-once (Interface n) once = names-in (Interface n) interfaces_in refl (λ e. refl) once
+interfaces-once t once = nothing-in t interfaces_in refl (λ e. refl)
+
+members-once : (t : ExtendedType) → HasEachNameOnce (sections_of (written t)) → IsDistinct same_text (flat_map members_in (written_parts t))
+members-once (Union n) once = names-in (Union n) members_in refl (λ e. refl) once
+members-once t once = nothing-in t members_in refl (λ e. refl)
+
+fields-once : (t : ExtendedType) → HasEachNameOnce (sections_of (written t)) → IsDistinct same_text (flat_map fields_in (written_parts t))
+fields-once (Object n) once = once-in (Object n) (λ f. f.value.name) (λ d. d.fields) fields_in refl (λ e. refl) once.fields
+fields-once (Interface n) once = once-in (Interface n) (λ f. f.value.name) (λ d. d.fields) fields_in refl (λ e. refl) once.fields
+fields-once t once = nothing-in t fields_in refl (λ e. refl)
+
+values-once : (t : ExtendedType) → HasEachNameOnce (sections_of (written t)) → IsDistinct same_text (flat_map values_in (written_parts t))
+values-once (Enum n) once = once-in (Enum n) (λ v. v.value.value) (λ d. d.values) values_in refl (λ e. refl) once.values
+values-once t once = nothing-in t values_in refl (λ e. refl)
+
+input_fields-once : (t : ExtendedType) → HasEachNameOnce (sections_of (written t)) → IsDistinct same_text (flat_map input_fields_in (written_parts t))
+input_fields-once (InputObject n) once = once-in (InputObject n) (λ f. f.value.name) (λ d. d.input_fields) input_fields_in refl (λ e. refl) once.input_fields
+input_fields-once t once = nothing-in t input_fields_in refl (λ e. refl)
 
 pub once-in_parts : (t : ExtendedType) → HasEachNameOnce (type_sections t) → HaveEachNameOnce (written_parts t)
-once-in_parts t once = once-by_kind t (once_written t once)
+once-in_parts t once =
+    let o : HasEachNameOnce (sections_of (written t)) = once_written t once in
+    record { interfaces = interfaces-once t o; members = members-once t o; fields = fields-once t o; values = values-once t o; input_fields = input_fields-once t o }

@@ -12,7 +12,7 @@ use Rattle.graphql_ast.specs.Bare.{bare_directive}
 use Rattle.graphql_ast.specs.declared.definition_parts.DefinitionParts.{DefinitionParts}
 use Rattle.graphql_ast.specs.declared.directive.Directive.{Directive}
 use Rattle.apollo_component.specs.BareComponents.{bare_component, bare_component_name}
-use Rattle.apollo_component.specs.Extensions.{extension_id, place_of}
+use Rattle.apollo_component.specs.Extensions.{place_of}
 use Rattle.apollo_component.specs.WriteOut.{by_origin, identities, of_extensions, of_origin, origins_in}
 use Rattle.apollo_component.specs.declared.component.Component.{Component}
 use Rattle.apollo_component.specs.declared.component.ComponentName.{ComponentName}
@@ -33,10 +33,11 @@ use Rattle.apollo_canonical.specs.TypeSections.{no_components, node_of, placed}
 use Rattle.apollo_canonical.proofs.ComponentsKept.{kept, origins-split, roots-there, HasOrigins}
 use Rattle.apollo_canonical.proofs.DirectivesInOrder.{directives-in_order}
 use Rattle.apollo_canonical.proofs.FirstAppearance.{in_order}
+use Rattle.apollo_canonical.proofs.Kept.{find-first, find-made}
 use Rattle.apollo_canonical.proofs.TypeLemmas.{same-placed}
-use Rattle.apollo_canonical.proofs.Rebuild.Numbers.{numbered-distinct, paired, paired-self, renumbered, renumbered-distinct, renumbered-placed}
-use Rattle.apollo_canonical.proofs.Rebuild.SchemaAgain.{alone-permuted, filter-joined, find-first, find-made, from-values, in_operation_order, none-permuted, schema-parts_again}
-use Rattle.apollo_canonical.proofs.Rebuild.SchemaSections.{IsSchemaRow, entries, is_op, roots-origin, roots_for, schema-components, schema-in_order, schema-row, schema_sections, schema_sorts}
+use Rattle.apollo_canonical.proofs.Rebuild.Numbers.{directives_alone, numbered-distinct, numbered-written, numbered_parts, paired, paired-self, renumbered, renumbered-distinct, renumbered-placed}
+use Rattle.apollo_canonical.proofs.Rebuild.TypeAgain.{directives-numbered, shown-joined, shown-made}
+use Rattle.apollo_canonical.proofs.Rebuild.SchemaSections.{IsSchemaRow, entries, is_op, roots-origin, roots_for, schema-components, schema-in_order, schema-row, schema_sections, schema_sorts, alone-permuted, filter-joined, from-values, in_operation_order, none-permuted, schema-parts_again}
 
 -- an extension's identity with what is written of it
 abbrev pub extension_written : SchemaDefinition → ExtensionId → ExtensionId × DefinitionParts
@@ -104,31 +105,11 @@ equal-again d u a = (λ i. record {
     root : (op : OperationType) → option_map bare_component_name (root_of u op) ≡ option_map bare_component_name (root_of d op)
     root op = named (root_of u op) ∙ ap (option_map bare_name) (a.roots op) ∙ sym (named (root_of d op))
 
--- the directives of a part alone
-abbrev pub only_directives : SchemaPart → DefinitionParts
-only_directives p = record { directives = record { 0 = p.directives }; names = []; fields = []; values = []; input_fields = []; roots = [] }
-
-abbrev pub numbered_directives : ℕ × SchemaPart → ExtensionId × DefinitionParts
-numbered_directives e = (extension_id e.0 e.1.location, only_directives e.1)
-
--- directives, with the origin of each
-views : (o : ComponentOrigin) (xs : List (NodeView Directive)) → map node_of (map (component o) xs) ≡ map (λ x. (o, x)) xs
-views o xs = map-map node_of (component o) xs
-
+-- the directives stand in the order of the definition and the extensions
 pub directives-in_parts : (head : SchemaPart) (es : List (ℕ × SchemaPart))
-    → map node_of (flat_map schema_directives_of ((Definition, head) ∷ map schema_extension_source es)) ≡ joined (λ d. d.directives.0) (with_origins (record { definition = only_directives head; extensions = map numbered_directives es }))
-directives-in_parts head es = map-append node_of (map (component Definition) head.directives) (flat_map schema_directives_of (map schema_extension_source es)) ∙ (λ i. views Definition head.directives i ++ later es i)
-  where
-    later : (fs : List (ℕ × SchemaPart)) → map node_of (flat_map schema_directives_of (map schema_extension_source fs)) ≡ joined (λ d. d.directives.0) (map (λ e. (Extension e.0, e.1)) (map numbered_directives fs))
-    later [] = refl
-    later (f ∷ fs) =
-        map-append node_of (map (component (Extension (extension_id f.0 f.1.location))) f.1.directives) (flat_map schema_directives_of (map schema_extension_source fs))
-        ∙ (λ i. views (Extension (extension_id f.0 f.1.location)) f.1.directives i ++ later fs i)
-
-numbered-parts : (is : List ℕ) (es : List (ExtensionId × DefinitionParts)) → map schema_extension_source (paired is (map schema_extension_of es)) ≡ map (λ g. (Extension g.0, schema_extension_of g)) (renumbered is es)
-numbered-parts [] es = refl
-numbered-parts (i ∷ is) [] = refl
-numbered-parts (i ∷ is) (e ∷ es) = ap (λ l. schema_extension_source (i, schema_extension_of e) ∷ l) (numbered-parts is es)
+    → map node_of (flat_map schema_directives_of ((Definition, head) ∷ map schema_extension_source es)) ≡ joined (λ d. d.directives.0) (with_origins (record { definition = directives_alone head.directives; extensions = map (numbered_parts (λ p. p.location) (λ p. directives_alone p.directives)) es }))
+directives-in_parts head es =
+    shown-made node_of component (λ o a. refl) (λ (s : SchemaPart). s.directives) ((Definition, head) ∷ map schema_extension_source es) ∙ directives-numbered (λ p. p.location) (λ p. p.directives) head es
 
 perm-entries : (op : OperationType) (n : Option ComponentName) (ys : List Root) → IsPermutation (map (λ x. x.1) (entries op n)) ys → ys ≡ map (λ x. x.1) (entries op n)
 perm-entries op None ys p = none-permuted ys p
@@ -172,18 +153,16 @@ module _ (d : SchemaDefinition) (m : IsMadeSchema d) (head : SchemaPart) (h : Is
   same_parts = same_exts ∙ ap (λ cs. map (λ e. e.1) (of_extensions cs)) (schema-components d)
 
   sourced : map schema_extension_source es ≡ map (λ g. (Extension g.0, schema_extension_of g)) gs
-  sourced = ap (map schema_extension_source) (paired-self es ∙ ap (paired is) written) ∙ numbered-parts is (written_parts_of d).extensions
+  sourced = ap (map schema_extension_source) (paired-self es ∙ ap (paired is) written) ∙ numbered-written (λ (p : SchemaPart). p.location) (λ s d. record { location = s; description = None; directives = d.directives.0; roots = d.roots }) (λ s d. refl) is (written_parts_of d).extensions
+
+  -- the parts with their origins
+  abbrev all : List (ComponentOrigin × SchemaPart)
+  all = (Definition, head) ∷ map (λ g. (Extension g.0, schema_extension_of g)) gs
 
   directives-again : map node_of u.directives.0 ≡ joined (λ d. d.directives.0) (with_origins p)
   directives-again =
-      map-append node_of (map (component Definition) head.directives) (flat_map schema_directives_of (map schema_extension_source es))
-      ∙ (λ i. (views Definition head.directives ∙ ap (originated Definition) h.directives) i ++ (ap (λ l. map node_of (flat_map schema_directives_of l)) sourced ∙ later gs) i)
-    where
-      later : (fs : List (ExtensionId × DefinitionParts)) → map node_of (flat_map schema_directives_of (map (λ g. (Extension g.0, schema_extension_of g)) fs)) ≡ joined (λ d. d.directives.0) (map (λ e. (Extension e.0, e.1)) fs)
-      later [] = refl
-      later (f ∷ fs) =
-          map-append node_of (map (component (Extension f.0)) f.1.directives.0) (flat_map schema_directives_of (map (λ g. (Extension g.0, schema_extension_of g)) fs))
-          ∙ (λ i. views (Extension f.0) f.1.directives.0 i ++ later fs i)
+      ap (λ l. map node_of (flat_map schema_directives_of ((Definition, head) ∷ l))) sourced ∙ shown-made node_of component (λ o a. refl) (λ (s : SchemaPart). s.directives) all
+      ∙ (λ i. originated Definition (h.directives i) ++ shown-joined (λ (s : SchemaPart). s.directives) (λ d. d.directives.0) (λ g. Extension g.0) schema_extension_of (λ g. g.1) (λ g. refl) gs i)
 
   roots-listed : flat_map roots_of ((Definition, head) ∷ map schema_extension_source es) ≡ map named_entry (joined (λ d. d.roots) (with_origins p))
   roots-listed =
@@ -258,5 +237,5 @@ module _ (d : SchemaDefinition) (m : IsMadeSchema d) (head : SchemaPart) (h : Is
 
       in_order_again : map (λ x. x.1) (joined (λ d. d.directives.0) (with_origins p)) ≡ map (λ x. x.1) (map node_of d.directives.0)
       in_order_again =
-          directives-in_order s (record { definition = only_directives m.head; extensions = map numbered_directives m.extensions }) p (numbered-distinct (λ (p : SchemaPart). p.location) only_directives m.extensions m.apart)
+          directives-in_order s (record { definition = directives_alone m.head.directives; extensions = map (numbered_parts (λ p. p.location) (λ p. directives_alone p.directives)) m.extensions }) p (numbered-distinct (λ (p : SchemaPart). p.location) (λ p. directives_alone p.directives) m.extensions m.apart)
           (ap (λ (v : SchemaDefinition). map node_of v.directives.0) m.is ∙ directives-in_parts m.head m.extensions) same_definition same_parts

@@ -1,31 +1,26 @@
 -- A type that a list means, and the one that a list with its write-out means: they are equal and are written out alike.
-use Rattle.std.proofs.Common.{◌≡◌, ℕ, Bool, List, [], ◌∷◌, ◌++◌, map, length, refl, sym, ap, subst, ◌∙◌, ◌==◌}
+use Rattle.std.proofs.Common.{◌≡◌, ℕ, Bool, List, ◌∷◌, map, length, refl, sym, ap, subst, ◌∙◌, ◌==◌, None}
 use Rattle.std.proofs.lemmas.List.{length-map}
 use Rattle.std.specs.List.{IsDistinct}
-use Rattle.graphql_nodes.specs.NodeView.{NodeView}
-use Rattle.graphql_ast.specs.declared.definition_parts.DefinitionParts.{DefinitionParts}
-use Rattle.graphql_ast.specs.declared.directive.Directive.{Directive}
-use Rattle.apollo_component.specs.Extensions.{extension_id}
 use Rattle.apollo_component.specs.WriteOut.{by_origin}
-use Rattle.apollo_component.specs.declared.extension.ComponentOrigin.TheVariants.{Definition, Extension}
-use Rattle.apollo_component.specs.declared.extension.ExtensionId.{ExtensionId}
+use Rattle.apollo_component.specs.declared.extension.ComponentOrigin.TheVariants.{Definition}
 use Rattle.apollo_component.specs.declared.parts_by_origin.PartsByOrigin.{PartsByOrigin}
 use Rattle.apollo_types.specs.BareTypes.{bare_extended_type}
-use Rattle.apollo_types.specs.TypeWriteOut.{type_location, type_name, write_type}
+use Rattle.apollo_types.specs.TypeWriteOut.{type_kind, type_location, type_name, write_type}
 use Rattle.apollo_types.specs.declared.extended_type.ExtendedType.{ExtendedType}
-use Rattle.apollo_meaning.specs.Items.Parts.{TypePart, TypeBody, ScalarBody, ObjectBody, InterfaceBody, UnionBody, EnumBody, InputObjectBody}
+use Rattle.apollo_meaning.specs.Items.Parts.{TypePart, TypeBody, ScalarBody}
 use Rattle.apollo_meaning.specs.Types.Components.{Sourced, component}
 use Rattle.apollo_meaning.specs.Types.Meaning.{type_at, type_from, extension_part}
 use Rattle.apollo_canonical.specs.MeaningLaws.{MeaningLaws}
-use Rattle.apollo_canonical.specs.Sections.{joined, sections_of}
+use Rattle.apollo_canonical.specs.Sections.{sections_of}
 use Rattle.apollo_canonical.specs.TypeSections.{node_of, type_sections, HasWhatIsWritten, HasEachNameOnce}
 use Rattle.apollo_canonical.proofs.DirectivesInOrder.{directives-in_order}
 use Rattle.apollo_canonical.proofs.NamesOnce.{made-once}
 use Rattle.apollo_canonical.proofs.TypeLemmas.{components-again, components-sections, same_parts, type-again}
 use Rattle.apollo_canonical.proofs.Rebuild.EqualTypes.{HasNamedEntries, named-made, equal-types}
-use Rattle.apollo_canonical.proofs.Rebuild.Numbers.{numbered-distinct, paired, paired-self, renumbered}
-use Rattle.apollo_canonical.proofs.Rebuild.TypeAgain.{sourced_again, type_again, shown_in, shown-made, has-what-is-written}
-use Rattle.apollo_canonical.proofs.Rebuild.WrittenParts.{written, definition_part, extension_of}
+use Rattle.apollo_canonical.proofs.Rebuild.Numbers.{directives_alone, numbered-distinct, numbered-written, numbered_parts, paired, paired-self}
+use Rattle.apollo_canonical.proofs.Rebuild.TypeAgain.{sourced_again, type_again, shown_in, shown-made, directives-numbered, has-what-is-written}
+use Rattle.apollo_canonical.proofs.Rebuild.WrittenParts.{written, definition_part, extension_of, part_from}
 
 -- the type of a definition and of extensions with numbers
 abbrev pub made : TypePart → List (ℕ × TypePart) → ExtendedType
@@ -45,38 +40,20 @@ pub record IsAgain (t u : ExtendedType) : Type 0 where
   pub same : write_type u ≡ write_type t
   pub equal : bare_extended_type u ≡ bare_extended_type t
 
--- the directives of a part alone
-abbrev only_directives : TypePart → DefinitionParts
-only_directives p = record { directives = record { 0 = p.directives }; names = []; fields = []; values = []; input_fields = []; roots = [] }
-
-abbrev numbered_directives : ℕ × TypePart → ExtensionId × DefinitionParts
-numbered_directives e = (extension_id e.0 e.1.location, only_directives e.1)
-
 module _ (head : TypePart) (es : List (ℕ × TypePart)) where
   abbrev directive_parts : PartsByOrigin
-  directive_parts = record { definition = only_directives head; extensions = map numbered_directives es }
+  directive_parts = record { definition = directives_alone head.directives; extensions = map (numbered_parts (λ p. p.location) (λ p. directives_alone p.directives)) es }
 
-  abbrev of_directives : TypePart → List (NodeView Directive)
-  of_directives p = p.directives
-
-  directives-made : (body : TypeBody) (ps : List Sourced) → (type_sections (type_at body head ps)).directives ≡ shown_in of_directives ps
-  directives-made ScalarBody ps = shown-made node_of component (λ o a. refl) of_directives ps
-  directives-made (ObjectBody interfaces fields) ps = shown-made node_of component (λ o a. refl) of_directives ps
-  directives-made (InterfaceBody interfaces fields) ps = shown-made node_of component (λ o a. refl) of_directives ps
-  directives-made (UnionBody members) ps = shown-made node_of component (λ o a. refl) of_directives ps
-  directives-made (EnumBody values) ps = shown-made node_of component (λ o a. refl) of_directives ps
-  directives-made (InputObjectBody fields) ps = shown-made node_of component (λ o a. refl) of_directives ps
+  directives-made : (body : TypeBody) (ps : List Sourced) → (type_sections (type_at body head ps)).directives ≡ shown_in (λ (p : TypePart). p.directives) ps
+  directives-made ScalarBody ps = shown-made node_of component (λ o a. refl) (λ p. p.directives) ps
+  directives-made body ps = shown-made node_of component (λ o a. refl) (λ p. p.directives) ps
 
   -- the directives stand in the order of the definition and the extensions
   directives-in_parts : (type_sections (made head es)).directives ≡ (sections_of directive_parts).directives
-  directives-in_parts = directives-made head.body ((Definition, head) ∷ map extension_part es) ∙ (λ i. map (λ x. (Definition, x)) head.directives ++ later es i)
-    where
-      later : (fs : List (ℕ × TypePart)) → shown_in of_directives (map extension_part fs) ≡ joined (λ d. d.directives.0) (map (λ e. (Extension e.0, e.1)) (map numbered_directives fs))
-      later [] = refl
-      later (f ∷ fs) = ap (λ l. map (λ x. (Extension (extension_id f.0 f.1.location), x)) f.1.directives ++ l) (later fs)
+  directives-in_parts = directives-made head.body ((Definition, head) ∷ map extension_part es) ∙ directives-numbered (λ p. p.location) (λ p. p.directives) head es
 
 pub once : (t : ExtendedType) → IsMade t → HasEachNameOnce (type_sections t)
-once t m = subst (λ u. HasEachNameOnce (type_sections u)) (sym m.is) (made-once m.head.body m.head ((Definition, m.head) ∷ map extension_part m.extensions))
+once t m = subst (λ u. HasEachNameOnce (type_sections u)) (sym m.is) (made-once m.head ((Definition, m.head) ∷ map extension_part m.extensions) m.head.body)
 
 module _ (laws : MeaningLaws) (t : ExtendedType) (m : IsMade t) where
   named : HasNamedEntries t
@@ -90,7 +67,7 @@ module _ (laws : MeaningLaws) (t : ExtendedType) (m : IsMade t) where
     same_directives : map (λ d. d.1) (type_sections (type_again t is)).directives ≡ map (λ d. d.1) (type_sections t).directives
     same_directives =
         ap (λ s. map (λ d. d.1) s.directives) has.sections
-        ∙ directives-in_order (type_sections t) (directive_parts m.head m.extensions) has.parts (numbered-distinct (λ (p : TypePart). p.location) only_directives m.extensions m.apart)
+        ∙ directives-in_order (type_sections t) (directive_parts m.head m.extensions) has.parts (numbered-distinct (λ (p : TypePart). p.location) (λ p. directives_alone p.directives) m.extensions m.apart)
         (ap (λ u. (type_sections u).directives) m.is ∙ directives-in_parts m.head m.extensions)
         (has.definition ∙ ap (λ cs. (by_origin cs).definition) (components-sections t)) (same_parts t (type_again t is) has)
 
@@ -103,11 +80,6 @@ module _ (laws : MeaningLaws) (t : ExtendedType) (m : IsMade t) where
           same_directives (components-again t (type_again t is) has) (once t m);
     }
 
-  numbered-parts : (is : List ℕ) (es : List (ExtensionId × DefinitionParts)) → map extension_part (paired is (map (extension_of t) es)) ≡ map (λ g. (Extension g.0, extension_of t g)) (renumbered is es)
-  numbered-parts [] es = refl
-  numbered-parts (i ∷ is) [] = refl
-  numbered-parts (i ∷ is) (e ∷ es) = ap (λ l. extension_part (i, extension_of t e) ∷ l) (numbered-parts is es)
-
   -- what is written of it, under any distinct numbers of the extensions, makes the type again
   pub rebuilt : (b : Bool) (es : List (ℕ × TypePart)) → IsDistinct ◌==◌ (map (λ e. e.0) es) → map (λ e. e.1) es ≡ map (extension_of t) (written t).extensions → IsAgain t (made (record (definition_part t) { ignorable = b }) es)
   rebuilt b es apart written_parts =
@@ -117,5 +89,5 @@ module _ (laws : MeaningLaws) (t : ExtendedType) (m : IsMade t) where
       let made_again : made (record (definition_part t) { ignorable = b }) es ≡ type_again t is =
       laws.ignorable (definition_part t) b (map extension_part es)
       ∙ ap (λ l. type_from (definition_part t) ((Definition, definition_part t) ∷ l))
-      (ap (map extension_part) (paired-self es ∙ ap (paired is) written_parts) ∙ numbered-parts is (written t).extensions) in
+      (ap (map extension_part) (paired-self es ∙ ap (paired is) written_parts) ∙ numbered-written (λ (p : TypePart). p.location) (λ s d. part_from (type_kind t) s (type_name t) None d) (λ s d. refl) is (written t).extensions) in
       subst (IsAgain t) (sym made_again) (again is many apart)

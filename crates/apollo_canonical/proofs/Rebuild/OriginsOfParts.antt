@@ -1,6 +1,6 @@
--- What holds of the origin of each part holds of that of each component that the parts make.
-use Rattle.std.proofs.Common.{◌≡◌, List, [], ◌∷◌, None, Option, Some, map, find, flat_map, option_map, refl, sym, subst}
-use Rattle.std.specs.List.{AllByRecursion, cons_option}
+-- A type, and a schema definition, is written out with no more extensions than it was made of: each component comes from one of its parts.
+use Rattle.std.proofs.Common.{◌≡◌, List, [], ◌∷◌, None, Option, Some, map, find, flat_map, option_map, refl, sym, subst, ℕ, ◌≤◌, Bool, true, false, ◌||◌, length, ◌∙◌, true≢false, arith}
+use Rattle.std.specs.List.{AllByRecursion, cons_option, list_any}
 use Rattle.std.specs.Option.{IfSome}
 use Rattle.graphql_nodes.specs.NameView.{NameView}
 use Rattle.graphql_nodes.specs.NodeView.{NodeView}
@@ -12,7 +12,7 @@ use Rattle.graphql_ast.specs.declared.definition_parts.DefinitionPart.{Definitio
 use Rattle.graphql_ast.specs.declared.definition_parts.DefinitionPart.TheVariants as parts
 use Rattle.graphql_ast.specs.declared.directive.Directive.{Directive}
 use Rattle.apollo_component.specs.FirstOfEach.{same_key}
-use Rattle.apollo_component.specs.WriteOut.{SourcedPart, sourced}
+use Rattle.apollo_component.specs.WriteOut.{SourcedPart, sourced, identities, of_extensions, of_origin, origins_in}
 use Rattle.apollo_component.specs.declared.component.Component.{Component}
 use Rattle.apollo_component.specs.declared.component.ComponentName.{ComponentName}
 use Rattle.apollo_component.specs.declared.extension.ComponentOrigin.{ComponentOrigin}
@@ -26,8 +26,20 @@ use Rattle.apollo_meaning.specs.Schema.Definition.{SourcedSchema, root_in, roots
 use Rattle.apollo_meaning.specs.Types.Components.{Sourced, body_fields, body_input_fields, body_interfaces, body_members, body_values, component, component_name, directives_of, distinct_entries, distinct_names, field_entry, input_field_entry, same_component_name, value_entry}
 use Rattle.apollo_meaning.specs.Types.Meaning.{type_at}
 use Rattle.apollo_canonical.proofs.Kept.{each-map, if-found}
-use Rattle.apollo_component.proofs.FirstOfEachLemmas.{each-first}
-use Rattle.apollo_canonical.proofs.Rebuild.OneSchema.{root_under}
+use Rattle.apollo_component.proofs.FirstOfEachLemmas.{each-first, list_any-first_of_each}
+use Rattle.apollo_canonical.proofs.Rebuild.OneSchema.{root_under, made_schema, written_parts_of}
+use Rattle.std.proofs.lemmas.List.{length-map}
+use Rattle.std.proofs.lemmas.Map.Made.{length-le_from_is_member}
+use Rattle.graphql_nodes.specs.declared.source.SourceSpan.{SourceSpan}
+use Rattle.graphql_ast.specs.declared.definition_parts.DefinitionParts.{DefinitionParts}
+use Rattle.apollo_component.specs.Extensions.{extension_id, id_of, same_id}
+use Rattle.apollo_component.specs.declared.extension.ComponentOrigin.TheVariants.{Definition, Extension}
+use Rattle.apollo_component.specs.declared.extension.ExtensionId.{ExtensionId}
+use Rattle.apollo_component.proofs.Tabled.{first_of_each-distinct}
+use Rattle.apollo_canonical.proofs.ComponentsKept.{each-among, is_among}
+use Rattle.apollo_canonical.proofs.SectionLemmas.{ids_in, same_id-equiv}
+use Rattle.apollo_canonical.proofs.Rebuild.OneType.{made}
+use Rattle.apollo_canonical.proofs.Rebuild.WrittenParts.{written}
 
 module _ (P : ComponentOrigin → Type 0) where
   -- it holds of the origin of a component
@@ -93,3 +105,49 @@ module _ (P : ComponentOrigin → Type 0) where
         each-append From (map of_directive (flat_map schema_directives_of ps)) (map of_root roots)
         (each-map From of_directive (flat_map schema_directives_of ps) (each-made (λ (c : Component Directive). c.origin) component (λ o n. refl) (λ (s : SchemaPart). s.directives) ps a))
         (each-map From of_root roots (root Query mutations (root Mutation subscriptions (root Subscription [] tt))))
+
+-- components whose origins are among these identities have no others
+among-there : (ids : List ExtensionId) (e : ExtensionId) (cs : List SourcedPart) → AllByRecursion (λ c. is_among ids c.0 ≡ true) cs → list_any (same_id e) (ids_in cs) ≡ true → list_any (same_id e) ids ≡ true
+among-there ids e [] a h = absurd (true≢false (sym h))
+among-there ids e (c ∷ cs) a h = by c.0 a.0 h (among-there ids e cs a.1)
+  where
+    by : (o : ComponentOrigin) → is_among ids o ≡ true → list_any (same_id e) (cons_option (id_of o) (ids_in cs)) ≡ true → (list_any (same_id e) (ids_in cs) ≡ true → list_any (same_id e) ids ≡ true) → list_any (same_id e) ids ≡ true
+    by Definition own h rest = rest h
+    by (Extension f) own h rest = at (same_id e f) refl h
+      where
+        at : (b : Bool) → same_id e f ≡ b → (b || list_any (same_id e) (ids_in cs)) ≡ true → list_any (same_id e) ids ≡ true
+        at true alike g = (λ i. list_any (λ k. same_id-equiv.congr e f k alike i) ids) ∙ own
+        at false alike g = rest g
+
+-- so they are written with no more extensions than there are of these
+written-among : (ids : List ExtensionId) (cs : List SourcedPart) → AllByRecursion (λ c. is_among ids c.0 ≡ true) cs → length (of_extensions cs) ≤ length ids
+written-among ids cs a =
+    omega (
+      arith,
+      length-map {B = ExtensionId × DefinitionParts} (identities (origins_in cs)) (λ e. (e, of_origin (Extension e) cs)),
+      length-le_from_is_member same_id-equiv (identities (origins_in cs)) ids (first_of_each-distinct same_id (ids_in cs))
+          (λ e h. among-there ids e cs a (sym (list_any-first_of_each same_id same_id-equiv e (ids_in cs)) ∙ h)),
+    )
+
+module _ {P : Type 0} (place : P → Option SourceSpan) where
+  -- extensions with numbers, and their origins
+  abbrev extensions_from : List (ℕ × P) → List (ComponentOrigin × P)
+  extensions_from es = map (λ e. (Extension (extension_id e.0 (place e.1)), e.1)) es
+
+  ids-counted : (es : List (ℕ × P)) → length (ids_in (extensions_from es)) ≡ length es
+  ids-counted [] = refl
+  ids-counted (e ∷ es) = omega (arith, ids-counted es)
+
+  -- components of a definition and of these
+  made-few : (head : P) (es : List (ℕ × P)) (cs : List SourcedPart) → AllByRecursion (λ c. is_among (ids_in ((Definition, head) ∷ extensions_from es)) c.0 ≡ true) cs → length (of_extensions cs) ≤ length es
+  made-few head es cs a = omega (arith, ids-counted es, written-among (ids_in ((Definition, head) ∷ extensions_from es)) cs a)
+
+pub type-few : (head : TypePart) (es : List (ℕ × TypePart)) → length (written (made head es)).extensions ≤ length es
+type-few head es =
+    let ps : List (ComponentOrigin × TypePart) = (Definition, head) ∷ extensions_from (λ (p : TypePart). p.location) es in
+    made-few (λ (p : TypePart). p.location) head es (type_components (made head es)) (each-of_type (λ o. is_among (ids_in ps) o ≡ true) ps (each-among ps) head.body head)
+
+pub schema-few : (head : SchemaPart) (es : List (ℕ × SchemaPart)) → length (written_parts_of (made_schema head es)).extensions ≤ length es
+schema-few head es =
+    let ps : List (ComponentOrigin × SchemaPart) = (Definition, head) ∷ extensions_from (λ (s : SchemaPart). s.location) es in
+    made-few (λ (s : SchemaPart). s.location) head es (schema_components (made_schema head es)) (each-of_schema (λ o. is_among (ids_in ps) o ≡ true) ps (each-among ps) head)

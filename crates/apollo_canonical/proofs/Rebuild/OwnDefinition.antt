@@ -26,7 +26,7 @@ use Rattle.apollo_meaning.specs.Types.Meaning.{extension_part}
 use Rattle.apollo_component.proofs.FirstOfEachLemmas.{each-first, entry_laws, name_laws}
 use Rattle.apollo_canonical.specs.TypeSections.{node_of, name_of, type_sections}
 use Rattle.apollo_canonical.proofs.FirstAppearance.{new_to_these, first_of_each-append}
-use Rattle.apollo_canonical.proofs.Once.{all-first}
+use Rattle.apollo_canonical.proofs.Kept.{all-first}
 use Rattle.apollo_canonical.proofs.SectionLemmas.{of_origin-sections, parts_in, picked, picked-append, picked-of}
 use Rattle.apollo_canonical.proofs.TypeLemmas.{components-sections}
 use Rattle.apollo_canonical.proofs.Rebuild.OneType.{made}

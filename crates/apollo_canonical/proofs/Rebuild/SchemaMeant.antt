@@ -15,17 +15,18 @@ use Rattle.apollo_types.specs.SchemaRoots.{root_of}
 use Rattle.apollo_types.specs.declared.schema_definition.SchemaDefinition.{SchemaDefinition}
 use Rattle.apollo_meaning.specs.Completion.Adoption.{adopted, adopted_by, extended_names, orphans_of, with_adopted}
 use Rattle.apollo_meaning.specs.Completion.ImpliedSchema.{adopting_schema, implicit_roots, implied_schema, rooted_schema, schema_for, schema_of_roots}
-use Rattle.apollo_meaning.specs.Items.ListItems.{Added, ListItem, SchemaDefined, added_items, defined_schema, extended_schema}
+use Rattle.apollo_meaning.specs.Items.ListItems.{ListItem, SchemaDefined, added_items, defined_schema, extended_schema}
 use Rattle.apollo_meaning.specs.Items.Named.{first_schema, schema_extensions}
 use Rattle.apollo_meaning.specs.Items.Parts.{Root, SchemaPart, TypePart, roots_in}
 use Rattle.apollo_meaning.specs.Order.Places.{folding_order}
 use Rattle.apollo_meaning.specs.Schema.Definition.{SourcedSchema, no_schema, roots_of, same_operation, schema_extension_source, schema_from, schema_of, schema_parts}
 use Rattle.apollo_meaning.specs.Schema.Whole.{whole}
+use Rattle.apollo_schema.specs.declared.schema.Schema.{Schema}
 use Rattle.apollo_canonical.specs.MeaningLaws.{MeaningLaws}
-use Rattle.apollo_canonical.specs.WrittenAgain.{with_built_ins}
+use Rattle.apollo_canonical.specs.WrittenAgain.{IsMeantByList, with_built_ins}
 use Rattle.apollo_canonical.proofs.Kept.{both-empty}
 use Rattle.apollo_canonical.proofs.Rebuild.BuiltIns.{built_ins, no-schema_definitions}
-use Rattle.apollo_canonical.proofs.Rebuild.Meant.{adopted-split, adopted_items, items}
+use Rattle.apollo_canonical.proofs.Rebuild.Meant.{adopted-split, adopted_items, items, rooted}
 use Rattle.apollo_canonical.proofs.Rebuild.Numbers.{rising-distinct, schema_numbers, schema_numbers-rise}
 use Rattle.apollo_canonical.proofs.Rebuild.OneSchema.{IsMadeSchema, made_schema, root_under, written_parts_of}
 use Rattle.apollo_canonical.proofs.Rebuild.SchemaSaid.{all-none, no-directives, own-root}
@@ -112,7 +113,9 @@ none-named head es none = by es (both-empty (roots_of (origins.Definition, head)
         let two = both-empty (roots_of (schema_extension_source f)) (flat_map roots_of (map schema_extension_source fs)) h in
         (λ i. empty (root_under (schema_extension_source f).0) f.1.roots two.0 i ++ by fs two.1 i)
 
-module _ (laws : MeaningLaws) (adopts : Bool) (more : List Added) (rooted : AllByRecursion NamesRoot (filter_map defined_schema (added_items more))) (start : ℕ) where
+module _ (laws : MeaningLaws) (schema : Schema) (list : IsMeantByList schema) where
+  open list use {start, adopts, more}
+
   -- the list with adopted types, and with the implied definition of the schema
   abbrev W : List ListItem
   W = with_adopted adopts (items adopts more)
@@ -138,7 +141,7 @@ module _ (laws : MeaningLaws) (adopts : Bool) (more : List Added) (rooted : AllB
       by false = refl
 
   first-roots : (s : SchemaPart) → first_schema W ≡ Some s → NamesRoot s
-  first-roots s h = by (filter_map defined_schema (added_items more)) rooted (sym (ap (λ l. slice_get l 0) definitions-of) ∙ h)
+  first-roots s h = by (filter_map defined_schema (added_items more)) (rooted schema list) (sym (ap (λ l. slice_get l 0) definitions-of) ∙ h)
     where
       by : (l : List SchemaPart) → AllByRecursion NamesRoot l → slice_get l 0 ≡ Some s → NamesRoot s
       by [] a g = absurd (let f : None ≡ Some s = g in cc)

@@ -1,6 +1,7 @@
 -- What is written of schema definitions that say the same, and where a definition's own root is written.
 use Rattle.std.proofs.Common.{◌≡◌, ℕ, Bool, true, false, cond, not, ◌||◌, ◌&&◌, List, [], ◌∷◌, ◌++◌, None, Option, Some, is_none, map, find, flat_map, length, option_map, refl, sym, ap, ◌∙◌, ◌==◌}
-use Rattle.std.proofs.lemmas.List.{append-nil, length-map}
+use Rattle.std.proofs.lemmas.Bool.{or_right}
+use Rattle.std.proofs.lemmas.List.{length-map}
 use Rattle.std.proofs.lemmas.Simd.{map-map}
 use Rattle.std.specs.List.{cons_option, list_any}
 use Rattle.std.specs.Option.{option_eq}
@@ -32,8 +33,9 @@ use Rattle.apollo_meaning.specs.Types.Components.{component_name}
 use Rattle.apollo_canonical.specs.Sections.{with_origins}
 use Rattle.apollo_canonical.specs.TypeSections.{placed}
 use Rattle.apollo_canonical.proofs.DirectivesInOrder.{has_none}
-use Rattle.apollo_canonical.proofs.SectionLemmas.{definition-alone, has_some, picked, picked-joined}
-use Rattle.apollo_canonical.proofs.Rebuild.OneSchema.{IsSchemaAgain, directives-in_parts, extension_written, made_schema, numbered_directives, only_directives, root_under, written_parts_of}
+use Rattle.apollo_canonical.proofs.SectionLemmas.{definition-alone, has_some, of-alone, picked}
+use Rattle.apollo_canonical.proofs.Rebuild.Numbers.{directives_alone, numbered_parts}
+use Rattle.apollo_canonical.proofs.Rebuild.OneSchema.{IsSchemaAgain, directives-in_parts, extension_written, made_schema, root_under, written_parts_of}
 use Rattle.apollo_canonical.proofs.Rebuild.SchemaSections.{entries, of_schema-origin, picked-roots}
 
 -- whether a root is of the definition
@@ -50,10 +52,6 @@ has_own-three : (d : SchemaDefinition) → has_own_root d ≡ (is_own d.query ||
 has_own-three d =
     any-one Query d.query (cons_option (option_map (λ n. (Mutation, n)) d.mutation) (cons_option (option_map (λ n. (Subscription, n)) d.subscription) []))
     ∙ ap (λ b. is_own d.query || b) (any-one Mutation d.mutation (cons_option (option_map (λ n. (Subscription, n)) d.subscription) []) ∙ ap (λ b. is_own d.mutation || b) (any-one Subscription d.subscription []))
-
-or-true : (b : Bool) → (b || true) ≡ true
-or-true true = refl
-or-true false = refl
 
 -- a definition that names a root has a root of its own
 pub own-root : (head : SchemaPart) (r : Root) (rs : List Root) (es : List (ℕ × SchemaPart)) → head.roots ≡ r ∷ rs → has_own_root (made_schema head es) ≡ true
@@ -78,8 +76,8 @@ own-root head r rs es e = has_own-three (made_schema head es) ∙ by r.value.0 r
 
     by : (op : OperationType) → r.value.0 ≡ op → (is_own d.query || (is_own d.mutation || (is_own d.subscription || false))) ≡ true
     by Query f = ap (λ b. b || (is_own d.mutation || (is_own d.subscription || false))) (own Query (ap (same_operation Query) f))
-    by Mutation f = ap (λ b. is_own d.query || (b || (is_own d.subscription || false))) (own Mutation (ap (same_operation Mutation) f)) ∙ or-true (is_own d.query)
-    by Subscription f = ap (λ b. is_own d.query || (is_own d.mutation || (b || false))) (own Subscription (ap (same_operation Subscription) f)) ∙ ap (λ b. is_own d.query || b) (or-true (is_own d.mutation)) ∙ or-true (is_own d.query)
+    by Mutation f = or_right (is_own d.query) _ (ap (λ b. b || (is_own d.subscription || false)) (own Mutation (ap (same_operation Mutation) f)))
+    by Subscription f = or_right (is_own d.query) _ (or_right (is_own d.mutation) _ (ap (λ b. b || false) (own Subscription (ap (same_operation Subscription) f))))
 
 has_some-append : {A : Type 0} (xs ys : List A) → has_some (xs ++ ys) ≡ (has_some xs || has_some ys)
 has_some-append [] ys = refl
@@ -87,11 +85,7 @@ has_some-append (x ∷ xs) ys = refl
 
 own-entry : (op : OperationType) (o : Option ComponentName) → is_own o ≡ has_some (picked origins.Definition (entries op o))
 own-entry op None = refl
-own-entry op (Some n) = by (same_origin origins.Definition n.origin)
-  where
-    by : (b : Bool) → b ≡ has_some (map (λ (x : ComponentOrigin × Root). x.1) (cond b ((n.origin, root_node (op, n)) ∷ []) []))
-    by true = refl
-    by false = refl
+own-entry op (Some n) = elim (same_origin origins.Definition n.origin) as (λ b. b ≡ has_some (map (λ (x : ComponentOrigin × Root). x.1) (cond b ((n.origin, root_node (op, n)) ∷ []) []))) [ true ↦ refl | false ↦ refl ]
 
 -- it has one where roots are written of the definition
 pub own-said : (d : SchemaDefinition) → has_own_root d ≡ has_some (written_parts_of d).definition.roots
@@ -109,11 +103,10 @@ no-own d h = has_none (written_parts_of d).definition.roots (sym (own-said d) �
 -- where a definition has no directive of its own, none is written of it
 pub no-directives : (head : SchemaPart) (es : List (ℕ × SchemaPart)) → head.directives ≡ [] → (written_parts_of (made_schema head es)).definition.directives.0 ≡ []
 no-directives head es e =
-    let p : PartsByOrigin = record { definition = only_directives head; extensions = map numbered_directives es } in
+    let p : PartsByOrigin = record { definition = directives_alone head.directives; extensions = map (numbered_parts (λ (s : SchemaPart). s.location) (λ s. directives_alone s.directives)) es } in
     ap (λ q. q.directives.0) (of_schema-origin (made_schema head es) origins.Definition)
     ∙ ap (picked origins.Definition) (directives-in_parts head es)
-    ∙ picked-joined origins.Definition (λ q. q.directives.0) (with_origins p)
-    ∙ ap (flat_map (λ g. g.1.directives.0)) (definition-alone p) ∙ append-nil head.directives ∙ e
+    ∙ of-alone origins.Definition (λ q. q.directives.0) (with_origins p) (origins.Definition, p.definition) (definition-alone p) ∙ e
 
 -- where there is no root of any operation type, no part names one
 pub all-none : (l : List (OperationType × ComponentName)) → ((op : OperationType) → option_map (λ r. r.1) (find (λ r. same_operation op r.0) l) ≡ None) → l ≡ []

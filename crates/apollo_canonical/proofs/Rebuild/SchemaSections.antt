@@ -1,18 +1,17 @@
--- The components of a schema definition, whose roots stand in the order of the operation types.
-use Rattle.std.proofs.Common.{◌≡◌, Bool, true, false, cond, List, [], ◌∷◌, ◌++◌, None, Option, Some, map, filter, flat_map, option_map, refl, sym, ap, ◌∙◌}
-use Rattle.std.proofs.lemmas.List.{append-nil}
-use Rattle.std.proofs.lemmas.List.Elements.{filter-append}
-use Rattle.std.specs.List.{cons_option, list_any}
+-- The components of a schema definition, whose roots stand in the order of the operation types, and the definition that written parts make again.
+use Rattle.std.proofs.Common.{◌≡◌, Bool, true, false, cond, List, [], ◌∷◌, ◌++◌, None, Option, Some, map, filter, flat_map, option_map, refl, sym, ap, ◌∙◌, length, slice_get, arith}
+use Rattle.std.proofs.lemmas.List.{append-nil, nil_from_length}
+use Rattle.std.proofs.lemmas.List.Elements.{filter-append, All-from_recursion, recursion_from_All}
+use Rattle.std.specs.List.{cons_option, list_any, AllByRecursion, IsDistinct}
 use Rattle.graphql_nodes.specs.declared.operation_type.OperationType.{OperationType}
 use Rattle.graphql_nodes.specs.declared.operation_type.OperationType.TheVariants.{Query, Mutation, Subscription}
 use Rattle.graphql_ast.specs.declared.definition_parts.DefinitionPart.TheVariants as parts
 use Rattle.graphql_ast.specs.declared.definition_parts.DefinitionParts.{DefinitionParts}
 use Rattle.apollo_component.specs.Extensions.{same_id, same_origin}
-use Rattle.apollo_component.specs.FirstOfEach.{first_of_each}
-use Rattle.apollo_component.specs.WriteOut.{origins_in, identities, of_origin, of_extensions}
+use Rattle.apollo_component.specs.WriteOut.{of_origin, of_extensions, SourcedPart, by_origin}
 use Rattle.apollo_component.specs.declared.component.ComponentName.{ComponentName}
 use Rattle.apollo_component.specs.declared.extension.ComponentOrigin.{ComponentOrigin}
-use Rattle.apollo_component.specs.declared.extension.ComponentOrigin.TheVariants.{Extension}
+use Rattle.apollo_component.specs.declared.extension.ComponentOrigin.TheVariants.{Extension, Definition}
 use Rattle.apollo_component.specs.declared.extension.ExtensionId.{ExtensionId}
 use Rattle.apollo_types.specs.Components.{of_root, root_node}
 use Rattle.apollo_types.specs.SchemaDefinitionWriteOut.{schema_components}
@@ -20,12 +19,19 @@ use Rattle.apollo_types.specs.SchemaRoots.{root_of}
 use Rattle.apollo_types.specs.declared.schema_definition.SchemaDefinition.{SchemaDefinition}
 use Rattle.apollo_meaning.specs.Items.Parts.{Root}
 use Rattle.apollo_meaning.specs.Schema.Definition.{same_operation}
-use Rattle.apollo_canonical.specs.Sections.{Sections, as_parts, in_sections}
+use Rattle.apollo_canonical.specs.Sections.{Sections, as_parts, in_sections, joined, with_origins}
 use Rattle.apollo_canonical.specs.TypeSections.{node_of, no_components}
-use Rattle.apollo_canonical.proofs.FirstAppearance.{in_order, in_order-map, first-in_order}
-use Rattle.apollo_canonical.proofs.Kept.{each-of, filter-all}
-use Rattle.apollo_canonical.proofs.SectionLemmas.{same_id-equiv, ids_in, ids_in-append, ids_in-sections, picked, picked-append, of_origin-sections, parts_in, has_some, has_some-picked}
+use Rattle.apollo_canonical.proofs.FirstAppearance.{in_order, in_order-map}
+use Rattle.apollo_canonical.proofs.SectionLemmas.{ids_in, ids_in-append, ids_in-sections, picked, picked-append, of_origin-sections, parts_in, has_some, has_some-picked, written-in_order, definition-alone, each-alone, extension-alone, marks, of-alone, parts-again, shown-joined}
 use Rattle.std.proofs.lemmas.Simd.{map-map}
+use Rattle.std.proofs.lemmas.List.Sorted.{All-permutation, length_permutation}
+use Rattle.std.specs.Option.{unwrap_or}
+use Rattle.std.specs.List.Sorted.{IsPermutation}
+use Rattle.apollo_component.specs.declared.parts_by_origin.PartsByOrigin.{PartsByOrigin}
+use Rattle.apollo_meaning.specs.Types.Components.{component_name}
+use Rattle.apollo_component.proofs.Lists.Each.{filter-map}
+use Rattle.apollo_canonical.proofs.Kept.{each-both}
+use Rattle.apollo_canonical.proofs.Regrouped.{shown}
 
 -- the root of an operation type with its origin, if there is one
 abbrev pub entries : OperationType → Option ComponentName → List (ComponentOrigin × Root)
@@ -65,11 +71,10 @@ cond-nil false = refl
 module _ (o : ComponentOrigin) where
   piece : (op other : OperationType) (n : Option ComponentName) → filter (is_op op) (picked o (entries other n)) ≡ cond (same_operation op other) (picked o (entries other n)) []
   piece op other None = cond-nil (same_operation op other)
-  piece op other (Some n) = by (same_origin o n.origin)
-    where
-      by : (b : Bool) → filter (is_op op) (map (λ (x : ComponentOrigin × Root). x.1) (cond b ((n.origin, root_node (other, n)) ∷ []) [])) ≡ cond (same_operation op other) (map (λ (x : ComponentOrigin × Root). x.1) (cond b ((n.origin, root_node (other, n)) ∷ []) [])) []
-      by true = refl
-      by false = cond-nil (same_operation op other)
+  piece op other (Some n) = elim (same_origin o n.origin) as (λ b. filter (is_op op) (map (λ (x : ComponentOrigin × Root). x.1) (cond b ((n.origin, root_node (other, n)) ∷ []) [])) ≡ cond (same_operation op other) (map (λ (x : ComponentOrigin × Root). x.1) (cond b ((n.origin, root_node (other, n)) ∷ []) [])) []) [
+    | true ↦ refl
+    | false ↦ cond-nil (same_operation op other)
+  ]
 
   module _ (d : SchemaDefinition) where
     pub picked-roots : picked o (root_entries d) ≡ picked o (entries Query d.query) ++ (picked o (entries Mutation d.mutation) ++ (picked o (entries Subscription d.subscription) ++ []))
@@ -120,9 +125,6 @@ module _ (d : SchemaDefinition) where
     roots = (λ i. roots-origin o Query i ++ (roots-origin o Mutation i ++ (roots-origin o Subscription i ++ []))) ∙ sym (picked-roots o d) ∙ sym (ap (λ p. p.roots) (of_schema-origin o));
   }
 
-  abbrev ids : List ExtensionId
-  ids = identities (origins_in (schema_components d))
-
   abbrev id_lists : List (List ExtensionId)
   id_lists = ids_in (map node_of d.directives.0) ∷ ids_in (entries Query d.query) ∷ ids_in (entries Mutation d.mutation) ∷ ids_in (entries Subscription d.subscription) ∷ []
 
@@ -136,15 +138,88 @@ module _ (d : SchemaDefinition) where
 
   -- the parts of extensions are written in the order of these
   pub schema-in_order : in_order schema_sorts (map (λ e. e.1) (of_extensions (schema_components d))) ≡ true
-  schema-in_order =
-      ap (in_order schema_sorts) (map-map (λ (e : ExtensionId × DefinitionParts). e.1) (λ e. (e, of_origin (Extension e) (schema_components d))) ids)
-      ∙ in_order-map (λ e. of_origin (Extension e) (schema_components d)) schema_sorts ids
-      ∙ (λ i. in_order (
-      (λ e. (ap (λ p. has_some p.directives.0) (of_schema-origin (Extension e)) ∙ has_some-picked e (map node_of d.directives.0)) i)
-      ∷ (λ e. (ap has_some (roots-origin (Extension e) Query) ∙ has_some-picked e (entries Query d.query)) i)
-      ∷ (λ e. (ap has_some (roots-origin (Extension e) Mutation) ∙ has_some-picked e (entries Mutation d.mutation)) i)
-      ∷ (λ e. (ap has_some (roots-origin (Extension e) Subscription) ∙ has_some-picked e (entries Subscription d.subscription)) i)
-      ∷ []
-      ) ids)
-      ∙ ap (in_order (map (λ l e. list_any (same_id e) l) id_lists)) (ap (first_of_each same_id) ids-listed ∙ sym (filter-all (λ _. true) (first_of_each same_id (flat_map (λ l. l) id_lists)) (each-of (λ _. true ≡ true) (λ _. refl) (first_of_each same_id (flat_map (λ l. l) id_lists)))))
-      ∙ first-in_order same_id same_id-equiv (λ _. true) id_lists
+  schema-in_order = written-in_order (schema_components d) schema_sorts id_lists ids-listed (λ i. directives i ∷ roots Query i ∷ roots Mutation i ∷ roots Subscription i ∷ [])
+    where
+      directives : ◌≡◌ {A = ExtensionId → Bool} (λ e. has_some (of_origin (Extension e) (schema_components d)).directives.0) (λ e. list_any (same_id e) (ids_in (map node_of d.directives.0)))
+      directives = λ i e. (ap (λ (p : DefinitionParts). has_some p.directives.0) (of_schema-origin (Extension e)) ∙ has_some-picked e (map node_of d.directives.0)) i
+
+      roots : (op : OperationType) → ◌≡◌ {A = ExtensionId → Bool} (λ e. has_some (roots_for op (of_origin (Extension e) (schema_components d)))) (λ e. list_any (same_id e) (ids_in (entries op (root_of d op))))
+      roots op = λ i e. (ap has_some (roots-origin (Extension e) op) ∙ has_some-picked e (entries op (root_of d op))) i
+
+-- the sections that written parts make, with the roots in the order of the operation types
+abbrev pub in_operation_order : PartsByOrigin → Sections
+in_operation_order p = record no_components {
+  directives = joined (λ d. d.directives.0) (with_origins p);
+  roots = joined (roots_for Query) (with_origins p) ++ (joined (roots_for Mutation) (with_origins p) ++ (joined (roots_for Subscription) (with_origins p) ++ []));
+}
+
+-- where one group alone is of the origin
+row-again : (p : PartsByOrigin) (o : ComponentOrigin) (g : ComponentOrigin × DefinitionParts) → filter (λ g. same_origin o g.0) (with_origins p) ≡ g ∷ [] → IsSchemaRow g.1 → of_origin o (in_sections (in_operation_order p)) ≡ g.1
+row-again p o g alone row = of_origin-sections o (in_operation_order p) ∙ (λ i. record {
+  directives = record { 0 = of_sort (λ d. d.directives.0) i };
+  names = row.names i;
+  fields = row.fields i;
+  values = row.values i;
+  input_fields = row.input_fields i;
+  roots = roots i;
+})
+  where
+    of_sort : {A : Type 0} (sort : DefinitionParts → List A) → picked o (joined sort (with_origins p)) ≡ sort g.1
+    of_sort sort = of-alone o sort (with_origins p) g alone
+
+    rs : OperationType → List (ComponentOrigin × Root)
+    rs op = joined (roots_for op) (with_origins p)
+
+    roots : picked o (rs Query ++ (rs Mutation ++ (rs Subscription ++ []))) ≡ g.1.roots
+    roots =
+        picked-append o (rs Query) (rs Mutation ++ (rs Subscription ++ []))
+        ∙ (λ i. of_sort (roots_for Query) i ++ (picked-append o (rs Mutation) (rs Subscription ++ [])
+        ∙ (λ j. of_sort (roots_for Mutation) j ++ (picked-append o (rs Subscription) [] ∙ ap (λ l. l ++ []) (of_sort (roots_for Subscription))) j)) i)
+        ∙ row.roots
+
+module _ (p : PartsByOrigin) (distinct : IsDistinct same_id (map (λ e. e.0) p.extensions)) (first_row : IsSchemaRow p.definition) (rows : AllByRecursion (λ e. IsSchemaRow e.1) p.extensions) (ordered : in_order schema_sorts (map (λ e. e.1) p.extensions) ≡ true) where
+  abbrev comps : List SourcedPart
+  comps = in_sections (in_operation_order p)
+
+  -- parts in the order in which they are written are written again as themselves
+  pub schema-parts_again : by_origin comps ≡ p
+  schema-parts_again =
+      parts-again p distinct comps ((λ e. marks e.1.directives.0) ∷ (λ e. marks (roots_for Query e.1)) ∷ (λ e. marks (roots_for Mutation e.1)) ∷ (λ e. marks (roots_for Subscription e.1)) ∷ [])
+      (ids_in-sections (in_operation_order p) ∙ (λ i. shown-joined p (λ d. d.directives.0) i ++ (append-nil (ids_in (in_operation_order p).roots) ∙ roots) i)) (sym (in_order-map (λ e. e.1) schema_sorts p.extensions) ∙ ordered)
+      (row-again p Definition (Definition, p.definition) (definition-alone p) first_row)
+      (each-both (λ e. filter (λ h. same_id e.0 h.0) p.extensions ≡ e ∷ []) (λ e. IsSchemaRow e.1) (λ e. of_origin (Extension e.0) comps ≡ e.1)
+      (λ e alone row. row-again p (Extension e.0) (Extension e.0, e.1) (extension-alone p e alone) row) p.extensions (each-alone p distinct) rows)
+    where
+      roots : ids_in (joined (roots_for Query) (with_origins p) ++ (joined (roots_for Mutation) (with_origins p) ++ (joined (roots_for Subscription) (with_origins p) ++ [])))
+          ≡ shown (λ e. e.0) (λ e. marks (roots_for Query e.1)) p.extensions ++ (shown (λ e. e.0) (λ e. marks (roots_for Mutation e.1)) p.extensions ++ (shown (λ e. e.0) (λ e. marks (roots_for Subscription e.1)) p.extensions ++ []))
+      roots =
+          ids_in-append (joined (roots_for Query) (with_origins p)) (joined (roots_for Mutation) (with_origins p) ++ (joined (roots_for Subscription) (with_origins p) ++ []))
+          ∙ (λ i. shown-joined p (roots_for Query) i ++ (ids_in-append (joined (roots_for Mutation) (with_origins p)) (joined (roots_for Subscription) (with_origins p) ++ [])
+          ∙ (λ j. shown-joined p (roots_for Mutation) j ++ (ids_in-append (joined (roots_for Subscription) (with_origins p)) [] ∙ ap (λ l. l ++ []) (shown-joined p (roots_for Subscription))) j)) i)
+
+-- a root is found where there is one alone
+pub from-values : (op : OperationType) (xs : List (ComponentOrigin × Root)) (n : Option ComponentName) → map (λ x. x.1) xs ≡ map (λ x. x.1) (entries op n)
+    → (entries op (option_map (λ x. component_name x.0 x.1.value.1) (slice_get xs 0)) ≡ xs) × (option_map (λ c. c.name) (option_map (λ x. component_name x.0 x.1.value.1) (slice_get xs 0)) ≡ option_map (λ c. c.name) n)
+from-values op [] None h = (refl, refl)
+from-values op [] (Some n) h = absurd (let g : [] ≡ root_node (op, n) ∷ [] = h in cc)
+from-values op (x ∷ xs) None h = absurd (let g : x.1 ∷ map (λ x. x.1) xs ≡ [] = h in cc)
+from-values op (x ∷ []) (Some n) h =
+    let e : x.1 ≡ root_node (op, n) = ap (λ l. unwrap_or (slice_get l 0) x.1) h in
+    (ap (λ (y : Root). (x.0, root_node (op, component_name x.0 y.value.1)) ∷ []) e ∙ sym (ap (λ (y : Root). (x.0, y) ∷ []) e), ap (λ (y : Root). Some y.value.1) e)
+from-values op (x ∷ y ∷ xs) (Some n) h = absurd (let g : x.1 ∷ y.1 ∷ map (λ x. x.1) xs ≡ root_node (op, n) ∷ [] = h in cc)
+
+-- at most one thing has one order
+pub alone-permuted : {X : Type 0} (x : X) (ys : List X) → IsPermutation (x ∷ []) ys → ys ≡ x ∷ []
+alone-permuted {X} x ys p = by ys (length_permutation (x ∷ []) ys p) (recursion_from_All (λ y. y ≡ x) ys (All-permutation (λ y. y ≡ x) (x ∷ []) ys p (All-from_recursion (λ y. y ≡ x) (x ∷ []) (refl, tt))))
+  where
+    by : (zs : List X) → length zs ≡ 1 → AllByRecursion (λ y. y ≡ x) zs → zs ≡ x ∷ []
+    by [] h a = absurd (omega (arith, h))
+    by (z ∷ []) h a = ap (λ y. y ∷ []) a.0
+    by (z ∷ w ∷ zs) h a = absurd (omega (arith, h))
+
+pub none-permuted : {X : Type 0} (ys : List X) → IsPermutation [] ys → ys ≡ []
+none-permuted ys p = nil_from_length ys (length_permutation [] ys p)
+
+pub filter-joined : {A : Type 0} (q : A → Bool) (sort : DefinitionParts → List A) (gs : List (ComponentOrigin × DefinitionParts)) → filter (λ x. q x.1) (joined sort gs) ≡ joined (λ d. filter q (sort d)) gs
+filter-joined q sort [] = refl
+filter-joined q sort (g ∷ gs) = filter-append (λ x. q x.1) (map (λ x. (g.0, x)) (sort g.1)) (joined sort gs) ∙ (λ i. filter-map (λ x. q x.1) (λ x. (g.0, x)) (sort g.1) i ++ filter-joined q sort gs i)

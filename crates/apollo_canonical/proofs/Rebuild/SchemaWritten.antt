@@ -12,7 +12,7 @@ use Rattle.graphql_ast.specs.declared.definition_parts.DefinitionParts.{Definiti
 use Rattle.apollo_built_in.specs.BuiltInTable.{built_in_definitions}
 use Rattle.apollo_component.specs.Extensions.{place_of}
 use Rattle.apollo_component.specs.declared.extension.ExtensionId.{ExtensionId}
-use Rattle.apollo_component.proofs.Lists.Each.{each-append}
+use Rattle.apollo_component.proofs.Lists.Each.{each-append, each-weaken, filter-fails}
 use Rattle.apollo_types.specs.SchemaDefinitionWriteOut.{is_written, write_schema_definition}
 use Rattle.apollo_types.specs.TypeWriteOut.{type_location}
 use Rattle.apollo_types.specs.declared.extended_type.ExtendedType.{ExtendedType}
@@ -22,33 +22,40 @@ use Rattle.apollo_meaning.specs.Items.ListItems.{Defined, Extended, ListItem, Ot
 use Rattle.apollo_meaning.specs.Items.Named.{first_schema, schema_extensions}
 use Rattle.apollo_meaning.specs.Items.Parts.{SchemaPart}
 use Rattle.apollo_schema.specs.SchemaWriteOut.{write_directives}
-use Rattle.apollo_canonical.proofs.Rebuild.About.{Others, Schema, about, directives-about, first_schema-about, is_about, schema_extensions-about}
+use Rattle.apollo_canonical.proofs.Kept.{each-map, each-of, filter-all}
+use Rattle.apollo_canonical.proofs.Rebuild.About.{Others, TheSchema, Topic, about, directives-about, first_schema-about, is_about, schema_extensions-about}
 use Rattle.apollo_canonical.proofs.Rebuild.BuiltIns.{built_ins, no-extensions}
 use Rattle.apollo_canonical.proofs.Rebuild.Held.{document_items, document_items-append, extension_items, held_items}
 use Rattle.apollo_canonical.proofs.Rebuild.OneSchema.{schema_extension_of, written_parts_of}
 use Rattle.apollo_canonical.proofs.Rebuild.TypesAgain.{IsQuiet, extends-quiet}
 use Rattle.apollo_canonical.proofs.Rebuild.WrittenParts.{written, definition_part, extension_of}
 
-no-schema-built_in : about Schema built_ins ≡ []
+no-schema-built_in : about TheSchema built_ins ≡ []
 unfolding built_in_definitions
 no-schema-built_in = refl
 
+-- an item that is about the schema, and one that is about neither it nor types
+abbrev IsOfSchema : ListItem → Type 0
+IsOfSchema x = (is_about TheSchema x ≡ true) × (is_about Others x ≡ false) × IsQuiet x
+
+abbrev IsElse : ListItem → Type 0
+IsElse x = (is_about TheSchema x ≡ false) × (is_about Others x ≡ true) × IsQuiet x
+
 -- types are about neither the schema nor directives
 module _ (c : Bool) where
-  types-else : (ts : List ExtendedType) → (about Schema (flat_map (held_items c) ts) ≡ []) × (about Others (flat_map (held_items c) ts) ≡ [])
-  types-else [] = (refl, refl)
-  types-else (t ∷ ts) = (
-    filter-append (is_about Schema) (held_items c t) (flat_map (held_items c) ts) ∙ (λ i. (held (is_built_in (type_location t))).0 i ++ (types-else ts).0 i),
-    filter-append (is_about Others) (held_items c t) (flat_map (held_items c) ts) ∙ (λ i. (held (is_built_in (type_location t))).1 i ++ (types-else ts).1 i),
-  )
-    where
-      extensions : (es : List (ExtensionId × DefinitionParts)) → (about Schema (map (λ e. Extended (extension_of t e)) es) ≡ []) × (about Others (map (λ e. Extended (extension_of t e)) es) ≡ [])
-      extensions [] = (refl, refl)
-      extensions (e ∷ es) = extensions es
+  abbrev IsOfType : ListItem → Type 0
+  IsOfType x = (is_about TheSchema x ≡ false) × (is_about Others x ≡ false)
 
-      held : (b : Bool) → (about Schema (cond b (extension_items c t) (Defined (record (definition_part t) { ignorable = c }) ∷ extension_items c t)) ≡ []) × (about Others (cond b (extension_items c t) (Defined (record (definition_part t) { ignorable = c }) ∷ extension_items c t)) ≡ [])
-      held true = extensions (written t).extensions
-      held false = extensions (written t).extensions
+  each-type : (ts : List ExtendedType) → AllByRecursion IsOfType (flat_map (held_items c) ts)
+  each-type [] = tt
+  each-type (t ∷ ts) = each-append IsOfType (held_items c t) (flat_map (held_items c) ts) (held (is_built_in (type_location t))) (each-type ts)
+    where
+      extensions : AllByRecursion IsOfType (extension_items c t)
+      extensions = each-map IsOfType (λ e. Extended (extension_of t e)) (written t).extensions (each-of (λ e. (false ≡ false) × (false ≡ false)) (λ e. (refl, refl)) (written t).extensions)
+
+      held : (b : Bool) → AllByRecursion IsOfType (cond b (extension_items c t) (Defined (record (definition_part t) { ignorable = c }) ∷ extension_items c t))
+      held true = extensions
+      held false = ((refl, refl), extensions)
 
 -- the definition's part
 abbrev pub written_head : SchemaDefinition → Option SourceSpan → SchemaPart
@@ -78,37 +85,19 @@ module _ (c : Bool) (d : SchemaDefinition) (place : Option SourceSpan) (types : 
       later (e ∷ es) = ap (λ l. SchemaExtended (schema_extension_of e) ∷ l) (later es)
 
   -- they are all about the schema
-  schema-about : (about Schema schema_items ≡ schema_items) × (about Others schema_items ≡ [])
-  schema-about = (ap (about Schema) schema-listed ∙ of_schema ∙ sym schema-listed, ap (about Others) schema-listed ∙ of_others)
+  each-schema : AllByRecursion IsOfSchema schema_items
+  each-schema = subst (AllByRecursion IsOfSchema) (sym schema-listed) (by (is_written types d))
     where
-      exts : (es : List (ExtensionId × DefinitionParts)) → (about Schema (schema_extension_items es) ≡ schema_extension_items es) × (about Others (schema_extension_items es) ≡ [])
-      exts [] = (refl, refl)
-      exts (e ∷ es) = (ap (λ l. SchemaExtended (schema_extension_of e) ∷ l) (exts es).0, (exts es).1)
+      exts : (es : List (ExtensionId × DefinitionParts)) → AllByRecursion IsOfSchema (schema_extension_items es)
+      exts [] = tt
+      exts (e ∷ es) = ((refl, refl, tt), exts es)
 
-      of_schema : about Schema (head_items ++ schema_extension_items (written_parts_of d).extensions) ≡ head_items ++ schema_extension_items (written_parts_of d).extensions
-      of_schema = by (is_written types d)
-        where
-          by : (b : Bool) → about Schema (cond b (SchemaDefined (written_head d place) ∷ []) [] ++ schema_extension_items (written_parts_of d).extensions) ≡ cond b (SchemaDefined (written_head d place) ∷ []) [] ++ schema_extension_items (written_parts_of d).extensions
-          by true = ap (λ l. SchemaDefined (written_head d place) ∷ l) (exts (written_parts_of d).extensions).0
-          by false = (exts (written_parts_of d).extensions).0
-
-      of_others : about Others (head_items ++ schema_extension_items (written_parts_of d).extensions) ≡ []
-      of_others = by (is_written types d)
-        where
-          by : (b : Bool) → about Others (cond b (SchemaDefined (written_head d place) ∷ []) [] ++ schema_extension_items (written_parts_of d).extensions) ≡ []
-          by true = (exts (written_parts_of d).extensions).1
-          by false = (exts (written_parts_of d).extensions).1
+      by : (b : Bool) → AllByRecursion IsOfSchema (cond b (SchemaDefined (written_head d place) ∷ []) [] ++ schema_extension_items (written_parts_of d).extensions)
+      by true = ((refl, refl, tt), exts (written_parts_of d).extensions)
+      by false = exts (written_parts_of d).extensions
 
   pub schema-quiet : AllByRecursion IsQuiet schema_items
-  schema-quiet = subst (AllByRecursion IsQuiet) (sym schema-listed) (by (is_written types d))
-    where
-      exts : (es : List (ExtensionId × DefinitionParts)) → AllByRecursion IsQuiet (schema_extension_items es)
-      exts [] = tt
-      exts (e ∷ es) = (tt, exts es)
-
-      by : (b : Bool) → AllByRecursion IsQuiet (cond b (SchemaDefined (written_head d place) ∷ []) [] ++ schema_extension_items (written_parts_of d).extensions)
-      by true = (tt, exts (written_parts_of d).extensions)
-      by false = exts (written_parts_of d).extensions
+  schema-quiet = each-weaken IsOfSchema IsQuiet (λ x h. h.2) schema_items each-schema
 
 -- directive definitions that are handed in
 abbrev pub directive_items : Directives → List ListItem
@@ -121,13 +110,12 @@ directives-listed c ds = go (filter is_handed_in ds)
     go [] = refl
     go (e ∷ es) = ap (λ l. Other (ast.DirectiveDefinition e) ∷ l) (go es)
 
-directives-else : (ds : Directives) → (about Schema (directive_items ds) ≡ []) × (about Others (directive_items ds) ≡ directive_items ds)
-directives-else [] = (refl, refl)
-directives-else (d ∷ ds) = ((directives-else ds).0, ap (λ l. Other (ast.DirectiveDefinition d) ∷ l) (directives-else ds).1)
+each-directive : (ds : Directives) → AllByRecursion IsElse (directive_items ds)
+each-directive [] = tt
+each-directive (d ∷ ds) = ((refl, refl, tt), each-directive ds)
 
 pub directives-quiet : (ds : Directives) → AllByRecursion IsQuiet (directive_items ds)
-directives-quiet [] = tt
-directives-quiet (d ∷ ds) = (tt, directives-quiet ds)
+directives-quiet ds = each-weaken IsElse IsQuiet (λ x h. h.2) (directive_items ds) (each-directive ds)
 
 pub directives-of_items : (ds : Directives) → directive_definitions (directive_items ds) ≡ ds
 directives-of_items [] = refl
@@ -138,19 +126,23 @@ module _ (c : Bool) (d : SchemaDefinition) (place : Option SourceSpan) (types : 
   abbrev pub written_list : List ListItem
   written_list = built_ins ++ ((schema_items c d place types ++ directive_items ds) ++ flat_map (held_items c) ts)
 
-  pub list-about_schema : about Schema written_list ≡ schema_items c d place types
+  -- what is about the schema, and what about directives, of the three parts after the built-in definitions
+  about-parts : (topic : Topic) (ss os : List ListItem) → about topic (schema_items c d place types) ≡ ss → about topic (directive_items ds) ≡ os → about topic (flat_map (held_items c) ts) ≡ [] → about topic written_list ≡ about topic built_ins ++ (ss ++ os)
+  about-parts topic ss os s o t =
+      filter-append (is_about topic) built_ins ((schema_items c d place types ++ directive_items ds) ++ flat_map (held_items c) ts)
+      ∙ ap (λ l. about topic built_ins ++ l) (filter-append (is_about topic) (schema_items c d place types ++ directive_items ds) (flat_map (held_items c) ts)
+      ∙ (λ i. (filter-append (is_about topic) (schema_items c d place types) (directive_items ds) ∙ (λ j. s j ++ o j)) i ++ t i) ∙ append-nil (ss ++ os))
+
+  pub list-about_schema : about TheSchema written_list ≡ schema_items c d place types
   list-about_schema =
-      filter-append (is_about Schema) built_ins ((schema_items c d place types ++ directive_items ds) ++ flat_map (held_items c) ts)
-      ∙ (λ i. no-schema-built_in i ++ (filter-append (is_about Schema) (schema_items c d place types ++ directive_items ds) (flat_map (held_items c) ts)
-      ∙ (λ j. (filter-append (is_about Schema) (schema_items c d place types) (directive_items ds) ∙ (λ k. (schema-about c d place types).0 k ++ (directives-else ds).0 k) ∙ append-nil (schema_items c d place types)) j ++ (types-else c ts).0 j)
-      ∙ append-nil (schema_items c d place types)) i)
+      about-parts TheSchema (schema_items c d place types) [] (filter-all (is_about TheSchema) (schema_items c d place types) (each-weaken IsOfSchema (λ x. is_about TheSchema x ≡ true) (λ x h. h.0) (schema_items c d place types) (each-schema c d place types)))
+      (filter-fails IsElse (is_about TheSchema) (λ x h. h.0) (directive_items ds) (each-directive ds)) (filter-fails (IsOfType c) (is_about TheSchema) (λ x h. h.0) (flat_map (held_items c) ts) (each-type c ts))
+      ∙ (λ i. no-schema-built_in i ++ append-nil (schema_items c d place types) i)
 
   pub list-about_others : about Others written_list ≡ about Others built_ins ++ directive_items ds
   list-about_others =
-      filter-append (is_about Others) built_ins ((schema_items c d place types ++ directive_items ds) ++ flat_map (held_items c) ts)
-      ∙ ap (λ l. about Others built_ins ++ l) (filter-append (is_about Others) (schema_items c d place types ++ directive_items ds) (flat_map (held_items c) ts)
-      ∙ (λ j. (filter-append (is_about Others) (schema_items c d place types) (directive_items ds) ∙ (λ k. (schema-about c d place types).1 k ++ (directives-else ds).1 k)) j ++ (types-else c ts).1 j)
-      ∙ append-nil (directive_items ds))
+      about-parts Others [] (directive_items ds) (filter-fails IsOfSchema (is_about Others) (λ x h. h.1) (schema_items c d place types) (each-schema c d place types))
+      (filter-all (is_about Others) (directive_items ds) (each-weaken IsElse (λ x. is_about Others x ≡ true) (λ x h. h.1) (directive_items ds) (each-directive ds))) (filter-fails (IsOfType c) (is_about Others) (λ x h. h.1) (flat_map (held_items c) ts) (each-type c ts))
 
   exts-none : (es : List (ExtensionId × DefinitionParts)) → filter_map defined_schema (schema_extension_items c d place types es) ≡ []
   exts-none [] = refl

@@ -1,5 +1,5 @@
 -- The type that written parts mean again, under any distinct numbers of the extensions, has what is written of the first.
-use Rattle.std.proofs.Common.{◌≡◌, ℕ, List, [], ◌∷◌, ◌++◌, map, length, flat_map, refl, sym, ap, subst, ◌∙◌, ◌==◌}
+use Rattle.std.proofs.Common.{◌≡◌, ℕ, Option, List, [], ◌∷◌, ◌++◌, map, length, flat_map, refl, sym, ap, subst, ◌∙◌, ◌==◌}
 use Rattle.std.proofs.lemmas.List.{map-append}
 use Rattle.std.proofs.lemmas.Simd.{map-map}
 use Rattle.std.specs.List.{AllByRecursion, IsDistinct}
@@ -8,6 +8,8 @@ use Rattle.graphql_nodes.specs.NodeView.{NodeView}
 use Rattle.graphql_nodes.specs.SameText.{same_text}
 use Rattle.graphql_nodes.specs.Tables.{values_of}
 use Rattle.graphql_ast.specs.declared.definition_parts.DefinitionParts.{DefinitionParts}
+use Rattle.graphql_nodes.specs.declared.source.SourceSpan.{SourceSpan}
+use Rattle.graphql_ast.specs.declared.directive.Directive.{Directive}
 use Rattle.apollo_component.specs.WriteOut.{by_origin, of_origin, identities, origins_in}
 use Rattle.apollo_component.specs.Extensions.{extension_id, place_of}
 use Rattle.apollo_component.specs.declared.component.Component.{Component}
@@ -27,31 +29,37 @@ use Rattle.apollo_canonical.specs.Sections.{in_sections, with_origins, joined, s
 use Rattle.apollo_canonical.specs.TypeSections.{node_of, name_of, type_sections, HasWhatIsWritten, HasEachNameOnce}
 use Rattle.apollo_canonical.proofs.ComponentsKept.{written-keeps}
 use Rattle.apollo_canonical.proofs.NamesOnce.{IsNamed, all-named, once-kept}
-use Rattle.apollo_canonical.proofs.Kept.{map-each}
-use Rattle.apollo_canonical.proofs.Once.{all-first}
+use Rattle.apollo_canonical.proofs.Kept.{map-each, all-first}
 use Rattle.apollo_canonical.proofs.SectionLemmas.{of_origin-sections, parts_in}
 use Rattle.apollo_canonical.proofs.TypeLemmas.{components-sections, same-placed}
-use Rattle.apollo_canonical.proofs.Rebuild.Numbers.{renumbered, renumbered-placed, renumbered-distinct}
+use Rattle.apollo_canonical.proofs.Rebuild.Numbers.{directives_alone, numbered_parts, renumbered, renumbered-placed, renumbered-distinct}
 use Rattle.apollo_canonical.proofs.Rebuild.WrittenParts.{written, definition_part, extension_of, kind-body}
 use Rattle.apollo_component.proofs.Lists.Each.{each-weaken}
 
 -- what parts have of one sort, with their origins
-abbrev pub shown_in : {A : Type 0} → (TypePart → List A) → List Sourced → List (ComponentOrigin × A)
+abbrev pub shown_in : {P A : Type 0} → (P → List A) → List (ComponentOrigin × P) → List (ComponentOrigin × A)
 shown_in sort = flat_map (λ s. map (λ x. (s.0, x)) (sort s.1))
 
-pub shown-made : {A C : Type 0} (view : C → ComponentOrigin × A) (make : ComponentOrigin → A → C) → ((o : ComponentOrigin) (a : A) → view (make o a) ≡ (o, a)) → (sort : TypePart → List A) (ss : List Sourced)
+pub shown-made : {P A C : Type 0} (view : C → ComponentOrigin × A) (make : ComponentOrigin → A → C) → ((o : ComponentOrigin) (a : A) → view (make o a) ≡ (o, a)) → (sort : P → List A) (ss : List (ComponentOrigin × P))
     → map view (flat_map (λ s. map (make s.0) (sort s.1)) ss) ≡ shown_in sort ss
 shown-made view make is sort [] = refl
-shown-made {A} view make is sort (s ∷ ss) = map-append view (map (make s.0) (sort s.1)) (flat_map (λ s. map (make s.0) (sort s.1)) ss) ∙ (λ i. one (sort s.1) i ++ shown-made view make is sort ss i)
+shown-made {P} {A} view make is sort (s ∷ ss) = map-append view (map (make s.0) (sort s.1)) (flat_map (λ s. map (make s.0) (sort s.1)) ss) ∙ (λ i. one (sort s.1) i ++ shown-made view make is sort ss i)
   where
     one : (xs : List A) → map view (map (make s.0) xs) ≡ map (λ x. (s.0, x)) xs
     one [] = refl
     one (x ∷ xs) = λ i. is s.0 x i ∷ one xs i
 
-shown-joined : {A : Type 0} (of : TypePart → List A) (sort : DefinitionParts → List A) (part : ExtensionId × DefinitionParts → TypePart) → ((g : ExtensionId × DefinitionParts) → of (part g) ≡ sort g.1) → (gs : List (ExtensionId × DefinitionParts))
-    → shown_in of (map (λ g. (Extension g.0, part g)) gs) ≡ joined sort (map (λ e. (Extension e.0, e.1)) gs)
-shown-joined of sort part is [] = refl
-shown-joined of sort part is (g ∷ gs) = λ i. map (λ x. (Extension g.0, x)) (is g i) ++ shown-joined of sort part is gs i
+pub shown-joined : {P G A : Type 0} (of : P → List A) (sort : DefinitionParts → List A) (origin : G → ComponentOrigin) (part : G → P) (parts : G → DefinitionParts) → ((g : G) → of (part g) ≡ sort (parts g)) → (gs : List G)
+    → shown_in of (map (λ g. (origin g, part g)) gs) ≡ joined sort (map (λ g. (origin g, parts g)) gs)
+shown-joined of sort origin part parts is [] = refl
+shown-joined of sort origin part parts is (g ∷ gs) = λ i. map (λ x. (origin g, x)) (is g i) ++ shown-joined of sort origin part parts is gs i
+
+-- the directives of a part and of parts with numbers
+pub directives-numbered : {P : Type 0} (place : P → Option SourceSpan) (of : P → List (NodeView Directive)) (head : P) (es : List (ℕ × P))
+    → shown_in of ((Definition, head) ∷ map (λ e. (Extension (extension_id e.0 (place e.1)), e.1)) es) ≡ joined (λ d. d.directives.0) (with_origins (record { definition = directives_alone (of head); extensions = map (numbered_parts place (λ p. directives_alone (of p))) es }))
+directives-numbered place of head es =
+    ap (λ l. map (λ x. (Definition, x)) (of head) ++ l) (shown-joined of (λ d. d.directives.0) (λ e. Extension (extension_id e.0 (place e.1))) (λ e. e.1) (λ e. directives_alone (of e.1)) (λ e. refl) es
+    ∙ ap (joined (λ d. d.directives.0)) (sym (map-map (λ (e : ExtensionId × DefinitionParts). (Extension e.0, e.1)) (numbered_parts place (λ p. directives_alone (of p))) es)))
 
 -- names that differ are all kept
 names-kept : (cs : List ComponentName) (js : List (ComponentOrigin × NameView)) → map name_of cs ≡ js → IsDistinct same_text (map (λ n. n.1) js) → map name_of (distinct_names cs) ≡ js
@@ -94,7 +102,7 @@ module _ (t : ExtendedType) (is : List ℕ) where
 
   shown-again : {A : Type 0} (of : TypePart → List A) (sort : DefinitionParts → List A) → of (definition_part t) ≡ sort (written t).definition → ((g : ExtensionId × DefinitionParts) → of (extension_of t g) ≡ sort g.1)
       → shown_in of sourced_again ≡ joined sort (with_origins parts_again)
-  shown-again of sort first each = (λ i. map (λ x. (Definition, x)) (first i) ++ shown-joined of sort (extension_of t) each parts_again.extensions i)
+  shown-again of sort first each = (λ i. map (λ x. (Definition, x)) (first i) ++ shown-joined of sort (λ g. Extension g.0) (extension_of t) (λ g. g.1) each parts_again.extensions i)
 
   directives-again : map node_of (flat_map directives_of sourced_again) ≡ joined (λ d. d.directives.0) (with_origins parts_again)
   directives-again = shown-made node_of component (λ o a. refl) (λ p. p.directives) sourced_again ∙ shown-again (λ p. p.directives) (λ d. d.directives.0) refl (λ g. refl)
@@ -127,67 +135,42 @@ module _ (t : ExtendedType) (is : List ℕ) where
         once-kept (type_sections t) (sections_of parts_again) (written-keeps (type_sections t) parts_again (ap (λ cs. (by_origin cs).definition) (components-sections t)) same_parts) once
 
 -- the type has what the parts have, sort by sort
+names-there : (t : ExtendedType) (is : List ℕ) → IsDistinct same_text (map (λ n. n.1) (sections_of (parts_again t is)).names) → (type_sections (type_again t is)).names ≡ (sections_of (parts_again t is)).names
+names-there (Object n) is once = names-again (Object n) is (λ p. body_interfaces p.body) refl (λ g. refl) once
+names-there (Interface n) is once = names-again (Interface n) is (λ p. body_interfaces p.body) refl (λ g. refl) once
+names-there (Union n) is once = names-again (Union n) is (λ p. body_members p.body) refl (λ g. refl) once
+names-there t is once = none-of t is (λ d. d.names) (λ o. ap (λ d. d.names) (of_sections t is o))
+
+fields-there : (t : ExtendedType) (is : List ℕ) → IsDistinct same_text (map (λ f. f.1.value.name) (sections_of (parts_again t is)).fields) → (type_sections (type_again t is)).fields ≡ (sections_of (parts_again t is)).fields
+fields-there (Object n) is once = entries-again (Object n) is (λ f. f.value.name) field_entry (λ o n. refl) (λ o n. refl) (λ p. body_fields p.body) (λ d. d.fields) refl (λ g. refl) once
+fields-there (Interface n) is once = entries-again (Interface n) is (λ f. f.value.name) field_entry (λ o n. refl) (λ o n. refl) (λ p. body_fields p.body) (λ d. d.fields) refl (λ g. refl) once
+fields-there t is once = none-of t is (λ d. d.fields) (λ o. ap (λ d. d.fields) (of_sections t is o))
+
+values-there : (t : ExtendedType) (is : List ℕ) → IsDistinct same_text (map (λ v. v.1.value.value) (sections_of (parts_again t is)).values) → (type_sections (type_again t is)).values ≡ (sections_of (parts_again t is)).values
+values-there (Enum n) is once = entries-again (Enum n) is (λ v. v.value.value) value_entry (λ o n. refl) (λ o n. refl) (λ p. body_values p.body) (λ d. d.values) refl (λ g. refl) once
+values-there t is once = none-of t is (λ d. d.values) (λ o. ap (λ d. d.values) (of_sections t is o))
+
+input_fields-there : (t : ExtendedType) (is : List ℕ) → IsDistinct same_text (map (λ f. f.1.value.name) (sections_of (parts_again t is)).input_fields) → (type_sections (type_again t is)).input_fields ≡ (sections_of (parts_again t is)).input_fields
+input_fields-there (InputObject n) is once = entries-again (InputObject n) is (λ f. f.value.name) input_field_entry (λ o n. refl) (λ o n. refl) (λ p. body_input_fields p.body) (λ d. d.input_fields) refl (λ g. refl) once
+input_fields-there t is once = none-of t is (λ d. d.input_fields) (λ o. ap (λ d. d.input_fields) (of_sections t is o))
+
+directives-there : (t : ExtendedType) (is : List ℕ) → (type_sections (type_again t is)).directives ≡ (sections_of (parts_again t is)).directives
+directives-there (Scalar n) is = directives-again (Scalar n) is
+directives-there t is = directives-again t is
+
+roots-there : (t : ExtendedType) (is : List ℕ) → (type_sections (type_again t is)).roots ≡ (sections_of (parts_again t is)).roots
+roots-there (Scalar n) is = none-of (Scalar n) is (λ d. d.roots) (λ o. ap (λ d. d.roots) (of_sections (Scalar n) is o))
+roots-there t is = none-of t is (λ d. d.roots) (λ o. ap (λ d. d.roots) (of_sections t is o))
+
 sections-again : (t : ExtendedType) (is : List ℕ) → HasEachNameOnce (sections_of (parts_again t is)) → type_sections (type_again t is) ≡ sections_of (parts_again t is)
-sections-again (Scalar n) is once =
-    let t : ExtendedType = Scalar n in
-    (λ i. record {
-      directives = directives-again t is i;
-      names = none-of t is (λ d. d.names) (λ o. ap (λ d. d.names) (of_sections t is o)) i;
-      fields = none-of t is (λ d. d.fields) (λ o. ap (λ d. d.fields) (of_sections t is o)) i;
-      values = none-of t is (λ d. d.values) (λ o. ap (λ d. d.values) (of_sections t is o)) i;
-      input_fields = none-of t is (λ d. d.input_fields) (λ o. ap (λ d. d.input_fields) (of_sections t is o)) i;
-      roots = none-of t is (λ d. d.roots) (λ o. ap (λ d. d.roots) (of_sections t is o)) i;
-    })
-sections-again (Object n) is once =
-    let t : ExtendedType = Object n in
-    (λ i. record {
-      directives = directives-again t is i;
-      names = names-again t is (λ p. body_interfaces p.body) refl (λ g. refl) once.names i;
-      fields = entries-again t is (λ f. f.value.name) field_entry (λ o n. refl) (λ o n. refl) (λ p. body_fields p.body) (λ d. d.fields) refl (λ g. refl) once.fields i;
-      values = none-of t is (λ d. d.values) (λ o. ap (λ d. d.values) (of_sections t is o)) i;
-      input_fields = none-of t is (λ d. d.input_fields) (λ o. ap (λ d. d.input_fields) (of_sections t is o)) i;
-      roots = none-of t is (λ d. d.roots) (λ o. ap (λ d. d.roots) (of_sections t is o)) i;
-    })
-sections-again (Interface n) is once =
-    let t : ExtendedType = Interface n in
-    (λ i. record {
-      directives = directives-again t is i;
-      names = names-again t is (λ p. body_interfaces p.body) refl (λ g. refl) once.names i;
-      fields = entries-again t is (λ f. f.value.name) field_entry (λ o n. refl) (λ o n. refl) (λ p. body_fields p.body) (λ d. d.fields) refl (λ g. refl) once.fields i;
-      values = none-of t is (λ d. d.values) (λ o. ap (λ d. d.values) (of_sections t is o)) i;
-      input_fields = none-of t is (λ d. d.input_fields) (λ o. ap (λ d. d.input_fields) (of_sections t is o)) i;
-      roots = none-of t is (λ d. d.roots) (λ o. ap (λ d. d.roots) (of_sections t is o)) i;
-    })
-sections-again (Union n) is once =
-    let t : ExtendedType = Union n in
-    (λ i. record {
-      directives = directives-again t is i;
-      names = names-again t is (λ p. body_members p.body) refl (λ g. refl) once.names i;
-      fields = none-of t is (λ d. d.fields) (λ o. ap (λ d. d.fields) (of_sections t is o)) i;
-      values = none-of t is (λ d. d.values) (λ o. ap (λ d. d.values) (of_sections t is o)) i;
-      input_fields = none-of t is (λ d. d.input_fields) (λ o. ap (λ d. d.input_fields) (of_sections t is o)) i;
-      roots = none-of t is (λ d. d.roots) (λ o. ap (λ d. d.roots) (of_sections t is o)) i;
-    })
-sections-again (Enum n) is once =
-    let t : ExtendedType = Enum n in
-    (λ i. record {
-      directives = directives-again t is i;
-      names = none-of t is (λ d. d.names) (λ o. ap (λ d. d.names) (of_sections t is o)) i;
-      fields = none-of t is (λ d. d.fields) (λ o. ap (λ d. d.fields) (of_sections t is o)) i;
-      values = entries-again t is (λ v. v.value.value) value_entry (λ o n. refl) (λ o n. refl) (λ p. body_values p.body) (λ d. d.values) refl (λ g. refl) once.values i;
-      input_fields = none-of t is (λ d. d.input_fields) (λ o. ap (λ d. d.input_fields) (of_sections t is o)) i;
-      roots = none-of t is (λ d. d.roots) (λ o. ap (λ d. d.roots) (of_sections t is o)) i;
-    })
-sections-again (InputObject n) is once =
-    let t : ExtendedType = InputObject n in
-    (λ i. record {
-      directives = directives-again t is i;
-      names = none-of t is (λ d. d.names) (λ o. ap (λ d. d.names) (of_sections t is o)) i;
-      fields = none-of t is (λ d. d.fields) (λ o. ap (λ d. d.fields) (of_sections t is o)) i;
-      values = none-of t is (λ d. d.values) (λ o. ap (λ d. d.values) (of_sections t is o)) i;
-      input_fields = entries-again t is (λ f. f.value.name) input_field_entry (λ o n. refl) (λ o n. refl) (λ p. body_input_fields p.body) (λ d. d.input_fields) refl (λ g. refl) once.input_fields i;
-      roots = none-of t is (λ d. d.roots) (λ o. ap (λ d. d.roots) (of_sections t is o)) i;
-    })
+sections-again t is once = (λ i. record {
+  directives = directives-there t is i;
+  names = names-there t is once.names i;
+  fields = fields-there t is once.fields i;
+  values = values-there t is once.values i;
+  input_fields = input_fields-there t is once.input_fields i;
+  roots = roots-there t is i;
+})
 
 -- so it has what is written of the first type
 pub has-what-is-written : MeaningLaws → (t : ExtendedType) → HasEachNameOnce (type_sections t) → (is : List ℕ) → length is ≡ length (written t).extensions → IsDistinct ◌==◌ is → HasWhatIsWritten t (type_again t is)

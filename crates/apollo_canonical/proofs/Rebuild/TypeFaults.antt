@@ -10,7 +10,7 @@ use Rattle.graphql_nodes.specs.SameText.{same, same_text}
 use Rattle.graphql_nodes.specs.declared.type_kind.TypeKind.{TypeKind}
 use Rattle.graphql_nodes.proofs.Texts.{same-is}
 use Rattle.apollo_component.specs.EachAfter.{each_after}
-use Rattle.apollo_component.proofs.Lists.Each.{each-append}
+use Rattle.apollo_component.proofs.Lists.Each.{each-append, each-weaken}
 use Rattle.apollo_meaning.specs.Faults.Collisions.{Entry, collision, collision_at, collisions}
 use Rattle.apollo_meaning.specs.Faults.TypeFaults.{interface_names, member_names, field_names, value_names, input_field_names, name_entries, body_faults, part_faults, joining_fault, kind_mismatch}
 use Rattle.apollo_meaning.specs.Items.ListItems.{Defined, Extended, extended_part}
@@ -22,26 +22,18 @@ use Rattle.apollo_meaning.specs.declared.collision.Collection.{Collection}
 use Rattle.apollo_meaning.specs.declared.collision.Collection.TheVariants as c
 use Rattle.apollo_component.proofs.Lists.Ends.{filter_map-made}
 use Rattle.apollo_component.proofs.FirstOfEachLemmas.{name_laws}
-use Rattle.apollo_canonical.proofs.Kept.{find-none}
+use Rattle.apollo_canonical.proofs.Kept.{each-split, filter-all, find-none}
 
 -- an element of a list of which no two are the same is the same as none before it
 pub new-after : {X : Type 0} (same : X → X → Bool) → IsEquivalence same → (xs : List X) (y : X) (ys : List X) → IsDistinct same (xs ++ y ∷ ys) → list_any (same y) xs ≡ false
 unfolding IsDistinct
 new-after same laws [] y ys d = refl
-new-after {X} same laws (x ∷ xs) y ys d = ap (λ b. b || list_any (same y) xs) (laws.symm y x ∙ at xs d.0) ∙ new-after same laws xs y ys d.1
-  where
-    at : (zs : List X) → AllByRecursion (λ k. same x k ≡ false) (zs ++ y ∷ ys) → same x y ≡ false
-    at [] a = a.0
-    at (z ∷ zs) a = at zs a.1
+new-after same laws (x ∷ xs) y ys d = ap (λ b. b || list_any (same y) xs) (laws.symm y x ∙ (each-split (λ k. same x k ≡ false) xs (y ∷ ys) d.0).1.0) ∙ new-after same laws xs y ys d.1
 
 pub distinct-front : {X : Type 0} (same : X → X → Bool) (xs ys : List X) → IsDistinct same (xs ++ ys) → IsDistinct same xs
 unfolding IsDistinct
 distinct-front same [] ys d = tt
-distinct-front {X} same (x ∷ xs) ys d = (front xs d.0, distinct-front same xs ys d.1)
-  where
-    front : (zs : List X) → AllByRecursion (λ k. same x k ≡ false) (zs ++ ys) → AllByRecursion (λ k. same x k ≡ false) zs
-    front [] a = tt
-    front (z ∷ zs) a = (a.0, front zs a.1)
+distinct-front same (x ∷ xs) ys d = ((each-split (λ k. same x k ≡ false) xs ys d.0).0, distinct-front same xs ys d.1)
 
 -- names that differ from those before them, and from one another, collide with none
 module _ (c : Collection) (ty : NameView) (before : List NameView) where
@@ -118,16 +110,13 @@ Fits d e = (key_of e ≡ key_of d) × (kind_of e ≡ kind_of d)
 -- where each kind is itself
 module _ (own_kind : (k : TypeKind) → same_kind k k ≡ true) (d : TypePart) where
   pub fits-of_kind : (es : List TypePart) → AllByRecursion (Fits d) es → of_kind (kind_of d) es ≡ es
-  fits-of_kind [] a = refl
-  fits-of_kind (e ∷ es) a = ap (λ b. cond b (e ∷ of_kind (kind_of d) es) (of_kind (kind_of d) es)) (ap (same_kind (kind_of d)) a.0.1 ∙ own_kind (kind_of d)) ∙ ap (λ l. e ∷ l) (fits-of_kind es a.1)
+  fits-of_kind es a = filter-all (λ e. same_kind (kind_of d) (kind_of e)) es (each-weaken (Fits d) (λ e. same_kind (kind_of d) (kind_of e) ≡ true) (λ e f. ap (same_kind (kind_of d)) f.1 ∙ own_kind (kind_of d)) es a)
 
   -- those before one are the definition and the extensions before it
   extensions-found : (done : List TypePart) → AllByRecursion (Fits d) done → (e : TypePart) → Fits d e → extensions_of (Defined d ∷ map Extended done) (key_of e) ≡ done
-  extensions-found done fit e f = ap (filter (λ p. same (key_of e) (key_of p))) (filter_map-made extended_part Extended (λ p. refl) done) ∙ own done fit
-    where
-      own : (ps : List TypePart) → AllByRecursion (Fits d) ps → filter (λ p. same (key_of e) (key_of p)) ps ≡ ps
-      own [] a = refl
-      own (p ∷ ps) a = ap (λ b. cond b (p ∷ filter (λ p. same (key_of e) (key_of p)) ps) (filter (λ p. same (key_of e) (key_of p)) ps)) (same-is (key_of e) (key_of p) (f.0 ∙ sym a.0.0)) ∙ ap (λ l. p ∷ l) (own ps a.1)
+  extensions-found done fit e f =
+      ap (filter (λ p. same (key_of e) (key_of p))) (filter_map-made extended_part Extended (λ p. refl) done)
+      ∙ filter-all (λ p. same (key_of e) (key_of p)) done (each-weaken (Fits d) (λ p. same (key_of e) (key_of p) ≡ true) (λ p fits. same-is (key_of e) (key_of p) (f.0 ∙ sym fits.0)) done fit)
 
   extension-none : (done : List TypePart) (e : TypePart) (rest : List TypePart) → AllByRecursion (Fits d) done → Fits d e → HaveEachNameOnce ((d ∷ done) ++ e ∷ rest) → found_at (Defined d ∷ map Extended done) (Extended e) ≡ []
   extension-none done e rest fit f h =

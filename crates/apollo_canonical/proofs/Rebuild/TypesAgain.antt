@@ -1,5 +1,5 @@
 -- The types of a list with a write-out are the types that were written out.
-use Rattle.std.proofs.Common.{◌≡◌, ℕ, Bool, true, false, cond, not, List, [], ◌∷◌, ◌++◌, None, Option, Some, is_some, map, map-id, filter, flat_map, option_map, refl, sym, ap, subst, ◌∙◌, ◌==◌}
+use Rattle.std.proofs.Common.{◌≡◌, ℕ, Bool, true, false, cond, List, [], ◌∷◌, ◌++◌, None, Option, Some, is_some, map, filter, flat_map, option_map, refl, sym, ap, subst, ◌∙◌, ◌==◌}
 use Rattle.std.proofs.lemmas.List.{append-nil}
 use Rattle.std.proofs.lemmas.List.Elements.{filter-append}
 use Rattle.std.proofs.lemmas.Simd.{map-map}
@@ -13,33 +13,32 @@ use Rattle.graphql_nodes.specs.Tables.{HasUniqueKeys, keys_of, values_of, lookup
 use Rattle.graphql_ast.specs.declared.definition_parts.DefinitionParts.{DefinitionParts}
 use Rattle.apollo_component.specs.FirstOfEach.{first_of_each}
 use Rattle.apollo_component.specs.declared.extension.ExtensionId.{ExtensionId}
-use Rattle.apollo_component.proofs.Lists.Each.{each-weaken, filter-fails}
+use Rattle.apollo_component.proofs.Lists.Each.{each-weaken}
 use Rattle.apollo_types.specs.BareTypes.{bare_extended_type}
 use Rattle.apollo_types.specs.TypeWriteOut.{type_location, type_name}
 use Rattle.apollo_types.specs.declared.extended_type.ExtendedType.{ExtendedType}
-use Rattle.apollo_meaning.specs.Items.ListItems.{ListItem, Defined, Extended, SchemaDefined, SchemaExtended, Other, Added, defined_part, extended_part}
+use Rattle.apollo_meaning.specs.Items.ListItems.{ListItem, Defined, Extended, defined_part, extended_part}
 use Rattle.apollo_meaning.specs.Items.Named.{first, extensions_of, of_kind}
 use Rattle.apollo_meaning.specs.Items.Parts.{TypePart, kind_of}
 use Rattle.apollo_meaning.specs.Order.Places.{folding_order}
 use Rattle.apollo_meaning.specs.Schema.Whole.{whole}
 use Rattle.apollo_meaning.specs.Types.Components.{Sourced}
 use Rattle.apollo_meaning.specs.Types.Meaning.{AreTypesOf, extension_part, type_names, type_from, parts}
+use Rattle.apollo_schema.specs.declared.schema.Schema.{Schema}
 use Rattle.apollo_canonical.specs.MeaningLaws.{MeaningLaws}
 use Rattle.apollo_component.proofs.FirstOfEachLemmas.{name_laws}
 use Rattle.apollo_component.proofs.Tabled.{first_of_each-distinct}
-use Rattle.apollo_canonical.specs.WrittenAgain.{with_built_ins}
-use Rattle.apollo_canonical.proofs.FirstAppearance.{new_to_these, first-there, first_of_each-append}
+use Rattle.apollo_canonical.specs.WrittenAgain.{IsMeantByList, with_built_ins}
+use Rattle.apollo_canonical.proofs.FirstAppearance.{first_of_each-again, new_to_these}
 use Rattle.apollo_canonical.proofs.Kept.{each-both, each-from_map, filter-all, passes}
-use Rattle.apollo_canonical.proofs.Once.{all-first}
 use Rattle.apollo_canonical.proofs.Rebuild.About.{Name, about, is_about, first-about, extensions-about}
-use Rattle.apollo_canonical.proofs.Rebuild.BuiltIns.{built_ins, built_in_names, all-names, about-built_ins, first-built_in}
+use Rattle.apollo_canonical.proofs.Rebuild.BuiltIns.{built_ins, built_in_names, about-built_ins, first-built_in}
 use Rattle.apollo_canonical.proofs.Rebuild.Held.{held_items, extension_items, about-types, defines-types}
-use Rattle.apollo_canonical.proofs.Rebuild.Meant.{IsAddedByHand, later_items, whole-split, first-unmarked}
-use Rattle.apollo_canonical.proofs.Rebuild.Names.{defined_names, defined_names-append, names-of_first, among-defined, first-key}
+use Rattle.apollo_canonical.proofs.Rebuild.Meant.{first-unmarked, handed, later_items, whole-split}
 use Rattle.apollo_canonical.proofs.Rebuild.Numbers.{numbers_of, numbers-rise, rising-distinct}
 use Rattle.apollo_canonical.proofs.Rebuild.OneType.{IsMade, IsAgain, made, rebuilt}
 use Rattle.apollo_canonical.proofs.Rebuild.OwnDefinition.{definition-own}
-use Rattle.apollo_canonical.proofs.Rebuild.Tables.{each-entry, values-by_keys}
+use Rattle.apollo_canonical.proofs.Rebuild.Tables.{each-entry, values-by_keys, defined_names, defined_names-append, names-of_first, among-defined, first-key}
 use Rattle.apollo_canonical.proofs.Rebuild.TypeFaults.{Fits, fits-of_kind}
 use Rattle.apollo_canonical.proofs.Rebuild.WrittenParts.{written, definition_part, extension_of, kind-body}
 
@@ -92,39 +91,36 @@ module _ (laws : MeaningLaws) (start : ℕ) (xs : List ListItem) (types : List (
 abbrev pub IsQuiet : ListItem → Type 0
 IsQuiet (Defined p) = ⊥
 IsQuiet (Extended p) = ⊥
-IsQuiet (SchemaDefined s) = Unit {0}
-IsQuiet (SchemaExtended s) = Unit {0}
-IsQuiet (Other d) = Unit {0}
+IsQuiet _ = Unit {0}
 
 pub about-quiet : (n : List ℕ) (xs : List ListItem) → AllByRecursion IsQuiet xs → about (Name n) xs ≡ []
 about-quiet n [] q = refl
 about-quiet n (Defined p ∷ xs) q = absurd q.0
 about-quiet n (Extended p ∷ xs) q = absurd q.0
-about-quiet n (SchemaDefined s ∷ xs) q = about-quiet n xs q.1
-about-quiet n (SchemaExtended s ∷ xs) q = about-quiet n xs q.1
-about-quiet n (Other d ∷ xs) q = about-quiet n xs q.1
+about-quiet n (x ∷ xs) q = about-quiet n xs q.1
 
 pub defines-quiet : (xs : List ListItem) → AllByRecursion IsQuiet xs → defined_names xs ≡ []
 defines-quiet [] q = refl
 defines-quiet (Defined p ∷ xs) q = absurd q.0
-defines-quiet (Extended p ∷ xs) q = absurd q.0
-defines-quiet (SchemaDefined s ∷ xs) q = defines-quiet xs q.1
-defines-quiet (SchemaExtended s ∷ xs) q = defines-quiet xs q.1
-defines-quiet (Other d ∷ xs) q = defines-quiet xs q.1
+defines-quiet (x ∷ xs) q = defines-quiet xs q.1
 
 pub extends-quiet : (xs : List ListItem) → AllByRecursion IsQuiet xs → filter_map extended_part xs ≡ []
 extends-quiet [] q = refl
-extends-quiet (Defined p ∷ xs) q = absurd q.0
 extends-quiet (Extended p ∷ xs) q = absurd q.0
-extends-quiet (SchemaDefined s ∷ xs) q = extends-quiet xs q.1
-extends-quiet (SchemaExtended s ∷ xs) q = extends-quiet xs q.1
-extends-quiet (Other d ∷ xs) q = extends-quiet xs q.1
+extends-quiet (x ∷ xs) q = extends-quiet xs q.1
 
 -- the types of a list of which nothing but its head is built in
-module _ (laws : MeaningLaws) (adopts : Bool) (more : List Added) (handed : AllByRecursion IsAddedByHand more) (start : ℕ) (types : List (NameView × ExtendedType))
-    (are : AreTypesOf start (folding_order (whole adopts (with_built_ins more))) (whole adopts (with_built_ins more)) types) where
+module _ (laws : MeaningLaws) (schema : Schema) (list : IsMeantByList schema) where
+  open list use {start, adopts, more}
+
   abbrev xs : List ListItem
   xs = whole adopts (with_built_ins more)
+
+  abbrev types : List (NameView × ExtendedType)
+  types = schema.types
+
+  abbrev are : AreTypesOf start (folding_order xs) xs types
+  are = list.means.types
 
   first-split : (n : List ℕ) → first xs n ≡ option_or (first built_ins n) (first (later_items adopts more) n)
   first-split n = ap (λ l. first l n) (whole-split adopts more) ∙ laws.joined built_ins (later_items adopts more) n
@@ -147,7 +143,7 @@ module _ (laws : MeaningLaws) (adopts : Bool) (more : List Added) (handed : AllB
     marked-where (Some b) e =
         let head_is : m.head ≡ b = ap (λ o. unwrap_or o b) (sym m.first_one ∙ first-split n ∙ ap (λ o. option_or o (first (later_items adopts more) n)) e) in
         ap is_built_in (location ∙ ap (λ (p : TypePart). p.location) head_is) ∙ (first-built_in n b e).marked
-    marked-where None e = ap is_built_in location ∙ first-unmarked adopts more handed n m.head (sym (first-split n ∙ ap (λ o. option_or o (first (later_items adopts more) n)) e) ∙ m.first_one)
+    marked-where None e = ap is_built_in location ∙ first-unmarked adopts more (handed schema list) n m.head (sym (first-split n ∙ ap (λ o. option_or o (first (later_items adopts more) n)) e) ∙ m.first_one)
 
     -- the built-in definition, or else what is written of the type, is the type's definition with its extensions
     pub written-view : (c : Bool) → (b : Bool) × (about (Name n) built_ins ++ held_items c t ≡ Defined (record (definition_part t) { ignorable = b }) ∷ extension_items c t)
@@ -218,32 +214,18 @@ module _ (laws : MeaningLaws) (adopts : Bool) (more : List Added) (handed : AllB
           ∙ ap (of_kind (kind_of (definition_part t))) extensions-again
           ∙ fits-of_kind laws.own_kind (record (definition_part t) { ignorable = flag }) (map (extension_of t) (written t).extensions) (fits (written t).extensions)
 
-    known : AllByRecursion (λ k. list_any (same_text k) built_in_names ≡ true) built_in_names
-    known = subst (AllByRecursion (λ k. list_any (same_text k) built_in_names ≡ true)) all-names (first-there same_text name_laws built_in_names)
-
     -- the same names are defined, in order
     pub names-again : type_names again_items ≡ keys_of types
     names-again =
-        laws.names again_items
-        ∙ ap (first_of_each same_text) (defined ∙ ap (λ ks. built_in_names ++ filter new ks) keys ∙ ap (λ l. built_in_names ++ l) twice ∙ sym keys)
-        ∙ all-first same_text (λ k. k) (keys_of types) (subst (IsDistinct same_text) (sym (map-id (keys_of types))) (unique laws start xs types are))
+        laws.names again_items ∙ ap (first_of_each same_text) defined
+        ∙ first_of_each-again same_text name_laws built_in_names (defined_names (later_items adopts more)) (filter new (keys_of types)) (filter-all new (filter new (keys_of types)) (passes new (keys_of types)) ∙ ap (filter new) keys)
+        ∙ sym keys
       where
         new : NameView → Bool
         new = new_to_these same_text built_in_names
 
-        rest : List NameView
-        rest = filter new (first_of_each same_text (defined_names (later_items adopts more)))
-
-        keys : keys_of types ≡ built_in_names ++ rest
-        keys =
-            are.names ∙ laws.names xs ∙ ap (λ l. first_of_each same_text (defined_names l)) (whole-split adopts more)
-            ∙ ap (first_of_each same_text) (defined_names-append built_ins (later_items adopts more))
-            ∙ first_of_each-append same_text name_laws built_in_names (defined_names (later_items adopts more)) ∙ ap (λ l. l ++ rest) all-names
-
-        twice : filter new (built_in_names ++ rest) ≡ rest
-        twice =
-            filter-append new built_in_names rest
-            ∙ (λ i. filter-fails (λ k. list_any (same_text k) built_in_names ≡ true) new (λ k e. ap not e) built_in_names known i ++ filter-all new rest (passes new (first_of_each same_text (defined_names (later_items adopts more)))) i)
+        keys : keys_of types ≡ first_of_each same_text (built_in_names ++ defined_names (later_items adopts more))
+        keys = are.names ∙ laws.names xs ∙ ap (λ l. first_of_each same_text (defined_names l)) (whole-split adopts more) ∙ ap (first_of_each same_text) (defined_names-append built_ins (later_items adopts more))
 
         defined : defined_names again_items ≡ built_in_names ++ filter new (keys_of types)
         defined =

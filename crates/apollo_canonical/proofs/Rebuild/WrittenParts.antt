@@ -26,11 +26,7 @@ body_of kinds.InputObject d = InputObjectBody d.input_fields
 
 pub kind-body : (k : TypeKind) (d : DefinitionParts) → body_kind (body_of k d) ≡ k
 kind-body kinds.Scalar d = refl
-kind-body kinds.Object d = refl
-kind-body kinds.Interface d = refl
-kind-body kinds.Union d = refl
-kind-body kinds.Enum d = refl
-kind-body kinds.InputObject d = refl
+kind-body k d = refl
 
 abbrev pub part_from : TypeKind → Option SourceSpan → NameView → Option NameView → DefinitionParts → TypePart
 part_from k place name description d = part_at place name description d.directives (body_of k d)
@@ -38,19 +34,11 @@ part_from k place name description d = part_at place name description d.directiv
 item-defined : (k : TypeKind) (description : Option NameView) (name : NameView) (d : DefinitionParts) (place : Option SourceSpan)
     → item_of (type_definition k description name d place) ≡ Defined (part_from k place name description d)
 item-defined kinds.Scalar description name d place = refl
-item-defined kinds.Object description name d place = refl
-item-defined kinds.Interface description name d place = refl
-item-defined kinds.Union description name d place = refl
-item-defined kinds.Enum description name d place = refl
-item-defined kinds.InputObject description name d place = refl
+item-defined k description name d place = refl
 
 item-extended : (k : TypeKind) (name : NameView) (d : DefinitionParts) (place : Option SourceSpan) → item_of (type_extension k name d place) ≡ Extended (part_from k place name None d)
 item-extended kinds.Scalar name d place = refl
-item-extended kinds.Object name d place = refl
-item-extended kinds.Interface name d place = refl
-item-extended kinds.Union name d place = refl
-item-extended kinds.Enum name d place = refl
-item-extended kinds.InputObject name d place = refl
+item-extended k name d place = refl
 
 module _ (t : ExtendedType) where
   -- the parts of its definition and of its extensions

@@ -1,5 +1,5 @@
 use Rattle.apollo_meaning.specs.Items.ListItems.{added_items}
-use Rattle.apollo_rearrangement.proofs.WholeFaults.{faults-rearranged}
+use Rattle.apollo_rearrangement.proofs.Found.{faults-rearranged}
 use Rattle.apollo_rearrangement.proofs.laws.rearranged_faults_are_the_same.Goals as goal
 
 pub returns : goal.returns

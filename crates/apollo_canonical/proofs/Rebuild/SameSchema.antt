@@ -1,0 +1,216 @@
+-- The schema definition that a list with a write-out means is the one that was written out.
+use Rattle.std.proofs.Common.{◌≡◌, ℕ, Bool, true, false, cond, List, [], ◌∷◌, ◌++◌, None, Option, Some, map, find, flat_map, option_map, refl, sym, ap, subst, ◌∙◌, ◌==◌, true≢false, arith}
+use Rattle.std.proofs.lemmas.List.{append-nil}
+use Rattle.std.proofs.lemmas.List.Elements.{filter_map-append}
+use Rattle.std.specs.List.{IsDistinct, filter_map}
+use Rattle.std.specs.Option.{option_map_or, option_or}
+use Rattle.graphql_nodes.specs.NameView.{NameView}
+use Rattle.graphql_nodes.specs.NodeView.{NodeView}
+use Rattle.graphql_nodes.specs.OperationTexts.{default_type_text}
+use Rattle.graphql_nodes.specs.SameText.{by_text}
+use Rattle.graphql_nodes.specs.Tables.{lookup, values_of}
+use Rattle.graphql_nodes.specs.declared.operation_type.OperationType.{OperationType}
+use Rattle.graphql_nodes.specs.declared.operation_type.OperationType.TheVariants.{Query, Mutation, Subscription}
+use Rattle.apollo_component.specs.declared.component.ComponentName.{ComponentName}
+use Rattle.apollo_types.specs.BareTypes.{BareType, bare_extended_type, bare_schema_definition}
+use Rattle.apollo_types.specs.SchemaDefinitionWriteOut.{has_own_root, implied_name, is_implied, is_some_object, is_written, write_schema_definition}
+use Rattle.apollo_types.specs.SchemaRoots.{root_of}
+use Rattle.apollo_types.specs.TypeKinds.{is_object}
+use Rattle.apollo_types.specs.declared.extended_type.ExtendedType.{ExtendedType}
+use Rattle.apollo_types.specs.declared.extended_type.ExtendedType.TheVariants.{Scalar}
+use Rattle.apollo_types.specs.declared.schema_definition.SchemaDefinition.{SchemaDefinition}
+use Rattle.apollo_meaning.specs.Completion.ImpliedSchema.{adopting_schema, implicit_roots, schema_for, schema_of_roots}
+use Rattle.apollo_meaning.specs.Items.ListItems.{ListItem, SchemaDefined, extended_schema}
+use Rattle.apollo_meaning.specs.Items.Named.{first_schema, schema_extensions}
+use Rattle.apollo_meaning.specs.Items.Parts.{Root, SchemaPart, roots_in}
+use Rattle.apollo_meaning.specs.Order.Places.{folding_order}
+use Rattle.apollo_meaning.specs.Schema.Definition.{roots_of, same_operation, schema_extension_source}
+use Rattle.apollo_meaning.specs.Types.Meaning.{AreTypesOf}
+use Rattle.apollo_schema.specs.declared.schema.Schema.{Schema}
+use Rattle.apollo_canonical.specs.MeaningLaws.{MeaningLaws}
+use Rattle.apollo_canonical.specs.WrittenAgain.{IsMeantByList}
+use Rattle.apollo_canonical.proofs.Kept.{both-empty}
+use Rattle.apollo_canonical.proofs.Rebuild.DirectivesAgain.{written_directives}
+use Rattle.apollo_canonical.proofs.Rebuild.LeftOut.{has_one, implied-unwritten, left-out, left-out-equal, left-out-written}
+use Rattle.apollo_canonical.proofs.Rebuild.Numbers.{rising-distinct, schema_numbers, schema_numbers-rise}
+use Rattle.apollo_canonical.proofs.Rebuild.OneSchema.{IsSchemaAgain, IsWrittenHead, equal-again, extension_written, made_schema, schema-again, schema_extension_of, written_parts_of}
+use Rattle.apollo_canonical.proofs.Rebuild.SchemaMeant.{IsMeantSchema, first_schema-append, meant-schema, node-of, schema_node, schema_numbers-parts}
+use Rattle.apollo_canonical.proofs.Rebuild.SchemaSaid.{SameImplied, no-own, written-alike}
+use Rattle.apollo_canonical.proofs.Rebuild.SchemaWritten.{list-first_schema, list-schema_extensions, written_head}
+use Rattle.apollo_canonical.proofs.Rebuild.TypesAgain.{none-there, type-there}
+use Rattle.apollo_canonical.proofs.Rebuild.WrittenList.{W, Y, Z, ends, implicit-again, implicit-listed, implied_here, node, object_at, others, quiet, quiet-implied}
+use Rattle.graphql_nodes.specs.declared.source.SourceSpan.{SourceSpan}
+
+-- an object type is one by what `==` compares
+is_bare_object : BareType → Bool
+is_bare_object (BareType.Object o) = true
+is_bare_object _ = false
+
+object-bare : (t : ExtendedType) → is_object t ≡ is_bare_object (bare_extended_type t)
+unfolding is_bare_object
+object-bare (Scalar n) = refl
+object-bare t = refl
+
+implied-cond : (types : List (NameView × ExtendedType)) (op : OperationType) → implied_name types op ≡ cond (has_one (object_at types Query) (object_at types Mutation) (object_at types Subscription) op) (Some (default_type_text op)) None
+implied-cond types Query = refl
+implied-cond types op = refl
+
+-- extensions that name no root leave none
+no-roots : (es : List (ℕ × SchemaPart)) → roots_in (map (λ e. e.1) es) ≡ [] → (op : OperationType) → root_of (made_schema (schema_of_roots []) es) op ≡ None
+no-roots es h op = by op
+  where
+    none : (fs : List (ℕ × SchemaPart)) → roots_in (map (λ e. e.1) fs) ≡ [] → flat_map roots_of (map schema_extension_source fs) ≡ []
+    none [] h = refl
+    none (f ∷ fs) h =
+        let two = both-empty f.1.roots (roots_in (map (λ e. e.1) fs)) h in
+        (λ i. roots_of ((schema_extension_source f).0, record f.1 { roots = two.0 i }) ++ none fs two.1 i)
+
+    found : (op : OperationType) → option_map (λ r. r.1) (find (λ r. same_operation op r.0) (flat_map roots_of (map schema_extension_source es))) ≡ None
+    found op = ap (λ l. option_map (λ r. r.1) (find (λ r. same_operation op r.0) l)) (none es h)
+
+    by : (op : OperationType) → root_of (made_schema (schema_of_roots []) es) op ≡ None
+    by Query = found Query
+    by op = found op
+
+module _ (laws : MeaningLaws) (schema : Schema) (list : IsMeantByList schema) (c : Bool) (again : ℕ) (types_again : List (NameView × ExtendedType))
+    (are_again : AreTypesOf again (folding_order (Z laws schema list c)) (Z laws schema list c) types_again) where
+  abbrev types : List (NameView × ExtendedType)
+  types = schema.types
+
+  abbrev place : Option SourceSpan
+  place = (node laws schema list c).location
+
+  -- the written list, what it is completed with, and all
+  abbrev ys : List ListItem
+  ys = Y laws schema list c
+
+  abbrev end_items : List ListItem
+  end_items = ends laws schema list c
+
+  abbrev zs : List ListItem
+  zs = Z laws schema list c
+
+  abbrev d : SchemaDefinition
+  d = (node laws schema list c).value
+
+  m : IsMeantSchema d (implicit_roots (W laws schema list c))
+  m = meant-schema laws schema list
+
+  object-same : (n : List ℕ) → is_some_object (lookup (by_text n) types_again) ≡ is_some_object (lookup (by_text n) types)
+  object-same n = by (lookup (by_text n) types) refl
+    where
+      by : (o : Option ExtendedType) → lookup (by_text n) types ≡ o → is_some_object (lookup (by_text n) types_again) ≡ is_some_object (lookup (by_text n) types)
+      by None e = ap is_some_object (none-there laws schema list c (others laws schema list c) end_items (quiet laws schema list c) (quiet-implied ys) again types_again are_again n e ∙ sym e)
+      by (Some t) e =
+          let there = type-there laws schema list c (others laws schema list c) end_items (quiet laws schema list c) (quiet-implied ys) again types_again are_again n t e in
+          ap is_some_object there.1 ∙ object-bare there.0 ∙ ap is_bare_object there.2.equal ∙ sym (object-bare t) ∙ sym (ap is_some_object e)
+
+  same_implied : SameImplied types types_again
+  same_implied op = ap (λ b. cond b (Some (default_type_text op)) None) (object-same (default_type_text op))
+
+  abbrev es : List (ℕ × SchemaPart)
+  es = schema_numbers again (folding_order zs)
+
+  apart : IsDistinct ◌==◌ (map (λ e. e.0) (schema_numbers again (folding_order zs)))
+  apart = rising-distinct again (schema_numbers again (folding_order zs)) (schema_numbers-rise again (folding_order zs))
+
+  abbrev Same : NodeView SchemaDefinition → Type 0
+  Same u = (bare_schema_definition u.value ≡ bare_schema_definition d) × (write_schema_definition u.value u.location types_again ≡ write_schema_definition d place types)
+
+  -- what follows from a head that is written
+  from-head : (head : SchemaPart) → first_schema zs ≡ Some head → schema_extensions zs ≡ map schema_extension_of (written_parts_of d).extensions → IsWrittenHead d head → (is_written types d ≡ true → head.location ≡ place) → Same (schema_node again zs)
+  from-head head here exts h at =
+      let a : IsSchemaAgain d (made_schema head (schema_numbers again (folding_order zs))) = schema-again d m.made head h (schema_numbers again (folding_order zs)) apart (schema_numbers-parts laws again zs head here ∙ exts) in
+      subst Same (sym (node-of again zs head here)) (equal-again d (made_schema head (schema_numbers again (folding_order zs))) a, written-alike d (made_schema head (schema_numbers again (folding_order zs))) a types types_again same_implied place head.location at)
+
+  first-Y : first_schema ys ≡ cond (is_written types d) (Some (written_head d place)) None
+  first-Y = list-first_schema c d place types (written_directives schema list) (values_of types)
+
+  exts-Y : schema_extensions ys ≡ map schema_extension_of (written_parts_of d).extensions
+  exts-Y = list-schema_extensions c d place types (written_directives schema list) (values_of types)
+
+  -- where a definition is written
+  where-written : is_written types d ≡ true → Same (schema_node again zs)
+  where-written e =
+      let here : first_schema ys ≡ Some (written_head d place) = first-Y ∙ ap (λ b. cond b (Some (written_head d place)) None) e in
+      let nothing : end_items ≡ [] = ap (λ o. option_map_or (λ _. []) o (schema_for true (roots_in (schema_extensions ys)) (implicit_roots ys))) here in
+      from-head (written_head d place) (first_schema-append ys end_items ∙ (λ i. option_or (here i) (first_schema end_items)))
+      (filter_map-append extended_schema ys end_items ∙ (λ i. exts-Y i ++ filter_map extended_schema (nothing i)) ∙ append-nil (map schema_extension_of (written_parts_of d).extensions))
+      (record { description = refl; directives = refl; roots = refl }) (λ _. refl)
+
+  module _ (e : is_written types d ≡ false) where
+    none-Y : first_schema ys ≡ None
+    none-Y = first-Y ∙ ap (λ b. cond b (Some (written_head d place)) None) e
+
+    ends-are : end_items ≡ adopting_schema (roots_in (schema_extensions ys)) (implicit_roots ys)
+    ends-are = ap (λ o. option_map_or (λ _. []) o (schema_for true (roots_in (schema_extensions ys)) (implicit_roots ys))) none-Y
+
+    at-end : (head : SchemaPart) → end_items ≡ SchemaDefined head ∷ [] → (first_schema zs ≡ Some head) × (schema_extensions zs ≡ map schema_extension_of (written_parts_of d).extensions)
+    at-end head is = (
+      first_schema-append ys end_items ∙ (λ i. option_or (none-Y i) (first_schema (is i))),
+      filter_map-append extended_schema ys end_items ∙ (λ i. exts-Y i ++ filter_map extended_schema (is i)) ∙ append-nil (map schema_extension_of (written_parts_of d).extensions),
+    )
+
+    -- where it is left out
+    where-left-out : is_implied types d ≡ true → Same (schema_node again zs)
+    where-left-out f =
+        let l = left-out d types f in
+        let no_exts : (written_parts_of d).extensions ≡ [] = ap (map (extension_written d)) l.extensions in
+        let is : end_items ≡ SchemaDefined (schema_of_roots (implied_here laws schema list c)) ∷ [] = ends-are ∙ (λ i. adopting_schema (roots_in ((exts-Y ∙ ap (map schema_extension_of) no_exts) i)) ((implicit-again laws schema list c) i)) in
+        let here = at-end (schema_of_roots (implied_here laws schema list c)) is in
+        let none : schema_numbers again (folding_order zs) ≡ [] = empty (schema_numbers again (folding_order zs)) (schema_numbers-parts laws again zs (schema_of_roots (implied_here laws schema list c)) here.0 ∙ here.1 ∙ ap (map schema_extension_of) no_exts) in
+        subst Same (sym (node-of again zs (schema_of_roots (implied_here laws schema list c)) here.0 ∙ ap of_extensions none)) (
+          left-out-equal types (object_at types Query) (object_at types Mutation) (object_at types Subscription) (implied-cond types) d l,
+          implied-unwritten types_again (object_at types Query) (object_at types Mutation) (object_at types Subscription) (λ op. same_implied op ∙ implied-cond types op) None
+              ∙ sym (left-out-written d place types f l.extensions),
+        )
+      where
+        of_extensions : List (ℕ × SchemaPart) → NodeView SchemaDefinition
+        of_extensions fs = record { value = made_schema (schema_of_roots (implied_here laws schema list c)) fs; location = None }
+
+        empty : (fs : List (ℕ × SchemaPart)) → map (λ e. e.1) fs ≡ [] → fs ≡ []
+        empty [] h = refl
+        empty (x ∷ fs) h = absurd (let g : x.1 ∷ map (λ e. e.1) fs ≡ [] = h in cc)
+
+    -- where there are extensions alone
+    where-extended : is_implied types d ≡ false → Same (schema_node again zs)
+    where-extended f = by (roots_in (schema_extensions ys)) refl
+      where
+        own : has_own_root d ≡ false
+        own = grind (arith, f, e)
+
+        written-head : (rs : List Root) → rs ≡ [] → IsWrittenHead d (schema_of_roots rs)
+        written-head rs empty = record { description = sym (m.description own); directives = sym (m.directives own); roots = empty ∙ sym (no-own d own) }
+
+        unwritten : {A : Type 0} → is_written types d ≡ true → A
+        unwritten g = absurd (true≢false (sym g ∙ e))
+
+        by : (named : List Root) → roots_in (schema_extensions ys) ≡ named → Same (schema_node again zs)
+        by (r ∷ rs) g =
+            let is : end_items ≡ SchemaDefined (schema_of_roots []) ∷ [] = ends-are ∙ ap (λ l. adopting_schema l (implicit_roots ys)) g in
+            let here = at-end (schema_of_roots []) is in
+            from-head (schema_of_roots []) here.0 here.1 (written-head [] refl) unwritten
+        by [] g =
+            let is : end_items ≡ SchemaDefined (schema_of_roots (implicit_roots ys)) ∷ [] = ends-are ∙ ap (λ l. adopting_schema l (implicit_roots ys)) g in
+            let here = at-end (schema_of_roots (implicit_roots ys)) is in
+            let parts : map (λ e. e.1) (schema_numbers again (folding_order zs)) ≡ map schema_extension_of (written_parts_of d).extensions = schema_numbers-parts laws again zs (schema_of_roots (implicit_roots ys)) here.0 ∙ here.1 in
+            let a : IsSchemaAgain d (made_schema (schema_of_roots []) (schema_numbers again (folding_order zs))) = schema-again d m.made (schema_of_roots []) (written-head [] refl) (schema_numbers again (folding_order zs)) apart parts in
+            let nothing : (op : OperationType) → root_of d op ≡ None =
+            λ op. unnamed (root_of d op) (sym (a.roots op) ∙ ap (option_map (λ (n : ComponentName). n.name)) (no-roots (schema_numbers again (folding_order zs)) (ap roots_in (parts ∙ sym exts-Y) ∙ g) op)) in
+            from-head (schema_of_roots (implicit_roots ys)) here.0 here.1 (written-head (implicit_roots ys) ((implicit-again laws schema list c) ∙ sym (implicit-listed laws schema list c) ∙ m.roots own nothing)) unwritten
+          where
+            unnamed : (o : Option ComponentName) → option_map (λ n. n.name) o ≡ None → o ≡ None
+            unnamed None h = refl
+            unnamed (Some n) h = absurd (let g : Some n.name ≡ None = h in cc)
+
+  -- the schema definition is equal and written out alike
+  pub same-schema : Same (schema_node again zs)
+  same-schema = by (is_written types d) refl
+    where
+      unwritten : (b : Bool) → is_implied types d ≡ b → is_written types d ≡ false → Same (schema_node again zs)
+      unwritten true f e = where-left-out e f
+      unwritten false f e = where-extended e f
+
+      by : (b : Bool) → is_written types d ≡ b → Same (schema_node again zs)
+      by true e = where-written e
+      by false e = unwritten (is_implied types d) refl e
