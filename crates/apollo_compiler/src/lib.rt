@@ -14,10 +14,12 @@ pub mod laws;
 mod rebuilding;
 mod typing;
 
+pub use crate::building::build_schema;
 pub use crate::compile_error::CompileError;
 pub use crate::compile_options::CompileOptions;
 pub use crate::compiled::Compiled;
 pub use crate::compiling::{compile, compile_with_keys};
+pub use crate::document_building::build_executable_document;
 pub use apollo_coordinate as coordinate;
 pub use apollo_executable::document::ExecutableDocument;
 pub use apollo_schema as schema;

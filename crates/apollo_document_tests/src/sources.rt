@@ -2,25 +2,18 @@
 
 use apollo_document::{BuilderError, ExecutableDocumentBuilder};
 use graphql_ast::document::Document;
-use graphql_nodes::collections::items::Items;
 use graphql_nodes::collections::shared::Shared;
-use graphql_nodes::collections::table::Table;
-use graphql_nodes::collections::text::Text;
 use graphql_nodes::source::{FileId, SourceFile};
 use std::alloc::{AllocError, Global};
 
 /// A document without definitions, of a file of this number and path.
 fn of_file(alloc: Global, number: u64, path: &str) -> Result<Document, AllocError> {
-    let file = SourceFile {
-        path: Text::from_str(alloc, path)?,
-        text: Text::from_str(alloc, "")?,
-    };
-    let mut sources = Table::new(alloc);
-    sources.insert(FileId(number), Shared::new(alloc, file)?)?;
-    Ok(Document {
-        sources,
-        definitions: Items::new(alloc),
-    })
+    let file = SourceFile::new(alloc, path, "")?;
+    let mut document = Document::new(alloc);
+    document
+        .sources
+        .insert(FileId(number), Shared::new(alloc, file)?)?;
+    Ok(document)
 }
 
 /// The paths of the files of three documents, in order.

@@ -26,9 +26,8 @@ fn query(alloc: Global) -> Result<Node<ObjectTypeDefinition>, Fail> {
 
 /// A document of that type alone.
 fn document(alloc: Global) -> Result<Document, Fail> {
-    let mut document = Document::new(alloc);
-    document.definitions.push(query(alloc)?.into())?;
-    Ok(document)
+    let definitions = vec![in alloc; query(alloc)?.into()]?;
+    Ok(Document::from_definitions(alloc, definitions))
 }
 
 /// What the schema of that document is written out as.

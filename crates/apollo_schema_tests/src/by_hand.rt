@@ -8,7 +8,6 @@ use graphql_ast::operation::{FragmentDefinition, OperationDefinition};
 use graphql_ast::type_system::ObjectTypeDefinition;
 use graphql_nodes::collections::items::Items;
 use graphql_nodes::collections::shared::Shared;
-use graphql_nodes::collections::text::Text;
 use graphql_nodes::name::Name;
 use graphql_nodes::node::Node;
 use graphql_nodes::node_str::NodeStr;
@@ -63,11 +62,7 @@ fn fragment(alloc: Global) -> Result<Definition, AllocError> {
 
 /// A source file of this path.
 fn file(alloc: Global, path: &str) -> Result<Shared<SourceFile>, AllocError> {
-    let file = SourceFile {
-        path: Text::from_str(alloc, path)?,
-        text: Text::from_str(alloc, "type Query")?,
-    };
-    Shared::new(alloc, file)
+    Shared::new(alloc, SourceFile::new(alloc, path, "type Query")?)
 }
 
 /// Adds a file of this path to a document, and these definitions.

@@ -1,7 +1,10 @@
 //! What documents are compiled to, looked at part by part.
 
 use crate::rebuilt::PLAIN;
-use apollo_compiler::{Compiled, Document, HashKeys, compile, compile_with_keys};
+use apollo_compiler::{
+    Compiled, Document, HashKeys, build_executable_document, build_schema, compile,
+    compile_with_keys,
+};
 use bench_notation::printing::print;
 use bench_notation::reading::{DividedDocuments, read_divided};
 use std::alloc::{AllocError, Global};
@@ -142,6 +145,41 @@ fn each_build_has_its_faults_and_the_flag_counts(rt: HostRuntime) -> Result<(), 
     assert_eq!(rt;
         text.as_str(),
         "schema, faults: 1\ndef object Query\nfield a Int\nrebuilt, faults: 0\ndef object Query\nfield a Int\ndocument, faults: 1\noperation query Q\nsel 0 field a\nequal: true, roots rebuilt: 1, directives rebuilt: 0, operations: 1\n"
+    );
+    Ok(())
+}
+
+/// The two builds of an input, each by its own call, told as those of [`told`].
+fn told_of_builds(alloc: Global, input: &str) -> Result<String, Fail> {
+    let mut text = String::new(alloc);
+    let documents = read_divided(alloc, input)?;
+    let (schema, faults) = build_schema(
+        alloc,
+        HashKeys::FIXED,
+        PLAIN,
+        documents.schema.as_slice(),
+    )?;
+    let ast = schema.to_ast(alloc)?;
+    push_part(alloc, &mut text, "schema", ast.as_slice(), faults.len())?;
+    let queries = documents.executable.as_slice();
+    let (document, faults) = build_executable_document(alloc, &schema, queries, true)?;
+    let erased = document.to_ast(alloc)?;
+    push_part(
+        alloc,
+        &mut text,
+        "document",
+        erased.definitions.as_slice(),
+        faults.len(),
+    )?;
+    Ok(text)
+}
+
+#[test]
+fn each_build_has_a_call_of_its_own(rt: HostRuntime) -> Result<(), Fail> {
+    let text = told_of_builds(rt.alloc(), FAULTY)?;
+    assert_eq!(rt;
+        text.as_str(),
+        "schema, faults: 1\ndef object Query\nfield a Int\ndocument, faults: 2\noperation query Q\nsel 0 field a\n"
     );
     Ok(())
 }

@@ -5,8 +5,7 @@ use anyhow::{Context, Result, bail};
 use apollo_compiler::coordinate::{
     SchemaCoordinate, SchemaCoordinateLookup, SchemaCoordinateParseError, SchemaLookupError,
 };
-use apollo_compiler::schema::BuildFailure;
-use apollo_compiler::{HashKeys, Schema};
+use apollo_compiler::{CompileOptions, HashKeys, Schema, build_schema};
 use bench_notation::reading::read;
 use std::alloc::Global;
 
@@ -64,15 +63,13 @@ fn answer(rt: &HostRuntime, schema: &Schema, text: &str) -> Result<()> {
 
 /// The schema of the notation.
 fn shop(alloc: Global) -> Result<Schema> {
-    let mut builder = Schema::builder(alloc)?;
-    for document in read(alloc, SHOP)?.iter() {
-        builder.add_ast(document)?;
+    let documents = read(alloc, SHOP)?;
+    let options = CompileOptions::none();
+    let (schema, faults) = build_schema(alloc, HashKeys::FIXED, options, documents.as_slice())?;
+    if !faults.is_empty() {
+        bail!("the schema has faults");
     }
-    match builder.build() {
-        Ok(schema) => Ok(schema),
-        Err(BuildFailure::Faults(_)) => bail!("the schema has faults"),
-        Err(_) => bail!("out of memory"),
-    }
+    Ok(schema)
 }
 
 fn main(rt: HostRuntime) -> Result<()> {

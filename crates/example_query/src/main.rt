@@ -2,9 +2,11 @@
 #![tactic(auto)]
 
 use anyhow::{Result, bail};
-use apollo_compiler::executable::{ExecutableDocumentBuilder, Faults, Operation, RequestError};
-use apollo_compiler::schema::BuildFailure;
-use apollo_compiler::{Document, ExecutableDocument, Name, Node, Schema};
+use apollo_compiler::executable::{Operation, RequestError};
+use apollo_compiler::{
+    CompileOptions, Document, ExecutableDocument, HashKeys, Name, Node, Schema,
+    build_executable_document, build_schema,
+};
 use bench_notation::reading::read_divided;
 use std::alloc::Global;
 
@@ -33,31 +35,14 @@ fragment Names Author
 sel 0 field name
 ";
 
-/// The schema of documents. A server takes `SchemaBuilder::with_keys`, with keys that are drawn, for documents from strangers.
+/// The schema of documents. A server draws its keys, for documents from strangers.
 fn schema(alloc: Global, documents: &[Document]) -> Result<Schema> {
-    let mut builder = Schema::builder(alloc)?;
-    for document in documents {
-        builder.add_ast(document)?;
+    let options = CompileOptions::none();
+    let (schema, faults) = build_schema(alloc, HashKeys::FIXED, options, documents)?;
+    if !faults.is_empty() {
+        bail!("the schema has faults");
     }
-    match builder.build() {
-        Ok(schema) => Ok(schema),
-        Err(BuildFailure::Faults(_)) => bail!("the schema has faults"),
-        Err(_) => bail!("out of memory"),
-    }
-}
-
-/// The typed document of documents over a schema, with its faults: what can't be typed is left out, and told.
-fn typed(
-    alloc: Global,
-    schema: &Schema,
-    documents: &[Document],
-) -> Result<(ExecutableDocument, Faults)> {
-    let mut builder = ExecutableDocumentBuilder::new(alloc, Some(schema));
-    for document in documents {
-        // Definitions of types don't belong here: each is a fault.
-        builder.add_ast_document(document, true)?;
-    }
-    Ok(builder.build()?)
+    Ok(schema)
 }
 
 /// Prints each field that an operation reaches, with its type: through fragments, each fragment once.
@@ -103,7 +88,9 @@ fn main(rt: HostRuntime) -> Result<()> {
     let alloc = rt.alloc();
     let documents = read_divided(alloc, INPUT)?;
     let schema = schema(alloc, documents.schema.as_slice())?;
-    let (document, faults) = typed(alloc, &schema, documents.executable.as_slice())?;
+    let queries = documents.executable.as_slice();
+    // Definitions of types don't belong here: each is a fault.
+    let (document, faults) = build_executable_document(alloc, &schema, queries, true)?;
     for (_, fault) in faults.iter() {
         println!(rt; "fault: {fault}")?;
     }

@@ -32,19 +32,13 @@ fn field(
     Ok(Node::new_opt_location(alloc, field, Some(location))?)
 }
 
-/// A document of one definition. The other parts of a definition, as descriptions and directives, are fields to be set.
-fn document(alloc: Global, definition: Definition) -> Result<Document> {
-    let mut document = Document::new(alloc);
-    document.definitions.push(definition)?;
-    Ok(document)
-}
-
-/// `extend type Book { author: String }`, in file 1.
+/// `extend type Book { author: String }`, in file 1. What else a part may have, as directives, are fields to be set.
 fn extension(alloc: Global) -> Result<Document> {
     let mut book = ObjectTypeExtension::new(alloc, Name::new(alloc, "Book")?);
     book.fields
         .push(field(alloc, "author", "String", (1, 19))?)?;
-    document(alloc, Node::new(alloc, book)?.into())
+    let definitions = vec![in alloc; Node::new(alloc, book)?.into()]?;
+    Ok(Document::from_definitions(alloc, definitions))
 }
 
 /// `type Book { title: String pages: Int title: Int }`, in file 2.
@@ -58,7 +52,8 @@ fn definition(alloc: Global) -> Result<Document> {
         book.fields
             .push(field(alloc, name, type_name, (2, start))?)?;
     }
-    document(alloc, Node::new(alloc, book)?.into())
+    let definitions = vec![in alloc; Node::new(alloc, book)?.into()]?;
+    Ok(Document::from_definitions(alloc, definitions))
 }
 
 /// Adds the documents in order. In which order makes no difference to what is folded into `Book`.

@@ -29,4 +29,15 @@ impl Document {
             definitions: Items::new(alloc),
         }
     }
+
+    /// A document of these definitions, in order, without sources.
+    pub fn from_definitions(alloc: Global, definitions: Vec<Definition>) -> Document
+        ensures definitions { result.definitions ≡ definitions.items }
+        ensures sources { result.sources ≡ [] }
+    {
+        Document {
+            sources: Table::new(alloc),
+            definitions: Items::from_vec(definitions),
+        }
+    }
 }

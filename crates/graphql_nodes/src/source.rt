@@ -5,7 +5,7 @@ ghost use Rattle.graphql_nodes.specs.Sources.{merged};
 use crate::collections::shared::Shared;
 use crate::collections::table::Table;
 use crate::collections::text::Text;
-use std::alloc::AllocError;
+use std::alloc::{AllocError, Global};
 
 /// The number of a source file.
 #[derive(Clone, Copy, Debug, PartialEq, Eq, PartialOrd, Ord, Hash)]
@@ -35,6 +35,17 @@ pub struct SourceFile {
 impl Drop for SourceFile {
     fn drop(self) {
         let Self { path: _, text: _ } = self;
+    }
+}
+
+impl SourceFile {
+    /// The file of this path and text. The error is want of memory.
+    pub fn new(alloc: Global, path: &str, text: &str) -> Result<SourceFile, AllocError>
+        ensures { IfOk result (λ file. file ≡ record { path = path.now; text = text.now }) }
+    {
+        let path = Text::from_str(alloc, path)?;
+        let text = Text::from_str(alloc, text)?;
+        Ok(SourceFile { path, text })
     }
 }
 

@@ -2,47 +2,36 @@
 
 use crate::samples::PLACE;
 use graphql_ast::{Definition, Document, SchemaDefinition};
-use graphql_nodes::{FileId, Items, Node, Shared, SourceFile, SourceMap, SourceSpan, Table, Text};
+use graphql_nodes::{FileId, Node, Shared, SourceFile, SourceMap, SourceSpan, Table};
 use likeness::{are_equal, is_copied_so};
 use std::alloc::{AllocError, Global};
 
 /// A definition of the schema at this place.
-fn definitions(alloc: Global, place: Option<SourceSpan>) -> Result<Items<Definition>, AllocError> {
+fn definitions(alloc: Global, place: Option<SourceSpan>) -> Result<Vec<Definition>, AllocError> {
     let schema = Node::new_opt_location(alloc, SchemaDefinition::new(alloc), place)?;
-    let mut definitions = Items::new(alloc);
+    let mut definitions = Vec::new(alloc);
     definitions.push(schema.into())?;
     Ok(definitions)
 }
 
-fn file(alloc: Global) -> Result<SourceFile, AllocError> {
-    let path = Text::from_str(alloc, "schema.graphql")?;
-    let text = Text::from_str(alloc, "schema { query: Query }")?;
-    Ok(SourceFile { path, text })
-}
-
 fn sources(alloc: Global) -> Result<SourceMap, AllocError> {
-    let file = Shared::new(alloc, file(alloc)?)?;
+    let file = SourceFile::new(alloc, "schema.graphql", "schema { query: Query }")?;
     let mut sources = Table::new(alloc);
-    sources.insert(FileId(3), file)?;
+    sources.insert(FileId(3), Shared::new(alloc, file)?)?;
     Ok(sources)
 }
 
 /// A document of that definition alone, without sources.
 fn document(alloc: Global) -> Result<Document, AllocError> {
     let definitions = definitions(alloc, None)?;
-    Ok(Document {
-        sources: Table::new(alloc),
-        definitions,
-    })
+    Ok(Document::from_definitions(alloc, definitions))
 }
 
 /// That document with a source, and the definition at the place.
 fn with_source(alloc: Global) -> Result<Document, AllocError> {
-    let definitions = definitions(alloc, Some(PLACE))?;
-    Ok(Document {
-        sources: sources(alloc)?,
-        definitions,
-    })
+    let mut document = Document::from_definitions(alloc, definitions(alloc, Some(PLACE))?);
+    document.sources = sources(alloc)?;
+    Ok(document)
 }
 
 #[test]

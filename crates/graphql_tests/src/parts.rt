@@ -7,7 +7,6 @@ use graphql_ast::operation::VariableDefinition;
 use graphql_ast::selection::FragmentSpread;
 use graphql_ast::type_system::EnumValueDefinition;
 use graphql_nodes::collections::static_text::StaticText;
-use graphql_nodes::collections::text::Text;
 use graphql_nodes::source::SourceFile;
 use likeness::{is_held_copied, is_made_copied};
 use std::alloc::{AllocError, Global};
@@ -39,12 +38,6 @@ fn enum_value(alloc: Global) -> Result<EnumValueDefinition, AllocError> {
     })
 }
 
-fn file(alloc: Global) -> Result<SourceFile, AllocError> {
-    let path = Text::from_str(alloc, "a.graphql")?;
-    let text = Text::from_str(alloc, "scalar S")?;
-    Ok(SourceFile { path, text })
-}
-
 #[test]
 fn variables_and_spreads(rt: HostRuntime) {
     let alloc = rt.alloc();
@@ -62,6 +55,7 @@ fn parts_of_types(rt: HostRuntime) {
 
 #[test]
 fn files_and_texts(rt: HostRuntime) {
-    assert!(rt; is_made_copied(file(rt.alloc())));
+    let file = SourceFile::new(rt.alloc(), "a.graphql", "scalar S");
+    assert!(rt; is_made_copied(file));
     assert!(rt; is_made_copied(Ok(StaticText::new("an object type"))));
 }

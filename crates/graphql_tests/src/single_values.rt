@@ -62,18 +62,12 @@ fn texts_are_shown(rt: HostRuntime) {
     assert!(rt; is_made_shown(alloc, Name::new_unchecked(alloc, "field"), "\"field\""));
 }
 
-/// A file of one field.
-fn file(alloc: Global) -> Result<SourceFile, AllocError> {
-    let path = Text::from_str(alloc, "a.graphql")?;
-    let text = Text::from_str(alloc, "{ a }")?;
-    Ok(SourceFile { path, text })
-}
-
 #[test]
 fn files_are_shown(rt: HostRuntime) {
     let alloc = rt.alloc();
+    let file = SourceFile::new(alloc, "a.graphql", "{ a }");
     let shown = "SourceFile { path: \"a.graphql\", text: \"{ a }\" }";
-    assert!(rt; is_made_shown(alloc, file(alloc), shown));
+    assert!(rt; is_made_shown(alloc, file, shown));
 }
 
 /// The node of a new name.

@@ -2,16 +2,13 @@
 
 use graphql_nodes::collections::shared::Shared;
 use graphql_nodes::collections::table::Table;
-use graphql_nodes::collections::text::Text;
 use graphql_nodes::source::{FileId, SourceFile, SourceMap, merge_sources};
 use std::alloc::{AllocError, Global};
 
 /// A file of this text.
 /// No clause: it serves tests.
 pub fn file(alloc: Global, text: &str) -> Result<SourceFile, AllocError> {
-    let path = Text::from_str(alloc, "a.graphql")?;
-    let text = Text::from_str(alloc, text)?;
-    Ok(SourceFile { path, text })
+    SourceFile::new(alloc, "a.graphql", text)
 }
 
 /// The sources of one file of this text, under this number.
