@@ -73,6 +73,7 @@ impl<'doc> Iterator for RootFields<'doc> {
     ghost remaining = { λ walk. at_most (most_items walk) };
 
     /// The next field, in its turn, or the one error, no later than that turn. After that or the end there is none for good.
+    /// The error comes only where the set has a fragment.
     fn next(&mut self) -> Option<Result<&'doc Node<Field>, AllocError>> {
         self.walk.advance()
     }
