@@ -1,6 +1,7 @@
 pub mod FieldsIn
 pub mod Introspection
 pub mod Left
+pub mod Nesting
 pub mod NextItem
 pub mod Plain
 pub mod Seen

@@ -5,7 +5,7 @@ ghost use Rattle.bench_notation.specs.Places.{kind_above, takes_directives, is_o
 use graphql_nodes::type_kind::TypeKind;
 
 /// What stands above a line in its document.
-#[derive(Debug, Clone, Copy, PartialEq, Eq)]
+#[derive(Debug, Clone, Copy)]
 pub enum Above {
     /// No header.
     Nothing,
@@ -22,7 +22,7 @@ pub enum Above {
 }
 
 /// What stands above a line in its document, and whether a line that divides the documents may stand there.
-#[derive(Debug, Clone, Copy, PartialEq, Eq)]
+#[derive(Debug, Clone, Copy)]
 pub struct Position {
     pub above: Above,
     pub may_divide: bool,

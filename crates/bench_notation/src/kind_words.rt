@@ -7,7 +7,7 @@ use graphql_nodes::operation_type::OperationType;
 use graphql_nodes::type_kind::TypeKind;
 
 /// Whether a header begins a definition or an extension.
-#[derive(Debug, Clone, Copy, PartialEq, Eq)]
+#[derive(Debug, Clone, Copy)]
 pub enum Role {
     Definition,
     Extension,

@@ -9,6 +9,7 @@ pub mod executable_header;
 mod executable_line;
 mod item;
 pub mod kind_words;
+pub mod laws;
 pub mod line;
 mod name_words;
 pub mod names;

@@ -21,7 +21,7 @@ pub enum Reason {
 }
 
 /// Why a line is not read.
-#[derive(Debug, Clone, Copy, PartialEq, Eq)]
+#[derive(Debug, Clone, Copy)]
 pub enum LineError {
     Refused(Reason),
     Memory,

@@ -10,7 +10,7 @@ use apollo_compiler::compile_options::CompileOptions;
 use gqltool_run::schema_options::read_options;
 
 /// What is timed.
-#[derive(Debug, Clone, Copy, PartialEq, Eq)]
+#[derive(Debug, Clone, Copy)]
 pub enum Work {
     /// `schema`: a schema built, written out, built again from that, and freed.
     Schema,
@@ -28,7 +28,7 @@ pub enum Work {
 
 /// A command of the program, which is what the words after its name say: what is timed, under which keys and options of a
 /// build, and how many times.
-#[derive(Debug, Clone, Copy, PartialEq, Eq)]
+#[derive(Debug, Clone, Copy)]
 pub struct Command {
     pub work: Work,
     pub keys: KeyChoice,

@@ -8,7 +8,7 @@ use graphql_nodes::collections::hash_keys::HashKeys;
 use std::random::RandomSource;
 
 /// Which keys the tables of a run hash by.
-#[derive(Debug, Clone, Copy, PartialEq, Eq)]
+#[derive(Debug, Clone, Copy)]
 pub enum KeyChoice {
     /// The same in each run.
     Fixed,

@@ -6,6 +6,7 @@ mod compile_phases;
 mod document_phases;
 pub mod failure;
 pub mod keys;
+pub mod laws;
 mod leaf_phases;
 mod lookup_phases;
 mod lookup_questions;

@@ -5,7 +5,7 @@ use std::alloc::AllocError;
 use thiserror::Error;
 
 /// Why a line says nothing where it stands. Of several reasons the one that stands first here is given.
-#[derive(Debug, Clone, Copy, PartialEq, Eq, Error)]
+#[derive(Debug, Clone, Copy, Error)]
 pub enum Reason {
     /// The line begins with no mark; something other than a space stands right behind its mark, which isn't `#`; or anything
     /// stands behind `\`.
@@ -23,7 +23,7 @@ pub enum Reason {
 }
 
 /// A refused line: its number, counted from 1, and the reason.
-#[derive(Debug, Clone, Copy, PartialEq, Eq, Error)]
+#[derive(Debug, Clone, Copy, Error)]
 #[error("line {number}: {reason}")]
 pub struct RefusedLine {
     pub number: usize,
@@ -31,7 +31,7 @@ pub struct RefusedLine {
 }
 
 /// Why a file of rows is not read.
-#[derive(Debug, Clone, Copy, PartialEq, Eq, Error)]
+#[derive(Debug, Clone, Copy, Error)]
 pub enum ReadError {
     /// This line says nothing where it stands.
     #[error(transparent)]

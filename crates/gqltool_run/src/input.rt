@@ -6,7 +6,7 @@ use std::alloc::Global;
 use std::io::{ErrorKind, Read};
 
 /// Why an input is not read to its end.
-#[derive(Debug, Clone, Copy, PartialEq, Eq)]
+#[derive(Debug, Clone, Copy)]
 pub enum InputError {
     /// It cannot be read, or is not UTF-8.
     CannotRead,

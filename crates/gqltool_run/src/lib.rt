@@ -11,6 +11,7 @@ pub mod document_building;
 pub mod failure;
 mod fault_printing;
 pub mod input;
+pub mod laws;
 pub mod leaf_command;
 mod leaving;
 mod output_line;

@@ -1,7 +1,7 @@
 //! The leaf faults of documents: GraphQL specification of October 2021, section 5.3.3.
 //!
 //! Each set is looked at once, as deep as it is nested. Memory is taken for faults alone.
-ghost use Rattle.std.specs.Prelude.{◌≡◌, ◌∷◌, ◌++◌, [], IfOk, OnOk};
+ghost use Rattle.std.specs.Prelude.{◌≡◌, ◌≢◌, ◌∷◌, ◌++◌, [], IfOk, None, OnOk, OnErr};
 ghost use Rattle.std.specs.List.{cons_option};
 ghost use Rattle.leafcheck.specs.LeafFaults as spec;
 ghost use Rattle.leafcheck.specs.LeafFaults.{faults_in};
@@ -24,13 +24,15 @@ use std::alloc::{AllocError, Global};
 /// it is the field before those below it, through inline fragments, but not through spreads: a fragment is looked at once,
 /// wherever it is spread, or nowhere.
 ///
-/// The schema need not be the one that the document was built over. The error is want of memory.
+/// The schema need not be the one that the document was built over. The error is want of memory, which a document without
+/// leaf faults doesn't meet.
 pub fn leaf_faults(
     alloc: Global,
     schema: &Schema,
     document: &ExecutableDocument,
 ) -> Result<Vec<LeafFault>, AllocError>
-    ensures { IfOk result (λ faults. faults.items ≡ spec.leaf_faults schema.now document.now) }
+    ensures faults { IfOk result (λ faults. faults.items ≡ spec.leaf_faults schema.now document.now) }
+    ensures memory { OnErr result (spec.leaf_faults schema.now document.now ≢ []) }
 {
     let mut faults = Items::new(alloc);
     for operation in document.operations.iter() {
@@ -49,7 +51,8 @@ fn note_set(
     set: &SelectionSet,
     faults: &mut Items<LeafFault>,
 ) -> Result<(), AllocError>
-    ensures { OnOk result (faults.new ≡ faults.old ++ faults_in schema.now set.now.selections) }
+    ensures noted { OnOk result (faults.new ≡ faults.old ++ faults_in schema.now set.now.selections) }
+    ensures memory { OnErr result (faults_in schema.now set.now.selections ≢ []) }
 {
     fields_by_kind_of_selection();
     for selection in &set.selections {
@@ -65,7 +68,8 @@ fn note_selection(
     selection: &Selection,
     faults: &mut Items<LeafFault>,
 ) -> Result<(), AllocError>
-    ensures { OnOk result (faults.new ≡ faults.old ++ faults_in schema.now (selection.now ∷ [])) }
+    ensures noted { OnOk result (faults.new ≡ faults.old ++ faults_in schema.now (selection.now ∷ [])) }
+    ensures memory { OnErr result (faults_in schema.now (selection.now ∷ []) ≢ []) }
 {
     fields_by_kind_of_selection();
     match selection {
@@ -82,7 +86,8 @@ fn note_field(
     node: &Node<Field>,
     faults: &mut Items<LeafFault>,
 ) -> Result<(), AllocError>
-    ensures { OnOk result (faults.new ≡ faults.old ++ cons_option (spec.fault_at schema.now node.now) (faults_in schema.now node.now.value.selection_set.selections)) }
+    ensures noted { OnOk result (faults.new ≡ faults.old ++ cons_option (spec.fault_at schema.now node.now) (faults_in schema.now node.now.value.selection_set.selections)) }
+    ensures memory { OnErr result (cons_option (spec.fault_at schema.now node.now) (faults_in schema.now node.now.value.selection_set.selections) ≢ []) }
 {
     if let Some(fault) = fault_at(schema, node)? {
         faults.push(fault)?;
@@ -92,7 +97,8 @@ fn note_field(
 
 /// The fault of a field, if it has one.
 fn fault_at(schema: &Schema, node: &Node<Field>) -> Result<Option<LeafFault>, AllocError>
-    ensures { IfOk result (λ fault. fault ≡ spec.fault_at schema.now node.now) }
+    ensures fault { IfOk result (λ fault. fault ≡ spec.fault_at schema.now node.now) }
+    ensures memory { OnErr result (spec.fault_at schema.now node.now ≢ None) }
 {
     let Some(kind) = kind_over(schema, node) else {
         return Ok(None);

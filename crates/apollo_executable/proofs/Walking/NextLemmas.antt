@@ -7,6 +7,7 @@ use Rattle.apollo_walks.specs.Course.{Course}
 use Rattle.apollo_walks.specs.TurnByTurn.{IsNoLater}
 use Rattle.apollo_executable.specs.Walks.Plain.{plain, fragments_of}
 use Rattle.apollo_executable.specs.Walks.WalkView.{IsWithinTurns}
+use Rattle.apollo_executable.specs.Walks.Nesting.{IsFlat, StaysFlat, opens_lists}
 use Rattle.apollo_executable.specs.Walks.NextItem.{IsNext, IsOver}
 use Rattle.apollo_executable.specs.Walks.Left.{walk_over, names_opened, IsTurn}
 use Rattle.apollo_executable.specs.Walks.Seen.{left, seen}
@@ -39,12 +40,21 @@ pub record IsWalkTurn (now : Walk) (did : Turn) (new : Walk) : Type 0 where
   pub deep : new.lists.deep ≡ now.lists.deep
   pub taken : new.taken.number ≡ now.taken.number + 1
   pub turn : IsTurn now.lists did new.lists
+  pub flat : IsFlat now.lists → StaysFlat did new.lists
 
 nothing-left : (w : Walk) → w.lists.ended ≡ true → (left w).fields ≡ []
 nothing-left w ended = rw ended refl
 
 no-turn-left : (w : Walk) → w.lists.ended ≡ true → (left w).turns ≡ 0
 no-turn-left w ended = rw ended refl
+
+-- where a turn wanted memory, the set has a selection that opens a list
+wanting-list : (old now new : Walk) → IsLater old now → IsWalkTurn now Refused new → opens_lists old.lists.deep new.start.now.selections ≡ true
+wanting-list old now new later t = by (opens_lists old.lists.deep new.start.now.selections) refl
+  where
+    by : (b : Bool) → opens_lists old.lists.deep new.start.now.selections ≡ b → b ≡ true
+    by true is = refl
+    by false is = absurd (t.flat (now.flat (ap (λ (s : Bor SelectionSet). opens_lists now.lists.deep s.now.selections) (sym t.start) ∙ ap (λ d. opens_lists d new.start.now.selections) later.deep ∙ is)))
 
 module _ (laws : WholeWalkLaws) where
   bound : (w : Walk) (deep : Bool) → w.lists.deep ≡ deep → IsWithinTurns deep w.document.now w.start.now w.taken.number
@@ -63,6 +73,7 @@ module _ (laws : WholeWalkLaws) where
     );
     bound = bound new old.lists.deep (t.deep ∙ later.deep);
     over = tt;
+    wants = tt;
   }
 
   pub gives-error : (old now new : Walk) (error : AllocError) → IsLater old now → now.lists.ended ≡ false → IsWalkTurn now Refused new
@@ -78,6 +89,7 @@ module _ (laws : WholeWalkLaws) where
     );
     bound = bound new old.lists.deep (t.deep ∙ later.deep);
     over = tt;
+    wants = wanting-list old now new later t;
   }
 
   over-at : (old now : Walk) → IsLater old now → now.lists.ended ≡ true → old.lists.ended ≡ false → IsOver old.lists.deep (seen now)
@@ -100,6 +112,7 @@ module _ (laws : WholeWalkLaws) where
     takes = later.stands;
     bound = bound now old.lists.deep later.deep;
     over = over-at old now later ended;
+    wants = tt;
   }
 
 -- a turn that gives no field leaves a later walk

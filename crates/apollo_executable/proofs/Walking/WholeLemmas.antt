@@ -1,7 +1,8 @@
 -- What a whole walk over a set gives.
-use Rattle.std.proofs.Common.{◌≡◌, ◌≤◌, ◌↔◌, Bool, ℕ, List, true, Some, ◌∙◌, arith}
+use Rattle.std.proofs.Common.{◌≡◌, ◌≤◌, ◌↔◌, Bool, ℕ, List, [], true, Some, refl, ap, subst, ◌∙◌, arith}
 use Rattle.graphql_nodes.specs.NodeView.{NodeView}
-use Rattle.apollo_walks.specs.Selections.{Fragments, Names, no_names, fragment_of}
+use Rattle.apollo_walks.specs.Selections.{Fragments, Names, none, no_names, fragment_of}
+use Rattle.apollo_walks.specs.WalkOrder.{Order, of_none}
 use Rattle.apollo_walks.specs.OrderInTurns.{AreDue}
 use Rattle.apollo_walks.specs.Reachable.{Reachable}
 use Rattle.apollo_walks.specs.TurnByTurn.{AreTurnByTurn}
@@ -15,6 +16,7 @@ use Rattle.apollo_executable.specs.declared.selection.Field.{Field}
 use Rattle.apollo_executable.specs.declared.selection.SelectionSet.{SelectionSet}
 use Rattle.apollo_executable.specs.declared.document.ExecutableDocument.{ExecutableDocument}
 use Rattle.apollo_executable.proofs.Walking.FlagLemmas.{opened_names-reached}
+use Rattle.apollo_executable.proofs.Walking.PlainLemmas.{plain-none}
 
 -- what the laws of walks say of their turns and names
 pub record WholeWalkLaws : Type 0 where
@@ -29,6 +31,15 @@ module _ (deep : Bool) (document : ExecutableDocument) (set : SelectionSet) wher
       → AreWalked deep document set (walk_over deep document set).fields
   unfolding walk_over
   walked whole = whole
+
+  -- no selection, no field
+  pub walked-none : (fields : List (NodeView Field)) → AreWalked deep document set fields → set.selections ≡ [] → fields ≡ []
+  walked-none fields walked no_selection =
+      let order = subst (λ (s : Plain). Order (fragments_of deep document) no_names s fields walked.opened) (ap (plain deep) no_selection ∙ plain-none deep) walked.order in
+      order-none order
+    where
+      order-none : {fragments : Fragments (NodeView Field)} {before after : Names} {fs : List (NodeView Field)} → Order fragments before none fs after → fs ≡ []
+      order-none of_none = refl
 
   pub in-turns : AreDue (fragments_of deep document) (plain deep set.selections) (course (fragments_of deep document) no_names (plain deep set.selections)).fields
       ((course (fragments_of deep document) no_names (plain deep set.selections)).due 0)

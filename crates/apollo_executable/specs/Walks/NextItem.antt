@@ -1,9 +1,10 @@
 -- What a call of `next` gives of a walk, and what it leaves.
-use Rattle.std.specs.Prelude.{◌≡◌, ◌<◌, ℕ, suc, Bool, true, false, [], ◌∷◌, length, Option, None, Some, IfNone, cond, Result, Ok, Err}
+use Rattle.std.specs.Prelude.{◌≡◌, ◌<◌, ℕ, suc, Bool, true, false, [], ◌∷◌, length, Option, None, Some, IfNone, IfSome, cond, Result, Ok, Err, OnErr}
 use Rattle.std.specs.Borrow.{Bor}
 use Rattle.std.specs.declared.alloc.AllocError.{AllocError}
 use Rattle.graphql_nodes.specs.NodeView.{NodeView}
 use Rattle.apollo_walks.specs.TurnByTurn.{IsNoLater}
+use Rattle.apollo_executable.specs.Walks.Nesting.{opens_lists}
 use Rattle.apollo_executable.specs.Walks.WalkView.{WalkView, IsWithinTurns, TakesAllTurns, AreReachedNames}
 use Rattle.apollo_executable.specs.declared.selection.Field.{Field}
 
@@ -40,6 +41,8 @@ pub record IsNext (deep : Bool) (old : WalkView) (item : Option Item) (new : Wal
   pub bound : IsWithinTurns deep new.document new.start new.taken
   -- where it wasn't over before
   pub over : IfNone item (old.ended ≡ false → IsOver deep new)
+  -- the error comes only where a list is opened beside that of the set
+  pub wants : IfSome item (λ r. OnErr r (opens_lists deep new.start.selections ≡ true))
 
 -- a field each, and the error, which may come after them all
 abbrev pub most_items : WalkView → ℕ

@@ -1,5 +1,5 @@
 //! Walks over selection sets and operations.
-ghost use Rattle.std.specs.Prelude.{IfOk, map, true, false};
+ghost use Rattle.std.specs.Prelude.{◌≢◌, [], IfOk, OnErr, map, true, false};
 ghost use Rattle.apollo_executable.specs.Walks.WalkView.{AreWalked, IsNewWalk};
 
 use crate::document::ExecutableDocument;
@@ -39,14 +39,15 @@ impl SelectionSet {
         AllFields::new(alloc, document, self)
     }
 
-    /// The fields of a whole walk over root fields, in order, as [`root_fields`](SelectionSet::root_fields) gives them. The
-    /// error is want of memory, and drops what was given.
+    /// The fields of a whole walk over root fields, in order, as [`root_fields`](SelectionSet::root_fields) gives them. The error is
+    /// want of memory, which a set without selections doesn't meet, and drops what was given.
     pub fn collect_root<'doc>(
         &'doc self,
         alloc: Global,
         document: &'doc ExecutableDocument,
     ) -> Result<Vec<&'doc Node<Field>>, AllocError>
-        ensures { IfOk result (λ fields. AreWalked false document.now self.now (map (λ field. field.now) fields.items)) }
+        ensures walked { IfOk result (λ fields. AreWalked false document.now self.now (map (λ field. field.now) fields.items)) }
+        ensures memory { OnErr result (self.now.selections ≢ []) }
     {
         let mut fields = Vec::new(alloc);
         let mut walk = self.root_fields(alloc, document);
@@ -56,14 +57,15 @@ impl SelectionSet {
         Ok(fields)
     }
 
-    /// The fields of a whole walk over all fields, in order, as [`all_fields`](SelectionSet::all_fields) gives them. The error
-    /// is want of memory, and drops what was given.
+    /// The fields of a whole walk over all fields, in order, as [`all_fields`](SelectionSet::all_fields) gives them. The error is
+    /// want of memory, which a set without selections doesn't meet, and drops what was given.
     pub fn collect_all<'doc>(
         &'doc self,
         alloc: Global,
         document: &'doc ExecutableDocument,
     ) -> Result<Vec<&'doc Node<Field>>, AllocError>
-        ensures { IfOk result (λ fields. AreWalked true document.now self.now (map (λ field. field.now) fields.items)) }
+        ensures walked { IfOk result (λ fields. AreWalked true document.now self.now (map (λ field. field.now) fields.items)) }
+        ensures memory { OnErr result (self.now.selections ≢ []) }
     {
         let mut fields = Vec::new(alloc);
         let mut walk = self.all_fields(alloc, document);

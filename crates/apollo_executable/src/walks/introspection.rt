@@ -1,7 +1,8 @@
 //! Operations that ask for the schema alone: GraphQL specification of October 2021, sections 4.1 and 4.2.
-ghost use Rattle.std.specs.Prelude.{◌≡◌, ◌↔◌, IsTrue, IfOk, OnErr};
+ghost use Rattle.std.specs.Prelude.{◌≡◌, ◌↔◌, IsTrue, IfOk, OnErr, true, false};
 ghost use Rattle.graphql_nodes.specs.declared.operation_type.OperationType.TheVariants.{Query};
 ghost use Rattle.apollo_executable.specs.Walks.Introspection.{IsIntrospection, IsMetaName};
+ghost use Rattle.apollo_executable.specs.Walks.Nesting.{opens_lists};
 
 use crate::document::ExecutableDocument;
 use crate::operation::Operation;
@@ -19,7 +20,8 @@ fn is_meta_name(name: &str) -> bool
 
 impl Operation {
     /// Whether the operation is a query all of whose root fields, those that are reached through fragments too, are `__type`,
-    /// `__schema` or `__typename`. It stops at the first other one. The error is want of memory, which only a query meets.
+    /// `__schema` or `__typename`. It stops at the first other one. The error is want of memory, which only a query with a
+    /// fragment among its selections meets.
     pub fn is_introspection(
         &self,
         alloc: Global,
@@ -27,6 +29,7 @@ impl Operation {
     ) -> Result<bool, AllocError>
         ensures answer { IfOk result (λ is. IsTrue is ↔ IsIntrospection document.now self.now) }
         ensures query { OnErr result (self.now.operation_type ≡ Query) }
+        ensures memory { OnErr result (opens_lists false self.now.selection_set.selections ≡ true) }
     {
         if !self.is_query() {
             return Ok(false);

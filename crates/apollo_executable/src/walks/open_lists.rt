@@ -32,6 +32,7 @@ pub(crate) enum Turn<'doc> {
 impl<'doc> OpenLists<'doc> {
     ghost use Rattle.apollo_executable.specs.Walks.Plain.{below_of};
     ghost use Rattle.apollo_executable.specs.Walks.Left.{left_of, walk_over, names_opened, opened_names, IsTurn, IsSpreadTurn};
+    ghost use Rattle.apollo_executable.specs.Walks.Nesting.{IsFlat, StaysFlat, opens_lists};
 
     /// The list of this set.
     pub(crate) fn new(
@@ -45,6 +46,7 @@ impl<'doc> OpenLists<'doc> {
         ensures ended { result.ended ≡ false }
         ensures left { left_of result ≡ walk_over deep document.now set.now }
         ensures opened { opened_names document.now (names_opened result) ≡ [] }
+        ensures flat { opens_lists deep set.now.selections ≡ false → IsFlat result }
     {
         walks_go_turn_by_turn::<Node<Field>>();
         OpenLists {
@@ -107,6 +109,7 @@ impl<'doc> OpenLists<'doc> {
         ensures document { self.new.document ≡ self.old.document }
         ensures deep { self.new.deep ≡ self.old.deep }
         ensures turn { IsTurn self.old result self.new }
+        ensures flat { IsFlat self.old → StaysFlat result self.new }
     {
         walks_go_turn_by_turn::<Node<Field>>();
         match self.current.split_first() {

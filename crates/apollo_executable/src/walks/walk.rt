@@ -1,6 +1,7 @@
 //! A walk, whether below fields or not, with its turns counted.
 ghost use Rattle.std.specs.Prelude.{◌≡◌, ◌≤◌, ◌+◌, ◌-◌, ◌^◌, min, false};
 ghost use Rattle.apollo_executable.specs.Walks.Left.{left_of, walk_over};
+ghost use Rattle.apollo_executable.specs.Walks.Nesting.{IsFlat, opens_lists};
 ghost use Rattle.apollo_executable.specs.Walks.WalkView.{IsNewWalk, IsWithinTurns};
 
 use crate::document::ExecutableDocument;
@@ -26,11 +27,13 @@ pub(crate) struct Walk<'doc> {
     ghost counted: { turns ≡ min taken.number (2 ^ 64 - 1) },
     ghost bounded: { taken.number ≤ (walk_over lists.deep document.now start.now).turns },
     ghost left_over: { lists.ended ≡ false → taken.number + (left_of lists).turns ≡ (walk_over lists.deep document.now start.now).turns },
+    ghost flat: { opens_lists lists.deep start.now.selections ≡ false → IsFlat lists },
     ghost left_open: { lists.ended ≡ false → (left_of lists).opened ≡ (walk_over lists.deep document.now start.now).opened },
 }
 
 impl<'doc> Walk<'doc> {
     ghost use Rattle.apollo_executable.specs.Walks.Left.{IsTurn};
+    ghost use Rattle.apollo_executable.specs.Walks.Nesting.{StaysFlat};
     ghost use Rattle.apollo_executable.specs.Walks.NextItem.{IsNext};
     ghost use Rattle.apollo_executable.specs.Walks.Seen.{seen};
 
@@ -72,6 +75,7 @@ impl<'doc> Walk<'doc> {
         ensures deep { self.new.lists.deep ≡ self.old.lists.deep }
         ensures taken { self.new.taken.number ≡ self.old.taken.number + 1 }
         ensures turn { IsTurn self.old.lists result self.new.lists }
+        ensures flat { IsFlat self.old.lists → StaysFlat result self.new.lists }
     {
         walks_go_turn_by_turn::<Node<Field>>();
         let turn = self.lists.turn();

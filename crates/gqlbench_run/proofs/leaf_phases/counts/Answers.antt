@@ -6,5 +6,5 @@ pub returns : goal.returns
 returns c =
     let operations = c.len-operations.ensures in
     let fragments = c.len-fragments.ensures.len in
-    let faults = ap length (c.as_slice.ensures.value ∙ c.in_ok-faults.ensures) in
+    let faults = ap length (c.as_slice.ensures.value ∙ c.in_ok-faults.ensures.faults) in
     c.in_ok-leaf_counts.ensures ∙ (λ i. leaf_counts (operations i) (fragments i) (faults i))

@@ -1,5 +1,7 @@
 use Rattle.std.proofs.Common.{Bool, sym, ap, ◌∙◌, arith}
 use Rattle.apollo_executable.specs.Walks.Left.{walk_over}
+use Rattle.apollo_executable.specs.Walks.Nesting.{opens_lists}
+use Rattle.apollo_executable.proofs.Walking.NestingLemmas.{stays-flat}
 use Rattle.apollo_executable.proofs.Walking.WalkLemmas.{turn-counts, turn-opens}
 use Rattle.apollo_executable.proofs.walks.walk.Walk.turn.Goals as goal
 
@@ -15,5 +17,6 @@ invariant_of-self c =
       counted = omega (arith, w.counted, c.saturating_add-self.ensures, c.after-self.ensures);
       bounded = omega (arith, counts.0, c.after-self.ensures, turns);
       left_over = λ still. omega (arith, counts.1 still, c.after-self.ensures, turns);
+      flat = λ shallow. stays-flat c.turn-turn.result c.turn-turn.new.self (c.turn-turn.ensures.flat (w.flat (ap (λ (d : Bool). opens_lists d w.start.now.selections) (sym c.turn-turn.ensures.deep) ∙ shallow)));
       left_open = λ still. sym (turn-opens w.lists c.turn-turn.new.self c.turn-turn.result c.turn-turn.ensures.turn still) ∙ w.left_open c.requires ∙ sym opened;
     }
