@@ -80,9 +80,8 @@ fn put(
     types: &mut Table<Name, ExtendedType>,
     name: &Name,
     ty: ExtendedType,
-) -> Result<(), BuilderError>
+) -> Result<(), AllocError>
     ensures put { OnOk result (types.new ≡ insert_entry same_text types.old name.now ty) }
-    ensures refused { IfErr result (λ error. error ≡ BuilderError.Memory) }
 {
     types.insert(name.clone()?, ty)?;
     Ok(())
