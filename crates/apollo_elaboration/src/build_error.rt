@@ -58,7 +58,7 @@ pub enum BuildError {
     },
 }
 
-/// What is wrong, and the place that it is about.
+/// What is wrong, and the location that it is about.
 pub type Fault = (Option<SourceSpan>, BuildError);
 
 /// The faults of a build, in order.
