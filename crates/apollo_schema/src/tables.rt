@@ -17,7 +17,7 @@ ghost use Rattle.graphql_nodes.specs.Sources.{merged};
 
 mod completion;
 mod copy;
-mod orphan_names;
+mod extended_only;
 
 use apollo_built_in::definitions::built_in_definitions;
 use apollo_component::extension::ExtensionSource;
