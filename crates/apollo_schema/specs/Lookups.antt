@@ -107,14 +107,14 @@ abbrev pub is_listed : NameView → List ComponentName → Bool
 is_listed n names = has_key (λ listed. same_text n listed.name) names
 
 -- the interfaces that a type declares
-abbrev pub interfaces_of : ExtendedType → List ComponentName
-interfaces_of (Object n) = n.value.implements_interfaces
-interfaces_of (Interface n) = n.value.implements_interfaces
-interfaces_of _ = []
+abbrev pub declared_interfaces : ExtendedType → List ComponentName
+declared_interfaces (Object n) = n.value.implements_interfaces
+declared_interfaces (Interface n) = n.value.implements_interfaces
+declared_interfaces _ = []
 
 -- a type declares an interface
 abbrev pub declares : NameView → ExtendedType → Bool
-declares i type = is_listed i (interfaces_of type)
+declares i type = is_listed i (declared_interfaces type)
 
 -- the type of a name is a subtype of an interface if it declares it, and a name is one of a union if that lists it
 abbrev pub is_subtype_of : Option ExtendedType → Types → NameView → NameView → Bool
