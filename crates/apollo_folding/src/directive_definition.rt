@@ -3,13 +3,12 @@ ghost use Rattle.std.specs.Prelude.{◌≡◌, [], ◌∷◌, ◌++◌, OnOk};
 ghost use Rattle.apollo_meaning.specs.Directives.{Directives, AreDirectivesOf};
 ghost use Rattle.apollo_meaning.specs.Faults.OtherFaults.{directive_faults};
 
-use apollo_meaning::build_error::BuildError;
+use apollo_meaning::build_error::{BuildError, Fault};
 use graphql_ast::type_system::DirectiveDefinition;
 use graphql_nodes::collections::items::Items;
 use graphql_nodes::collections::table::Table;
 use graphql_nodes::name::Name;
 use graphql_nodes::node::Node;
-use graphql_nodes::source::SourceSpan;
 use std::alloc::AllocError;
 
 /// Takes a directive definition: GraphQL specification of October 2021, section 3.13.
@@ -19,10 +18,10 @@ use std::alloc::AllocError;
 pub fn define_directive(
     table: &mut Table<Name, Node<DirectiveDefinition>>,
     node: &Node<DirectiveDefinition>,
-    errors: &mut Items<(Option<SourceSpan>, BuildError)>,
+    faults: &mut Items<Fault>,
 ) -> Result<(), AllocError>
     ensures defined { OnOk result ((ds : Directives) → AreDirectivesOf ds table.old → AreDirectivesOf (ds ++ node.now ∷ []) table.new) }
-    ensures faults { OnOk result ((ds : Directives) → AreDirectivesOf ds table.old → errors.new ≡ errors.old ++ directive_faults ds node.now) }
+    ensures faults { OnOk result ((ds : Directives) → AreDirectivesOf ds table.old → faults.new ≡ faults.old ++ directive_faults ds node.now) }
 {
     let Some(previous) = table.get_mut(&node.name) else {
         table.insert(node.name.clone()?, node.clone()?)?;
@@ -32,7 +31,7 @@ pub fn define_directive(
         *previous = node.clone()?;
         return Ok(());
     }
-    errors.push((
+    faults.push((
         node.name.location(),
         BuildError::DirectiveDefinitionCollision {
             previous_location: previous.name.location(),

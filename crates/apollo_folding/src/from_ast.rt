@@ -40,27 +40,27 @@ fn type_from_ast(
     alloc: Global,
     keys: HashKeys,
     head: &PartView<'_>,
-    errors: &mut Items<Fault>,
+    faults: &mut Items<Fault>,
 ) -> Result<ExtendedType, AllocError>
     ensures made { IfOk result (λ ty. let d = part_seen head.now in ty ≡ type_from d ((origins.Definition, d) ∷ [])) }
-    ensures faults { OnOk result (errors.new ≡ errors.old ++ part_faults [] (part_seen head.now)) }
+    ensures faults { OnOk result (faults.new ≡ faults.old ++ part_faults [] (part_seen head.now)) }
 {
     match head.body {
         BodyView::Scalar => Ok(ExtendedType::Scalar(type_of_definition(
-            alloc, keys, head, errors,
+            alloc, keys, head, faults,
         )?)),
         BodyView::Object(_, _) => {
-            Ok(ExtendedType::Object(type_of_definition(alloc, keys, head, errors)?))
+            Ok(ExtendedType::Object(type_of_definition(alloc, keys, head, faults)?))
         }
         BodyView::Interface(_, _) => {
-            Ok(ExtendedType::Interface(type_of_definition(alloc, keys, head, errors)?))
+            Ok(ExtendedType::Interface(type_of_definition(alloc, keys, head, faults)?))
         }
         BodyView::Union(_) => Ok(ExtendedType::Union(type_of_definition(
-            alloc, keys, head, errors,
+            alloc, keys, head, faults,
         )?)),
-        BodyView::Enum(_) => Ok(ExtendedType::Enum(type_of_definition(alloc, keys, head, errors)?)),
+        BodyView::Enum(_) => Ok(ExtendedType::Enum(type_of_definition(alloc, keys, head, faults)?)),
         BodyView::InputObject(_) => {
-            Ok(ExtendedType::InputObject(type_of_definition(alloc, keys, head, errors)?))
+            Ok(ExtendedType::InputObject(type_of_definition(alloc, keys, head, faults)?))
         }
     }
 }
@@ -83,19 +83,19 @@ fn fold_part(
     ty: &mut ExtendedType,
     part: &PartView<'_>,
     origin: ComponentOrigin,
-    errors: &mut Items<Fault>,
+    faults: &mut Items<Fault>,
 ) -> Result<(), AllocError>
     ensures folded { OnOk result (kind_of (part_seen part.now) ≡ type_kind ty.old → JoinsOne type_from ty.old origin (part_seen part.now) ty.new) }
-    ensures faults { OnOk result (kind_of (part_seen part.now) ≡ type_kind ty.old → FindsOne type_from ty.old (part_seen part.now) errors.old errors.new) }
+    ensures faults { OnOk result (kind_of (part_seen part.now) ≡ type_kind ty.old → FindsOne type_from ty.old (part_seen part.now) faults.old faults.new) }
     ensures kind { OnOk result (type_kind ty.new ≡ type_kind ty.old) }
 {
     match ty {
-        ExtendedType::Scalar(node) => fold_into(node, part, origin, errors)?,
-        ExtendedType::Object(node) => fold_into(node, part, origin, errors)?,
-        ExtendedType::Interface(node) => fold_into(node, part, origin, errors)?,
-        ExtendedType::Union(node) => fold_into(node, part, origin, errors)?,
-        ExtendedType::Enum(node) => fold_into(node, part, origin, errors)?,
-        ExtendedType::InputObject(node) => fold_into(node, part, origin, errors)?,
+        ExtendedType::Scalar(node) => fold_into(node, part, origin, faults)?,
+        ExtendedType::Object(node) => fold_into(node, part, origin, faults)?,
+        ExtendedType::Interface(node) => fold_into(node, part, origin, faults)?,
+        ExtendedType::Union(node) => fold_into(node, part, origin, faults)?,
+        ExtendedType::Enum(node) => fold_into(node, part, origin, faults)?,
+        ExtendedType::InputObject(node) => fold_into(node, part, origin, faults)?,
     }
     Ok(())
 }
@@ -108,20 +108,20 @@ pub fn extend_type(
     ty: &mut ExtendedType,
     extension: &PartView<'_>,
     ids: &mut ExtensionSource,
-    errors: &mut Items<Fault>,
+    faults: &mut Items<Fault>,
 ) -> Result<(), BuilderError>
     ensures folded { OnOk result (Extends ty.old ids.old (part_seen extension.now ∷ []) ty.new) }
-    ensures faults { OnOk result (FindsJoining ty.old (part_seen extension.now ∷ []) errors.old errors.new) }
+    ensures faults { OnOk result (FindsJoining ty.old (part_seen extension.now ∷ []) faults.old faults.new) }
     ensures kind { OnOk result (type_kind ty.new ≡ type_kind ty.old) }
     ensures next { OnOk result (ids.new ≡ after ids.old (how_many (type_kind ty.old) (part_seen extension.now ∷ []))) }
     ensures refused { IfErr result (λ error. RefusedAs error (SpentWith ids.old (how_many (type_kind ty.old) (part_seen extension.now ∷ [])))) }
 {
     if extension.kind() != ty.kind() {
-        errors.push(kind_mismatch(ty, extension)?)?;
+        faults.push(kind_mismatch(ty, extension)?)?;
         return Ok(());
     }
     let id = ids.draw(extension.location)?;
-    fold_part(ty, extension, ComponentOrigin::Extension(id), errors)?;
+    fold_part(ty, extension, ComponentOrigin::Extension(id), faults)?;
     Ok(())
 }
 
@@ -130,16 +130,16 @@ fn extend_by(
     ty: &mut ExtendedType,
     definition: &Definition,
     ids: &mut ExtensionSource,
-    errors: &mut Items<Fault>,
+    faults: &mut Items<Fault>,
 ) -> Result<(), BuilderError>
     ensures folded { OnOk result (Extends ty.old ids.old (extended_parts (definition.now ∷ [])) ty.new) }
-    ensures faults { OnOk result (FindsJoining ty.old (extended_parts (definition.now ∷ [])) errors.old errors.new) }
+    ensures faults { OnOk result (FindsJoining ty.old (extended_parts (definition.now ∷ [])) faults.old faults.new) }
     ensures kind { OnOk result (type_kind ty.new ≡ type_kind ty.old) }
     ensures next { OnOk result (ids.new ≡ after ids.old (how_many (type_kind ty.old) (extended_parts (definition.now ∷ [])))) }
     ensures refused { IfErr result (λ error. RefusedAs error (SpentWith ids.old (how_many (type_kind ty.old) (extended_parts (definition.now ∷ []))))) }
 {
     match ItemView::of(definition) {
-        ItemView::Extended(extension) => extend_type(ty, &extension, ids, errors),
+        ItemView::Extended(extension) => extend_type(ty, &extension, ids, faults),
         _ => Ok(()),
     }
 }
@@ -149,15 +149,15 @@ fn extend_by_all(
     ty: &mut ExtendedType,
     extensions: &[Definition],
     ids: &mut ExtensionSource,
-    errors: &mut Items<Fault>,
+    faults: &mut Items<Fault>,
 ) -> Result<(), BuilderError>
     ensures folded { OnOk result (Extends ty.old ids.old (extended_parts extensions.now) ty.new) }
-    ensures faults { OnOk result (FindsJoining ty.old (extended_parts extensions.now) errors.old errors.new) }
+    ensures faults { OnOk result (FindsJoining ty.old (extended_parts extensions.now) faults.old faults.new) }
     ensures next { OnOk result (ids.new ≡ after ids.old (how_many (type_kind ty.old) (extended_parts extensions.now))) }
     ensures refused { IfErr result (λ error. RefusedAs error (SpentWith ids.old (how_many (type_kind ty.old) (extended_parts extensions.now)))) }
 {
     for extension in extensions {
-        extend_by(ty, extension, ids, errors)?;
+        extend_by(ty, extension, ids, faults)?;
     }
     Ok(())
 }
@@ -173,14 +173,14 @@ pub fn begin_type(
     head: &PartView<'_>,
     extensions: &[Definition],
     ids: &mut ExtensionSource,
-    errors: &mut Items<Fault>,
+    faults: &mut Items<Fault>,
 ) -> Result<ExtendedType, BuilderError>
     ensures made { IfOk result (λ ty. (b : Bool) → ty ≡ type_begun (next_number ids.old) (record (part_seen head.now) { ignorable = b }) (extended_parts extensions.now)) }
-    ensures faults { OnOk result ((b : Bool) → errors.new ≡ errors.old ++ type_begun_faults (record (part_seen head.now) { ignorable = b }) (extended_parts extensions.now)) }
+    ensures faults { OnOk result ((b : Bool) → faults.new ≡ faults.old ++ type_begun_faults (record (part_seen head.now) { ignorable = b }) (extended_parts extensions.now)) }
     ensures next { OnOk result (ids.new ≡ after ids.old (how_many (kind_of (part_seen head.now)) (extended_parts extensions.now))) }
     ensures refused { IfErr result (λ error. RefusedAs error (SpentWith ids.old (how_many (kind_of (part_seen head.now)) (extended_parts extensions.now)))) }
 {
-    let mut ty = type_from_ast(alloc, keys, head, errors)?;
-    extend_by_all(&mut ty, extensions, ids, errors)?;
+    let mut ty = type_from_ast(alloc, keys, head, faults)?;
+    extend_by_all(&mut ty, extensions, ids, faults)?;
     Ok(ty)
 }

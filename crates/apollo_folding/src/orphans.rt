@@ -18,8 +18,8 @@ use graphql_nodes::node::Node;
 use std::alloc::AllocError;
 
 /// Notes an extension whose name has no definition.
-fn note_orphan(extension: &Definition, errors: &mut Items<Fault>) -> Result<(), AllocError>
-    ensures { OnOk result (errors.new ≡ errors.old ++ map orphan (extended_parts (extension.now ∷ []))) }
+fn note_orphan(extension: &Definition, faults: &mut Items<Fault>) -> Result<(), AllocError>
+    ensures { OnOk result (faults.new ≡ faults.old ++ map orphan (extended_parts (extension.now ∷ []))) }
 {
     let ItemView::Extended(part) = ItemView::of(extension) else {
         return Ok(());
@@ -27,15 +27,15 @@ fn note_orphan(extension: &Definition, errors: &mut Items<Fault>) -> Result<(), 
     let error = BuildError::OrphanTypeExtension {
         name: part.name.clone()?,
     };
-    errors.push((part.name.location(), error))
+    faults.push((part.name.location(), error))
 }
 
 /// Notes extensions whose name has no definition, in order.
-fn note_orphans_of(extensions: &[Definition], errors: &mut Items<Fault>) -> Result<(), AllocError>
-    ensures { OnOk result (errors.new ≡ errors.old ++ map orphan (extended_parts extensions.now)) }
+fn note_orphans_of(extensions: &[Definition], faults: &mut Items<Fault>) -> Result<(), AllocError>
+    ensures { OnOk result (faults.new ≡ faults.old ++ map orphan (extended_parts extensions.now)) }
 {
     for extension in extensions {
-        note_orphan(extension, errors)?;
+        note_orphan(extension, faults)?;
     }
     Ok(())
 }
@@ -44,12 +44,12 @@ fn note_orphans_of(extensions: &[Definition], errors: &mut Items<Fault>) -> Resu
 /// order. The error is want of memory.
 pub fn note_orphans(
     waiting: &Table<Name, Items<Definition>>,
-    errors: &mut Items<Fault>,
+    faults: &mut Items<Fault>,
 ) -> Result<(), AllocError>
-    ensures { OnOk result (errors.new ≡ errors.old ++ map orphan (flat_map extended_parts (values_of waiting.now))) }
+    ensures { OnOk result (faults.new ≡ faults.old ++ map orphan (flat_map extended_parts (values_of waiting.now))) }
 {
     for extensions in waiting.values() {
-        note_orphans_of(extensions.as_slice(), errors)?;
+        note_orphans_of(extensions.as_slice(), faults)?;
     }
     Ok(())
 }
@@ -58,12 +58,12 @@ pub fn note_orphans(
 /// is want of memory.
 pub fn note_schema_orphans(
     extensions: &[Node<SchemaExtension>],
-    errors: &mut Items<Fault>,
+    faults: &mut Items<Fault>,
 ) -> Result<(), AllocError>
-    ensures { OnOk result (errors.new ≡ errors.old ++ map schema_orphan (map schema_extension_part extensions.now)) }
+    ensures { OnOk result (faults.new ≡ faults.old ++ map schema_orphan (map schema_extension_part extensions.now)) }
 {
     for extension in extensions {
-        errors.push((extension.location(), BuildError::OrphanSchemaExtension))?;
+        faults.push((extension.location(), BuildError::OrphanSchemaExtension))?;
     }
     Ok(())
 }

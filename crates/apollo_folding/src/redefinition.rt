@@ -42,16 +42,16 @@ pub fn note_redefinition(
     previous: &ExtendedType,
     further: &PartView<'_>,
     ignores: bool,
-    errors: &mut Items<Fault>,
+    faults: &mut Items<Fault>,
 ) -> Result<(), AllocError>
-    ensures { OnOk result (ForFirst previous.now (λ d. errors.new ≡ errors.old ++ further_definition d (record (part_seen further.now) { ignorable = ignores }))) }
+    ensures { OnOk result (ForFirst previous.now (λ d. faults.new ≡ faults.old ++ further_definition d (record (part_seen further.now) { ignorable = ignores }))) }
 {
     if !previous.is_built_in() {
-        errors.push(redefinition(previous, further)?)?;
+        faults.push(redefinition(previous, further)?)?;
         return Ok(());
     }
     if !ignores {
-        errors.push(built_in_redefinition(previous, further)?)?;
+        faults.push(built_in_redefinition(previous, further)?)?;
     }
     Ok(())
 }

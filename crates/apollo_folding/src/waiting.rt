@@ -1,15 +1,14 @@
 //! Extensions that wait for the definition of their name.
-ghost use Rattle.std.specs.Prelude.{◌≡◌, None, ℕ, ◌+◌, List, [], ◌∷◌, ◌++◌, is_some, OnOk, IfErr, Some, if◌then◌else◌};
+ghost use Rattle.std.specs.Prelude.{◌≡◌, None, ℕ, ◌+◌, List, [], ◌∷◌, ◌++◌, is_some, OnOk, Some, if◌then◌else◌};
 ghost use Rattle.graphql_nodes.specs.Tables.{keys_of, lookup};
 ghost use Rattle.apollo_meaning.specs.Items.ListItems.{held_under, item_of, items_of, items_held};
 ghost use Rattle.graphql_nodes.specs.SameText.{same, by_text};
 
-use crate::builder_error::BuilderError;
 use graphql_ast::definition::Definition;
 use graphql_nodes::collections::items::Items;
 use graphql_nodes::collections::table::Table;
 use graphql_nodes::name::Name;
-use std::alloc::Global;
+use std::alloc::{AllocError, Global};
 use std::mem;
 
 /// Takes out what waits under a name, in order, and leaves the name with nothing under it. It takes no memory.
@@ -35,10 +34,9 @@ pub fn wait(
     waiting: &mut Table<Name, Items<Definition>>,
     name: &Name,
     extension: &Definition,
-) -> Result<(), BuilderError>
+) -> Result<(), AllocError>
     ensures waits { OnOk result ((n : List ℕ) → held_under n waiting.new ≡ (if same n name.now.text then held_under n waiting.old ++ item_of extension.now ∷ [] else held_under n waiting.old)) }
     ensures names { OnOk result (keys_of waiting.new ≡ (if is_some (lookup (by_text name.now.text) waiting.old) then keys_of waiting.old else keys_of waiting.old ++ name.now ∷ [])) }
-    ensures refused { IfErr result (λ error. error ≡ BuilderError.Memory) }
 {
     if let Some(extensions) = waiting.get_mut(name) {
         extensions.push(extension.clone()?)?;

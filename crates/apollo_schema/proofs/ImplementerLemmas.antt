@@ -20,7 +20,7 @@ use Rattle.apollo_component.proofs.Tabled.{tabled, first_of_each-distinct, first
 use Rattle.apollo_types.specs.TypeKinds.{is_object, is_interface}
 use Rattle.apollo_types.specs.declared.extended_type.ExtendedType.{ExtendedType}
 use Rattle.apollo_types.specs.declared.extended_type.ExtendedType.TheVariants.{Scalar, Object, Interface, Union, Enum, InputObject}
-use Rattle.apollo_schema.specs.Lookups.{Types, interfaces_of, is_listed, declares}
+use Rattle.apollo_schema.specs.Lookups.{Types, declared_interfaces, is_listed, declares}
 use Rattle.apollo_schema.specs.Implementers.{names_declared, implementers_of, implementers_map}
 use Rattle.apollo_schema.specs.Noted.{no_implementers, with_name, noted, noted_under}
 use Rattle.apollo_schema.specs.declared.implementers.Implementers.{Implementers}
@@ -50,7 +50,7 @@ pub none-declares : (kind : ExtendedType → Bool) (types : Types) (i : NameView
 none-declares kind [] i none = refl
 none-declares kind (e ∷ types) i none =
     let parts = or_parts (list_any (same_text i) (names_declared e.1)) (list_any (same_text i) (flat_map (λ e. names_declared e.1) types)) (sym (list_any-append (same_text i) (names_declared e.1) (flat_map (λ e. names_declared e.1) types)) ∙ none) in
-    by (kind e.1) (sym (listed-names i (interfaces_of e.1)) ∙ parts.0) (none-declares kind types i parts.1)
+    by (kind e.1) (sym (listed-names i (declared_interfaces e.1)) ∙ parts.0) (none-declares kind types i parts.1)
   where
     by : (b : Bool) → declares i e.1 ≡ false → filter (λ e. kind e.1 && declares i e.1) types ≡ [] → cond (b && declares i e.1) (e ∷ filter (λ e. kind e.1 && declares i e.1) types) (filter (λ e. kind e.1 && declares i e.1) types) ≡ []
     by true none done = ap (λ c. cond c (e ∷ filter (λ e. kind e.1 && declares i e.1) types) (filter (λ e. kind e.1 && declares i e.1) types)) none ∙ done
@@ -183,11 +183,11 @@ module _ (types : Types) (k : NameView) where
 
   -- all are: the types with one more
   grown-end : (o : Bool) (ty : ExtendedType) → ((i : NameView) → (is_object ty && declares i ty) ≡ (o && declares i ty)) → ((i : NameView) → (is_interface ty && declares i ty) ≡ (not o && declares i ty))
-      → grown types o k (interfaces_of ty) ≡ implementers_map (types ++ (k, ty) ∷ [])
+      → grown types o k (declared_interfaces ty) ≡ implementers_map (types ++ (k, ty) ∷ [])
   grown-end o ty objects interfaces = (λ j. tabled (λ i. by i j) (first_of_each same_text (names j)))
     where
-      names : raw types ++ names_of (interfaces_of ty) ≡ raw (types ++ (k, ty) ∷ [])
-      names = ap (λ l. raw types ++ l) (sym (append-nil (names_of (interfaces_of ty)))) ∙ sym (flat_map-append (λ e. names_declared e.1) types ((k, ty) ∷ []))
+      names : raw types ++ names_of (declared_interfaces ty) ≡ raw (types ++ (k, ty) ∷ [])
+      names = ap (λ l. raw types ++ l) (sym (append-nil (names_of (declared_interfaces ty)))) ∙ sym (flat_map-append (λ e. names_declared e.1) types ((k, ty) ∷ []))
 
       key-of-one : (b : Bool) → one_if b k ≡ keys_of (cond b ((k, ty) ∷ []) [])
       key-of-one true = refl
@@ -199,17 +199,17 @@ module _ (types : Types) (k : NameView) where
           ∙ sym (map-append (λ e. e.0) (filter (λ e. kind e.1 && declares i e.1) types) (cond (kind ty && declares i ty) ((k, ty) ∷ []) []))
           ∙ ap keys_of (sym (filter-append (λ e. kind e.1 && declares i e.1) types ((k, ty) ∷ [])))
 
-      by : (i : NameView) → value types o k (interfaces_of ty) i ≡ implementers_of (types ++ (k, ty) ∷ []) i
+      by : (i : NameView) → value types o k (declared_interfaces ty) i ≡ implementers_of (types ++ (k, ty) ∷ []) i
       by i =
           let os = ap (λ b. keys_declaring is_object types i ++ one_if b k) (sym (objects i)) ∙ keys is_object i in
           let is = ap (λ b. keys_declaring is_interface types i ++ one_if b k) (sym (interfaces i)) ∙ keys is_interface i in
           (λ j. record { objects = first_of_each same_text (os j); interfaces = first_of_each same_text (is j) })
 
   -- a type noted under each interface that it declares
-  pub implementers_map-push : (ty : ExtendedType) → noted_under (is_object ty) k (implementers_map types) (interfaces_of ty) ≡ implementers_map (types ++ (k, ty) ∷ [])
+  pub implementers_map-push : (ty : ExtendedType) → noted_under (is_object ty) k (implementers_map types) (declared_interfaces ty) ≡ implementers_map (types ++ (k, ty) ∷ [])
   implementers_map-push ty =
-      ap (λ m. noted_under (is_object ty) k m (interfaces_of ty)) (grown-start (is_object ty))
-      ∙ grown-more (is_object ty) [] (interfaces_of ty)
+      ap (λ m. noted_under (is_object ty) k m (declared_interfaces ty)) (grown-start (is_object ty))
+      ∙ grown-more (is_object ty) [] (declared_interfaces ty)
       ∙ grown-end (is_object ty) ty (λ i. refl) (interface ty)
     where
       interface : (ty : ExtendedType) (i : NameView) → (is_interface ty && declares i ty) ≡ (not (is_object ty) && declares i ty)

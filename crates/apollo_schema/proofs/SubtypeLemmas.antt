@@ -16,7 +16,7 @@ use Rattle.apollo_component.proofs.FirstOfEachLemmas.{is_some-lookup, list_any-f
 use Rattle.apollo_types.specs.TypeKinds.{is_object, is_interface}
 use Rattle.apollo_types.specs.declared.extended_type.ExtendedType.{ExtendedType}
 use Rattle.apollo_types.specs.declared.extended_type.ExtendedType.TheVariants.{Scalar, Object, Interface, Union, Enum, InputObject}
-use Rattle.apollo_schema.specs.Lookups.{Types, type_at, interface_node, declares, interfaces_of, is_subtype, is_subtype_of}
+use Rattle.apollo_schema.specs.Lookups.{Types, type_at, interface_node, declares, declared_interfaces, is_subtype, is_subtype_of}
 use Rattle.apollo_schema.specs.Implementers.{names_declared, implementers_of, is_among, is_implementer}
 use Rattle.apollo_component.proofs.Tabled.{lookup-tabled}
 use Rattle.apollo_schema.proofs.ImplementerLemmas.{listed-names}
@@ -26,7 +26,7 @@ undeclared : (types : Types) (test : NameView → Bool) (i : NameView) → list_
 undeclared [] test i none = refl
 undeclared (e ∷ types) test i none =
     let parts = or_parts (list_any (same_text i) (names_declared e.1)) (list_any (same_text i) (flat_map (λ e. names_declared e.1) types)) (sym (list_any-append (same_text i) (names_declared e.1) (flat_map (λ e. names_declared e.1) types)) ∙ none) in
-    by (test e.0) (sym (listed-names i (interfaces_of e.1)) ∙ parts.0) (undeclared types test i parts.1)
+    by (test e.0) (sym (listed-names i (declared_interfaces e.1)) ∙ parts.0) (undeclared types test i parts.1)
   where
     by : (b : Bool) → declares i e.1 ≡ false → option_map_or (declares i) (lookup test types) false ≡ false → option_map_or (declares i) (cond b (Some e.1) (lookup test types)) false ≡ false
     by true own rest = own

@@ -9,12 +9,12 @@ use Rattle.graphql_nodes.specs.Tables.{lookup, keys_of}
 use Rattle.apollo_component.specs.FirstOfEach.{first_of_each}
 use Rattle.apollo_types.specs.TypeKinds.{is_object, is_interface}
 use Rattle.apollo_types.specs.declared.extended_type.ExtendedType.{ExtendedType}
-use Rattle.apollo_schema.specs.Lookups.{Types, interfaces_of, declares}
+use Rattle.apollo_schema.specs.Lookups.{Types, declared_interfaces, declares}
 use Rattle.apollo_schema.specs.declared.implementers.Implementers.{Implementers}
 
 -- the names of the interfaces that a type declares
 abbrev pub names_declared : ExtendedType → List NameView
-names_declared type = map (λ listed. listed.name) (interfaces_of type)
+names_declared type = map (λ listed. listed.name) (declared_interfaces type)
 
 -- the names of the interfaces that types declare, each where it stands first
 abbrev pub interfaces_declared : Types → List NameView

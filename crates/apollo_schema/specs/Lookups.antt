@@ -91,11 +91,11 @@ abbrev pub meta_field : Schema → NameView → ExtendedType → NameView → Op
 meta_field s t type f = find (λ field. same_text f field.node.value.name) (meta_fields s t type)
 
 -- the field of this name in the type of this name: the one that it declares, or else a meta-field
-abbrev pub field_in : Schema → NameView → NameView → ExtendedType → Option (Component FieldDefinition)
-field_in s t f type = option_or (declared_field type f) (meta_field s t type f)
+abbrev pub field_of_type : Schema → NameView → NameView → ExtendedType → Option (Component FieldDefinition)
+field_of_type s t f type = option_or (declared_field type f) (meta_field s t type f)
 
 abbrev pub field_at : Schema → NameView → NameView → Option (Component FieldDefinition)
-field_at s t f = option_map_or (field_in s t f) (type_at s.types t) None
+field_at s t f = option_map_or (field_of_type s t f) (type_at s.types t) None
 
 -- the error says whether there is a type of this name: if so, with its key and the type
 abbrev pub IsMissingIn : Types → NameView → FieldLookupError → Type 0
@@ -107,14 +107,14 @@ abbrev pub is_listed : NameView → List ComponentName → Bool
 is_listed n names = has_key (λ listed. same_text n listed.name) names
 
 -- the interfaces that a type declares
-abbrev pub interfaces_of : ExtendedType → List ComponentName
-interfaces_of (Object n) = n.value.implements_interfaces
-interfaces_of (Interface n) = n.value.implements_interfaces
-interfaces_of _ = []
+abbrev pub declared_interfaces : ExtendedType → List ComponentName
+declared_interfaces (Object n) = n.value.implements_interfaces
+declared_interfaces (Interface n) = n.value.implements_interfaces
+declared_interfaces _ = []
 
 -- a type declares an interface
 abbrev pub declares : NameView → ExtendedType → Bool
-declares i type = is_listed i (interfaces_of type)
+declares i type = is_listed i (declared_interfaces type)
 
 -- the type of a name is a subtype of an interface if it declares it, and a name is one of a union if that lists it
 abbrev pub is_subtype_of : Option ExtendedType → Types → NameView → NameView → Bool

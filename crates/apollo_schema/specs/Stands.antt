@@ -28,7 +28,7 @@ pub record Stands (start : ℕ) (xs : List ListItem) (t : Tables) : Type 0 where
   pub directives : AreDirectivesOf (directive_definitions xs) t.directive_definitions
   pub waiting : (n : List ℕ) → items_held (lookup (by_text n) t.waiting) ≡ map Extended (orphans_of xs n)
   pub names : keys_of t.waiting ≡ waited xs
-  pub faults : t.errors ≡ found xs
+  pub faults : t.faults ≡ found xs
   pub next : t.ids ≡ source_at (start + length (folded xs))
 
 -- these tables are those of a list that ends with these items, which are implied, and hold what was found and what is
@@ -37,7 +37,7 @@ pub record Ends (start : ℕ) (implied xs : List ListItem) (t : Tables) : Type 0
   pub definition : t.schema_definition ≡ schema_of start (folded (xs ++ implied)) (xs ++ implied)
   pub types : AreTypesOf start (folded (xs ++ implied)) (xs ++ implied) t.types
   pub directives : AreDirectivesOf (directive_definitions (xs ++ implied)) t.directive_definitions
-  pub faults : t.errors
+  pub faults : t.faults
       ≡ found xs ++ (map orphan (flat_map (orphans_of xs) (extended_names xs)) ++ (each_after found_at xs implied ++ map schema_orphan (schema_orphans (xs ++ implied))))
   pub next : t.ids ≡ source_at (start + length (folded (xs ++ implied)))
 
@@ -46,7 +46,7 @@ pub record Completes (start : ℕ) (adopts : Bool) (xs : List ListItem) (t : Tab
   pub definition : t.schema_definition ≡ schema_of start (folded (completed adopts xs)) (completed adopts xs)
   pub types : AreTypesOf start (folded (completed adopts xs)) (completed adopts xs) t.types
   pub directives : AreDirectivesOf (directive_definitions (completed adopts xs)) t.directive_definitions
-  pub faults : t.errors ≡ faults_in adopts xs
+  pub faults : t.faults ≡ faults_in adopts xs
   pub next : t.ids ≡ source_at (start + length (folded (completed adopts xs)))
 
 abbrev pub StateStands : ℕ → List ListItem → State → Type 0

@@ -37,5 +37,5 @@ with_schema t s = record t {
   schema_definition = Some (schema_begun (next_number t.ids) s (map schema_extension_part t.schema_extensions));
   schema_extensions = [];
   ids = source_at (next_number t.ids + length t.schema_extensions);
-  errors = t.errors ++ schema_begun_faults s (map schema_extension_part t.schema_extensions);
+  faults = t.faults ++ schema_begun_faults s (map schema_extension_part t.schema_extensions);
 }

@@ -1,13 +1,18 @@
 //! Schemas: GraphQL specification of October 2021, section 3.3.
-ghost use Rattle.std.specs.Prelude.{◌≡◌, IfOk, option_map};
+ghost use Rattle.std.specs.Prelude.{◌≡◌, false, [], IfOk, option_map};
 ghost use Rattle.std.specs.Option.{option_copied};
+ghost use Rattle.apollo_built_in.specs.BuiltInTable.{built_in_definitions};
+ghost use Rattle.apollo_meaning.specs.Items.ListItems.{added};
+ghost use Rattle.apollo_schema.specs.MeantSchema.{MeansSchema};
 
 mod fields;
 mod implementers_map;
 mod subtypes;
 mod types_by_name;
 
+use crate::build_failure::BuildFailure;
 use crate::meta_fields::MetaFields;
+use crate::schema_builder::SchemaBuilder;
 use crate::write_out::{write_directives, write_type};
 use apollo_types::extended_type::ExtendedType;
 use apollo_types::schema_definition::SchemaDefinition;
@@ -39,6 +44,31 @@ pub struct Schema {
 impl Schema {
     ghost use Rattle.apollo_types.specs.SchemaRoots.{root_of};
     ghost use Rattle.apollo_schema.specs.SchemaWriteOut.{write_schema};
+    ghost use Rattle.apollo_schema.specs.BuilderStands.{StandsFor, adopts, ignores, sources_of};
+
+    /// A builder of schemas. See [`SchemaBuilder::new`].
+    pub fn builder(alloc: Global) -> Result<SchemaBuilder, AllocError>
+        ensures stands { IfOk result (StandsFor 0 (added false built_in_definitions)) }
+        ensures settings { IfOk result (λ builder. (adopts builder ≡ false) × (ignores builder ≡ false)) }
+        ensures sources { IfOk result (λ builder. sources_of builder ≡ []) }
+    {
+        SchemaBuilder::new(alloc)
+    }
+
+    /// The schema of no documents: that of the built-in definitions alone. The error is want of memory.
+    pub fn new(alloc: Global) -> Result<Schema, AllocError>
+        ensures means { IfOk result (MeansSchema 0 false (added false built_in_definitions)) }
+        ensures sources { IfOk result (λ schema. schema.sources ≡ []) }
+    {
+        match SchemaBuilder::new(alloc)?.build() {
+            Ok(schema) => Ok(schema),
+            Err(BuildFailure::Memory) => Err(AllocError),
+            // The built-in definitions have no faults, there are no extensions, and nothing was refused before.
+            Err(BuildFailure::Faults(_)) => unreachable!(),
+            Err(BuildFailure::ExtensionIds) => unreachable!(),
+            Err(BuildFailure::Failed) => unreachable!(),
+        }
+    }
 
     /// The schema of these parts, of which nothing is asked. The error is want of memory, and drops the parts.
     pub fn from_parts(

@@ -2,7 +2,6 @@
 ghost use Rattle.std.specs.Prelude.{◌≡◌, false, true, ℕ, ◌+◌, ◌≤◌, List, [], ◌++◌, All, is_some, Err, OnOk, OnErr, IfOk, IfErr, ◌↔◌};
 ghost use Rattle.apollo_component.specs.Extensions.{next_number, source_at};
 ghost use Rattle.apollo_meaning.specs.Items.ListItems.{Added, added};
-ghost use Rattle.apollo_schema.specs.MeantSchema.{MeansSchema};
 ghost use Rattle.apollo_meaning.specs.Schema.Whole.{folds};
 ghost use Rattle.apollo_schema.specs.BuildAnswers.{IfFaults};
 ghost use Rattle.apollo_built_in.specs.BuiltInTable.{built_in_definitions};
@@ -248,33 +247,5 @@ impl Clone for SchemaBuilder {
             adopt_orphan_extensions: self.adopt_orphan_extensions,
             ignore_builtin_redefinitions: self.ignore_builtin_redefinitions,
         })
-    }
-}
-
-impl Schema {
-    ghost use Rattle.apollo_schema.specs.BuilderStands.{StandsFor, adopts, ignores, sources_of};
-
-    /// A builder of schemas. See [`SchemaBuilder::new`].
-    pub fn builder(alloc: Global) -> Result<SchemaBuilder, AllocError>
-        ensures stands { IfOk result (StandsFor 0 (added false built_in_definitions)) }
-        ensures settings { IfOk result (λ builder. (adopts builder ≡ false) × (ignores builder ≡ false)) }
-        ensures sources { IfOk result (λ builder. sources_of builder ≡ []) }
-    {
-        SchemaBuilder::new(alloc)
-    }
-
-    /// The schema of no documents: that of the built-in definitions alone. The error is want of memory.
-    pub fn new(alloc: Global) -> Result<Schema, AllocError>
-        ensures means { IfOk result (MeansSchema 0 false (added false built_in_definitions)) }
-        ensures sources { IfOk result (λ schema. schema.sources ≡ []) }
-    {
-        match SchemaBuilder::new(alloc)?.build() {
-            Ok(schema) => Ok(schema),
-            Err(BuildFailure::Memory) => Err(AllocError),
-            // The built-in definitions have no faults, there are no extensions, and nothing was refused before.
-            Err(BuildFailure::Faults(_)) => unreachable!(),
-            Err(BuildFailure::ExtensionIds) => unreachable!(),
-            Err(BuildFailure::Failed) => unreachable!(),
-        }
     }
 }

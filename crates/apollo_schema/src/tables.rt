@@ -5,7 +5,7 @@ ghost use Rattle.graphql_nodes.specs.SameText.{same_text};
 ghost use Rattle.graphql_ast.specs.Definitions.{location_of};
 ghost use Rattle.graphql_ast.specs.DefinitionTexts.{definition_text};
 ghost use Rattle.apollo_component.specs.Extensions.{next_number};
-ghost use Rattle.apollo_meaning.specs.declared.build_error.BuildError.TheVariants as faults;
+ghost use Rattle.apollo_meaning.specs.declared.build_error.BuildError.TheVariants as errors;
 ghost use Rattle.apollo_meaning.specs.Items.Parts.{schema_definition_part, schema_extension_part};
 ghost use Rattle.apollo_meaning.specs.Items.ListItems.{Extended, SchemaDefined, SchemaExtended, added, added_item, added_items, item_of};
 ghost use Rattle.apollo_built_in.specs.BuiltInTable.{built_in_definitions};
@@ -17,7 +17,7 @@ ghost use Rattle.graphql_nodes.specs.Sources.{merged};
 
 mod completion;
 mod copy;
-mod orphan_names;
+mod extended_only;
 
 use apollo_built_in::definitions::built_in_definitions;
 use apollo_component::extension::ExtensionSource;
@@ -56,7 +56,7 @@ pub struct Tables {
     directive_definitions: Table<Name, Node<DirectiveDefinition>>,
     waiting: Table<Name, Items<Definition>>,
     ids: ExtensionSource,
-    errors: Items<Fault>,
+    faults: Items<Fault>,
 }
 
 impl Drop for Tables {
@@ -70,7 +70,7 @@ impl Drop for Tables {
             directive_definitions: _,
             waiting: _,
             ids: _,
-            errors: _,
+            faults: _,
         } = self;
     }
 }
@@ -80,9 +80,8 @@ fn put(
     types: &mut Table<Name, ExtendedType>,
     name: &Name,
     ty: ExtendedType,
-) -> Result<(), BuilderError>
+) -> Result<(), AllocError>
     ensures put { OnOk result (types.new ≡ insert_entry same_text types.old name.now ty) }
-    ensures refused { IfErr result (λ error. error ≡ BuilderError.Memory) }
 {
     types.insert(name.clone()?, ty)?;
     Ok(())
@@ -104,7 +103,7 @@ impl Tables {
             directive_definitions: Table::with_keys(alloc, keys),
             waiting: Table::with_keys(alloc, keys),
             ids,
-            errors: Items::new(alloc),
+            faults: Items::new(alloc),
         }
     }
 
@@ -139,7 +138,7 @@ impl Tables {
         ensures sources { self.new.sources ≡ self.old.sources }
     {
         if let Some(previous) = self.types.get(definition.name) {
-            note_redefinition(previous, definition, ignores, &mut self.errors)?;
+            note_redefinition(previous, definition, ignores, &mut self.faults)?;
             return Ok(());
         }
         let extensions = take_waiting(self.alloc, &mut self.waiting, definition.name);
@@ -149,7 +148,7 @@ impl Tables {
             definition,
             extensions.as_slice(),
             &mut self.ids,
-            &mut self.errors,
+            &mut self.faults,
         )?;
         put(&mut self.types, definition.name, ty)?;
         Ok(())
@@ -169,7 +168,7 @@ impl Tables {
             wait(self.alloc, &mut self.waiting, extension.name, definition)?;
             return Ok(());
         };
-        extend_type(ty, extension, &mut self.ids, &mut self.errors)?;
+        extend_type(ty, extension, &mut self.ids, &mut self.faults)?;
         Ok(())
     }
 
@@ -185,7 +184,7 @@ impl Tables {
             node,
             extensions.as_slice(),
             &mut self.ids,
-            &mut self.errors,
+            &mut self.faults,
         )?;
         self.schema_definition = Some(definition);
         Ok(())
@@ -201,7 +200,7 @@ impl Tables {
             let error = BuildError::SchemaDefinitionCollision {
                 previous_location: previous.location(),
             };
-            self.errors.push((node.location(), error))?;
+            self.faults.push((node.location(), error))?;
             return Ok(());
         }
         self.put_schema(node)?;
@@ -218,19 +217,19 @@ impl Tables {
             self.schema_extensions.push(node.clone()?)?;
             return Ok(());
         };
-        extend_schema(definition, node, &mut self.ids, &mut self.errors)?;
+        extend_schema(definition, node, &mut self.ids, &mut self.faults)?;
         Ok(())
     }
 
     /// Notes a definition that does not belong into a schema.
     fn note_executable(&mut self, definition: &Definition) -> Result<(), AllocError>
-        ensures noted { OnOk result (self.new ≡ record self.old { errors = self.old.errors ++ (location_of definition.now, faults.ExecutableDefinition (definition_text definition.now)) ∷ [] }) }
+        ensures noted { OnOk result (self.new ≡ record self.old { faults = self.old.faults ++ (location_of definition.now, errors.ExecutableDefinition (definition_text definition.now)) ∷ [] }) }
         ensures sources { self.new.sources ≡ self.old.sources }
     {
         let error = BuildError::ExecutableDefinition {
             describe: StaticText::new(definition.describe()),
         };
-        self.errors.push((definition.location(), error))
+        self.faults.push((definition.location(), error))
     }
 
     /// Takes a definition, under this setting of whether redefinitions of built-in types are ignored.
@@ -245,7 +244,7 @@ impl Tables {
             ItemView::SchemaDefined(node) => self.define_schema(node)?,
             ItemView::SchemaExtended(node) => self.extend_schema(node)?,
             ItemView::Directive(node) => {
-                define_directive(&mut self.directive_definitions, node, &mut self.errors)?;
+                define_directive(&mut self.directive_definitions, node, &mut self.faults)?;
             }
             ItemView::Operation(_) | ItemView::Fragment(_) => self.note_executable(definition)?,
         }

@@ -8,7 +8,7 @@ use Rattle.graphql_ast.specs.declared.type_system.FieldDefinition.{FieldDefiniti
 use Rattle.apollo_component.specs.declared.component.Component.{Component}
 use Rattle.apollo_types.specs.declared.extended_type.ExtendedType.{ExtendedType}
 use Rattle.apollo_types.specs.declared.extended_type.ExtendedType.TheVariants.{Object, Interface}
-use Rattle.apollo_schema.specs.Lookups.{Types, field_at, interfaces_of, is_subtype}
+use Rattle.apollo_schema.specs.Lookups.{Types, field_at, declared_interfaces, is_subtype}
 use Rattle.apollo_schema.specs.declared.schema.Schema.{Schema}
 
 -- the fields of an object or interface type, under their names
@@ -23,7 +23,7 @@ field_questions_of entry = map (λ name. (entry.0, name)) (keys_of (fields_of en
 
 -- each interface of a type, and the type of each of its fields, with the type's own name
 abbrev pub subtype_questions_of : (NameView × ExtendedType) → List (NameView × NameView)
-subtype_questions_of entry = map (λ interface. (interface.name, entry.0)) (interfaces_of entry.1) ++ map (λ field. (inner_name field.node.value.ty, entry.0)) (values_of (fields_of entry.1))
+subtype_questions_of entry = map (λ interface. (interface.name, entry.0)) (declared_interfaces entry.1) ++ map (λ field. (inner_name field.node.value.ty, entry.0)) (values_of (fields_of entry.1))
 
 abbrev pub field_questions : Types → List (NameView × NameView)
 field_questions types = flat_map field_questions_of types

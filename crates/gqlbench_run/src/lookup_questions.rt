@@ -1,7 +1,7 @@
 //! What is asked of a schema, over all its object and interface types.
 ghost use Rattle.std.specs.Prelude.{◌≡◌, ◌++◌, [], IfOk, MatchOption, OnOk, count_by, map};
 ghost use Rattle.graphql_nodes.specs.Tables.{keys_of, values_of};
-ghost use Rattle.apollo_schema.specs.Lookups.{interfaces_of};
+ghost use Rattle.apollo_schema.specs.Lookups.{declared_interfaces};
 ghost use Rattle.graphql_ast.specs.TypeReferences.{inner_name};
 ghost use Rattle.gqlbench_run.specs.LookupQuestions.{fields_of, field_questions, field_questions_of, subtype_questions, subtype_questions_of, has_field, has_subtype};
 
@@ -27,8 +27,8 @@ fn fields_of(ty: &ExtendedType) -> Option<&Table<Name, Component<FieldDefinition
 }
 
 /// The interfaces that the type declares.
-fn interfaces_of(ty: &ExtendedType) -> &[ComponentName]
-    ensures { result.now ≡ interfaces_of ty.now }
+fn declared_interfaces(ty: &ExtendedType) -> &[ComponentName]
+    ensures { result.now ≡ declared_interfaces ty.now }
 {
     match ty {
         ExtendedType::Object(object) => object.implements_interfaces.as_slice(),
@@ -96,7 +96,7 @@ fn push_subtype_questions(
 ) -> Result<(), AllocError>
     ensures { OnOk result (questions.new.items ≡ questions.old.items ++ subtype_questions_of (name.now, ty.now)) }
 {
-    push_interfaces(questions, name, interfaces_of(ty))?;
+    push_interfaces(questions, name, declared_interfaces(ty))?;
     match fields_of(ty) {
         Some(fields) => push_field_types(questions, name, fields),
         None => Ok(()),

@@ -33,7 +33,7 @@ impl Kind for EnumType {
         &mut self,
         part: &PartView<'_>,
         origin: ComponentOrigin,
-        errors: &mut Items<Fault>,
+        faults: &mut Items<Fault>,
     ) -> Result<(), AllocError> {
         let BodyView::Enum(values) = part.body else {
             return Ok(());
@@ -45,7 +45,7 @@ impl Kind for EnumType {
             origin,
             Collection::EnumValues,
             part.name,
-            errors,
+            faults,
         )?;
         Ok(())
     }

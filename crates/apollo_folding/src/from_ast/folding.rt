@@ -58,14 +58,14 @@ fn note_listed(
     name: &Name,
     collection: Collection,
     type_name: &Name,
-    errors: &mut Items<Fault>,
+    faults: &mut Items<Fault>,
 ) -> Result<(), AllocError>
-    ensures { OnOk result (FindsIn distinct_names set.now (λ ks. collision_at collection type_name.now (map (λ k. k.name) ks) (name.now, name.now.location)) errors.old errors.new) }
+    ensures { OnOk result (FindsIn distinct_names set.now (λ ks. collision_at collection type_name.now (map (λ k. k.name) ks) (name.now, name.now.location)) faults.old faults.new) }
 {
     let component = ComponentName::with_origin(name.clone()?, ComponentOrigin::Definition);
     if let Some(kept) = set.get(&component) {
         let error = collection.collision(&kept.name, type_name)?;
-        errors.push((name.location(), error))?;
+        faults.push((name.location(), error))?;
     }
     Ok(())
 }
@@ -77,17 +77,17 @@ fn fold_name(
     origin: ComponentOrigin,
     collection: Collection,
     type_name: &Name,
-    errors: &mut Items<Fault>,
+    faults: &mut Items<Fault>,
 ) -> Result<(), AllocError>
     ensures added { OnOk result (Lengthens distinct_names set.old (component_name origin name.now ∷ []) set.new) }
-    ensures faults { OnOk result (FindsIn distinct_names set.old (λ ks. collision_at collection type_name.now (map (λ k. k.name) ks) (name.now, name.now.location)) errors.old errors.new) }
+    ensures faults { OnOk result (FindsIn distinct_names set.old (λ ks. collision_at collection type_name.now (map (λ k. k.name) ks) (name.now, name.now.location)) faults.old faults.new) }
 {
     let component = ComponentName::with_origin(name.clone()?, origin);
     let is_new = set.insert(component)?;
     if is_new {
         return Ok(());
     }
-    note_listed(set, name, collection, type_name, errors)?;
+    note_listed(set, name, collection, type_name, faults)?;
     Ok(())
 }
 
@@ -99,13 +99,13 @@ pub fn fold_names(
     origin: ComponentOrigin,
     collection: Collection,
     type_name: &Name,
-    errors: &mut Items<Fault>,
+    faults: &mut Items<Fault>,
 ) -> Result<(), AllocError>
     ensures added { OnOk result (Lengthens distinct_names set.old (map (component_name origin) names.now) set.new) }
-    ensures faults { OnOk result (FindsIn distinct_names set.old (λ ks. collisions collection type_name.now (map (λ k. k.name) ks) (name_entries names.now)) errors.old errors.new) }
+    ensures faults { OnOk result (FindsIn distinct_names set.old (λ ks. collisions collection type_name.now (map (λ k. k.name) ks) (name_entries names.now)) faults.old faults.new) }
 {
     for name in names {
-        fold_name(set, name, origin, collection, type_name, errors)?;
+        fold_name(set, name, origin, collection, type_name, faults)?;
     }
     Ok(())
 }
@@ -116,13 +116,13 @@ fn note_collision<T: Named + Drop>(
     node: &Node<T>,
     collection: Collection,
     type_name: &Name,
-    errors: &mut Items<Fault>,
+    faults: &mut Items<Fault>,
 ) -> Result<(), AllocError>
-    ensures { OnOk result (FindsIn distinct_entries table.now (λ es. collision_at collection type_name.now (keys_of es) (T.name_of node.now.value, node.now.location)) errors.old errors.new) }
+    ensures { OnOk result (FindsIn distinct_entries table.now (λ es. collision_at collection type_name.now (keys_of es) (T.name_of node.now.value, node.now.location)) faults.old faults.new) }
 {
     if let Some((kept, _)) = table.get_key_value(node.name()) {
         let error = collection.collision(kept, type_name)?;
-        errors.push((node.location(), error))?;
+        faults.push((node.location(), error))?;
     }
     Ok(())
 }
@@ -135,10 +135,10 @@ fn fold_entry<T: Named + Drop>(
     origin: ComponentOrigin,
     collection: Collection,
     type_name: &Name,
-    errors: &mut Items<Fault>,
+    faults: &mut Items<Fault>,
 ) -> Result<(), AllocError>
     ensures added { OnOk result (Lengthens distinct_entries table.old ((T.name_of node.now.value, component origin node.now) ∷ []) table.new) }
-    ensures faults { OnOk result (FindsIn distinct_entries table.old (λ es. collision_at collection type_name.now (keys_of es) (T.name_of node.now.value, node.now.location)) errors.old errors.new) }
+    ensures faults { OnOk result (FindsIn distinct_entries table.old (λ es. collision_at collection type_name.now (keys_of es) (T.name_of node.now.value, node.now.location)) faults.old faults.new) }
 {
     let name = node.name().clone()?;
     let standing = table.insert(name, Component::with_origin(node.clone()?, origin))?;
@@ -146,7 +146,7 @@ fn fold_entry<T: Named + Drop>(
         return Ok(());
     };
     table.insert(node.name().clone()?, kept)?;
-    note_collision(table, node, collection, type_name, errors)?;
+    note_collision(table, node, collection, type_name, faults)?;
     Ok(())
 }
 
@@ -158,14 +158,14 @@ pub fn fold_named<T: Named + Drop>(
     origin: ComponentOrigin,
     collection: Collection,
     type_name: &Name,
-    errors: &mut Items<Fault>,
+    faults: &mut Items<Fault>,
 ) -> Result<(), AllocError>
     ensures added { OnOk result (Lengthens distinct_entries table.old (map (λ n. (T.name_of n.value, component origin n)) nodes.now) table.new) }
-    ensures faults { OnOk result (FindsIn distinct_entries table.old (λ es. collisions collection type_name.now (keys_of es) (named_entries T.name_of nodes.now)) errors.old errors.new) }
+    ensures faults { OnOk result (FindsIn distinct_entries table.old (λ es. collisions collection type_name.now (keys_of es) (named_entries T.name_of nodes.now)) faults.old faults.new) }
 {
     make_room(table, nodes.len())?;
     for node in nodes {
-        fold_entry(table, node, origin, collection, type_name, errors)?;
+        fold_entry(table, node, origin, collection, type_name, faults)?;
     }
     Ok(())
 }

@@ -33,7 +33,7 @@ impl Kind for InputObjectType {
         &mut self,
         part: &PartView<'_>,
         origin: ComponentOrigin,
-        errors: &mut Items<Fault>,
+        faults: &mut Items<Fault>,
     ) -> Result<(), AllocError> {
         let BodyView::InputObject(fields) = part.body else {
             return Ok(());
@@ -45,7 +45,7 @@ impl Kind for InputObjectType {
             origin,
             Collection::InputFields,
             part.name,
-            errors,
+            faults,
         )?;
         Ok(())
     }

@@ -34,10 +34,10 @@ pub trait Kind: Clone + Drop {
         &mut self,
         part: &PartView<'_>,
         origin: ComponentOrigin,
-        errors: &mut Items<Fault>,
+        faults: &mut Items<Fault>,
     ) -> Result<(), AllocError>
         ensures folded { OnOk result (kind_of (part_seen part.now) ≡ kind → JoinsOne made self.old origin (part_seen part.now) self.new) }
-        ensures faults { OnOk result (kind_of (part_seen part.now) ≡ kind → FindsOne made self.old (part_seen part.now) errors.old errors.new) };
+        ensures faults { OnOk result (kind_of (part_seen part.now) ≡ kind → FindsOne made self.old (part_seen part.now) faults.old faults.new) };
 
     /// A copy is the same type.
     ghost copies: { (x y : Self) → Self.is_clone x y → y ≡ x };
@@ -49,14 +49,14 @@ pub fn type_of_definition<K: Kind>(
     alloc: Global,
     keys: HashKeys,
     head: &PartView<'_>,
-    errors: &mut Items<Fault>,
+    faults: &mut Items<Fault>,
 ) -> Result<Node<K>, AllocError>
     ensures made { IfOk result (λ ty. let d = part_seen head.now in kind_of d ≡ K.kind
         → ty ≡ record { value = K.made d ((origins.Definition, d) ∷ []); location = d.location }) }
-    ensures faults { OnOk result (kind_of (part_seen head.now) ≡ K.kind → errors.new ≡ errors.old ++ part_faults [] (part_seen head.now)) }
+    ensures faults { OnOk result (kind_of (part_seen head.now) ≡ K.kind → faults.new ≡ faults.old ++ part_faults [] (part_seen head.now)) }
 {
     let mut ty = K::bare(alloc, keys, head)?;
-    ty.fold(head, ComponentOrigin::Definition, errors)?;
+    ty.fold(head, ComponentOrigin::Definition, faults)?;
     Node::new_opt_location(alloc, ty, head.location)
 }
 
@@ -66,12 +66,12 @@ pub fn fold_into<K: Kind>(
     node: &mut Node<K>,
     part: &PartView<'_>,
     origin: ComponentOrigin,
-    errors: &mut Items<Fault>,
+    faults: &mut Items<Fault>,
 ) -> Result<(), AllocError>
     ensures folded { OnOk result (kind_of (part_seen part.now) ≡ K.kind → JoinsOne K.made node.old.value origin (part_seen part.now) node.new.value) }
-    ensures faults { OnOk result (kind_of (part_seen part.now) ≡ K.kind → FindsOne K.made node.old.value (part_seen part.now) errors.old errors.new) }
+    ensures faults { OnOk result (kind_of (part_seen part.now) ≡ K.kind → FindsOne K.made node.old.value (part_seen part.now) faults.old faults.new) }
     ensures place { OnOk result (node.new.location ≡ node.old.location) }
 {
     let ty = node.make_mut()?;
-    ty.fold(part, origin, errors)
+    ty.fold(part, origin, faults)
 }

@@ -35,7 +35,7 @@ impl Kind for ObjectType {
         &mut self,
         part: &PartView<'_>,
         origin: ComponentOrigin,
-        errors: &mut Items<Fault>,
+        faults: &mut Items<Fault>,
     ) -> Result<(), AllocError> {
         let BodyView::Object(interfaces, fields) = part.body else {
             return Ok(());
@@ -47,7 +47,7 @@ impl Kind for ObjectType {
             origin,
             Collection::ObjectInterfaces,
             part.name,
-            errors,
+            faults,
         )?;
         fold_named(
             &mut self.fields,
@@ -55,7 +55,7 @@ impl Kind for ObjectType {
             origin,
             Collection::ObjectFields,
             part.name,
-            errors,
+            faults,
         )?;
         Ok(())
     }

@@ -30,7 +30,7 @@ impl Kind for ScalarType {
         &mut self,
         part: &PartView<'_>,
         origin: ComponentOrigin,
-        _errors: &mut Items<Fault>,
+        _faults: &mut Items<Fault>,
     ) -> Result<(), AllocError> {
         fold_directives(&mut self.directives, part.directives.as_slice(), origin)?;
         Ok(())

@@ -47,13 +47,13 @@ fn name_root(
     held: &mut Option<ComponentName>,
     root: &Node<(OperationType, NamedType)>,
     origin: ComponentOrigin,
-    errors: &mut Items<Fault>,
+    faults: &mut Items<Fault>,
 ) -> Result<(), AllocError>
     ensures named { OnOk result (held.new ≡ option_or held.old (Some (component_name origin root.now.value.1))) }
-    ensures faults { OnOk result (errors.new ≡ errors.old ++ held_fault held.old root.now) }
+    ensures faults { OnOk result (faults.new ≡ faults.old ++ held_fault held.old root.now) }
 {
     if let Some(kept) = &*held {
-        errors.push(dropped_root(root, kept))?;
+        faults.push(dropped_root(root, kept))?;
         return Ok(());
     }
     let (_, name) = &**root;
@@ -66,17 +66,17 @@ fn fold_root(
     definition: &mut SchemaDefinition,
     root: &Node<(OperationType, NamedType)>,
     origin: ComponentOrigin,
-    errors: &mut Items<Fault>,
+    faults: &mut Items<Fault>,
 ) -> Result<(), AllocError>
     ensures named { OnOk result (definition.new ≡ put_root root.now.value.0 (component_name origin root.now.value.1) definition.old) }
-    ensures faults { OnOk result (errors.new ≡ errors.old ++ held_fault (root_of definition.old root.now.value.0) root.now) }
+    ensures faults { OnOk result (faults.new ≡ faults.old ++ held_fault (root_of definition.old root.now.value.0) root.now) }
 {
     let (operation_type, _) = &**root;
     match *operation_type {
-        OperationType::Query => name_root(&mut definition.query, root, origin, errors)?,
-        OperationType::Mutation => name_root(&mut definition.mutation, root, origin, errors)?,
+        OperationType::Query => name_root(&mut definition.query, root, origin, faults)?,
+        OperationType::Mutation => name_root(&mut definition.mutation, root, origin, faults)?,
         OperationType::Subscription => {
-            name_root(&mut definition.subscription, root, origin, errors)?
+            name_root(&mut definition.subscription, root, origin, faults)?
         }
     }
     Ok(())
@@ -87,15 +87,15 @@ fn fold_roots(
     definition: &mut SchemaDefinition,
     roots: &[Node<(OperationType, NamedType)>],
     origin: ComponentOrigin,
-    errors: &mut Items<Fault>,
+    faults: &mut Items<Fault>,
 ) -> Result<(), AllocError>
     ensures named { OnOk result ((base : AnyDefinition) (rs : List NamedRoot) → definition.old ≡ with_roots base rs
         → definition.new ≡ with_roots base (rs ++ map (named_root origin) roots.now)) }
     ensures faults { OnOk result ((base : AnyDefinition) (rs : List NamedRoot) → definition.old ≡ with_roots base rs
-        → errors.new ≡ errors.old ++ held_faults rs origin roots.now) }
+        → faults.new ≡ faults.old ++ held_faults rs origin roots.now) }
 {
     for root in roots {
-        fold_root(definition, root, origin, errors)?;
+        fold_root(definition, root, origin, faults)?;
     }
     Ok(())
 }
@@ -106,13 +106,13 @@ fn fold(
     directives: &[Node<Directive>],
     roots: &[Node<(OperationType, NamedType)>],
     origin: ComponentOrigin,
-    errors: &mut Items<Fault>,
+    faults: &mut Items<Fault>,
 ) -> Result<(), AllocError>
     ensures folded { OnOk result (JoinsSchemaPart definition.old origin directives.now roots.now definition.new) }
-    ensures faults { OnOk result (FindsRoots definition.old roots.now errors.old errors.new) }
+    ensures faults { OnOk result (FindsRoots definition.old roots.now faults.old faults.new) }
 {
     fold_directives(&mut definition.directives, directives, origin)?;
-    fold_roots(definition, roots, origin, errors)?;
+    fold_roots(definition, roots, origin, faults)?;
     Ok(())
 }
 
@@ -129,10 +129,10 @@ fn bare(alloc: Global, definition: &ast::SchemaDefinition) -> Result<SchemaDefin
 fn schema_from_ast(
     alloc: Global,
     node: &Node<ast::SchemaDefinition>,
-    errors: &mut Items<Fault>,
+    faults: &mut Items<Fault>,
 ) -> Result<Node<SchemaDefinition>, AllocError>
     ensures made { IfOk result (λ made. let head = schema_definition_part node.now in made ≡ schema_from head ((origins.Definition, head) ∷ [])) }
-    ensures faults { OnOk result (errors.new ≡ errors.old ++ schema_faults [] (schema_definition_part node.now)) }
+    ensures faults { OnOk result (faults.new ≡ faults.old ++ schema_faults [] (schema_definition_part node.now)) }
 {
     let mut definition = bare(alloc, node)?;
     fold(
@@ -140,7 +140,7 @@ fn schema_from_ast(
         node.directives.as_slice(),
         node.root_operations.as_slice(),
         ComponentOrigin::Definition,
-        errors,
+        faults,
     )?;
     let made = node.same_location(alloc, definition)?;
     Ok(made)
@@ -154,10 +154,10 @@ pub fn extend_schema(
     node: &mut Node<SchemaDefinition>,
     extension: &Node<SchemaExtension>,
     ids: &mut ExtensionSource,
-    errors: &mut Items<Fault>,
+    faults: &mut Items<Fault>,
 ) -> Result<(), BuilderError>
     ensures folded { OnOk result (Joins schema_from node.old (λ _. schema_numbered (next_number ids.old) (schema_extension_part extension.now ∷ [])) node.new) }
-    ensures faults { OnOk result (Finds schema_from node.old (λ _ parts. schema_faults parts (schema_extension_part extension.now)) errors.old errors.new) }
+    ensures faults { OnOk result (Finds schema_from node.old (λ _ parts. schema_faults parts (schema_extension_part extension.now)) faults.old faults.new) }
     ensures next { OnOk result (ids.new ≡ after ids.old 1) }
     ensures grows { next_number ids.old ≤ next_number ids.new }
     ensures refused { IfErr result (λ error. RefusedAs error (SpentWith ids.old 1)) }
@@ -168,7 +168,7 @@ pub fn extend_schema(
         extension.directives.as_slice(),
         extension.root_operations.as_slice(),
         ComponentOrigin::Extension(id),
-        errors,
+        faults,
     )?;
     Ok(())
 }
@@ -178,16 +178,16 @@ fn extend_schema_by_all(
     node: &mut Node<SchemaDefinition>,
     extensions: &[Node<SchemaExtension>],
     ids: &mut ExtensionSource,
-    errors: &mut Items<Fault>,
+    faults: &mut Items<Fault>,
 ) -> Result<(), BuilderError>
     ensures folded { OnOk result (Joins schema_from node.old (λ _. schema_numbered (next_number ids.old) (map schema_extension_part extensions.now)) node.new) }
-    ensures faults { OnOk result (Finds schema_from node.old (λ _ parts. schema_joining_faults parts (map schema_extension_part extensions.now)) errors.old errors.new) }
+    ensures faults { OnOk result (Finds schema_from node.old (λ _ parts. schema_joining_faults parts (map schema_extension_part extensions.now)) faults.old faults.new) }
     ensures next { OnOk result (ids.new ≡ after ids.old (length extensions.now)) }
     ensures grows { next_number ids.old ≤ next_number ids.new }
     ensures refused { IfErr result (λ error. RefusedAs error (SpentWith ids.old (length extensions.now))) }
 {
     for extension in extensions {
-        extend_schema(node, extension, ids, errors)?;
+        extend_schema(node, extension, ids, faults)?;
     }
     Ok(())
 }
@@ -201,15 +201,15 @@ pub fn begin_schema(
     node: &Node<ast::SchemaDefinition>,
     extensions: &[Node<SchemaExtension>],
     ids: &mut ExtensionSource,
-    errors: &mut Items<Fault>,
+    faults: &mut Items<Fault>,
 ) -> Result<Node<SchemaDefinition>, BuilderError>
     ensures made { IfOk result (λ made. made ≡ schema_begun (next_number ids.old) (schema_definition_part node.now) (map schema_extension_part extensions.now)) }
-    ensures faults { OnOk result (errors.new ≡ errors.old ++ schema_begun_faults (schema_definition_part node.now) (map schema_extension_part extensions.now)) }
+    ensures faults { OnOk result (faults.new ≡ faults.old ++ schema_begun_faults (schema_definition_part node.now) (map schema_extension_part extensions.now)) }
     ensures next { OnOk result (ids.new ≡ after ids.old (length extensions.now)) }
     ensures grows { next_number ids.old ≤ next_number ids.new }
     ensures refused { IfErr result (λ error. RefusedAs error (SpentWith ids.old (length extensions.now))) }
 {
-    let mut definition = schema_from_ast(alloc, node, errors)?;
-    extend_schema_by_all(&mut definition, extensions, ids, errors)?;
+    let mut definition = schema_from_ast(alloc, node, faults)?;
+    extend_schema_by_all(&mut definition, extensions, ids, faults)?;
     Ok(definition)
 }

@@ -33,7 +33,7 @@ impl Kind for UnionType {
         &mut self,
         part: &PartView<'_>,
         origin: ComponentOrigin,
-        errors: &mut Items<Fault>,
+        faults: &mut Items<Fault>,
     ) -> Result<(), AllocError> {
         let BodyView::Union(members) = part.body else {
             return Ok(());
@@ -45,7 +45,7 @@ impl Kind for UnionType {
             origin,
             Collection::UnionMembers,
             part.name,
-            errors,
+            faults,
         )?;
         Ok(())
     }

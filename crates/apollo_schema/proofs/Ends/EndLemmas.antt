@@ -103,7 +103,7 @@ module _ {start : ℕ} {xs : List ListItem} {t : Tables} (was : Stands start xs 
 
   -- nothing is implied: extensions of the schema are at fault after those of types
   pub Ends-none : (u : Tables) → u.schema_definition ≡ t.schema_definition → u.types ≡ t.types → u.directive_definitions ≡ t.directive_definitions → u.ids ≡ t.ids
-      → u.errors ≡ (t.errors ++ map orphan (flat_map extended_parts (values_of t.waiting))) ++ map schema_orphan (map schema_extension_part t.schema_extensions)
+      → u.faults ≡ (t.faults ++ map orphan (flat_map extended_parts (values_of t.waiting))) ++ map schema_orphan (map schema_extension_part t.schema_extensions)
       → Ends start [] xs u
   Ends-none u definition types directives next errors =
       let whole : xs ≡ xs ++ [] = sym (append-nil xs) in
@@ -123,14 +123,14 @@ module _ {start : ℕ} {xs : List ListItem} {t : Tables} (was : Stands start xs 
       → u.schema_definition ≡ Some (schema_begun (next_number t.ids) s (map schema_extension_part t.schema_extensions))
       → u.types ≡ t.types → u.directive_definitions ≡ t.directive_definitions
       → u.ids ≡ source_at (next_number t.ids + length t.schema_extensions)
-      → u.errors ≡ (t.errors ++ map orphan (flat_map extended_parts (values_of t.waiting))) ++ schema_begun_faults s (map schema_extension_part t.schema_extensions)
+      → u.faults ≡ (t.faults ++ map orphan (flat_map extended_parts (values_of t.waiting))) ++ schema_begun_faults s (map schema_extension_part t.schema_extensions)
       → Ends start (SchemaDefined s ∷ []) xs u
   Ends-some s u absent definition types directives next errors =
       let begun : Tables = record t {
         schema_definition = Some (schema_begun (next_number t.ids) s (map schema_extension_part t.schema_extensions));
         schema_extensions = [];
         ids = source_at (next_number t.ids + length t.schema_extensions);
-        errors = t.errors ++ schema_begun_faults s (map schema_extension_part t.schema_extensions);
+        faults = t.faults ++ schema_begun_faults s (map schema_extension_part t.schema_extensions);
       } in
       let stands = Stands-schema_new was s begun absent refl refl (refl, (refl, refl)) refl refl in
       let none = schema_unknown was absent in

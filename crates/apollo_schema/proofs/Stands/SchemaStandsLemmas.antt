@@ -56,7 +56,7 @@ module _ {start : ℕ} {xs : List ListItem} {t : Tables} (was : Stands start xs 
   -- a further definition of the schema changes nothing, and is at fault
   pub Stands-schema_again : (s : SchemaPart) (u : Tables) (held : NodeView SchemaDefinition) → t.schema_definition ≡ Some held
       → u.schema_definition ≡ t.schema_definition → u.schema_extensions ≡ t.schema_extensions → OnlySchema (SchemaDefined s) u → u.ids ≡ t.ids
-      → u.errors ≡ t.errors ++ (s.location, errors.SchemaDefinitionCollision held.location) ∷ []
+      → u.faults ≡ t.faults ++ (s.location, errors.SchemaDefinitionCollision held.location) ∷ []
       → Stands start (xs ++ SchemaDefined s ∷ []) u
   Stands-schema_again s u held there definition extensions same next faults =
       let is = schema_known held there in
@@ -82,7 +82,7 @@ module _ {start : ℕ} {xs : List ListItem} {t : Tables} (was : Stands start xs 
       → u.schema_definition ≡ Some (schema_begun (next_number t.ids) s (map schema_extension_part t.schema_extensions))
       → u.schema_extensions ≡ [] → OnlySchema (SchemaDefined s) u
       → u.ids ≡ source_at (next_number t.ids + length t.schema_extensions)
-      → u.errors ≡ t.errors ++ schema_begun_faults s (map schema_extension_part t.schema_extensions)
+      → u.faults ≡ t.faults ++ schema_begun_faults s (map schema_extension_part t.schema_extensions)
       → Stands start (xs ++ SchemaDefined s ∷ []) u
   Stands-schema_new s u absent definition extensions same next faults =
       let none = schema_unknown absent in
@@ -108,7 +108,7 @@ module _ {start : ℕ} {xs : List ListItem} {t : Tables} (was : Stands start xs 
   -- an extension of the schema before its definition waits
   pub Stands-schema_early : (e : NodeView SchemaExtension) (u : Tables) → t.schema_definition ≡ None
       → u.schema_definition ≡ t.schema_definition → u.schema_extensions ≡ t.schema_extensions ++ e ∷ [] → OnlySchema (SchemaExtended (schema_extension_part e)) u
-      → u.ids ≡ t.ids → u.errors ≡ t.errors
+      → u.ids ≡ t.ids → u.faults ≡ t.faults
       → Stands start (xs ++ SchemaExtended (schema_extension_part e) ∷ []) u
   Stands-schema_early e u absent definition extensions same next faults =
       let none = schema_unknown absent in
@@ -124,7 +124,7 @@ module _ {start : ℕ} {xs : List ListItem} {t : Tables} (was : Stands start xs 
         directives = no-directives x u same.1.0 refl;
         waiting = same_waiting was x u same.1.1 refl refl;
         names = same_names was x u (ap keys_of same.1.1) refl;
-        faults = more_faults was x u [] (faults ∙ sym (append-nil t.errors)) (ap (λ o. option_map_or (λ s. schema_faults (s ∷ schema_extensions xs) (schema_extension_part e)) o []) none);
+        faults = more_faults was x u [] (faults ∙ sym (append-nil t.faults)) (ap (λ o. option_map_or (λ s. schema_faults (s ∷ schema_extensions xs) (schema_extension_part e)) o []) none);
         next = next ∙ was.next ∙ ap source_at (sym (at was) ∙ omega arith ∙ counted start xs x [] [] (next_number t.ids) (at was) refl folding);
       }
 
@@ -132,7 +132,7 @@ module _ {start : ℕ} {xs : List ListItem} {t : Tables} (was : Stands start xs 
   pub Stands-schema_late : (e : SchemaPart) (u : Tables) (held grown : NodeView SchemaDefinition) → t.schema_definition ≡ Some held
       → u.schema_definition ≡ Some grown → u.schema_extensions ≡ t.schema_extensions → OnlySchema (SchemaExtended e) u
       → ((head : SchemaPart) (done : List SourcedSchema) → held ≡ schema_from head done → grown ≡ schema_from head (done ++ schema_numbered (next_number t.ids) (e ∷ [])))
-      → ((head : SchemaPart) (done : List SourcedSchema) → held ≡ schema_from head done → u.errors ≡ t.errors ++ schema_faults (map (λ (s : SourcedSchema). s.1) done) e)
+      → ((head : SchemaPart) (done : List SourcedSchema) → held ≡ schema_from head done → u.faults ≡ t.faults ++ schema_faults (map (λ (s : SourcedSchema). s.1) done) e)
       → u.ids ≡ source_at (next_number t.ids + 1)
       → Stands start (xs ++ SchemaExtended e ∷ []) u
   Stands-schema_late e u held grown there definition extensions same made faults next =

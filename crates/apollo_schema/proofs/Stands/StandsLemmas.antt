@@ -159,13 +159,13 @@ module _ {start : ℕ} {xs : List ListItem} {t : Tables} (was : Stands start xs 
   same_names x u same none = same ∙ was.names ∙ sym (waited-push xs x ∙ ap (λ l. waited xs ++ l) none ∙ append-nil (waited xs))
 
   -- the faults after an item at which these are found
-  pub more_faults : (x : ListItem) (u : Tables) (es : List Fault) → u.errors ≡ t.errors ++ es → found_at xs x ≡ es → u.errors ≡ found (xs ++ x ∷ [])
+  pub more_faults : (x : ListItem) (u : Tables) (es : List Fault) → u.faults ≡ t.faults ++ es → found_at xs x ≡ es → u.faults ≡ found (xs ++ x ∷ [])
   more_faults x u es more is = more ∙ ap (λ l. l ++ es) was.faults ∙ ap (λ l. found xs ++ l) (sym is) ∙ sym (found-push xs x)
 
   -- a further definition of a name changes nothing, and is at fault
   pub Stands-again : (p : TypePart) (u : Tables) (ty : ExtendedType) → lookup (by_text (key_of p)) t.types ≡ Some ty
       → u.schema_definition ≡ t.schema_definition → u.schema_extensions ≡ t.schema_extensions → u.types ≡ t.types → u.directive_definitions ≡ t.directive_definitions → u.waiting ≡ t.waiting → u.ids ≡ t.ids
-      → ((d : TypePart) (done : List Sourced) → ty ≡ type_from d done → u.errors ≡ t.errors ++ further_definition d p)
+      → ((d : TypePart) (done : List Sourced) → ty ≡ type_from d done → u.faults ≡ t.faults ++ further_definition d p)
       → Stands start (xs ++ Defined p ∷ []) u
   Stands-again p u ty there definition extensions types directives waiting next errors =
       let d = (defined (key_of p) (ap is_some there)).0 in
@@ -194,7 +194,7 @@ module _ {start : ℕ} {xs : List ListItem} {t : Tables} (was : Stands start xs 
       → u.types ≡ insert_entry same_text t.types p.name ty
       → u.directive_definitions ≡ t.directive_definitions
       → keys_of u.waiting ≡ keys_of t.waiting
-      → u.errors ≡ t.errors ++ (part_faults [] p ++ joining_faults p (p ∷ []) es)
+      → u.faults ≡ t.faults ++ (part_faults [] p ++ joining_faults p (p ∷ []) es)
       → ((n : List ℕ) → items_held (lookup (by_text n) u.waiting) ≡ cond (same n (key_of p)) [] (items_held (lookup (by_text n) t.waiting)))
       → u.ids ≡ source_at (next_number t.ids + length (of_kind (kind_of p) es))
       → Stands start (xs ++ Defined p ∷ []) u
@@ -227,7 +227,7 @@ module _ {start : ℕ} {xs : List ListItem} {t : Tables} (was : Stands start xs 
       }
 
   -- an extension before its definition waits
-  pub Stands-early : (p : TypePart) (u : Tables) → u.schema_definition ≡ t.schema_definition → u.schema_extensions ≡ t.schema_extensions → u.types ≡ t.types → u.directive_definitions ≡ t.directive_definitions → u.errors ≡ t.errors → u.ids ≡ t.ids
+  pub Stands-early : (p : TypePart) (u : Tables) → u.schema_definition ≡ t.schema_definition → u.schema_extensions ≡ t.schema_extensions → u.types ≡ t.types → u.directive_definitions ≡ t.directive_definitions → u.faults ≡ t.faults → u.ids ≡ t.ids
       → keys_of u.waiting ≡ cond (is_some (lookup (by_text (key_of p)) t.waiting)) (keys_of t.waiting) (keys_of t.waiting ++ p.name ∷ [])
       → is_some (lookup (by_text (key_of p)) t.types) ≡ false
       → ((n : List ℕ) → items_held (lookup (by_text n) u.waiting) ≡ cond (same n (key_of p)) (items_held (lookup (by_text n) t.waiting) ++ Extended p ∷ []) (items_held (lookup (by_text n) t.waiting)))
@@ -241,7 +241,7 @@ module _ {start : ℕ} {xs : List ListItem} {t : Tables} (was : Stands start xs 
         types = same_types (Extended p) u types refl none_folded;
         directives = same_directives (Extended p) u directives (filter_map-append directive_part xs (Extended p ∷ []) ∙ append-nil (directive_definitions xs));
         names = waited-early xs p t.waiting (keys_of u.waiting) none was.names names;
-        faults = more_faults (Extended p) u [] (errors ∙ sym (append-nil t.errors)) (found_at-early xs p none);
+        faults = more_faults (Extended p) u [] (errors ∙ sym (append-nil t.faults)) (found_at-early xs p none);
         waiting = λ n. waiting n ∙ ap (λ l. cond (same n (key_of p)) (l ++ Extended p ∷ []) l) (was.waiting n) ∙ one_more_if (same n (key_of p)) p (orphans_of xs n) ∙ sym (ap (map Extended) (orphans_of-early xs p n none));
         next = next ∙ was.next ∙ ap source_at (sym at ∙ omega arith ∙ counted start xs (Extended p) [] [] (next_number t.ids) at none_folded refl);
       }
@@ -253,7 +253,7 @@ module _ {start : ℕ} {xs : List ListItem} {t : Tables} (was : Stands start xs 
       → u.types ≡ set_value (by_text (key_of p)) t.types grown
       → u.directive_definitions ≡ t.directive_definitions
       → u.waiting ≡ t.waiting
-      → ((head : TypePart) (done : List Sourced) → ty ≡ type_from head done → u.errors ≡ t.errors ++ joining_faults head (map (λ (s : Sourced). s.1) done) (p ∷ []))
+      → ((head : TypePart) (done : List Sourced) → ty ≡ type_from head done → u.faults ≡ t.faults ++ joining_faults head (map (λ (s : Sourced). s.1) done) (p ∷ []))
       → ((head : TypePart) (done : List Sourced) → ty ≡ type_from head done → grown ≡ type_from head (done ++ map extension_part (numbered (next_number t.ids) (of_kind (kind_of head) (p ∷ [])))))
       → u.ids ≡ source_at (next_number t.ids + length (of_kind (type_kind ty) (p ∷ [])))
       → Stands start (xs ++ Extended p ∷ []) u
@@ -291,9 +291,9 @@ module _ {start : ℕ} {xs : List ListItem} {t : Tables} (was : Stands start xs 
   -- something else changes no type, no schema definition, nothing that waits, and no number
   pub Stands-other : (d : Definition) (u : Tables) → u.schema_definition ≡ t.schema_definition → u.schema_extensions ≡ t.schema_extensions → u.types ≡ t.types → u.waiting ≡ t.waiting → u.ids ≡ t.ids
       → AreDirectivesOf (directive_definitions xs ++ directive_definitions (Other d ∷ [])) u.directive_definitions
-      → u.errors ≡ t.errors ++ other_faults (directive_definitions xs) d
+      → u.faults ≡ t.faults ++ other_faults (directive_definitions xs) d
       → Stands start (xs ++ Other d ∷ []) u
-  Stands-other d u definition extensions types waiting next directives errors = record {
+  Stands-other d u definition extensions types waiting next directives faults = record {
     definition = same_definition (Other d) u definition refl refl;
     orphans = same_orphans (Other d) u extensions refl refl;
     types = same_types (Other d) u types refl refl;

@@ -1,7 +1,7 @@
 //! Fields by name, with the meta-fields: GraphQL specification of October 2021, sections 3.6, 3.7, 4.1 and 4.2.
 ghost use Rattle.std.specs.Prelude.{◌≡◌, None, Some, IfOk, IfErr, OnErr};
 ghost use Rattle.std.specs.Option.{option_copied};
-ghost use Rattle.apollo_schema.specs.Lookups.{declared_field, is_query_root, meta_field, field_in, field_at, IsMissingIn};
+ghost use Rattle.apollo_schema.specs.Lookups.{declared_field, is_query_root, meta_field, field_of_type, field_at, IsMissingIn};
 
 use super::Schema;
 use crate::field_lookup_error::FieldLookupError;
@@ -67,7 +67,7 @@ impl Schema {
         ty: &'schema ExtendedType,
         field_name: &Name,
     ) -> Option<&'schema Component<FieldDefinition>>
-        ensures { option_copied result ≡ field_in self.now type_name.now field_name.now ty.now }
+        ensures { option_copied result ≡ field_of_type self.now type_name.now field_name.now ty.now }
     {
         match declared_field(ty, field_name) {
             Some(field) => Some(field),

@@ -2,7 +2,7 @@
 ghost use Rattle.std.specs.Prelude.{◌≡◌, IfOk, OnOk};
 ghost use Rattle.apollo_types.specs.TypeKinds.{is_object};
 ghost use Rattle.apollo_schema.specs.Implementers.{implementers_map};
-ghost use Rattle.apollo_schema.specs.Lookups.{interfaces_of};
+ghost use Rattle.apollo_schema.specs.Lookups.{declared_interfaces};
 ghost use Rattle.apollo_schema.specs.Noted.{noted, noted_under};
 
 use super::Schema;
@@ -14,8 +14,8 @@ use graphql_nodes::name::Name;
 use std::alloc::{AllocError, Global};
 
 /// The interfaces that the type declares.
-fn interfaces_of(ty: &ExtendedType) -> &[ComponentName]
-    ensures { result.now ≡ interfaces_of ty.now }
+fn declared_interfaces(ty: &ExtendedType) -> &[ComponentName]
+    ensures { result.now ≡ declared_interfaces ty.now }
 {
     match ty {
         ExtendedType::Object(object) => object.implements_interfaces.as_slice(),
@@ -51,9 +51,9 @@ fn note_type(
     name: &Name,
     ty: &ExtendedType,
 ) -> Result<(), AllocError>
-    ensures { OnOk result (map.new ≡ noted_under (is_object ty.now) name.now map.old (interfaces_of ty.now)) }
+    ensures { OnOk result (map.new ≡ noted_under (is_object ty.now) name.now map.old (declared_interfaces ty.now)) }
 {
-    let interfaces = interfaces_of(ty);
+    let interfaces = declared_interfaces(ty);
     for interface in interfaces {
         note(alloc, map, interface, name, ty.is_object())?;
     }

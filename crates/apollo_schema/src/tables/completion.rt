@@ -68,9 +68,9 @@ impl Tables {
         ensures sources { self.new.sources ≡ self.old.sources }
     {
         let implied = self.implied_schema(adopts)?;
-        note_orphans(&self.waiting, &mut self.errors)?;
+        note_orphans(&self.waiting, &mut self.faults)?;
         let Some(node) = implied else {
-            note_schema_orphans(self.schema_extensions.as_slice(), &mut self.errors)?;
+            note_schema_orphans(self.schema_extensions.as_slice(), &mut self.faults)?;
             return Ok(());
         };
         self.put_schema(&node)?;
@@ -135,7 +135,7 @@ impl Tables {
             directive_definitions,
             waiting: _,
             ids,
-            errors,
+            faults,
         } = self;
         let Ok(schema_definition) = definition_or_none(alloc, schema_definition) else {
             return (
@@ -155,12 +155,12 @@ impl Tables {
                 ExtensionSource::starting_at(before),
             );
         };
-        if errors.is_empty() {
+        if faults.is_empty() {
             return (Ok(schema), ids);
         }
         let found = WithErrors {
             partial: schema,
-            errors: errors.into_vec(),
+            errors: faults.into_vec(),
         };
         (Err(BuildFailure::Faults(found)), ids)
     }

@@ -27,7 +27,7 @@ impl Tables {
             &original.directive_definitions,
         )?;
         copy_into(&mut self.waiting, &original.waiting)?;
-        copy_into(&mut self.errors, &original.errors)?;
+        copy_into(&mut self.faults, &original.faults)?;
         Ok(())
     }
 }

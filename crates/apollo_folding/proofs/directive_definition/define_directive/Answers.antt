@@ -26,7 +26,7 @@ returns-in_default-clause-faults c = λ ds was.
     let d = c.args.node.now in
     let absent : lookup (by_text d.value.name.text) c.args.table.now ≡ None =
     ap (λ (x : DirectiveDefinition). lookup (by_text x.name.text) c.args.table.now) (sym c.deref.ensures) ∙ sym c.get_mut.ensures.value ∙ ap option_copied_mut c.in_default.is in
-    sym (ap (λ l. c.args.errors.now ++ l) (directive_faults-put was d absent) ∙ append-nil c.args.errors.now)
+    sym (ap (λ l. c.args.faults.now ++ l) (directive_faults-put was d absent) ∙ append-nil c.args.faults.now)
 
 pub returns-then-is_built_in-clause-defined : goal.returns-then-is_built_in-clause-defined
 returns-then-is_built_in-clause-defined c = λ ds was.
@@ -46,7 +46,7 @@ returns-then-is_built_in-clause-faults c = λ ds was.
     let there : lookup (by_text d.value.name.text) c.args.table.now ≡ Some v =
     ap (λ (x : DirectiveDefinition). lookup (by_text x.name.text) c.args.table.now) (sym c.deref.ensures) ∙ sym c.get_mut.ensures.value ∙ ap option_copied_mut c.in-Some.is in
     let built_in : is_built_in v.location ≡ true = search rules in
-    sym (ap (λ l. c.args.errors.now ++ l) (directive_faults-replace was d v there built_in) ∙ append-nil c.args.errors.now)
+    sym (ap (λ l. c.args.faults.now ++ l) (directive_faults-replace was d v there built_in) ∙ append-nil c.args.faults.now)
 
 pub returns-clause-defined : goal.returns-clause-defined
 returns-clause-defined c = λ ds was.
@@ -64,5 +64,5 @@ returns-clause-faults c = λ ds was.
     let there : lookup (by_text d.value.name.text) c.args.table.now ≡ Some v =
     ap (λ (x : DirectiveDefinition). lookup (by_text x.name.text) c.args.table.now) (sym c.deref.ensures) ∙ sym c.get_mut.ensures.value ∙ ap option_copied_mut c.in-Some.is in
     let handed_in : is_built_in v.location ≡ false = search rules in
-    let pushed : c.push.new.self ≡ c.args.errors.now ++ (d.value.name.location, errors.DirectiveDefinitionCollision v.value.name.location d.value.name) ∷ [] = search rules in
-    pushed ∙ ap (λ l. c.args.errors.now ++ l) (sym (directive_faults-drop was d v there handed_in))
+    let pushed : c.push.new.self ≡ c.args.faults.now ++ (d.value.name.location, errors.DirectiveDefinitionCollision v.value.name.location d.value.name) ∷ [] = search rules in
+    pushed ∙ ap (λ l. c.args.faults.now ++ l) (sym (directive_faults-drop was d v there handed_in))

@@ -15,4 +15,4 @@ returns-clause-faults c = λ b.
     let es = extended_parts c.args.extensions.now in
     c.in_ok-extend_by_all.ensures.faults q ((origins.Definition, q) ∷ []) (c.in_ok-ty.ensures.made ∙ sym (type_from-ignorable p b []))
     ∙ ap (λ l. l ++ joining_faults q (q ∷ []) es) c.in_ok-ty.ensures.faults
-    ∙ append_assoc c.args.errors.now (part_faults [] p) (joining_faults q (q ∷ []) es)
+    ∙ append_assoc c.args.faults.now (part_faults [] p) (joining_faults q (q ∷ []) es)

@@ -36,7 +36,7 @@ loop-extension-preserved c =
           let base = map (λ s. s.1) done in
           let early = extended_parts (take i xs) in
           let this = extended_parts (x ∷ []) in
-          let faults = c.args.errors.now in
+          let faults = c.args.faults.now in
           now.faults head (done ++ map extension_part (numbered start (before (kind_of head)))) (was.folded head done h)
           ∙ (λ i. was.faults head done h i ++ joining_faults head (parts-numbered done start (before (kind_of head)) i) this)
           ∙ append_assoc faults (joining_faults head base early) (joining_faults head (base ++ before (kind_of head)) this)

@@ -16,7 +16,7 @@ invariant-loop-extension l =
       folded : (head : TypePart) (done : List Sourced) → l.fn.ty ≡ type_from head done
           → l.ty ≡ type_from head (done ++ map extension_part (numbered (next_number l.fn.ids) (of_kind (kind_of head) so_far)));
       faults : (head : TypePart) (done : List Sourced) → l.fn.ty ≡ type_from head done
-          → l.errors ≡ l.fn.errors ++ joining_faults head (map (λ s. s.1) done) so_far;
+          → l.faults ≡ l.fn.faults ++ joining_faults head (map (λ s. s.1) done) so_far;
       kind : type_kind l.ty ≡ type_kind l.fn.ty;
       next : l.ids ≡ source_at (next_number l.fn.ids + length (of_kind (type_kind l.fn.ty) so_far));
     }

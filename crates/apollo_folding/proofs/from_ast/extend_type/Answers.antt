@@ -12,7 +12,7 @@ use Rattle.apollo_folding.proofs.from_ast.extend_type.Goals as goal
 pub returns-clause-faults : goal.returns-clause-faults
 returns-clause-faults c = λ head done was.
     let e = part_seen c.args.extension.now in
-    let before = c.args.errors.now in
+    let before = c.args.faults.now in
     let parts = map (λ s. s.1) done in
     let same : c.kind.result ≡ c.kind-2.result = differs_false the_type (search rules) c.kind.result c.kind-2.result (sym c.ne.ensures ∙ c.if-ne.false) in
     let own : kind_of e ≡ type_kind c.args.ty.now = sym c.kind.ensures ∙ same ∙ c.kind-2.ensures in

@@ -5,4 +5,4 @@ use Rattle.apollo_meaning.specs.Faults.TypeFaults.{orphan}
 use Rattle.apollo_folding.proofs.orphans.note_orphans.Given as goal
 
 abbrev pub invariant-loop-extensions : goal.invariant-loop-extensions
-invariant-loop-extensions l = l.errors ≡ l.fn.errors ++ map orphan (flat_map extended_parts (map (λ t. t.now) l.yielded))
+invariant-loop-extensions l = l.faults ≡ l.fn.faults ++ map orphan (flat_map extended_parts (map (λ t. t.now) l.yielded))

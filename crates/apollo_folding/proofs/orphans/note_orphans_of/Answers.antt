@@ -12,6 +12,6 @@ loop-extension-preserved c =
     let x = c.extension-item.result in
     c.in_ok-note_orphan.ensures
     ∙ ap (λ l. l ++ map orphan (extended_parts (x ∷ []))) c.loop-extension.invariant
-    ∙ append_assoc c.args.errors.now (map orphan (extended_parts (take i xs))) (map orphan (extended_parts (x ∷ [])))
-    ∙ ap (λ l. c.args.errors.now ++ l) (sym (map-append orphan (extended_parts (take i xs)) (extended_parts (x ∷ [])))
+    ∙ append_assoc c.args.faults.now (map orphan (extended_parts (take i xs))) (map orphan (extended_parts (x ∷ [])))
+    ∙ ap (λ l. c.args.faults.now ++ l) (sym (map-append orphan (extended_parts (take i xs)) (extended_parts (x ∷ [])))
     ∙ ap (map orphan) (sym (ap extended_parts (take_more xs i x (omega arith) ∙ ap (λ y. take i xs ++ y ∷ []) (sym c.extension-item.is)) ∙ extended_parts-append (take i xs) (x ∷ []))))

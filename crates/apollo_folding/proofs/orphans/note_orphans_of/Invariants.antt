@@ -4,4 +4,4 @@ use Rattle.apollo_meaning.specs.Faults.TypeFaults.{orphan}
 use Rattle.apollo_folding.proofs.orphans.note_orphans_of.Given as goal
 
 abbrev pub invariant-loop-extension : goal.invariant-loop-extension
-invariant-loop-extension l = l.errors ≡ l.fn.errors ++ map orphan (extended_parts (take l.extension-index l.extensions))
+invariant-loop-extension l = l.faults ≡ l.fn.faults ++ map orphan (extended_parts (take l.extension-index l.extensions))

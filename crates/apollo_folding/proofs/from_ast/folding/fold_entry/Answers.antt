@@ -47,8 +47,8 @@ returns-in_default-clause-faults g c = λ es was.
     sym (λ i. lookup (same_text (key i)) (was i)) ∙ sym c.in_ok-standing.ensures.old ∙ c.in_default.is in
     let nowhere : find (same_text n) (keys_of es) ≡ None =
     found-key n es ∙ none es n (component c.args.origin c.args.node.now) (key-there n (distinct_entries es) ∙ ap is_some absent) in
-    sym (append-nil c.args.errors.now)
-    ∙ ap (λ o. c.args.errors.now ++ option_map_or (λ k. (c.args.node.now.location, collision c.args.collection k c.args.type_name.now) ∷ []) o []) (sym nowhere)
+    sym (append-nil c.args.faults.now)
+    ∙ ap (λ o. c.args.faults.now ++ option_map_or (λ k. (c.args.node.now.location, collision c.args.collection k c.args.type_name.now) ∷ []) o []) (sym nowhere)
 
 pub returns-clause-added : goal.returns-clause-added
 returns-clause-added g c = λ es was.

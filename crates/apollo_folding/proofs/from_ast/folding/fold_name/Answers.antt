@@ -26,8 +26,8 @@ returns-then-is_new-clause-faults c = λ ks was.
     let key : c.with_origin-component.result ≡ x = search rules in
     let absent : list_any (same_component_name x) (distinct_names ks) ≡ false =
     sym (λ i. list_any (same_component_name (key i)) (was i)) ∙ is-not (list_any (same_component_name c.with_origin-component.result) c.args.set.now) c.in_ok-is_new.is_new c.in_ok-is_new.ensures.added ∙ ap not c.if-is_new.true in
-    sym (append-nil c.args.errors.now)
-    ∙ ap (λ o. c.args.errors.now ++ option_map_or (λ kept. (n.location, collision c.args.collection kept c.args.type_name.now) ∷ []) o []) (sym (name-nowhere ks x absent))
+    sym (append-nil c.args.faults.now)
+    ∙ ap (λ o. c.args.faults.now ++ option_map_or (λ kept. (n.location, collision c.args.collection kept c.args.type_name.now) ∷ []) o []) (sym (name-nowhere ks x absent))
 
 pub returns-clause-added : goal.returns-clause-added
 returns-clause-added c = λ ks was.

@@ -21,7 +21,7 @@ loop-node-preserved g c =
           ∙ ap distinct_entries (sym (map-turn f es xs i x (omega arith) c.node-item.is));
       faults = λ es h.
           c.in_ok-fold_entry.ensures.faults (es ++ map f (take i xs)) (was.added es h)
-          ∙ collisions-turn c.args.collection c.args.type_name.now c.loop-node.errors c.args.errors.now _ _ entry xs i x (omega arith) c.node-item.is
+          ∙ collisions-turn c.args.collection c.args.type_name.now c.loop-node.faults c.args.faults.now _ _ entry xs i x (omega arith) c.node-item.is
           (keys-of-nodes g.T.Named.name_of c.args.origin es (take i xs))
           (was.faults es h);
     }

@@ -13,5 +13,5 @@ invariant-loop-node g l =
       added : (es : List (NameView × Component g.row.T.Denot)) → l.fn.table ≡ distinct_entries es
           → l.table ≡ distinct_entries (es ++ map (λ (n : NodeView g.row.T.Denot). (g.T.Named.name_of n.value, component l.origin n)) (take l.node-index l.nodes));
       faults : (es : List (NameView × Component g.row.T.Denot)) → l.fn.table ≡ distinct_entries es
-          → l.errors ≡ l.fn.errors ++ collisions l.collection l.type_name (keys_of es) (map (λ (n : NodeView g.row.T.Denot). (g.T.Named.name_of n.value, n.location)) (take l.node-index l.nodes));
+          → l.faults ≡ l.fn.faults ++ collisions l.collection l.type_name (keys_of es) (map (λ (n : NodeView g.row.T.Denot). (g.T.Named.name_of n.value, n.location)) (take l.node-index l.nodes));
     }

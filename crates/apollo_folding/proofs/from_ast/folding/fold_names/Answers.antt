@@ -19,7 +19,7 @@ loop-name-preserved c =
           ∙ ap distinct_names (sym (map-turn f ks xs i x (omega arith) c.name-item.is));
       faults = λ ks h.
           c.in_ok-fold_name.ensures.faults (ks ++ map f (take i xs)) (was.added ks h)
-          ∙ collisions-turn c.args.collection c.args.type_name.now c.loop-name.errors c.args.errors.now _ _ entry xs i x (omega arith) c.name-item.is
+          ∙ collisions-turn c.args.collection c.args.type_name.now c.loop-name.faults c.args.faults.now _ _ entry xs i x (omega arith) c.name-item.is
           (names-of-names c.args.origin ks (take i xs))
           (was.faults ks h);
     }

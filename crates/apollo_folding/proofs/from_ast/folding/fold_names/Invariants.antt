@@ -10,5 +10,5 @@ invariant-loop-name l =
     record {
       added : (ks : List ComponentName) → l.fn.set ≡ distinct_names ks → l.set ≡ distinct_names (ks ++ map (component_name l.origin) (take l.name-index l.names));
       faults : (ks : List ComponentName) → l.fn.set ≡ distinct_names ks
-          → l.errors ≡ l.fn.errors ++ collisions l.collection l.type_name (map (λ k. k.name) ks) (name_entries (take l.name-index l.names));
+          → l.faults ≡ l.fn.faults ++ collisions l.collection l.type_name (map (λ k. k.name) ks) (name_entries (take l.name-index l.names));
     }

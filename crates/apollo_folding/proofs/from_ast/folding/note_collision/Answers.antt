@@ -15,8 +15,8 @@ returns-in_ok-push g c = λ es was.
     let found : find (same_text n) (keys_of es) ≡ Some c.in-Some.kept.now =
     found-key n es ∙ sym (λ i. lookup_key (same_text (name i)) (was i)) ∙ sym c.get_key_value.ensures.key ∙ ap (option_map (λ e. e.0.now)) c.in-Some.is in
     c.in_ok-push.ensures.ok
-    ∙ (λ i. c.args.errors.now ++ (c.location.ensures i, c.in_ok-error.ensures i) ∷ [])
-    ∙ ap (λ o. c.args.errors.now ++ option_map_or (λ kept. (c.args.node.now.location, collision c.args.collection kept c.args.type_name.now) ∷ []) o []) (sym found)
+    ∙ (λ i. c.args.faults.now ++ (c.location.ensures i, c.in_ok-error.ensures i) ∷ [])
+    ∙ ap (λ o. c.args.faults.now ++ option_map_or (λ kept. (c.args.node.now.location, collision c.args.collection kept c.args.type_name.now) ∷ []) o []) (sym found)
 
 pub returns-in_default : goal.returns-in_default
 returns-in_default g c = λ es was.
@@ -24,5 +24,5 @@ returns-in_default g c = λ es was.
     let name : c.name.result.now ≡ n = search rules in
     let none : find (same_text n) (keys_of es) ≡ None =
     found-key n es ∙ sym (λ i. lookup_key (same_text (name i)) (was i)) ∙ sym c.get_key_value.ensures.key ∙ ap (option_map (λ e. e.0.now)) c.in_default.is in
-    sym (append-nil c.args.errors.now)
-    ∙ ap (λ o. c.args.errors.now ++ option_map_or (λ kept. (c.args.node.now.location, collision c.args.collection kept c.args.type_name.now) ∷ []) o []) (sym none)
+    sym (append-nil c.args.faults.now)
+    ∙ ap (λ o. c.args.faults.now ++ option_map_or (λ kept. (c.args.node.now.location, collision c.args.collection kept c.args.type_name.now) ∷ []) o []) (sym none)

@@ -20,12 +20,12 @@ returns c = λ ks was.
     found-name x ks ∙ ap (option_map (λ (k : ComponentName). k.name)) (sym (λ i. find (same_component_name (key i)) (was i)) ∙ sym c.get.ensures) in
     elim c.match-get.branch [
       | in-Some+in_ok-error+in_ok-push w ↦
-          w.errors-is
+          w.faults-is
           ∙ w.in_ok-push.ensures.ok
-          ∙ (λ i. c.args.errors.now ++ (w.location.ensures i, w.in_ok-error.ensures i) ∷ [])
-          ∙ ap (λ o. c.args.errors.now ++ option_map_or (λ kept. (n.location, collision c.args.collection kept c.args.type_name.now) ∷ []) o []) (sym (looked ∙ ap (λ o. option_map (λ (k : ComponentName). k.name) (option_copied o)) w.in-Some.is))
+          ∙ (λ i. c.args.faults.now ++ (w.location.ensures i, w.in_ok-error.ensures i) ∷ [])
+          ∙ ap (λ o. c.args.faults.now ++ option_map_or (λ kept. (n.location, collision c.args.collection kept c.args.type_name.now) ∷ []) o []) (sym (looked ∙ ap (λ o. option_map (λ (k : ComponentName). k.name) (option_copied o)) w.in-Some.is))
       | in_default w ↦
-          w.errors-is
-          ∙ sym (append-nil c.args.errors.now)
-          ∙ ap (λ o. c.args.errors.now ++ option_map_or (λ kept. (n.location, collision c.args.collection kept c.args.type_name.now) ∷ []) o []) (sym (looked ∙ ap (λ o. option_map (λ (k : ComponentName). k.name) (option_copied o)) w.in_default.is))
+          w.faults-is
+          ∙ sym (append-nil c.args.faults.now)
+          ∙ ap (λ o. c.args.faults.now ++ option_map_or (λ kept. (n.location, collision c.args.collection kept c.args.type_name.now) ∷ []) o []) (sym (looked ∙ ap (λ o. option_map (λ (k : ComponentName). k.name) (option_copied o)) w.in_default.is))
     ]

@@ -16,4 +16,4 @@ returns-clause-faults c =
     let joining = schema_joining_faults (head ∷ []) (map schema_extension_part c.args.extensions.now) in
     c.in_ok-extend_schema_by_all.ensures.faults head ((Definition, head) ∷ []) c.in_ok-definition.ensures.made
     ∙ ap (λ l. l ++ joining) c.in_ok-definition.ensures.faults
-    ∙ append_assoc c.args.errors.now (schema_faults [] head) joining
+    ∙ append_assoc c.args.faults.now (schema_faults [] head) joining

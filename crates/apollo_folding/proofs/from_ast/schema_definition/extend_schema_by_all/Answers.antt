@@ -34,7 +34,7 @@ loop-extension-preserved c =
           ∙ ap (schema_from head) (sym (schema_numbered-more done start so_far (this ∷ [])) ∙ ap (λ l. done ++ schema_numbered start l) (sym turn));
       faults = λ head done h.
           let base = map (λ s. s.1) done in
-          let before = c.args.errors.now in
+          let before = c.args.faults.now in
           now.faults head (done ++ schema_numbered start so_far) (was.folded head done h)
           ∙ (λ j. was.faults head done h j ++ schema_faults (schema_parts-numbered done start so_far j) this)
           ∙ append_assoc before (schema_joining_faults base so_far) (schema_faults (base ++ so_far) this)
@@ -66,4 +66,4 @@ returns-clause-faults c = λ head done h.
     let xs = c.args.extensions.now in
     let whole : take c.loop-extension.extension-index xs ≡ xs = take_all c.loop-extension.extension-index xs (omega arith) in
     c.loop-extension.invariant.faults head done h
-    ∙ ap (λ l. c.args.errors.now ++ schema_joining_faults (map (λ s. s.1) done) (map schema_extension_part l)) whole
+    ∙ ap (λ l. c.args.faults.now ++ schema_joining_faults (map (λ s. s.1) done) (map schema_extension_part l)) whole

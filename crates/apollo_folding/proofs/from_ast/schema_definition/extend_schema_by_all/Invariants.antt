@@ -12,6 +12,6 @@ invariant-loop-extension l =
       folded : (head : SchemaPart) (done : List SourcedSchema) → l.fn.node ≡ schema_from head done
           → l.node ≡ schema_from head (done ++ schema_numbered (next_number l.fn.ids) so_far);
       faults : (head : SchemaPart) (done : List SourcedSchema) → l.fn.node ≡ schema_from head done
-          → l.errors ≡ l.fn.errors ++ schema_joining_faults (map (λ s. s.1) done) so_far;
+          → l.faults ≡ l.fn.faults ++ schema_joining_faults (map (λ s. s.1) done) so_far;
       next : l.ids ≡ source_at (next_number l.fn.ids + length (take l.extension-index l.extensions));
     }

@@ -23,7 +23,7 @@ pub returns-clause-faults : goal.returns-clause-faults
 returns-clause-faults c = λ head part done roots was.
     let o = c.args.origin in
     let base : SchemaDefinition = record c.args.definition.now { directives = c.fold_directives.new.list } in
-    let before = c.args.errors.now in
+    let before = c.args.faults.now in
     c.in_ok-fold_roots.ensures.faults base (flat_map roots_of done) (λ i. record { description = base.description; directives = base.directives; query = (was i).query; mutation = (was i).mutation; subscription = (was i).subscription })
     ∙ ap (λ l. before ++ held_faults (flat_map roots_of done) o l) (sym roots)
     ∙ ap (λ l. before ++ l) (held-schema_faults done o part)

@@ -16,7 +16,7 @@ loop-root-preserved c =
     let x = c.root-item.result in
     let op = x.value.0 in
     let name = component_name o x.value.1 in
-    let before = c.args.errors.now in
+    let before = c.args.faults.now in
     let was = c.loop-root.invariant in
     record {
       named = λ base rs h.
@@ -44,4 +44,4 @@ pub returns-clause-faults : goal.returns-clause-faults
 returns-clause-faults c = λ base rs h.
     let xs = c.args.roots.now in
     let whole : take c.loop-root.root-index xs ≡ xs = take_all c.loop-root.root-index xs (omega arith) in
-    c.loop-root.invariant.faults base rs h ∙ ap (λ l. c.args.errors.now ++ held_faults rs c.args.origin l) whole
+    c.loop-root.invariant.faults base rs h ∙ ap (λ l. c.args.faults.now ++ held_faults rs c.args.origin l) whole

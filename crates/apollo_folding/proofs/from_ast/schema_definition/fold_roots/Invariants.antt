@@ -7,5 +7,5 @@ abbrev pub invariant-loop-root : goal.invariant-loop-root
 invariant-loop-root l =
     record {
       named : (base : SchemaDefinition) (rs : List NamedRoot) → l.fn.definition ≡ with_roots base rs → l.definition ≡ with_roots base (rs ++ map (named_root l.origin) (take l.root-index l.roots));
-      faults : (base : SchemaDefinition) (rs : List NamedRoot) → l.fn.definition ≡ with_roots base rs → l.errors ≡ l.fn.errors ++ held_faults rs l.origin (take l.root-index l.roots);
+      faults : (base : SchemaDefinition) (rs : List NamedRoot) → l.fn.definition ≡ with_roots base rs → l.faults ≡ l.fn.faults ++ held_faults rs l.origin (take l.root-index l.roots);
     }

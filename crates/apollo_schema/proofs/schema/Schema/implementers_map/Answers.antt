@@ -3,7 +3,7 @@ use Rattle.std.specs.Map.Iter.{deref_pair}
 use Rattle.std.proofs.lemmas.List.{map-append}
 use Rattle.apollo_types.specs.TypeKinds.{is_object}
 use Rattle.apollo_schema.specs.Implementers.{implementers_map}
-use Rattle.apollo_schema.specs.Lookups.{interfaces_of}
+use Rattle.apollo_schema.specs.Lookups.{declared_interfaces}
 use Rattle.apollo_schema.specs.Noted.{noted_under}
 use Rattle.apollo_schema.proofs.ImplementerLemmas.{implementers_map-push}
 use Rattle.apollo_schema.proofs.schema.Schema.implementers_map.Goals as goal
@@ -14,6 +14,6 @@ loop-name-preserved c =
     let ty = c.in-Some.ty.now in
     let done = c.loop-name.yielded in
     c.in_ok-note_type.ensures
-    ∙ ap (λ m. noted_under (is_object ty) k m (interfaces_of ty)) c.loop-name.invariant
+    ∙ ap (λ m. noted_under (is_object ty) k m (declared_interfaces ty)) c.loop-name.invariant
     ∙ implementers_map-push (map deref_pair done) k ty
     ∙ ap implementers_map (sym (map-append deref_pair done ((c.in-Some.name, c.in-Some.ty) ∷ [])))

@@ -12,7 +12,7 @@ returns c =
     let types : c.copy_into-4.new.place ≡ t.types = c.in_ok-copy_into-4.ensures.1 (λ x y e. e) (λ x y e. e) in
     let directives : c.copy_into-5.new.place ≡ t.directive_definitions = c.in_ok-copy_into-5.ensures.1 (λ x y e. e) (λ x y e. e) in
     let waiting : c.copy_into-6.new.place ≡ t.waiting = c.in_ok-copy_into-6.ensures.1 (λ x y e. e) (λ xs ys h. same_from_all_zip _ xs ys h (λ x y e. e)) in
-    let faults : c.copy_into-7.new.place ≡ t.errors = same_from_all_zip _ t.errors c.copy_into-7.new.place c.in_ok-copy_into-7.ensures (λ x y h. search rules) in
+    let faults : c.copy_into-7.new.place ≡ t.faults = same_from_all_zip _ t.faults c.copy_into-7.new.place c.in_ok-copy_into-7.ensures (λ x y h. search rules) in
     λ i. record {
       alloc = c.args.self.now.alloc;
       sources = files i;
@@ -22,5 +22,5 @@ returns c =
       directive_definitions = directives i;
       waiting = waiting i;
       ids = c.args.self.now.ids;
-      errors = faults i;
+      faults = faults i;
     }

@@ -31,7 +31,7 @@ returns-clause-stands c = λ start xs was.
       schema_definition = Some (schema_begun (next_number t.ids) s waiting);
       schema_extensions = [];
       ids = source_at (next_number t.ids + length t.schema_extensions);
-      errors = t.errors ++ schema_begun_faults s waiting;
+      faults = t.faults ++ schema_begun_faults s waiting;
     } in
     subst (Stands start (xs ++ SchemaDefined s ∷ [])) (sym c.in_ok-put_schema.ensures.put)
     (Stands-schema_new was s begun c.in_default.is refl refl (refl, (refl, refl)) refl refl)

@@ -20,7 +20,7 @@ returns-in_default-clause-ends c = λ start xs was.
     let t = c.args.self.now in
     let these : implied_schema c.args.adopts xs ≡ [] =
     sym (c.in_ok-implied.ensures start xs was) ∙ ap (λ (o : Option (NodeView SchemaDefinition)). option_map_or (λ node. SchemaDefined (schema_definition_part node) ∷ []) o []) c.in_default.is in
-    let ended : Tables = record t { errors = c.note_schema_orphans.new.errors } in
+    let ended : Tables = record t { faults = c.note_schema_orphans.new.faults } in
     subst (λ l. Ends start l xs ended) (sym these)
     (Ends-none was ended refl refl refl refl
     (c.in_ok-note_schema_orphans.ensures
@@ -45,7 +45,7 @@ returns-clause-ends c = λ start xs was.
       schema_definition = Some (schema_begun (next_number t.ids) s waiting);
       schema_extensions = [];
       ids = source_at (next_number t.ids + length t.schema_extensions);
-      errors = c.note_orphans.new.errors ++ schema_begun_faults s waiting;
+      faults = c.note_orphans.new.faults ++ schema_begun_faults s waiting;
     } in
     subst (λ l. Ends start l xs c.put_schema.new.self) (sym these)
     (subst (Ends start (SchemaDefined s ∷ []) xs) (sym c.in_ok-put_schema.ensures.put)

@@ -38,7 +38,7 @@ returns-then-is_empty-clause-built c =
 
 pub returns-then-is_empty-clause-faultless : goal.returns-then-is_empty-clause-faultless
 returns-then-is_empty-clause-faultless c = λ start adopts xs all.
-    sym all.faults ∙ none-empty c.args.self.errors (sym c.is_empty.ensures ∙ c.if-is_empty.true)
+    sym all.faults ∙ none-empty c.args.self.faults (sym c.is_empty.ensures ∙ c.if-is_empty.true)
 
 pub returns-clause-faults : goal.returns-clause-faults
 returns-clause-faults c =

@@ -14,7 +14,7 @@ use Rattle.apollo_schema.proofs.tables.Tables.take_one.Goals as goal
 pub returns-in_ok-define_directive-in-Directive-clause-stands : goal.returns-in_ok-define_directive-in-Directive-clause-stands
 returns-in_ok-define_directive-in-Directive-clause-stands c = λ start xs was.
     let d : Definition = ast.DirectiveDefinition c.in-Directive.node.now in
-    let now : Tables = record c.args.self.now { directive_definitions = c.define_directive.new.table; errors = c.define_directive.new.errors } in
+    let now : Tables = record c.args.self.now { directive_definitions = c.define_directive.new.table; faults = c.define_directive.new.faults } in
     let made = c.in_ok-define_directive-in-Directive.ensures in
     let item : added_item (c.args.ignores, c.args.definition.now) ≡ Other d = ap (ignorable_if c.args.ignores) (sym c.of.ensures ∙ ap item_seen c.in-Directive.is) in
     subst (λ (x : ListItem). Stands start (xs ++ x ∷ []) now) (sym item)
@@ -34,4 +34,4 @@ returns-in_ok-note_executable-in-Operation-clause-stands c = λ start xs was.
     let item : added_item (c.args.ignores, d) ≡ Other d = ap (ignorable_if c.args.ignores) (executable-item d is) in
     subst (λ (x : ListItem). Stands start (xs ++ x ∷ []) c.note_executable.new.self) (sym item)
     (subst (Stands start (xs ++ Other d ∷ [])) (sym c.in_ok-note_executable-in-Operation.ensures.noted)
-    (Stands-other was d _ refl refl refl refl refl (none_more xs t d other.0 was.directives) (ap (λ l. t.errors ++ l) (sym other.1))))
+    (Stands-other was d _ refl refl refl refl refl (none_more xs t d other.0 was.directives) (ap (λ l. t.faults ++ l) (sym other.1))))

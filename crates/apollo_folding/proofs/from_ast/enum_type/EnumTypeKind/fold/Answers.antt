@@ -13,7 +13,7 @@ use Rattle.apollo_folding.proofs.from_ast.enum_type.EnumTypeKind.fold.Goals as g
 pub returns-clause-faults : goal.returns-clause-faults
 returns-clause-faults c = λ same head done was.
     let ty = c.args.part.now.name.now in
-    let before = c.args.errors.now in
+    let before = c.args.faults.now in
     let parts = map (λ s. s.1) done in
     let body : body_seen c.args.part.now.body ≡ EnumBody c.as_slice-2.result.now = ap body_seen c.in-Enum.is ∙ ap EnumBody (sym c.as_slice-2.ensures) in
     c.in_ok-fold_named.ensures.faults (flat_map values_of done) (ap (λ (t : EnumType). t.values) was)

@@ -14,7 +14,7 @@ use Rattle.apollo_folding.proofs.from_ast.object_type.ObjectTypeKind.fold.Goals 
 pub returns-clause-faults : goal.returns-clause-faults
 returns-clause-faults c = λ same head done was.
     let ty = c.args.part.now.name.now in
-    let before = c.args.errors.now in
+    let before = c.args.faults.now in
     let parts = map (λ s. s.1) done in
     let body : body_seen c.args.part.now.body ≡ ObjectBody c.as_slice-2.result.now c.as_slice-3.result.now = ap body_seen c.in-Object.is ∙ (λ i. ObjectBody (sym c.as_slice-2.ensures i) (sym c.as_slice-3.ensures i)) in
     let interfaces = λ (names : List NameView). collisions collections.ObjectInterfaces ty names (name_entries c.as_slice-2.result.now) in

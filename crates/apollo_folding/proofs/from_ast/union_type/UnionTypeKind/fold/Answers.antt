@@ -13,7 +13,7 @@ use Rattle.apollo_folding.proofs.from_ast.union_type.UnionTypeKind.fold.Goals as
 pub returns-clause-faults : goal.returns-clause-faults
 returns-clause-faults c = λ same head done was.
     let ty = c.args.part.now.name.now in
-    let before = c.args.errors.now in
+    let before = c.args.faults.now in
     let parts = map (λ s. s.1) done in
     let body : body_seen c.args.part.now.body ≡ UnionBody c.as_slice-2.result.now = ap body_seen c.in-Union.is ∙ ap UnionBody (sym c.as_slice-2.ensures) in
     c.in_ok-fold_names.ensures.faults (flat_map members_of done) (ap (λ (t : UnionType). t.members) was)
