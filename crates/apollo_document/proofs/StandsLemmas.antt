@@ -77,9 +77,9 @@ pub stands-named : (s : Option Schema) (xs : List Added) (b : Bool) (n : NodeVie
     → new.operations.anonymous ≡ old.operations.anonymous
     → new.operations.named ≡ put_unless_taken m (lookup_key (same_text m) old.operations.named) (option_map (λ (root : NameView). at_place (operation_from s root) n) (root_in s n.value.operation_type)) old.operations.named
     → new.fragments ≡ old.fragments → new.multiple_anonymous ≡ old.multiple_anonymous
-    → new.errors ≡ (old.errors ++ ambiguous_if (option_map (λ o. o.location) old.operations.anonymous)) ++ unless_taken e.OperationNameCollision m (lookup_key (same_text m) old.operations.named) (faults_in_operation s (NamedOperation n.value.operation_type m) n)
+    → new.faults ≡ (old.faults ++ ambiguous_if (option_map (λ o. o.location) old.operations.anonymous)) ++ unless_taken e.OperationNameCollision m (lookup_key (same_text m) old.operations.named) (faults_in_operation s (NamedOperation n.value.operation_type m) n)
     → Stands s (xs ++ (b, d.OperationDefinition n) ∷ []) new
-stands-named s xs b n m old new h was anonymous named fragments repeated errors =
+stands-named s xs b n m old new h was anonymous named fragments repeated faults =
     let x : Added = (b, d.OperationDefinition n) in
     let p = is_rooted s in
     let os = operations xs in
@@ -92,15 +92,15 @@ stands-named s xs b n m old new h was anonymous named fragments repeated errors 
           ∙ ap (entries_by (typed_operation s)) (sym (named-kept p os n m h) ∙ ap (λ l. named_of (is_rooted s) l) (sym more));
       fragments = fragments ∙ was.fragments ∙ ap (entries_by (typed_fragment s)) (sym (same_fragments s xs x refl));
       repeated = repeated ∙ was.repeated ∙ sym (named-repeated p os n m h) ∙ ap (λ l. repeated_of p l) (sym more);
-      faults = errors ∙ append_assoc old.errors _ _ ∙ (λ i. was.faults i ++ (ambiguous_if (place i) ++ unless_taken e.OperationNameCollision m (key i) (faults_in_operation s (NamedOperation n.value.operation_type m) n)))
+      faults = faults ∙ append_assoc old.faults _ _ ∙ (λ i. was.faults i ++ (ambiguous_if (place i) ++ unless_taken e.OperationNameCollision m (key i) (faults_in_operation s (NamedOperation n.value.operation_type m) n)))
           ∙ ap (λ (o : Option NameView). document_faults s xs ++ operation_faults s xs n o) (sym h) ∙ sym (faults-push s xs x);
     }
 
 pub stands-further : (s : Option Schema) (xs : List Added) (b : Bool) (n : NodeView OperationDefinition) (a : NodeView Operation) (old new : Tables) → n.value.name ≡ None → Stands s xs old
     → old.operations.anonymous ≡ Some a → new.operations ≡ old.operations → new.fragments ≡ old.fragments → new.multiple_anonymous ≡ true
-    → new.errors ≡ old.errors ++ after_anonymous old.multiple_anonymous a.location n.location
+    → new.faults ≡ old.faults ++ after_anonymous old.multiple_anonymous a.location n.location
     → Stands s (xs ++ (b, d.OperationDefinition n) ∷ []) new
-stands-further s xs b n a old new h was there kept fragments repeated errors = by (kept_anonymous s xs) refl
+stands-further s xs b n a old new h was there kept fragments repeated faults = by (kept_anonymous s xs) refl
   where
     by : (o : Option (NodeView OperationDefinition)) → kept_anonymous s xs ≡ o → Stands s (xs ++ (b, d.OperationDefinition n) ∷ []) new
     by None k = let none : Some a ≡ None = sym there ∙ was.anonymous ∙ ap (option_map (typed_operation s)) k in cc
@@ -113,14 +113,14 @@ stands-further s xs b n a old new h was there kept fragments repeated errors = b
           named = ap (λ o. o.named) kept ∙ was.named ∙ ap (entries_by (typed_operation s)) (sym (anonymous-named (is_rooted s) (operations xs) n h) ∙ ap (λ l. named_of (is_rooted s) l) (sym more));
           fragments = fragments ∙ was.fragments ∙ ap (entries_by (typed_fragment s)) (sym (same_fragments s xs x refl));
           repeated = repeated ∙ sym (further-repeated (is_rooted s) (operations xs) n k h is) ∙ ap (λ l. repeated_of (is_rooted s) l) (sym more);
-          faults = errors ∙ (λ i. was.faults i ++ anonymous_faults s (place i) (was.repeated i) (kept_named s xs) n) ∙ ap (λ (o : Option NameView). document_faults s xs ++ operation_faults s xs n o) (sym h) ∙ sym (faults-push s xs x);
+          faults = faults ∙ (λ i. was.faults i ++ anonymous_faults s (place i) (was.repeated i) (kept_named s xs) n) ∙ ap (λ (o : Option NameView). document_faults s xs ++ operation_faults s xs n o) (sym h) ∙ sym (faults-push s xs x);
         }
 
 pub stands-later : (s : Option Schema) (xs : List Added) (b : Bool) (n : NodeView OperationDefinition) (old new : Tables) → n.value.name ≡ None → Stands s xs old
     → old.operations.anonymous ≡ None → is_bare old.operations.named ≡ false → new.operations ≡ old.operations → new.fragments ≡ old.fragments → new.multiple_anonymous ≡ old.multiple_anonymous
-    → new.errors ≡ old.errors ++ ambiguous n.location ∷ []
+    → new.faults ≡ old.faults ++ ambiguous n.location ∷ []
     → Stands s (xs ++ (b, d.OperationDefinition n) ∷ []) new
-stands-later s xs b n old new h was none others kept fragments repeated errors = by (kept_named s xs) refl
+stands-later s xs b n old new h was none others kept fragments repeated faults = by (kept_named s xs) refl
   where
     none_kept : kept_anonymous s xs ≡ None
     none_kept = unmapped (typed_operation s) (kept_anonymous s xs) (sym was.anonymous ∙ none)
@@ -136,7 +136,7 @@ stands-later s xs b n old new h was none others kept fragments repeated errors =
           named = ap (λ o. o.named) kept ∙ was.named ∙ ap (entries_by (typed_operation s)) (sym (anonymous-named (is_rooted s) (operations xs) n h) ∙ ap (λ l. named_of (is_rooted s) l) (sym more));
           fragments = fragments ∙ was.fragments ∙ ap (entries_by (typed_fragment s)) (sym (same_fragments s xs x refl));
           repeated = repeated ∙ was.repeated ∙ without-repeated (is_rooted s) (operations xs) none_kept ∙ sym (without-repeated (is_rooted s) (operations xs ++ n ∷ []) alone) ∙ ap (λ l. repeated_of (is_rooted s) l) (sym more);
-          faults = errors ∙ (λ i. was.faults i ++ unless_named (sym k i) n.location (faults_in_operation s (AnonymousOperation n.value.operation_type) n))
+          faults = faults ∙ (λ i. was.faults i ++ unless_named (sym k i) n.location (faults_in_operation s (AnonymousOperation n.value.operation_type) n))
               ∙ (λ i. document_faults s xs ++ anonymous_faults s (option_map (λ (o : NodeView OperationDefinition). o.location) (sym none_kept i)) (is_repeated s xs) (kept_named s xs) n)
               ∙ ap (λ (o : Option NameView). document_faults s xs ++ operation_faults s xs n o) (sym h) ∙ sym (faults-push s xs x);
         }
@@ -145,9 +145,9 @@ pub stands-anonymous : (s : Option Schema) (xs : List Added) (b : Bool) (n : Nod
     → old.operations.anonymous ≡ None → is_bare old.operations.named ≡ true
     → new.operations.anonymous ≡ option_map (λ (root : NameView). at_place (operation_from s root) n) (root_in s n.value.operation_type)
     → new.operations.named ≡ old.operations.named → new.fragments ≡ old.fragments → new.multiple_anonymous ≡ old.multiple_anonymous
-    → new.errors ≡ old.errors ++ faults_in_operation s (AnonymousOperation n.value.operation_type) n
+    → new.faults ≡ old.faults ++ faults_in_operation s (AnonymousOperation n.value.operation_type) n
     → Stands s (xs ++ (b, d.OperationDefinition n) ∷ []) new
-stands-anonymous s xs b n old new h was none alone anonymous named fragments repeated errors =
+stands-anonymous s xs b n old new h was none alone anonymous named fragments repeated faults =
     let x : Added = (b, d.OperationDefinition n) in
     let p = is_rooted s in
     let os = operations xs in
@@ -159,7 +159,7 @@ stands-anonymous s xs b n old new h was none alone anonymous named fragments rep
       named = named ∙ was.named ∙ ap (entries_by (typed_operation s)) (sym (anonymous-named p os n h) ∙ ap (λ l. named_of p l) (sym more));
       fragments = fragments ∙ was.fragments ∙ ap (entries_by (typed_fragment s)) (sym (same_fragments s xs x refl));
       repeated = repeated ∙ was.repeated ∙ without-repeated p os none_kept ∙ sym (only-repeated p os n none_kept none_named) ∙ ap (λ l. repeated_of p l) (sym more);
-      faults = errors ∙ (λ i. was.faults i ++ unless_named (sym none_named i) n.location (faults_in_operation s (AnonymousOperation n.value.operation_type) n))
+      faults = faults ∙ (λ i. was.faults i ++ unless_named (sym none_named i) n.location (faults_in_operation s (AnonymousOperation n.value.operation_type) n))
           ∙ (λ i. document_faults s xs ++ anonymous_faults s (option_map (λ (o : NodeView OperationDefinition). o.location) (sym none_kept i)) (is_repeated s xs) (kept_named s xs) n)
           ∙ ap (λ (o : Option NameView). document_faults s xs ++ operation_faults s xs n o) (sym h) ∙ sym (faults-push s xs x);
     }
@@ -187,9 +187,9 @@ pub stands-fragment : (s : Option Schema) (xs : List Added) (b : Bool) (n : Node
     → new.operations ≡ old.operations
     → new.fragments ≡ put_unless_taken n.value.name (lookup_key (same_text n.value.name) old.fragments) (cond (has_type s n.value.type_condition) (Some (typed_fragment s n)) None) old.fragments
     → new.multiple_anonymous ≡ old.multiple_anonymous
-    → new.errors ≡ old.errors ++ fragment_faults s (lookup_key (same_text n.value.name) old.fragments) n
+    → new.faults ≡ old.faults ++ fragment_faults s (lookup_key (same_text n.value.name) old.fragments) n
     → Stands s (xs ++ (b, d.FragmentDefinition n) ∷ []) new
-stands-fragment s xs b n old new was kept fragments repeated errors =
+stands-fragment s xs b n old new was kept fragments repeated faults =
     let x : Added = (b, d.FragmentDefinition n) in
     let p = is_rooted s in
     let none : operations xs ≡ operations (xs ++ x ∷ []) = sym (same_operations s xs x refl) in
@@ -201,7 +201,7 @@ stands-fragment s xs b n old new was kept fragments repeated errors =
           ∙ entries-put (typed_fragment s) n.value.name (lookup_key (same_text n.value.name) (kept_fragments s xs)) (cond (is_on_type s n) (Some n) None) (kept_fragments s xs)
           ∙ ap (entries_by (typed_fragment s)) (sym (kept_fragments-push s xs b n));
       repeated = repeated ∙ was.repeated ∙ ap (λ l. repeated_of p l) none;
-      faults = errors ∙ (λ i. was.faults i ++ fragment_faults s (key i) n) ∙ sym (faults-push s xs x);
+      faults = faults ∙ (λ i. was.faults i ++ fragment_faults s (key i) n) ∙ sym (faults-push s xs x);
     }
 
 -- a definition, by what it is
@@ -220,7 +220,7 @@ other_faults s xs b x h g = refl
 
 -- one that is neither
 pub stands-other : (s : Option Schema) (xs : List Added) (b : Bool) (x : Definition) (old new : Tables) → operation_of x ≡ None → fragment_of x ≡ None → Stands s xs old
-    → new ≡ record old { errors = old.errors ++ type_system_faults b x } → Stands s (xs ++ (b, x) ∷ []) new
+    → new ≡ record old { faults = old.faults ++ type_system_faults b x } → Stands s (xs ++ (b, x) ∷ []) new
 stands-other s xs b x old new h g was is =
     let none : operations xs ≡ operations (xs ++ (b, x) ∷ []) = sym (same_operations s xs (b, x) h) in
     record {
@@ -228,5 +228,5 @@ stands-other s xs b x old new h g was is =
       named = ap (λ t. t.operations.named) is ∙ was.named ∙ ap (λ l. entries_by (typed_operation s) (named_of (is_rooted s) l)) none;
       fragments = ap (λ t. t.fragments) is ∙ was.fragments ∙ ap (entries_by (typed_fragment s)) (sym (same_fragments s xs (b, x) g));
       repeated = ap (λ t. t.multiple_anonymous) is ∙ was.repeated ∙ ap (λ l. repeated_of (is_rooted s) l) none;
-      faults = ap (λ t. t.errors) is ∙ (λ i. was.faults i ++ sym (other_faults s xs b x h g) i) ∙ sym (faults-push s xs (b, x));
+      faults = ap (λ t. t.faults) is ∙ (λ i. was.faults i ++ sym (other_faults s xs b x h g) i) ∙ sym (faults-push s xs (b, x));
     }

@@ -64,7 +64,7 @@ pub record Stands (s : Option Schema) (xs : List Added) (t : Tables) : Type 0 wh
   pub named : t.operations.named ≡ entries_by (typed_operation s) (kept_named s xs)
   pub fragments : t.fragments ≡ entries_by (typed_fragment s) (kept_fragments s xs)
   pub repeated : t.multiple_anonymous ≡ is_repeated s xs
-  pub faults : t.errors ≡ document_faults s xs
+  pub faults : t.faults ≡ document_faults s xs
 
 -- tables that stood for some list stand for it with these definitions behind it
 abbrev pub StandsWith : Option Schema → List Added → Tables → Tables → Type 0
