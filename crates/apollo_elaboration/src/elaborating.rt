@@ -79,7 +79,7 @@ fn field_over(
 }
 
 /// The inline fragment with this set.
-fn fragment_over(
+fn inline_fragment_over(
     fragment: &ast::InlineFragment,
     selection_set: SelectionSet,
 ) -> Result<InlineFragment, AllocError>
@@ -245,7 +245,7 @@ fn elaborate_fragment(
         path,
         faults,
     )?;
-    let inline = fragment_over(node, set)?;
+    let inline = inline_fragment_over(node, set)?;
     let typed = node.same_location(alloc, inline)?;
     Ok(Some(typed))
 }
