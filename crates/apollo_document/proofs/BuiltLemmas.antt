@@ -25,7 +25,7 @@ use Rattle.apollo_executable.specs.declared.document.ExecutableDocument.{Executa
 use Rattle.apollo_elaboration.specs.Stripped.{stripped}
 use Rattle.apollo_elaboration.specs.TypedSelections.{IsTypedSet}
 use Rattle.apollo_elaboration.specs.Elaborated.{elaborated}
-use Rattle.apollo_document.specs.AddedDefinitions.{Added, operations}
+use Rattle.apollo_document.specs.AddedDefinitions.{DocumentItem, operations}
 use Rattle.apollo_document.specs.KeptDefinitions.{root_in, is_rooted, is_anonymous, first_if_anonymous, named, kept_anonymous, kept_named, kept_fragments}
 use Rattle.apollo_document.specs.TypedDefinitions.{stripped_operation, stripped_fragment, IsOperationOf, IsFragmentOf}
 use Rattle.apollo_document.specs.Documents.{IsUnderName, IsDocumentOf}
@@ -111,7 +111,7 @@ module _ (sets : ElaboratedSetsLaw) where
       let same : at_place erased_fragment (typed_fragment s n) ≡ at_place (stripped_fragment s) n = ap (fragment_with n) (sets.kept s n.value.type_condition n.value.selection_set) in
       (same, sets.typed s n.value.type_condition n.value.selection_set)
 
-  pub built_document : (s : Option Schema) (xs : List Added) (t : Tables) (document : ExecutableDocument) → Stands s xs t → document.operations ≡ t.operations → document.fragments ≡ t.fragments → IsDocumentOf s xs document
+  pub built_document : (s : Option Schema) (xs : List DocumentItem) (t : Tables) (document : ExecutableDocument) → Stands s xs t → document.operations ≡ t.operations → document.fragments ≡ t.fragments → IsDocumentOf s xs document
   built_document s xs t document stands ops frags =
       let os = operations xs in
       record {

@@ -21,7 +21,7 @@ use Rattle.apollo_executable.specs.declared.operation.Operation.{Operation}
 use Rattle.apollo_elaboration.specs.Typable.{has_type, is_bare}
 use Rattle.apollo_elaboration.specs.declared.build_error.BuildError.TheVariants as e
 use Rattle.apollo_elaboration.specs.declared.selection_path.ExecutableDefinitionName.TheVariants.{AnonymousOperation, NamedOperation}
-use Rattle.apollo_document.specs.AddedDefinitions.{Added, operation_of, fragment_of, operation_in, fragment_in, operations, fragments}
+use Rattle.apollo_document.specs.AddedDefinitions.{DocumentItem, operation_of, fragment_of, operation_in, fragment_in, operations, fragments}
 use Rattle.apollo_document.specs.KeptDefinitions.{root_in, is_rooted, kept_anonymous, kept_named, is_on_type, under_name, kept_fragments, is_repeated}
 use Rattle.apollo_document.specs.DocumentFaults.{ambiguous, ambiguous_if, unless_taken, faults_in_operation, after_anonymous, unless_named, anonymous_faults, anonymous_place, fragment_faults, type_system_faults, operation_faults, definition_faults, faults_at, document_faults}
 use Rattle.apollo_document.specs.Stands.{operation_from, typed_operation, typed_fragment, entries_by, put_unless_taken, Stands}
@@ -29,17 +29,17 @@ use Rattle.apollo_document.specs.declared.tables.Tables.{Tables}
 use Rattle.apollo_document.proofs.ListLemmas.{first-put, entries-put, entries-key}
 use Rattle.apollo_document.proofs.OperationLemmas.{anonymous_of, named_of, repeated_of, named-kept, named-anonymous, named-repeated, anonymous-named, further-anonymous, further-repeated, later-anonymous, without-repeated, only-anonymous, only-repeated}
 
-pub operations-push : (xs : List Added) (x : Added) → operations (xs ++ x ∷ []) ≡ operations xs ++ cons_option (operation_in x) []
+pub operations-push : (xs : List DocumentItem) (x : DocumentItem) → operations (xs ++ x ∷ []) ≡ operations xs ++ cons_option (operation_in x) []
 operations-push xs x = filter_map-append operation_in xs (x ∷ [])
 
-fragments-push : (xs : List Added) (x : Added) → fragments (xs ++ x ∷ []) ≡ fragments xs ++ cons_option (fragment_in x) []
+fragments-push : (xs : List DocumentItem) (x : DocumentItem) → fragments (xs ++ x ∷ []) ≡ fragments xs ++ cons_option (fragment_in x) []
 fragments-push xs x = filter_map-append fragment_in xs (x ∷ [])
 
-faults-push : (s : Option Schema) (xs : List Added) (x : Added) → document_faults s (xs ++ x ∷ []) ≡ document_faults s xs ++ faults_at s xs x
+faults-push : (s : Option Schema) (xs : List DocumentItem) (x : DocumentItem) → document_faults s (xs ++ x ∷ []) ≡ document_faults s xs ++ faults_at s xs x
 faults-push s xs x = each_after-push (faults_at s) [] xs x
 
 -- no operation, or no fragment, changes nothing of what is kept of them
-module _ (s : Option Schema) (xs : List Added) (x : Added) where
+module _ (s : Option Schema) (xs : List DocumentItem) (x : DocumentItem) where
   pub same_operations : operation_in x ≡ None → operations (xs ++ x ∷ []) ≡ operations xs
   same_operations h = operations-push xs x ∙ ap (λ o. operations xs ++ cons_option o []) h ∙ append-nil (operations xs)
 
@@ -73,14 +73,14 @@ place_of_kept : (s : Option Schema) (o : Option (NodeView OperationDefinition)) 
 place_of_kept s (Some n) = refl
 place_of_kept s None = refl
 
-pub stands-named : (s : Option Schema) (xs : List Added) (b : Bool) (n : NodeView OperationDefinition) (m : NameView) (old new : Tables) → n.value.name ≡ Some m → Stands s xs old
+pub stands-named : (s : Option Schema) (xs : List DocumentItem) (b : Bool) (n : NodeView OperationDefinition) (m : NameView) (old new : Tables) → n.value.name ≡ Some m → Stands s xs old
     → new.operations.anonymous ≡ old.operations.anonymous
     → new.operations.named ≡ put_unless_taken m (lookup_key (same_text m) old.operations.named) (option_map (λ (root : NameView). at_place (operation_from s root) n) (root_in s n.value.operation_type)) old.operations.named
     → new.fragments ≡ old.fragments → new.multiple_anonymous ≡ old.multiple_anonymous
     → new.faults ≡ (old.faults ++ ambiguous_if (option_map (λ o. o.location) old.operations.anonymous)) ++ unless_taken e.OperationNameCollision m (lookup_key (same_text m) old.operations.named) (faults_in_operation s (NamedOperation n.value.operation_type m) n)
     → Stands s (xs ++ (b, d.OperationDefinition n) ∷ []) new
 stands-named s xs b n m old new h was anonymous named fragments repeated faults =
-    let x : Added = (b, d.OperationDefinition n) in
+    let x : DocumentItem = (b, d.OperationDefinition n) in
     let p = is_rooted s in
     let os = operations xs in
     let more : operations (xs ++ x ∷ []) ≡ os ++ n ∷ [] = operations-push xs x in
@@ -96,7 +96,7 @@ stands-named s xs b n m old new h was anonymous named fragments repeated faults 
           ∙ ap (λ (o : Option NameView). document_faults s xs ++ operation_faults s xs n o) (sym h) ∙ sym (faults-push s xs x);
     }
 
-pub stands-further : (s : Option Schema) (xs : List Added) (b : Bool) (n : NodeView OperationDefinition) (a : NodeView Operation) (old new : Tables) → n.value.name ≡ None → Stands s xs old
+pub stands-further : (s : Option Schema) (xs : List DocumentItem) (b : Bool) (n : NodeView OperationDefinition) (a : NodeView Operation) (old new : Tables) → n.value.name ≡ None → Stands s xs old
     → old.operations.anonymous ≡ Some a → new.operations ≡ old.operations → new.fragments ≡ old.fragments → new.multiple_anonymous ≡ true
     → new.faults ≡ old.faults ++ after_anonymous old.multiple_anonymous a.location n.location
     → Stands s (xs ++ (b, d.OperationDefinition n) ∷ []) new
@@ -105,7 +105,7 @@ stands-further s xs b n a old new h was there kept fragments repeated faults = b
     by : (o : Option (NodeView OperationDefinition)) → kept_anonymous s xs ≡ o → Stands s (xs ++ (b, d.OperationDefinition n) ∷ []) new
     by None k = let none : Some a ≡ None = sym there ∙ was.anonymous ∙ ap (option_map (typed_operation s)) k in cc
     by (Some k) is =
-        let x : Added = (b, d.OperationDefinition n) in
+        let x : DocumentItem = (b, d.OperationDefinition n) in
         let more : operations (xs ++ x ∷ []) ≡ operations xs ++ n ∷ [] = operations-push xs x in
         let place : Some a.location ≡ anonymous_place s xs = ap (option_map (λ o. o.location)) (sym there ∙ was.anonymous) ∙ place_of_kept s (kept_anonymous s xs) in
         record {
@@ -116,7 +116,7 @@ stands-further s xs b n a old new h was there kept fragments repeated faults = b
           faults = faults ∙ (λ i. was.faults i ++ anonymous_faults s (place i) (was.repeated i) (kept_named s xs) n) ∙ ap (λ (o : Option NameView). document_faults s xs ++ operation_faults s xs n o) (sym h) ∙ sym (faults-push s xs x);
         }
 
-pub stands-later : (s : Option Schema) (xs : List Added) (b : Bool) (n : NodeView OperationDefinition) (old new : Tables) → n.value.name ≡ None → Stands s xs old
+pub stands-later : (s : Option Schema) (xs : List DocumentItem) (b : Bool) (n : NodeView OperationDefinition) (old new : Tables) → n.value.name ≡ None → Stands s xs old
     → old.operations.anonymous ≡ None → is_bare old.operations.named ≡ false → new.operations ≡ old.operations → new.fragments ≡ old.fragments → new.multiple_anonymous ≡ old.multiple_anonymous
     → new.faults ≡ old.faults ++ ambiguous n.location ∷ []
     → Stands s (xs ++ (b, d.OperationDefinition n) ∷ []) new
@@ -128,7 +128,7 @@ stands-later s xs b n old new h was none others kept fragments repeated faults =
     by : (es : List (NameView × NodeView OperationDefinition)) → kept_named s xs ≡ es → Stands s (xs ++ (b, d.OperationDefinition n) ∷ []) new
     by [] k = let bare : true ≡ false = sym (ap is_bare (was.named ∙ ap (entries_by (typed_operation s)) k)) ∙ others in cc
     by (e ∷ es) k =
-        let x : Added = (b, d.OperationDefinition n) in
+        let x : DocumentItem = (b, d.OperationDefinition n) in
         let more : operations (xs ++ x ∷ []) ≡ operations xs ++ n ∷ [] = operations-push xs x in
         let alone : anonymous_of (is_rooted s) (operations xs ++ n ∷ []) ≡ None = later-anonymous (is_rooted s) (operations xs) n e es k ∙ none_kept in
         record {
@@ -141,14 +141,14 @@ stands-later s xs b n old new h was none others kept fragments repeated faults =
               ∙ ap (λ (o : Option NameView). document_faults s xs ++ operation_faults s xs n o) (sym h) ∙ sym (faults-push s xs x);
         }
 
-pub stands-anonymous : (s : Option Schema) (xs : List Added) (b : Bool) (n : NodeView OperationDefinition) (old new : Tables) → n.value.name ≡ None → Stands s xs old
+pub stands-anonymous : (s : Option Schema) (xs : List DocumentItem) (b : Bool) (n : NodeView OperationDefinition) (old new : Tables) → n.value.name ≡ None → Stands s xs old
     → old.operations.anonymous ≡ None → is_bare old.operations.named ≡ true
     → new.operations.anonymous ≡ option_map (λ (root : NameView). at_place (operation_from s root) n) (root_in s n.value.operation_type)
     → new.operations.named ≡ old.operations.named → new.fragments ≡ old.fragments → new.multiple_anonymous ≡ old.multiple_anonymous
     → new.faults ≡ old.faults ++ faults_in_operation s (AnonymousOperation n.value.operation_type) n
     → Stands s (xs ++ (b, d.OperationDefinition n) ∷ []) new
 stands-anonymous s xs b n old new h was none alone anonymous named fragments repeated faults =
-    let x : Added = (b, d.OperationDefinition n) in
+    let x : DocumentItem = (b, d.OperationDefinition n) in
     let p = is_rooted s in
     let os = operations xs in
     let more : operations (xs ++ x ∷ []) ≡ os ++ n ∷ [] = operations-push xs x in
@@ -165,7 +165,7 @@ stands-anonymous s xs b n old new h was none alone anonymous named fragments rep
     }
 
 -- one more fragment
-pub kept_fragments-push : (s : Option Schema) (xs : List Added) (b : Bool) (n : NodeView FragmentDefinition)
+pub kept_fragments-push : (s : Option Schema) (xs : List DocumentItem) (b : Bool) (n : NodeView FragmentDefinition)
     → kept_fragments s (xs ++ (b, d.FragmentDefinition n) ∷ []) ≡ put_unless_taken n.value.name (lookup_key (same_text n.value.name) (kept_fragments s xs)) (cond (is_on_type s n) (Some n) None) (kept_fragments s xs)
 kept_fragments-push s xs b n =
     ap (first_of_each (same_key same_text)) (
@@ -183,14 +183,14 @@ built_fragment : (s : Option Schema) (n : NodeView FragmentDefinition) (c : Bool
 built_fragment s n true = refl
 built_fragment s n false = refl
 
-pub stands-fragment : (s : Option Schema) (xs : List Added) (b : Bool) (n : NodeView FragmentDefinition) (old new : Tables) → Stands s xs old
+pub stands-fragment : (s : Option Schema) (xs : List DocumentItem) (b : Bool) (n : NodeView FragmentDefinition) (old new : Tables) → Stands s xs old
     → new.operations ≡ old.operations
     → new.fragments ≡ put_unless_taken n.value.name (lookup_key (same_text n.value.name) old.fragments) (cond (has_type s n.value.type_condition) (Some (typed_fragment s n)) None) old.fragments
     → new.multiple_anonymous ≡ old.multiple_anonymous
     → new.faults ≡ old.faults ++ fragment_faults s (lookup_key (same_text n.value.name) old.fragments) n
     → Stands s (xs ++ (b, d.FragmentDefinition n) ∷ []) new
 stands-fragment s xs b n old new was kept fragments repeated faults =
-    let x : Added = (b, d.FragmentDefinition n) in
+    let x : DocumentItem = (b, d.FragmentDefinition n) in
     let p = is_rooted s in
     let none : operations xs ≡ operations (xs ++ x ∷ []) = sym (same_operations s xs x refl) in
     let key : lookup_key (same_text n.value.name) old.fragments ≡ lookup_key (same_text n.value.name) (kept_fragments s xs) = ap (lookup_key (same_text n.value.name)) was.fragments ∙ entries-key (typed_fragment s) (same_text n.value.name) (kept_fragments s xs) in
@@ -213,13 +213,13 @@ pub as_fragment : (x : Definition) (n : NodeView FragmentDefinition) → fragmen
 as_fragment (d.FragmentDefinition m) n h = ap (λ (o : Option (NodeView FragmentDefinition)). d.FragmentDefinition (unwrap_or o m)) (sym h)
 as_fragment x n h = cc
 
-other_faults : (s : Option Schema) (xs : List Added) (b : Bool) (x : Definition) → operation_of x ≡ None → fragment_of x ≡ None → definition_faults s xs b x ≡ type_system_faults b x
+other_faults : (s : Option Schema) (xs : List DocumentItem) (b : Bool) (x : Definition) → operation_of x ≡ None → fragment_of x ≡ None → definition_faults s xs b x ≡ type_system_faults b x
 other_faults s xs b (d.OperationDefinition n) h g = cc
 other_faults s xs b (d.FragmentDefinition n) h g = cc
 other_faults s xs b x h g = refl
 
 -- one that is neither
-pub stands-other : (s : Option Schema) (xs : List Added) (b : Bool) (x : Definition) (old new : Tables) → operation_of x ≡ None → fragment_of x ≡ None → Stands s xs old
+pub stands-other : (s : Option Schema) (xs : List DocumentItem) (b : Bool) (x : Definition) (old new : Tables) → operation_of x ≡ None → fragment_of x ≡ None → Stands s xs old
     → new ≡ record old { faults = old.faults ++ type_system_faults b x } → Stands s (xs ++ (b, x) ∷ []) new
 stands-other s xs b x old new h g was is =
     let none : operations xs ≡ operations (xs ++ (b, x) ∷ []) = sym (same_operations s xs (b, x) h) in

@@ -3,7 +3,7 @@ ghost use Rattle.std.specs.Prelude.{◌≡◌, Bool, [], ◌++◌, Option, None,
 ghost use Rattle.std.specs.Option.{option_copied};
 ghost use Rattle.graphql_nodes.specs.Sources.{merged};
 ghost use Rattle.apollo_schema.specs.declared.schema.Schema.{Schema};
-ghost use Rattle.apollo_document.specs.AddedDefinitions.{added};
+ghost use Rattle.apollo_document.specs.AddedDefinitions.{document_list};
 ghost use Rattle.apollo_document.specs.DocumentFaults.{type_system_faults};
 ghost use Rattle.apollo_document.specs.Stands.{Stands, StandsWith};
 ghost use Rattle.apollo_document.specs.Takes.{Takes};
@@ -211,7 +211,7 @@ impl Tables {
         definitions: &[Definition],
         type_system_definitions_are_errors: bool,
     ) -> Result<(), AllocError>
-        ensures stands { OnOk result (StandsWith (option_copied schema.entry) (added type_system_definitions_are_errors definitions.now) self.old self.new) }
+        ensures stands { OnOk result (StandsWith (option_copied schema.entry) (document_list type_system_definitions_are_errors definitions.now) self.old self.new) }
         ensures sources { self.new.sources ≡ self.old.sources }
     {
         for definition in definitions {
@@ -227,7 +227,7 @@ impl Tables {
         document: &Document,
         type_system_definitions_are_errors: bool,
     ) -> Result<(), AllocError>
-        ensures stands { OnOk result (StandsWith (option_copied schema.entry) (added type_system_definitions_are_errors document.now.definitions) self.old self.new) }
+        ensures stands { OnOk result (StandsWith (option_copied schema.entry) (document_list type_system_definitions_are_errors document.now.definitions) self.old self.new) }
         ensures sources { OnOk result (self.new.sources ≡ merged self.old.sources document.now.sources) }
     {
         self.take(
