@@ -19,7 +19,7 @@ use Rattle.apollo_executable.specs.declared.operation.Operation.{Operation}
 use Rattle.apollo_executable.specs.declared.operation.Fragment.{Fragment}
 use Rattle.apollo_executable.specs.declared.selection.SelectionSet.{SelectionSet}
 use Rattle.apollo_executable.specs.declared.document.ExecutableDocument.{ExecutableDocument}
-use Rattle.apollo_elaboration.specs.SelectionFaults.{faults_of}
+use Rattle.apollo_elaboration.specs.SelectionFaults.{faults_of_selections}
 use Rattle.apollo_elaboration.specs.Stripped.{stripped}
 use Rattle.apollo_elaboration.specs.TypedSelections.{IsTypedSet}
 use Rattle.apollo_elaboration.specs.declared.selection_path.ExecutableDefinitionName.{ExecutableDefinitionName}
@@ -166,7 +166,7 @@ place-erased (Some n) = refl
 -- what the law of typed sets says
 pub record TypedSetsLaw : Type 0 where
   pub again : (s : Option Schema) (ty : NameView) (set : SelectionSet) → IsTypedSet s ty set → stripped s ty (erased_set set) ≡ erased_set set
-  pub faultless : (s : Option Schema) (ty : NameView) (path : SelectionPath) (set : SelectionSet) → IsTypedSet s ty set → faults_of s ty path (erased_set set) ≡ []
+  pub faultless : (s : Option Schema) (ty : NameView) (path : SelectionPath) (set : SelectionSet) → IsTypedSet s ty set → faults_of_selections s ty path (erased_set set) ≡ []
   pub unique : (s : Option Schema) (ty : NameView) (a b : SelectionSet) → IsTypedSet s ty a → IsTypedSet s ty b → erased_set a ≡ erased_set b → a ≡ b
 
 module _ (sets : TypedSetsLaw) where

@@ -15,7 +15,7 @@ use Rattle.apollo_executable.specs.Erasure.{at_place, erased_set, erased_operati
 use Rattle.apollo_executable.specs.declared.selection.SelectionSet.{SelectionSet}
 use Rattle.apollo_executable.specs.declared.operation.Operation.{Operation}
 use Rattle.apollo_executable.specs.declared.operation.Fragment.{Fragment}
-use Rattle.apollo_elaboration.specs.SelectionFaults.{faults_of}
+use Rattle.apollo_elaboration.specs.SelectionFaults.{faults_of_selections}
 use Rattle.apollo_elaboration.specs.Typable.{Fault, has_type}
 use Rattle.apollo_elaboration.specs.declared.selection_path.SelectionPath.{SelectionPath}
 use Rattle.apollo_elaboration.specs.declared.selection_path.ExecutableDefinitionName.{ExecutableDefinitionName}
@@ -81,12 +81,12 @@ built_option R f None made = tt
 built_option R f (Some a) made = (made a refl, tt)
 
 pub operation_faults_made : (s : Option Schema) (n : Op) (name : ExecutableDefinitionName) (root : NameView) (below : List ast.Selection) (path : SelectionPath) (before : List Fault) → root_in s n.value.operation_type ≡ Some root → below ≡ n.value.selection_set
-    → path ≡ record { root = name; nested_fields = [] } → before ++ faults_of s root path below ≡ before ++ faults_in_operation s name n
-operation_faults_made s n name root below path before r selections is = (λ i. before ++ faults_of s root (is i) (selections i)) ∙ ap (λ o. before ++ rooted_faults s name n o) (sym r)
+    → path ≡ record { root = name; nested_fields = [] } → before ++ faults_of_selections s root path below ≡ before ++ faults_in_operation s name n
+operation_faults_made s n name root below path before r selections is = (λ i. before ++ faults_of_selections s root (is i) (selections i)) ∙ ap (λ o. before ++ rooted_faults s name n o) (sym r)
 
 pub fragment_faults_made : (s : Option Schema) (n : NodeView FragmentDefinition) (ty : NameView) (below : List ast.Selection) (path : SelectionPath) (before : List Fault) → has_type s n.value.type_condition ≡ true → ty ≡ n.value.type_condition → below ≡ n.value.selection_set
-    → path ≡ record { root = roots.Fragment n.value.name; nested_fields = [] } → before ++ faults_of s ty path below ≡ before ++ faults_in_fragment s n
-fragment_faults_made s n ty below path before there is selections at = (λ i. before ++ faults_of s (is i) (at i) (selections i)) ∙ ap (λ b. before ++ on_type_faults s n b) (sym there)
+    → path ≡ record { root = roots.Fragment n.value.name; nested_fields = [] } → before ++ faults_of_selections s ty path below ≡ before ++ faults_in_fragment s n
+fragment_faults_made s n ty below path before there is selections at = (λ i. before ++ faults_of_selections s (is i) (at i) (selections i)) ∙ ap (λ b. before ++ on_type_faults s n b) (sym there)
 
 -- what the law of elaborated sets says
 pub record ElaboratedSetsLaw : Type 0 where

@@ -15,7 +15,7 @@ use Rattle.graphql_ast.specs.declared.operation.OperationDefinition.{OperationDe
 use Rattle.graphql_ast.specs.declared.operation.FragmentDefinition.{FragmentDefinition}
 use Rattle.apollo_component.specs.EachAfter.{each_after}
 use Rattle.apollo_schema.specs.declared.schema.Schema.{Schema}
-use Rattle.apollo_elaboration.specs.SelectionFaults.{faults_of}
+use Rattle.apollo_elaboration.specs.SelectionFaults.{faults_of_selections}
 use Rattle.apollo_elaboration.specs.Typable.{Fault, has_type}
 use Rattle.apollo_elaboration.specs.declared.build_error.BuildError.{BuildError}
 use Rattle.apollo_elaboration.specs.declared.build_error.BuildError.TheVariants as e
@@ -39,7 +39,7 @@ unless_taken collision name None wrong = wrong
 
 -- an operation without a root type is at fault; else its selections are
 abbrev pub rooted_faults : Option Schema → ExecutableDefinitionName → NodeView OperationDefinition → Option NameView → List Fault
-rooted_faults s name n (Some root) = faults_of s root (record { root = name; nested_fields = [] }) n.value.selection_set
+rooted_faults s name n (Some root) = faults_of_selections s root (record { root = name; nested_fields = [] }) n.value.selection_set
 rooted_faults s name n None = (n.location, e.UndefinedRootOperation (operation_text n.value.operation_type)) ∷ []
 
 abbrev pub faults_in_operation : Option Schema → ExecutableDefinitionName → NodeView OperationDefinition → List Fault
@@ -77,7 +77,7 @@ operation_faults s before n None = anonymous_faults s (anonymous_place s before)
 
 -- a fragment whose condition is no type is at fault; else its selections are
 abbrev pub on_type_faults : Option Schema → NodeView FragmentDefinition → Bool → List Fault
-on_type_faults s n true = faults_of s n.value.type_condition (record { root = Fragment n.value.name; nested_fields = [] }) n.value.selection_set
+on_type_faults s n true = faults_of_selections s n.value.type_condition (record { root = Fragment n.value.name; nested_fields = [] }) n.value.selection_set
 on_type_faults s n false = (n.value.type_condition.location, e.UndefinedTypeInNamedFragmentTypeCondition n.value.type_condition n.value.name) ∷ []
 
 abbrev pub faults_in_fragment : Option Schema → NodeView FragmentDefinition → List Fault
