@@ -25,7 +25,7 @@ use Rattle.apollo_executable.specs.declared.document.ExecutableDocument.{Executa
 use Rattle.apollo_executable.specs.declared.selection.Field.{Field}
 use Rattle.apollo_executable.specs.declared.selection.SelectionSet.{SelectionSet}
 use Rattle.apollo_document.specs.AddedDefinitions.{DocumentItem}
-use Rattle.apollo_document.specs.KeptDefinitions.{kept_anonymous, kept_fragments, kept_named, root_in}
+use Rattle.apollo_document.specs.KeptDefinitions.{kept_anonymous, kept_fragments, kept_named, root_type_of}
 use Rattle.apollo_document.specs.TypedDefinitions.{stripped_fragment, stripped_operation}
 use Rattle.apollo_compiler.specs.Compilation.{Compilation}
 use Rattle.apollo_compiler.specs.Lists.{schema_list}
@@ -54,7 +54,7 @@ kept_operations s xs = listed (kept_anonymous s xs) ++ values_of (kept_named s x
 
 -- an operation with its typable selections alone, from its root type, which each has that is kept
 abbrev pub operation_stripped : Option Schema → NodeView OperationDefinition → Option ast.Definition
-operation_stripped s n = option_map (λ (root : NameView). d.OperationDefinition (at_place (stripped_operation s root) n)) (root_in s n.value.operation_type)
+operation_stripped s n = option_map (λ (root : NameView). d.OperationDefinition (at_place (stripped_operation s root) n)) (root_type_of s n.value.operation_type)
 
 -- a fragment with its typable selections alone, from its condition
 abbrev pub fragment_stripped : Option Schema → NodeView FragmentDefinition → ast.Definition

@@ -26,7 +26,7 @@ use Rattle.apollo_elaboration.specs.declared.selection_path.ExecutableDefinition
 use Rattle.apollo_elaboration.specs.declared.selection_path.ExecutableDefinitionName.TheVariants as name
 use Rattle.apollo_elaboration.specs.declared.selection_path.SelectionPath.{SelectionPath}
 use Rattle.apollo_document.specs.AddedDefinitions.{DocumentItem, document_list, operations, fragments}
-use Rattle.apollo_document.specs.KeptDefinitions.{root_in, is_rooted, first_if_anonymous, named, kept_anonymous, kept_named, is_on_type, under_name, kept_fragments}
+use Rattle.apollo_document.specs.KeptDefinitions.{root_type_of, is_rooted, first_if_anonymous, named, kept_anonymous, kept_named, is_on_type, under_name, kept_fragments}
 use Rattle.apollo_document.specs.DocumentFaults.{ambiguous_if, rooted_faults, faults_in_operation, on_type_faults, document_faults}
 use Rattle.apollo_document.specs.TypedDefinitions.{stripped_operation, stripped_fragment, IsOperationOf, IsFragmentOf}
 use Rattle.apollo_document.specs.Documents.{IsUnderName, IsDocumentOf}
@@ -128,7 +128,7 @@ has_no_name (Some m) n h = by m.value.name refl h
     by (Some k) e h = cc
 
 rooted : (s : Option Schema) (n : Op) (o : NodeView Operation) → IsOperationOf s n o → is_rooted s (erase_operation o) ≡ true
-rooted s n o h = ap (λ (z : Op). is_some (root_in s z.value.operation_type)) h.1.1.0 ∙ ap (λ (r : Option NameView). is_some r) h.1.0
+rooted s n o h = ap (λ (z : Op). is_some (root_type_of s z.value.operation_type)) h.1.1.0 ∙ ap (λ (r : Option NameView). is_some r) h.1.0
 
 -- a write-out as a list
 operations-written : (b : Bool) (es : List (NameView × NodeView Operation)) → map (λ (x : Definition). (b, x)) (map (λ n. d.OperationDefinition (erase_operation n)) (values_of es)) ≡ map (operation_item b) (entries_by erase_operation es)
@@ -187,7 +187,7 @@ module _ (sets : TypedSetsLaw) where
   -- and is that of what it is erased to
   self_operation : (s : Option Schema) (n : Op) (o : NodeView Operation) → IsOperationOf s n o → IsOperationOf s (erase_operation o) o
   self_operation s n o h =
-      let rooted : root_in s (erase_operation o).value.operation_type ≡ Some h.0 = ap (λ (z : Op). root_in s z.value.operation_type) h.1.1.0 ∙ h.1.0 in
+      let rooted : root_type_of s (erase_operation o).value.operation_type ≡ Some h.0 = ap (λ (z : Op). root_type_of s z.value.operation_type) h.1.1.0 ∙ h.1.0 in
       let same : erase_operation o ≡ at_place (stripped_operation s h.0) (erase_operation o) = ap (with_selections (erase_operation o)) (sym (sets.again s h.0 o.value.selection_set h.1.1.1)) in
       (h.0, (rooted, (same, h.1.1.1)))
 
@@ -207,7 +207,7 @@ module _ (sets : TypedSetsLaw) where
   no_faults : (s : Option Schema) (path : ExecutableDefinitionName) (n : Op) (o : NodeView Operation) → IsOperationOf s n o → faults_in_operation s path (erase_operation o) ≡ []
   no_faults s path n o h =
       let whole : SelectionPath = record { root = path; nested_fields = [] } in
-      ap (rooted_faults s path (erase_operation o)) (ap (λ (z : Op). root_in s z.value.operation_type) h.1.1.0 ∙ h.1.0) ∙ sets.faultless s h.0 whole o.value.selection_set h.1.1.1
+      ap (rooted_faults s path (erase_operation o)) (ap (λ (z : Op). root_type_of s z.value.operation_type) h.1.1.0 ∙ h.1.0) ∙ sets.faultless s h.0 whole o.value.selection_set h.1.1.1
 
   sound_table : (s : Option Schema) (ks : List (NameView × Op)) (es : List (NameView × NodeView Operation)) → AllZip (IsUnderName (IsOperationOf s)) ks es → AllByRecursion (λ x. x.1.value.name ≡ Some x.0) ks → AllByRecursion (IsSoundOperation s) (entries_by erase_operation es)
   sound_table s [] [] h a = tt

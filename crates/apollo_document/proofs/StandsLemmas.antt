@@ -22,7 +22,7 @@ use Rattle.apollo_elaboration.specs.Typable.{has_type, is_bare}
 use Rattle.apollo_elaboration.specs.declared.build_error.BuildError.TheVariants as e
 use Rattle.apollo_elaboration.specs.declared.selection_path.ExecutableDefinitionName.TheVariants.{AnonymousOperation, NamedOperation}
 use Rattle.apollo_document.specs.AddedDefinitions.{DocumentItem, operation_of, fragment_of, operation_in, fragment_in, operations, fragments}
-use Rattle.apollo_document.specs.KeptDefinitions.{root_in, is_rooted, kept_anonymous, kept_named, is_on_type, under_name, kept_fragments, is_repeated}
+use Rattle.apollo_document.specs.KeptDefinitions.{root_type_of, is_rooted, kept_anonymous, kept_named, is_on_type, under_name, kept_fragments, is_repeated}
 use Rattle.apollo_document.specs.DocumentFaults.{ambiguous, ambiguous_if, unless_taken, faults_in_operation, after_anonymous, unless_named, anonymous_faults, anonymous_place, fragment_faults, type_system_faults, operation_faults, definition_faults, faults_at, document_faults}
 use Rattle.apollo_document.specs.Stands.{operation_from, typed_operation, typed_fragment, entries_by, put_unless_taken, Stands}
 use Rattle.apollo_document.specs.declared.tables.Tables.{Tables}
@@ -55,11 +55,11 @@ no_entries f es h = nil_from_length es (sym (length-map es (λ e. (e.0, f e.1)))
 
 -- an operation that is built is the typed one, where it has a root type
 built_operation : (s : Option Schema) (n : NodeView OperationDefinition)
-    → option_map (λ (root : NameView). at_place (operation_from s root) n) (root_in s n.value.operation_type) ≡ option_map (typed_operation s) (cond (is_rooted s n) (Some n) None)
-built_operation s n = by (root_in s n.value.operation_type) refl
+    → option_map (λ (root : NameView). at_place (operation_from s root) n) (root_type_of s n.value.operation_type) ≡ option_map (typed_operation s) (cond (is_rooted s n) (Some n) None)
+built_operation s n = by (root_type_of s n.value.operation_type) refl
   where
-    by : (o : Option NameView) → root_in s n.value.operation_type ≡ o
-        → option_map (λ (root : NameView). at_place (operation_from s root) n) (root_in s n.value.operation_type) ≡ option_map (typed_operation s) (cond (is_rooted s n) (Some n) None)
+    by : (o : Option NameView) → root_type_of s n.value.operation_type ≡ o
+        → option_map (λ (root : NameView). at_place (operation_from s root) n) (root_type_of s n.value.operation_type) ≡ option_map (typed_operation s) (cond (is_rooted s n) (Some n) None)
     by (Some r) h =
         ap (option_map (λ (root : NameView). at_place (operation_from s root) n)) h
         ∙ (λ i. Some (at_place (operation_from s (unwrap_or (sym h i) (plain_name []))) n))
@@ -75,7 +75,7 @@ place_of_kept s None = refl
 
 pub stands-named : (s : Option Schema) (xs : List DocumentItem) (b : Bool) (n : NodeView OperationDefinition) (m : NameView) (old new : Tables) → n.value.name ≡ Some m → Stands s xs old
     → new.operations.anonymous ≡ old.operations.anonymous
-    → new.operations.named ≡ put_unless_taken m (lookup_key (same_text m) old.operations.named) (option_map (λ (root : NameView). at_place (operation_from s root) n) (root_in s n.value.operation_type)) old.operations.named
+    → new.operations.named ≡ put_unless_taken m (lookup_key (same_text m) old.operations.named) (option_map (λ (root : NameView). at_place (operation_from s root) n) (root_type_of s n.value.operation_type)) old.operations.named
     → new.fragments ≡ old.fragments → new.multiple_anonymous ≡ old.multiple_anonymous
     → new.faults ≡ (old.faults ++ ambiguous_if (option_map (λ o. o.location) old.operations.anonymous)) ++ unless_taken e.OperationNameCollision m (lookup_key (same_text m) old.operations.named) (faults_in_operation s (NamedOperation n.value.operation_type m) n)
     → Stands s (xs ++ (b, d.OperationDefinition n) ∷ []) new
@@ -143,7 +143,7 @@ stands-later s xs b n old new h was none others kept fragments repeated faults =
 
 pub stands-anonymous : (s : Option Schema) (xs : List DocumentItem) (b : Bool) (n : NodeView OperationDefinition) (old new : Tables) → n.value.name ≡ None → Stands s xs old
     → old.operations.anonymous ≡ None → is_bare old.operations.named ≡ true
-    → new.operations.anonymous ≡ option_map (λ (root : NameView). at_place (operation_from s root) n) (root_in s n.value.operation_type)
+    → new.operations.anonymous ≡ option_map (λ (root : NameView). at_place (operation_from s root) n) (root_type_of s n.value.operation_type)
     → new.operations.named ≡ old.operations.named → new.fragments ≡ old.fragments → new.multiple_anonymous ≡ old.multiple_anonymous
     → new.faults ≡ old.faults ++ faults_in_operation s (AnonymousOperation n.value.operation_type) n
     → Stands s (xs ++ (b, d.OperationDefinition n) ∷ []) new

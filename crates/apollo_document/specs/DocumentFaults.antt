@@ -22,7 +22,7 @@ use Rattle.apollo_elaboration.specs.declared.build_error.BuildError.TheVariants 
 use Rattle.apollo_elaboration.specs.declared.selection_path.ExecutableDefinitionName.{ExecutableDefinitionName}
 use Rattle.apollo_elaboration.specs.declared.selection_path.ExecutableDefinitionName.TheVariants.{AnonymousOperation, NamedOperation, Fragment}
 use Rattle.apollo_document.specs.AddedDefinitions.{DocumentItem}
-use Rattle.apollo_document.specs.KeptDefinitions.{root_in, kept_anonymous, kept_named, kept_fragments, is_repeated}
+use Rattle.apollo_document.specs.KeptDefinitions.{root_type_of, kept_anonymous, kept_named, kept_fragments, is_repeated}
 
 -- an anonymous operation at this place isn't the only one
 abbrev pub ambiguous : Option SourceSpan → Fault
@@ -43,7 +43,7 @@ rooted_faults s name n (Some root) = faults_of_selections s root (record { root 
 rooted_faults s name n None = (n.location, e.UndefinedRootOperation (operation_text n.value.operation_type)) ∷ []
 
 abbrev pub faults_in_operation : Option Schema → ExecutableDefinitionName → NodeView OperationDefinition → List Fault
-faults_in_operation s name n = rooted_faults s name n (root_in s n.value.operation_type)
+faults_in_operation s name n = rooted_faults s name n (root_type_of s n.value.operation_type)
 
 -- a named operation whose name is taken, if it is
 abbrev pub faults_of_named : Option Schema → Option NameView → NameView → NodeView OperationDefinition → List Fault

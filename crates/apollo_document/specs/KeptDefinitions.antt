@@ -17,13 +17,13 @@ use Rattle.apollo_elaboration.specs.Typable.{has_type}
 use Rattle.apollo_document.specs.AddedDefinitions.{DocumentItem, operations, fragments}
 
 -- the root type of a kind of operation: the one that the schema names, or without a schema the default name
-abbrev pub root_in : Option Schema → OperationType → Option NameView
-root_in None kind = Some (plain_name (default_type_text kind))
-root_in (Some s) kind = option_map (λ root. root.name) (root_of s.schema_definition.value kind)
+abbrev pub root_type_of : Option Schema → OperationType → Option NameView
+root_type_of None kind = Some (plain_name (default_type_text kind))
+root_type_of (Some s) kind = option_map (λ root. root.name) (root_of s.schema_definition.value kind)
 
 -- an operation is rooted if its kind has a root type
 abbrev pub is_rooted : Option Schema → NodeView OperationDefinition → Bool
-is_rooted s n = is_some (root_in s n.value.operation_type)
+is_rooted s n = is_some (root_type_of s n.value.operation_type)
 
 abbrev pub is_anonymous : NodeView OperationDefinition → Bool
 is_anonymous n = not (is_some n.value.name)

@@ -13,7 +13,7 @@ use Rattle.apollo_executable.specs.declared.selection.SelectionSet.{SelectionSet
 use Rattle.apollo_elaboration.specs.Elaborated.{elaborated}
 use Rattle.apollo_elaboration.specs.Typable.{has_type}
 use Rattle.apollo_document.specs.AddedDefinitions.{DocumentItem}
-use Rattle.apollo_document.specs.KeptDefinitions.{root_in, kept_anonymous, kept_named, kept_fragments, is_repeated}
+use Rattle.apollo_document.specs.KeptDefinitions.{root_type_of, kept_anonymous, kept_named, kept_fragments, is_repeated}
 use Rattle.apollo_document.specs.DocumentFaults.{document_faults}
 use Rattle.apollo_document.specs.declared.tables.Tables.{Tables}
 use Rattle.apollo_document.specs.declared.state.State.{State}
@@ -29,11 +29,11 @@ operation_from s root o = operation_over o (elaborated s root o.selection_set)
 
 -- an operation, typed, if it has a root type
 abbrev pub rooted_operation : Option Schema → NodeView OperationDefinition → Option (NodeView Operation)
-rooted_operation s n = option_map (λ (root : NameView). at_place (operation_from s root) n) (root_in s n.value.operation_type)
+rooted_operation s n = option_map (λ (root : NameView). at_place (operation_from s root) n) (root_type_of s n.value.operation_type)
 
 -- an operation that is kept is rooted
 abbrev pub root_or_none : Option Schema → NodeView OperationDefinition → NameView
-root_or_none s n = unwrap_or (root_in s n.value.operation_type) (plain_name [])
+root_or_none s n = unwrap_or (root_type_of s n.value.operation_type) (plain_name [])
 
 abbrev pub typed_operation : Option Schema → NodeView OperationDefinition → NodeView Operation
 typed_operation s n = at_place (operation_from s (root_or_none s n)) n

@@ -4,7 +4,7 @@ ghost use Rattle.std.specs.Option.{option_copied};
 ghost use Rattle.graphql_nodes.specs.SameText.{same_text};
 ghost use Rattle.graphql_nodes.specs.Tables.{lookup_key};
 ghost use Rattle.apollo_elaboration.specs.declared.build_error.BuildError.TheVariants as errors;
-ghost use Rattle.apollo_document.specs.KeptDefinitions.{root_in};
+ghost use Rattle.apollo_document.specs.KeptDefinitions.{root_type_of};
 ghost use Rattle.graphql_nodes.specs.OperationTexts.{operation_text};
 ghost use Rattle.apollo_document.specs.DocumentFaults.{ambiguous, ambiguous_if, faults_in_operation, faults_of_named, after_anonymous};
 ghost use Rattle.apollo_document.specs.Stands.{operation_over, rooted_operation, put_unless_taken};
@@ -32,7 +32,7 @@ fn root_type(
     schema: Option<&Schema>,
     operation_type: OperationType,
 ) -> Result<Option<NamedType>, AllocError>
-    ensures { IfOk result (λ root. root ≡ root_in (option_copied schema.entry) operation_type) }
+    ensures { IfOk result (λ root. root ≡ root_type_of (option_copied schema.entry) operation_type) }
 {
     match schema {
         None => Ok(Some(operation_type.default_type_name(alloc)?)),
