@@ -6,5 +6,5 @@ use Rattle.apollo_document.specs.Stands.{Stands}
 use Rattle.apollo_document.specs.declared.tables.Tables.{Tables}
 
 -- the tables take this definition at the end of their list
-abbrev pub Takes : Option Schema → DocumentItem → Tables → Tables → Type 0
-Takes s x old new = (xs : List DocumentItem) → Stands s xs old → Stands s (xs ++ x ∷ []) new
+abbrev pub TakesDefinition : Option Schema → DocumentItem → Tables → Tables → Type 0
+TakesDefinition s x old new = (xs : List DocumentItem) → Stands s xs old → Stands s (xs ++ x ∷ []) new

@@ -6,7 +6,7 @@ ghost use Rattle.apollo_schema.specs.declared.schema.Schema.{Schema};
 ghost use Rattle.apollo_document.specs.AddedDefinitions.{document_list};
 ghost use Rattle.apollo_document.specs.DocumentFaults.{type_system_faults};
 ghost use Rattle.apollo_document.specs.Stands.{Stands, StandsWith};
-ghost use Rattle.apollo_document.specs.Takes.{Takes};
+ghost use Rattle.apollo_document.specs.Takes.{TakesDefinition};
 ghost use Rattle.graphql_ast.specs.declared.definition.Definition.TheVariants as definitions;
 
 use crate::definitions::{as_fragment, as_operation};
@@ -78,7 +78,7 @@ impl Tables {
         node: &Node<OperationDefinition>,
         name: &Name,
     ) -> Result<(), AllocError>
-        ensures stands { OnOk result (node.now.value.name ≡ Some name.now → (errors : Bool) → Takes (option_copied schema.entry) (errors, definitions.OperationDefinition node.now) self.old self.new) }
+        ensures stands { OnOk result (node.now.value.name ≡ Some name.now → (errors : Bool) → TakesDefinition (option_copied schema.entry) (errors, definitions.OperationDefinition node.now) self.old self.new) }
         ensures sources { self.new.sources ≡ self.old.sources }
     {
         note_kept(&self.operations.anonymous, &mut self.faults)?;
@@ -99,7 +99,7 @@ impl Tables {
         schema: Option<&Schema>,
         node: &Node<OperationDefinition>,
     ) -> Result<(), AllocError>
-        ensures stands { OnOk result (node.now.value.name ≡ None → (errors : Bool) → Takes (option_copied schema.entry) (errors, definitions.OperationDefinition node.now) self.old self.new) }
+        ensures stands { OnOk result (node.now.value.name ≡ None → (errors : Bool) → TakesDefinition (option_copied schema.entry) (errors, definitions.OperationDefinition node.now) self.old self.new) }
         ensures sources { self.new.sources ≡ self.old.sources }
     {
         if let Some(kept) = &self.operations.anonymous {
@@ -134,7 +134,7 @@ impl Tables {
         schema: Option<&Schema>,
         node: &Node<OperationDefinition>,
     ) -> Result<(), AllocError>
-        ensures stands { OnOk result ((errors : Bool) → Takes (option_copied schema.entry) (errors, definitions.OperationDefinition node.now) self.old self.new) }
+        ensures stands { OnOk result ((errors : Bool) → TakesDefinition (option_copied schema.entry) (errors, definitions.OperationDefinition node.now) self.old self.new) }
         ensures sources { self.new.sources ≡ self.old.sources }
     {
         match &node.name {
@@ -150,7 +150,7 @@ impl Tables {
         schema: Option<&Schema>,
         node: &Node<FragmentDefinition>,
     ) -> Result<(), AllocError>
-        ensures stands { OnOk result ((errors : Bool) → Takes (option_copied schema.entry) (errors, definitions.FragmentDefinition node.now) self.old self.new) }
+        ensures stands { OnOk result ((errors : Bool) → TakesDefinition (option_copied schema.entry) (errors, definitions.FragmentDefinition node.now) self.old self.new) }
         ensures sources { self.new.sources ≡ self.old.sources }
     {
         put_fragment(
@@ -189,7 +189,7 @@ impl Tables {
         definition: &Definition,
         type_system_definitions_are_errors: bool,
     ) -> Result<(), AllocError>
-        ensures stands { OnOk result (Takes (option_copied schema.entry) (type_system_definitions_are_errors, definition.now) self.old self.new) }
+        ensures stands { OnOk result (TakesDefinition (option_copied schema.entry) (type_system_definitions_are_errors, definition.now) self.old self.new) }
         ensures sources { self.new.sources ≡ self.old.sources }
     {
         if let Some(node) = as_operation(definition) {
