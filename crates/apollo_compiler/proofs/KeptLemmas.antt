@@ -14,7 +14,7 @@ use Rattle.apollo_executable.specs.Operations.{all_operations}
 use Rattle.apollo_executable.specs.declared.document.ExecutableDocument.{ExecutableDocument}
 use Rattle.apollo_executable.specs.declared.operation.Fragment.{Fragment}
 use Rattle.apollo_executable.specs.declared.operation.Operation.{Operation}
-use Rattle.apollo_document.specs.AddedDefinitions.{Added}
+use Rattle.apollo_document.specs.AddedDefinitions.{DocumentItem}
 use Rattle.apollo_document.specs.Documents.{IsDocumentOf, IsUnderName}
 use Rattle.apollo_document.specs.KeptDefinitions.{kept_anonymous, kept_fragments, kept_named}
 use Rattle.apollo_document.specs.TypedDefinitions.{IsFragmentOf, IsOperationOf, stripped_operation}
@@ -49,7 +49,7 @@ fragments-kept s [] (f ∷ fs) h = absurd h
 fragments-kept s (n ∷ ns) [] h = absurd h
 fragments-kept s (n ∷ ns) (f ∷ fs) h = λ i. d.FragmentDefinition (h.0.0 i) ∷ fragments-kept s ns fs h.1 i
 
-pub document-kept : (s : Option Schema) (xs : List Added) (document : ExecutableDocument) → IsDocumentOf s xs document → erased_definitions document ≡ kept_definitions s xs
+pub document-kept : (s : Option Schema) (xs : List DocumentItem) (document : ExecutableDocument) → IsDocumentOf s xs document → erased_definitions document ≡ kept_definitions s xs
 document-kept s xs document h =
     let operations = operations-kept s (kept_operations s xs) (all_operations document.operations)
     (zip-append (IsOperationOf s) (listed (kept_anonymous s xs)) (listed document.operations.anonymous) (values_of (kept_named s xs)) (values_of document.operations.named)

@@ -10,7 +10,7 @@ use Rattle.apollo_meaning.specs.Items.ListItems.{added}
 use Rattle.apollo_schema.specs.SchemaWriteOut.{write_schema}
 use Rattle.apollo_schema.specs.declared.schema.Schema.{Schema}
 use Rattle.apollo_canonical.specs.WrittenAgain.{with_built_ins, written_again}
-use Rattle.apollo_document.specs.AddedDefinitions.{added as added_to_document}
+use Rattle.apollo_document.specs.AddedDefinitions.{document_list}
 use Rattle.apollo_compiler.specs.Lists.{all_definitions, all_sources, executable_list, handed_in, schema_list, with_sources}
 use Rattle.apollo_compiler.specs.declared.compile_options.CompileOptions.{CompileOptions}
 
@@ -45,10 +45,10 @@ module _ (ds : List Document) (i : ℕ) (d : Document) (lt : i < length ds) (is 
       ap (schema_list o) one_more ∙ schema_list-append o (take i ds) (d ∷ [])
       ∙ ap (λ l. schema_list o (take i ds) ++ added o.ignore_builtin_redefinitions l) (append-nil d.definitions)
 
-  pub executable_list-turn : (b : Bool) → executable_list b (take (i + 1) ds) ≡ executable_list b (take i ds) ++ added_to_document b d.definitions
+  pub executable_list-turn : (b : Bool) → executable_list b (take (i + 1) ds) ≡ executable_list b (take i ds) ++ document_list b d.definitions
   executable_list-turn b =
       ap (executable_list b) one_more
-      ∙ ap (added_to_document b) (definitions-append (take i ds) (d ∷ []) ∙ ap (λ l. all_definitions (take i ds) ++ l) (append-nil d.definitions))
+      ∙ ap (document_list b) (definitions-append (take i ds) (d ∷ []) ∙ ap (λ l. all_definitions (take i ds) ++ l) (append-nil d.definitions))
       ∙ map-append (λ x. (b, x)) (all_definitions (take i ds)) d.definitions
 
   pub all_sources-turn : all_sources (take (i + 1) ds) ≡ merged (all_sources (take i ds)) d.sources

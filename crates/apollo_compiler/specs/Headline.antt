@@ -24,8 +24,8 @@ use Rattle.apollo_executable.specs.Walks.WalkView.{AreWalked, IsWithinTurns, Tak
 use Rattle.apollo_executable.specs.declared.document.ExecutableDocument.{ExecutableDocument}
 use Rattle.apollo_executable.specs.declared.selection.Field.{Field}
 use Rattle.apollo_executable.specs.declared.selection.SelectionSet.{SelectionSet}
-use Rattle.apollo_document.specs.AddedDefinitions.{Added}
-use Rattle.apollo_document.specs.KeptDefinitions.{kept_anonymous, kept_fragments, kept_named, root_in}
+use Rattle.apollo_document.specs.AddedDefinitions.{DocumentItem}
+use Rattle.apollo_document.specs.KeptDefinitions.{kept_anonymous, kept_fragments, kept_named, root_type_of}
 use Rattle.apollo_document.specs.TypedDefinitions.{stripped_fragment, stripped_operation}
 use Rattle.apollo_compiler.specs.Compilation.{Compilation}
 use Rattle.apollo_compiler.specs.Lists.{schema_list}
@@ -49,19 +49,19 @@ pub record IsFolded (items : List ListItem) (name : List ℕ) (t : ExtendedType)
   pub is : t ≡ type_from definition ((Definition, definition) ∷ extensions)
 
 -- the operations that a document keeps of a list: the anonymous one, then the named ones
-abbrev pub kept_operations : Option Schema → List Added → List (NodeView OperationDefinition)
+abbrev pub kept_operations : Option Schema → List DocumentItem → List (NodeView OperationDefinition)
 kept_operations s xs = listed (kept_anonymous s xs) ++ values_of (kept_named s xs)
 
 -- an operation with its typable selections alone, from its root type, which each has that is kept
 abbrev pub operation_stripped : Option Schema → NodeView OperationDefinition → Option ast.Definition
-operation_stripped s n = option_map (λ (root : NameView). d.OperationDefinition (at_place (stripped_operation s root) n)) (root_in s n.value.operation_type)
+operation_stripped s n = option_map (λ (root : NameView). d.OperationDefinition (at_place (stripped_operation s root) n)) (root_type_of s n.value.operation_type)
 
 -- a fragment with its typable selections alone, from its condition
 abbrev pub fragment_stripped : Option Schema → NodeView FragmentDefinition → ast.Definition
 fragment_stripped s n = d.FragmentDefinition (at_place (stripped_fragment s) n)
 
 -- the operations and fragments that are kept, each stripped
-abbrev pub kept_definitions : Option Schema → List Added → List ast.Definition
+abbrev pub kept_definitions : Option Schema → List DocumentItem → List ast.Definition
 kept_definitions s xs = filter_map (operation_stripped s) (kept_operations s xs) ++ map (fragment_stripped s) (values_of (kept_fragments s xs))
 
 -- there is one walk over a set: these fields, each that is reached exactly as often as it stands there, in the order of walks;

@@ -6,7 +6,7 @@ use Rattle.graphql_ast.specs.declared.definition.Definition.{Definition}
 use Rattle.graphql_ast.specs.declared.document.Document.{Document}
 use Rattle.apollo_meaning.specs.Items.ListItems.{Added, added}
 use Rattle.apollo_canonical.specs.WrittenAgain.{with_built_ins}
-use Rattle.apollo_document.specs.AddedDefinitions.{Added as AddedToDocument, added as added_to_document}
+use Rattle.apollo_document.specs.AddedDefinitions.{DocumentItem, document_list}
 use Rattle.apollo_compiler.specs.declared.compile_options.CompileOptions.{CompileOptions}
 
 -- neither option
@@ -33,5 +33,5 @@ unfoldable pub schema_list : CompileOptions → List Document → List Added
 schema_list options documents = with_built_ins (handed_in options documents)
 
 -- the list that a typed document is built of, in which definitions of the type system are at fault, or are not
-abbrev pub executable_list : Bool → List Document → List AddedToDocument
-executable_list errors documents = added_to_document errors (all_definitions documents)
+abbrev pub executable_list : Bool → List Document → List DocumentItem
+executable_list errors documents = document_list errors (all_definitions documents)

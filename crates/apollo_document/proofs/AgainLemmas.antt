@@ -19,14 +19,14 @@ use Rattle.apollo_executable.specs.declared.operation.Operation.{Operation}
 use Rattle.apollo_executable.specs.declared.operation.Fragment.{Fragment}
 use Rattle.apollo_executable.specs.declared.selection.SelectionSet.{SelectionSet}
 use Rattle.apollo_executable.specs.declared.document.ExecutableDocument.{ExecutableDocument}
-use Rattle.apollo_elaboration.specs.SelectionFaults.{faults_of}
+use Rattle.apollo_elaboration.specs.SelectionFaults.{faults_of_selections}
 use Rattle.apollo_elaboration.specs.Stripped.{stripped}
 use Rattle.apollo_elaboration.specs.TypedSelections.{IsTypedSet}
 use Rattle.apollo_elaboration.specs.declared.selection_path.ExecutableDefinitionName.{ExecutableDefinitionName}
 use Rattle.apollo_elaboration.specs.declared.selection_path.ExecutableDefinitionName.TheVariants as name
 use Rattle.apollo_elaboration.specs.declared.selection_path.SelectionPath.{SelectionPath}
-use Rattle.apollo_document.specs.AddedDefinitions.{Added, added, operations, fragments}
-use Rattle.apollo_document.specs.KeptDefinitions.{root_in, is_rooted, first_if_anonymous, named, kept_anonymous, kept_named, is_on_type, under_name, kept_fragments}
+use Rattle.apollo_document.specs.AddedDefinitions.{DocumentItem, document_list, operations, fragments}
+use Rattle.apollo_document.specs.KeptDefinitions.{root_type_of, is_rooted, first_if_anonymous, named, kept_anonymous, kept_named, is_on_type, under_name, kept_fragments}
 use Rattle.apollo_document.specs.DocumentFaults.{ambiguous_if, rooted_faults, faults_in_operation, on_type_faults, document_faults}
 use Rattle.apollo_document.specs.TypedDefinitions.{stripped_operation, stripped_fragment, IsOperationOf, IsFragmentOf}
 use Rattle.apollo_document.specs.Documents.{IsUnderName, IsDocumentOf}
@@ -128,7 +128,7 @@ has_no_name (Some m) n h = by m.value.name refl h
     by (Some k) e h = cc
 
 rooted : (s : Option Schema) (n : Op) (o : NodeView Operation) → IsOperationOf s n o → is_rooted s (erase_operation o) ≡ true
-rooted s n o h = ap (λ (z : Op). is_some (root_in s z.value.operation_type)) h.1.1.0 ∙ ap (λ (r : Option NameView). is_some r) h.1.0
+rooted s n o h = ap (λ (z : Op). is_some (root_type_of s z.value.operation_type)) h.1.1.0 ∙ ap (λ (r : Option NameView). is_some r) h.1.0
 
 -- a write-out as a list
 operations-written : (b : Bool) (es : List (NameView × NodeView Operation)) → map (λ (x : Definition). (b, x)) (map (λ n. d.OperationDefinition (erase_operation n)) (values_of es)) ≡ map (operation_item b) (entries_by erase_operation es)
@@ -143,13 +143,13 @@ anonymous-written : (b : Bool) (o : Option (NodeView Operation)) → map (λ (x 
 anonymous-written b None = refl
 anonymous-written b (Some n) = refl
 
-abbrev written_of : Bool → ExecutableDocument → List Added
+abbrev written_of : Bool → ExecutableDocument → List DocumentItem
 written_of b document = written b (option_map erase_operation document.operations.anonymous) (entries_by erase_operation document.operations.named) (entries_by erase_fragment document.fragments)
 
-is_written : (b : Bool) (document : ExecutableDocument) → added b (erased_definitions document) ≡ written_of b document
+is_written : (b : Bool) (document : ExecutableDocument) → document_list b (erased_definitions document) ≡ written_of b document
 is_written b document =
     let op : NodeView Operation → Definition = λ n. d.OperationDefinition (erase_operation n) in
-    let with : Definition → Added = λ x. (b, x) in
+    let with : Definition → DocumentItem = λ x. (b, x) in
     map-append with (map op (listed document.operations.anonymous ++ values_of document.operations.named)) (map (λ n. d.FragmentDefinition (erase_fragment n)) (values_of document.fragments))
     ∙ (λ i. map with (map-append op (listed document.operations.anonymous) (values_of document.operations.named) i) ++ fragments-written b document.fragments i)
     ∙ ap (λ l. l ++ map (fragment_item b) (entries_by erase_fragment document.fragments)) (map-append with (map op (listed document.operations.anonymous)) (map op (values_of document.operations.named)))
@@ -166,7 +166,7 @@ place-erased (Some n) = refl
 -- what the law of typed sets says
 pub record TypedSetsLaw : Type 0 where
   pub again : (s : Option Schema) (ty : NameView) (set : SelectionSet) → IsTypedSet s ty set → stripped s ty (erased_set set) ≡ erased_set set
-  pub faultless : (s : Option Schema) (ty : NameView) (path : SelectionPath) (set : SelectionSet) → IsTypedSet s ty set → faults_of s ty path (erased_set set) ≡ []
+  pub faultless : (s : Option Schema) (ty : NameView) (path : SelectionPath) (set : SelectionSet) → IsTypedSet s ty set → faults_of_selections s ty path (erased_set set) ≡ []
   pub unique : (s : Option Schema) (ty : NameView) (a b : SelectionSet) → IsTypedSet s ty a → IsTypedSet s ty b → erased_set a ≡ erased_set b → a ≡ b
 
 module _ (sets : TypedSetsLaw) where
@@ -187,7 +187,7 @@ module _ (sets : TypedSetsLaw) where
   -- and is that of what it is erased to
   self_operation : (s : Option Schema) (n : Op) (o : NodeView Operation) → IsOperationOf s n o → IsOperationOf s (erase_operation o) o
   self_operation s n o h =
-      let rooted : root_in s (erase_operation o).value.operation_type ≡ Some h.0 = ap (λ (z : Op). root_in s z.value.operation_type) h.1.1.0 ∙ h.1.0 in
+      let rooted : root_type_of s (erase_operation o).value.operation_type ≡ Some h.0 = ap (λ (z : Op). root_type_of s z.value.operation_type) h.1.1.0 ∙ h.1.0 in
       let same : erase_operation o ≡ at_place (stripped_operation s h.0) (erase_operation o) = ap (with_selections (erase_operation o)) (sym (sets.again s h.0 o.value.selection_set h.1.1.1)) in
       (h.0, (rooted, (same, h.1.1.1)))
 
@@ -196,7 +196,7 @@ module _ (sets : TypedSetsLaw) where
       let same : erase_fragment f ≡ at_place (stripped_fragment s) (erase_fragment f) = ap (fragment_with (erase_fragment f)) (sym (sets.again s (erase_fragment f).value.type_condition f.value.selection_set (typed_on s n f h))) in
       (same, typed_on s n f h)
 
-  pub one_document : (s : Option Schema) (xs : List Added) (a b : ExecutableDocument) → IsDocumentOf s xs a → IsDocumentOf s xs b → a ≡ record b { sources = a.sources }
+  pub one_document : (s : Option Schema) (xs : List DocumentItem) (a b : ExecutableDocument) → IsDocumentOf s xs a → IsDocumentOf s xs b → a ≡ record b { sources = a.sources }
   one_document s xs a b h g =
       let anonymous = one_option (IsOperationOf s) (one_operation s) (kept_anonymous s xs) a.operations.anonymous b.operations.anonymous h.anonymous g.anonymous in
       let named = one_table (IsOperationOf s) (one_operation s) (kept_named s xs) a.operations.named b.operations.named h.named g.named in
@@ -207,7 +207,7 @@ module _ (sets : TypedSetsLaw) where
   no_faults : (s : Option Schema) (path : ExecutableDefinitionName) (n : Op) (o : NodeView Operation) → IsOperationOf s n o → faults_in_operation s path (erase_operation o) ≡ []
   no_faults s path n o h =
       let whole : SelectionPath = record { root = path; nested_fields = [] } in
-      ap (rooted_faults s path (erase_operation o)) (ap (λ (z : Op). root_in s z.value.operation_type) h.1.1.0 ∙ h.1.0) ∙ sets.faultless s h.0 whole o.value.selection_set h.1.1.1
+      ap (rooted_faults s path (erase_operation o)) (ap (λ (z : Op). root_type_of s z.value.operation_type) h.1.1.0 ∙ h.1.0) ∙ sets.faultless s h.0 whole o.value.selection_set h.1.1.1
 
   sound_table : (s : Option Schema) (ks : List (NameView × Op)) (es : List (NameView × NodeView Operation)) → AllZip (IsUnderName (IsOperationOf s)) ks es → AllByRecursion (λ x. x.1.value.name ≡ Some x.0) ks → AllByRecursion (IsSoundOperation s) (entries_by erase_operation es)
   sound_table s [] [] h a = tt
@@ -244,7 +244,7 @@ module _ (sets : TypedSetsLaw) where
     (rooted s k e h.0, no_faults s (name.AnonymousOperation e.value.operation_type) k e h.0),
   )
 
-  kept_again : (s : Option Schema) (xs : List Added) (b : Bool) (document : ExecutableDocument) → IsDocumentOf s xs document
+  kept_again : (s : Option Schema) (xs : List DocumentItem) (b : Bool) (document : ExecutableDocument) → IsDocumentOf s xs document
       → AllKept s b (option_map erase_operation document.operations.anonymous) (entries_by erase_operation document.operations.named) (entries_by erase_fragment document.fragments)
   kept_again s xs b document h = all_kept s b (option_map erase_operation document.operations.anonymous) (entries_by erase_operation document.operations.named) (entries_by erase_fragment document.fragments)
       (sound_option s (kept_anonymous s xs) document.operations.anonymous h.anonymous (λ n e. has_no_name (find (is_rooted s) (operations xs)) n e))
@@ -253,7 +253,7 @@ module _ (sets : TypedSetsLaw) where
       (sound_fragments s (kept_fragments s xs) document.fragments h.fragments (each-first (λ (x : NameView × Frag). (x.1.value.name ≡ x.0) × (is_on_type s x.1 ≡ true)) (same_key same_text) (map under_name (filter (is_on_type s) (fragments xs))) (is_its_fragment s (fragments xs))))
       (distinct_table (IsFragmentOf s) erase_fragment (kept_fragments s xs) document.fragments h.fragments (first_of_each-distinct (same_key same_text) (map under_name (filter (is_on_type s) (fragments xs)))))
 
-  self_document : (s : Option Schema) (xs : List Added) (b : Bool) (document : ExecutableDocument) → IsDocumentOf s xs document → IsDocumentOf s (written_of b document) document
+  self_document : (s : Option Schema) (xs : List DocumentItem) (b : Bool) (document : ExecutableDocument) → IsDocumentOf s xs document → IsDocumentOf s (written_of b document) document
   self_document s xs b document h =
       let kept = kept_again s xs b document h in
       record {
@@ -262,13 +262,13 @@ module _ (sets : TypedSetsLaw) where
         fragments = subst (λ (ks : List (NameView × Frag)). AllZip (IsUnderName (IsFragmentOf s)) ks document.fragments) (sym kept.fragments) (self_table (IsFragmentOf s) erase_fragment (self_fragment s) (kept_fragments s xs) document.fragments h.fragments);
       }
 
-  pub document_is_itself : (s : Option Schema) (xs : List Added) (b : Bool) (document : ExecutableDocument) → IsDocumentOf s xs document → IsDocumentOf s (added b (erased_definitions document)) document
+  pub document_is_itself : (s : Option Schema) (xs : List DocumentItem) (b : Bool) (document : ExecutableDocument) → IsDocumentOf s xs document → IsDocumentOf s (document_list b (erased_definitions document)) document
   document_is_itself s xs b document h = subst (λ ys. IsDocumentOf s ys document) (sym (is_written b document)) (self_document s xs b document h)
 
-  pub document_is_again : (s : Option Schema) (xs : List Added) (b : Bool) (document again : ExecutableDocument) → IsDocumentOf s xs document → IsDocumentOf s (added b (erased_definitions document)) again → again ≡ record document { sources = again.sources }
-  document_is_again s xs b document again h g = one_document s (added b (erased_definitions document)) again document g (document_is_itself s xs b document h)
+  pub document_is_again : (s : Option Schema) (xs : List DocumentItem) (b : Bool) (document again : ExecutableDocument) → IsDocumentOf s xs document → IsDocumentOf s (document_list b (erased_definitions document)) again → again ≡ record document { sources = again.sources }
+  document_is_again s xs b document again h g = one_document s (document_list b (erased_definitions document)) again document g (document_is_itself s xs b document h)
 
-  pub faults_again : (s : Option Schema) (xs : List Added) (b : Bool) (document : ExecutableDocument) → IsDocumentOf s xs document → document_faults s (added b (erased_definitions document)) ≡ ambiguous_again document.operations
+  pub faults_again : (s : Option Schema) (xs : List DocumentItem) (b : Bool) (document : ExecutableDocument) → IsDocumentOf s xs document → document_faults s (document_list b (erased_definitions document)) ≡ ambiguous_again document.operations
   faults_again s xs b document h =
       ap (document_faults s) (is_written b document) ∙ (kept_again s xs b document h).faults
       ∙ flat-entries erase_operation (ambiguous_if (option_map (λ n. n.location) (option_map erase_operation document.operations.anonymous))) document.operations.named

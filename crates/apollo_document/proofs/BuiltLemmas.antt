@@ -15,7 +15,7 @@ use Rattle.apollo_executable.specs.Erasure.{at_place, erased_set, erased_operati
 use Rattle.apollo_executable.specs.declared.selection.SelectionSet.{SelectionSet}
 use Rattle.apollo_executable.specs.declared.operation.Operation.{Operation}
 use Rattle.apollo_executable.specs.declared.operation.Fragment.{Fragment}
-use Rattle.apollo_elaboration.specs.SelectionFaults.{faults_of}
+use Rattle.apollo_elaboration.specs.SelectionFaults.{faults_of_selections}
 use Rattle.apollo_elaboration.specs.Typable.{Fault, has_type}
 use Rattle.apollo_elaboration.specs.declared.selection_path.SelectionPath.{SelectionPath}
 use Rattle.apollo_elaboration.specs.declared.selection_path.ExecutableDefinitionName.{ExecutableDefinitionName}
@@ -25,8 +25,8 @@ use Rattle.apollo_executable.specs.declared.document.ExecutableDocument.{Executa
 use Rattle.apollo_elaboration.specs.Stripped.{stripped}
 use Rattle.apollo_elaboration.specs.TypedSelections.{IsTypedSet}
 use Rattle.apollo_elaboration.specs.Elaborated.{elaborated}
-use Rattle.apollo_document.specs.AddedDefinitions.{Added, operations}
-use Rattle.apollo_document.specs.KeptDefinitions.{root_in, is_rooted, is_anonymous, first_if_anonymous, named, kept_anonymous, kept_named, kept_fragments}
+use Rattle.apollo_document.specs.AddedDefinitions.{DocumentItem, operations}
+use Rattle.apollo_document.specs.KeptDefinitions.{root_type_of, is_rooted, is_anonymous, first_if_anonymous, named, kept_anonymous, kept_named, kept_fragments}
 use Rattle.apollo_document.specs.TypedDefinitions.{stripped_operation, stripped_fragment, IsOperationOf, IsFragmentOf}
 use Rattle.apollo_document.specs.Documents.{IsUnderName, IsDocumentOf}
 use Rattle.apollo_document.specs.Stands.{operation_from, root_or_none, typed_operation, fragment_on_type, typed_fragment, entries_by, Stands}
@@ -80,13 +80,13 @@ built_option : {A B : Type 0} (R : A → B → Type 0) (f : A → B) (o : Option
 built_option R f None made = tt
 built_option R f (Some a) made = (made a refl, tt)
 
-pub operation_faults_made : (s : Option Schema) (n : Op) (name : ExecutableDefinitionName) (root : NameView) (below : List ast.Selection) (path : SelectionPath) (before : List Fault) → root_in s n.value.operation_type ≡ Some root → below ≡ n.value.selection_set
-    → path ≡ record { root = name; nested_fields = [] } → before ++ faults_of s root path below ≡ before ++ faults_in_operation s name n
-operation_faults_made s n name root below path before r selections is = (λ i. before ++ faults_of s root (is i) (selections i)) ∙ ap (λ o. before ++ rooted_faults s name n o) (sym r)
+pub operation_faults_made : (s : Option Schema) (n : Op) (name : ExecutableDefinitionName) (root : NameView) (below : List ast.Selection) (path : SelectionPath) (before : List Fault) → root_type_of s n.value.operation_type ≡ Some root → below ≡ n.value.selection_set
+    → path ≡ record { root = name; nested_fields = [] } → before ++ faults_of_selections s root path below ≡ before ++ faults_in_operation s name n
+operation_faults_made s n name root below path before r selections is = (λ i. before ++ faults_of_selections s root (is i) (selections i)) ∙ ap (λ o. before ++ rooted_faults s name n o) (sym r)
 
 pub fragment_faults_made : (s : Option Schema) (n : NodeView FragmentDefinition) (ty : NameView) (below : List ast.Selection) (path : SelectionPath) (before : List Fault) → has_type s n.value.type_condition ≡ true → ty ≡ n.value.type_condition → below ≡ n.value.selection_set
-    → path ≡ record { root = roots.Fragment n.value.name; nested_fields = [] } → before ++ faults_of s ty path below ≡ before ++ faults_in_fragment s n
-fragment_faults_made s n ty below path before there is selections at = (λ i. before ++ faults_of s (is i) (at i) (selections i)) ∙ ap (λ b. before ++ on_type_faults s n b) (sym there)
+    → path ≡ record { root = roots.Fragment n.value.name; nested_fields = [] } → before ++ faults_of_selections s ty path below ≡ before ++ faults_in_fragment s n
+fragment_faults_made s n ty below path before there is selections at = (λ i. before ++ faults_of_selections s (is i) (at i) (selections i)) ∙ ap (λ b. before ++ on_type_faults s n b) (sym there)
 
 -- what the law of elaborated sets says
 pub record ElaboratedSetsLaw : Type 0 where
@@ -96,9 +96,9 @@ pub record ElaboratedSetsLaw : Type 0 where
 
 module _ (sets : ElaboratedSetsLaw) where
   built_operation : (s : Option Schema) (n : Op) → is_rooted s n ≡ true → IsOperationOf s n (typed_operation s n)
-  built_operation s n h = by (root_in s n.value.operation_type) refl h
+  built_operation s n h = by (root_type_of s n.value.operation_type) refl h
     where
-      by : (o : Option NameView) → root_in s n.value.operation_type ≡ o → is_some o ≡ true → IsOperationOf s n (typed_operation s n)
+      by : (o : Option NameView) → root_type_of s n.value.operation_type ≡ o → is_some o ≡ true → IsOperationOf s n (typed_operation s n)
       by None e h = cc
       by (Some root) e h =
           let is : root_or_none s n ≡ root = ap (λ (o : Option NameView). unwrap_or o (plain_name [])) e in
@@ -111,7 +111,7 @@ module _ (sets : ElaboratedSetsLaw) where
       let same : at_place erased_fragment (typed_fragment s n) ≡ at_place (stripped_fragment s) n = ap (fragment_with n) (sets.kept s n.value.type_condition n.value.selection_set) in
       (same, sets.typed s n.value.type_condition n.value.selection_set)
 
-  pub built_document : (s : Option Schema) (xs : List Added) (t : Tables) (document : ExecutableDocument) → Stands s xs t → document.operations ≡ t.operations → document.fragments ≡ t.fragments → IsDocumentOf s xs document
+  pub built_document : (s : Option Schema) (xs : List DocumentItem) (t : Tables) (document : ExecutableDocument) → Stands s xs t → document.operations ≡ t.operations → document.fragments ≡ t.fragments → IsDocumentOf s xs document
   built_document s xs t document stands ops frags =
       let os = operations xs in
       record {
@@ -124,10 +124,10 @@ module _ (sets : ElaboratedSetsLaw) where
       }
 
   -- what the code makes of an operation and of a fragment
-  pub operation_made : (s : Option Schema) (n : Op) (g : OperationDefinition) (root : NameView) (below : List ast.Selection) (set : SelectionSet) (made : Operation) (node : NodeView Operation) → root_in s n.value.operation_type ≡ Some root
+  pub operation_made : (s : Option Schema) (n : Op) (g : OperationDefinition) (root : NameView) (below : List ast.Selection) (set : SelectionSet) (made : Operation) (node : NodeView Operation) → root_type_of s n.value.operation_type ≡ Some root
       → g ≡ n.value → below ≡ n.value.selection_set → erased_set set ≡ stripped s root below → IsTypedSet s root set
       → made ≡ record { operation_type = g.operation_type; name = g.name; variables = g.variables; directives = g.directives; selection_set = set } → node ≡ record { value = made; location = n.location }
-      → Some node ≡ option_map (λ (root : NameView). at_place (operation_from s root) n) (root_in s n.value.operation_type)
+      → Some node ≡ option_map (λ (root : NameView). at_place (operation_from s root) n) (root_type_of s n.value.operation_type)
   operation_made s n g root below set made node r same selections h typed m at =
       let inner : set ≡ elaborated s root n.value.selection_set = sets.unique s root below set h typed ∙ ap (elaborated s root) selections in
       let whole : made ≡ operation_from s root n.value = m ∙ (λ i. record { operation_type = (same i).operation_type; name = (same i).name; variables = (same i).variables; directives = (same i).directives; selection_set = inner i }) in

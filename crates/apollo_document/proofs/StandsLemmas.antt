@@ -21,25 +21,25 @@ use Rattle.apollo_executable.specs.declared.operation.Operation.{Operation}
 use Rattle.apollo_elaboration.specs.Typable.{has_type, is_bare}
 use Rattle.apollo_elaboration.specs.declared.build_error.BuildError.TheVariants as e
 use Rattle.apollo_elaboration.specs.declared.selection_path.ExecutableDefinitionName.TheVariants.{AnonymousOperation, NamedOperation}
-use Rattle.apollo_document.specs.AddedDefinitions.{Added, operation_of, fragment_of, operation_in, fragment_in, operations, fragments}
-use Rattle.apollo_document.specs.KeptDefinitions.{root_in, is_rooted, kept_anonymous, kept_named, is_on_type, under_name, kept_fragments, is_repeated}
+use Rattle.apollo_document.specs.AddedDefinitions.{DocumentItem, operation_of, fragment_of, operation_in, fragment_in, operations, fragments}
+use Rattle.apollo_document.specs.KeptDefinitions.{root_type_of, is_rooted, kept_anonymous, kept_named, is_on_type, under_name, kept_fragments, is_repeated}
 use Rattle.apollo_document.specs.DocumentFaults.{ambiguous, ambiguous_if, unless_taken, faults_in_operation, after_anonymous, unless_named, anonymous_faults, anonymous_place, fragment_faults, type_system_faults, operation_faults, definition_faults, faults_at, document_faults}
 use Rattle.apollo_document.specs.Stands.{operation_from, typed_operation, typed_fragment, entries_by, put_unless_taken, Stands}
 use Rattle.apollo_document.specs.declared.tables.Tables.{Tables}
 use Rattle.apollo_document.proofs.ListLemmas.{first-put, entries-put, entries-key}
 use Rattle.apollo_document.proofs.OperationLemmas.{anonymous_of, named_of, repeated_of, named-kept, named-anonymous, named-repeated, anonymous-named, further-anonymous, further-repeated, later-anonymous, without-repeated, only-anonymous, only-repeated}
 
-pub operations-push : (xs : List Added) (x : Added) → operations (xs ++ x ∷ []) ≡ operations xs ++ cons_option (operation_in x) []
+pub operations-push : (xs : List DocumentItem) (x : DocumentItem) → operations (xs ++ x ∷ []) ≡ operations xs ++ cons_option (operation_in x) []
 operations-push xs x = filter_map-append operation_in xs (x ∷ [])
 
-fragments-push : (xs : List Added) (x : Added) → fragments (xs ++ x ∷ []) ≡ fragments xs ++ cons_option (fragment_in x) []
+fragments-push : (xs : List DocumentItem) (x : DocumentItem) → fragments (xs ++ x ∷ []) ≡ fragments xs ++ cons_option (fragment_in x) []
 fragments-push xs x = filter_map-append fragment_in xs (x ∷ [])
 
-faults-push : (s : Option Schema) (xs : List Added) (x : Added) → document_faults s (xs ++ x ∷ []) ≡ document_faults s xs ++ faults_at s xs x
+faults-push : (s : Option Schema) (xs : List DocumentItem) (x : DocumentItem) → document_faults s (xs ++ x ∷ []) ≡ document_faults s xs ++ faults_at s xs x
 faults-push s xs x = each_after-push (faults_at s) [] xs x
 
 -- no operation, or no fragment, changes nothing of what is kept of them
-module _ (s : Option Schema) (xs : List Added) (x : Added) where
+module _ (s : Option Schema) (xs : List DocumentItem) (x : DocumentItem) where
   pub same_operations : operation_in x ≡ None → operations (xs ++ x ∷ []) ≡ operations xs
   same_operations h = operations-push xs x ∙ ap (λ o. operations xs ++ cons_option o []) h ∙ append-nil (operations xs)
 
@@ -55,11 +55,11 @@ no_entries f es h = nil_from_length es (sym (length-map es (λ e. (e.0, f e.1)))
 
 -- an operation that is built is the typed one, where it has a root type
 built_operation : (s : Option Schema) (n : NodeView OperationDefinition)
-    → option_map (λ (root : NameView). at_place (operation_from s root) n) (root_in s n.value.operation_type) ≡ option_map (typed_operation s) (cond (is_rooted s n) (Some n) None)
-built_operation s n = by (root_in s n.value.operation_type) refl
+    → option_map (λ (root : NameView). at_place (operation_from s root) n) (root_type_of s n.value.operation_type) ≡ option_map (typed_operation s) (cond (is_rooted s n) (Some n) None)
+built_operation s n = by (root_type_of s n.value.operation_type) refl
   where
-    by : (o : Option NameView) → root_in s n.value.operation_type ≡ o
-        → option_map (λ (root : NameView). at_place (operation_from s root) n) (root_in s n.value.operation_type) ≡ option_map (typed_operation s) (cond (is_rooted s n) (Some n) None)
+    by : (o : Option NameView) → root_type_of s n.value.operation_type ≡ o
+        → option_map (λ (root : NameView). at_place (operation_from s root) n) (root_type_of s n.value.operation_type) ≡ option_map (typed_operation s) (cond (is_rooted s n) (Some n) None)
     by (Some r) h =
         ap (option_map (λ (root : NameView). at_place (operation_from s root) n)) h
         ∙ (λ i. Some (at_place (operation_from s (unwrap_or (sym h i) (plain_name []))) n))
@@ -73,14 +73,14 @@ place_of_kept : (s : Option Schema) (o : Option (NodeView OperationDefinition)) 
 place_of_kept s (Some n) = refl
 place_of_kept s None = refl
 
-pub stands-named : (s : Option Schema) (xs : List Added) (b : Bool) (n : NodeView OperationDefinition) (m : NameView) (old new : Tables) → n.value.name ≡ Some m → Stands s xs old
+pub stands-named : (s : Option Schema) (xs : List DocumentItem) (b : Bool) (n : NodeView OperationDefinition) (m : NameView) (old new : Tables) → n.value.name ≡ Some m → Stands s xs old
     → new.operations.anonymous ≡ old.operations.anonymous
-    → new.operations.named ≡ put_unless_taken m (lookup_key (same_text m) old.operations.named) (option_map (λ (root : NameView). at_place (operation_from s root) n) (root_in s n.value.operation_type)) old.operations.named
+    → new.operations.named ≡ put_unless_taken m (lookup_key (same_text m) old.operations.named) (option_map (λ (root : NameView). at_place (operation_from s root) n) (root_type_of s n.value.operation_type)) old.operations.named
     → new.fragments ≡ old.fragments → new.multiple_anonymous ≡ old.multiple_anonymous
-    → new.errors ≡ (old.errors ++ ambiguous_if (option_map (λ o. o.location) old.operations.anonymous)) ++ unless_taken e.OperationNameCollision m (lookup_key (same_text m) old.operations.named) (faults_in_operation s (NamedOperation n.value.operation_type m) n)
+    → new.faults ≡ (old.faults ++ ambiguous_if (option_map (λ o. o.location) old.operations.anonymous)) ++ unless_taken e.OperationNameCollision m (lookup_key (same_text m) old.operations.named) (faults_in_operation s (NamedOperation n.value.operation_type m) n)
     → Stands s (xs ++ (b, d.OperationDefinition n) ∷ []) new
-stands-named s xs b n m old new h was anonymous named fragments repeated errors =
-    let x : Added = (b, d.OperationDefinition n) in
+stands-named s xs b n m old new h was anonymous named fragments repeated faults =
+    let x : DocumentItem = (b, d.OperationDefinition n) in
     let p = is_rooted s in
     let os = operations xs in
     let more : operations (xs ++ x ∷ []) ≡ os ++ n ∷ [] = operations-push xs x in
@@ -92,20 +92,20 @@ stands-named s xs b n m old new h was anonymous named fragments repeated errors 
           ∙ ap (entries_by (typed_operation s)) (sym (named-kept p os n m h) ∙ ap (λ l. named_of (is_rooted s) l) (sym more));
       fragments = fragments ∙ was.fragments ∙ ap (entries_by (typed_fragment s)) (sym (same_fragments s xs x refl));
       repeated = repeated ∙ was.repeated ∙ sym (named-repeated p os n m h) ∙ ap (λ l. repeated_of p l) (sym more);
-      faults = errors ∙ append_assoc old.errors _ _ ∙ (λ i. was.faults i ++ (ambiguous_if (place i) ++ unless_taken e.OperationNameCollision m (key i) (faults_in_operation s (NamedOperation n.value.operation_type m) n)))
+      faults = faults ∙ append_assoc old.faults _ _ ∙ (λ i. was.faults i ++ (ambiguous_if (place i) ++ unless_taken e.OperationNameCollision m (key i) (faults_in_operation s (NamedOperation n.value.operation_type m) n)))
           ∙ ap (λ (o : Option NameView). document_faults s xs ++ operation_faults s xs n o) (sym h) ∙ sym (faults-push s xs x);
     }
 
-pub stands-further : (s : Option Schema) (xs : List Added) (b : Bool) (n : NodeView OperationDefinition) (a : NodeView Operation) (old new : Tables) → n.value.name ≡ None → Stands s xs old
+pub stands-further : (s : Option Schema) (xs : List DocumentItem) (b : Bool) (n : NodeView OperationDefinition) (a : NodeView Operation) (old new : Tables) → n.value.name ≡ None → Stands s xs old
     → old.operations.anonymous ≡ Some a → new.operations ≡ old.operations → new.fragments ≡ old.fragments → new.multiple_anonymous ≡ true
-    → new.errors ≡ old.errors ++ after_anonymous old.multiple_anonymous a.location n.location
+    → new.faults ≡ old.faults ++ after_anonymous old.multiple_anonymous a.location n.location
     → Stands s (xs ++ (b, d.OperationDefinition n) ∷ []) new
-stands-further s xs b n a old new h was there kept fragments repeated errors = by (kept_anonymous s xs) refl
+stands-further s xs b n a old new h was there kept fragments repeated faults = by (kept_anonymous s xs) refl
   where
     by : (o : Option (NodeView OperationDefinition)) → kept_anonymous s xs ≡ o → Stands s (xs ++ (b, d.OperationDefinition n) ∷ []) new
     by None k = let none : Some a ≡ None = sym there ∙ was.anonymous ∙ ap (option_map (typed_operation s)) k in cc
     by (Some k) is =
-        let x : Added = (b, d.OperationDefinition n) in
+        let x : DocumentItem = (b, d.OperationDefinition n) in
         let more : operations (xs ++ x ∷ []) ≡ operations xs ++ n ∷ [] = operations-push xs x in
         let place : Some a.location ≡ anonymous_place s xs = ap (option_map (λ o. o.location)) (sym there ∙ was.anonymous) ∙ place_of_kept s (kept_anonymous s xs) in
         record {
@@ -113,14 +113,14 @@ stands-further s xs b n a old new h was there kept fragments repeated errors = b
           named = ap (λ o. o.named) kept ∙ was.named ∙ ap (entries_by (typed_operation s)) (sym (anonymous-named (is_rooted s) (operations xs) n h) ∙ ap (λ l. named_of (is_rooted s) l) (sym more));
           fragments = fragments ∙ was.fragments ∙ ap (entries_by (typed_fragment s)) (sym (same_fragments s xs x refl));
           repeated = repeated ∙ sym (further-repeated (is_rooted s) (operations xs) n k h is) ∙ ap (λ l. repeated_of (is_rooted s) l) (sym more);
-          faults = errors ∙ (λ i. was.faults i ++ anonymous_faults s (place i) (was.repeated i) (kept_named s xs) n) ∙ ap (λ (o : Option NameView). document_faults s xs ++ operation_faults s xs n o) (sym h) ∙ sym (faults-push s xs x);
+          faults = faults ∙ (λ i. was.faults i ++ anonymous_faults s (place i) (was.repeated i) (kept_named s xs) n) ∙ ap (λ (o : Option NameView). document_faults s xs ++ operation_faults s xs n o) (sym h) ∙ sym (faults-push s xs x);
         }
 
-pub stands-later : (s : Option Schema) (xs : List Added) (b : Bool) (n : NodeView OperationDefinition) (old new : Tables) → n.value.name ≡ None → Stands s xs old
+pub stands-later : (s : Option Schema) (xs : List DocumentItem) (b : Bool) (n : NodeView OperationDefinition) (old new : Tables) → n.value.name ≡ None → Stands s xs old
     → old.operations.anonymous ≡ None → is_bare old.operations.named ≡ false → new.operations ≡ old.operations → new.fragments ≡ old.fragments → new.multiple_anonymous ≡ old.multiple_anonymous
-    → new.errors ≡ old.errors ++ ambiguous n.location ∷ []
+    → new.faults ≡ old.faults ++ ambiguous n.location ∷ []
     → Stands s (xs ++ (b, d.OperationDefinition n) ∷ []) new
-stands-later s xs b n old new h was none others kept fragments repeated errors = by (kept_named s xs) refl
+stands-later s xs b n old new h was none others kept fragments repeated faults = by (kept_named s xs) refl
   where
     none_kept : kept_anonymous s xs ≡ None
     none_kept = unmapped (typed_operation s) (kept_anonymous s xs) (sym was.anonymous ∙ none)
@@ -128,7 +128,7 @@ stands-later s xs b n old new h was none others kept fragments repeated errors =
     by : (es : List (NameView × NodeView OperationDefinition)) → kept_named s xs ≡ es → Stands s (xs ++ (b, d.OperationDefinition n) ∷ []) new
     by [] k = let bare : true ≡ false = sym (ap is_bare (was.named ∙ ap (entries_by (typed_operation s)) k)) ∙ others in cc
     by (e ∷ es) k =
-        let x : Added = (b, d.OperationDefinition n) in
+        let x : DocumentItem = (b, d.OperationDefinition n) in
         let more : operations (xs ++ x ∷ []) ≡ operations xs ++ n ∷ [] = operations-push xs x in
         let alone : anonymous_of (is_rooted s) (operations xs ++ n ∷ []) ≡ None = later-anonymous (is_rooted s) (operations xs) n e es k ∙ none_kept in
         record {
@@ -136,19 +136,19 @@ stands-later s xs b n old new h was none others kept fragments repeated errors =
           named = ap (λ o. o.named) kept ∙ was.named ∙ ap (entries_by (typed_operation s)) (sym (anonymous-named (is_rooted s) (operations xs) n h) ∙ ap (λ l. named_of (is_rooted s) l) (sym more));
           fragments = fragments ∙ was.fragments ∙ ap (entries_by (typed_fragment s)) (sym (same_fragments s xs x refl));
           repeated = repeated ∙ was.repeated ∙ without-repeated (is_rooted s) (operations xs) none_kept ∙ sym (without-repeated (is_rooted s) (operations xs ++ n ∷ []) alone) ∙ ap (λ l. repeated_of (is_rooted s) l) (sym more);
-          faults = errors ∙ (λ i. was.faults i ++ unless_named (sym k i) n.location (faults_in_operation s (AnonymousOperation n.value.operation_type) n))
+          faults = faults ∙ (λ i. was.faults i ++ unless_named (sym k i) n.location (faults_in_operation s (AnonymousOperation n.value.operation_type) n))
               ∙ (λ i. document_faults s xs ++ anonymous_faults s (option_map (λ (o : NodeView OperationDefinition). o.location) (sym none_kept i)) (is_repeated s xs) (kept_named s xs) n)
               ∙ ap (λ (o : Option NameView). document_faults s xs ++ operation_faults s xs n o) (sym h) ∙ sym (faults-push s xs x);
         }
 
-pub stands-anonymous : (s : Option Schema) (xs : List Added) (b : Bool) (n : NodeView OperationDefinition) (old new : Tables) → n.value.name ≡ None → Stands s xs old
+pub stands-anonymous : (s : Option Schema) (xs : List DocumentItem) (b : Bool) (n : NodeView OperationDefinition) (old new : Tables) → n.value.name ≡ None → Stands s xs old
     → old.operations.anonymous ≡ None → is_bare old.operations.named ≡ true
-    → new.operations.anonymous ≡ option_map (λ (root : NameView). at_place (operation_from s root) n) (root_in s n.value.operation_type)
+    → new.operations.anonymous ≡ option_map (λ (root : NameView). at_place (operation_from s root) n) (root_type_of s n.value.operation_type)
     → new.operations.named ≡ old.operations.named → new.fragments ≡ old.fragments → new.multiple_anonymous ≡ old.multiple_anonymous
-    → new.errors ≡ old.errors ++ faults_in_operation s (AnonymousOperation n.value.operation_type) n
+    → new.faults ≡ old.faults ++ faults_in_operation s (AnonymousOperation n.value.operation_type) n
     → Stands s (xs ++ (b, d.OperationDefinition n) ∷ []) new
-stands-anonymous s xs b n old new h was none alone anonymous named fragments repeated errors =
-    let x : Added = (b, d.OperationDefinition n) in
+stands-anonymous s xs b n old new h was none alone anonymous named fragments repeated faults =
+    let x : DocumentItem = (b, d.OperationDefinition n) in
     let p = is_rooted s in
     let os = operations xs in
     let more : operations (xs ++ x ∷ []) ≡ os ++ n ∷ [] = operations-push xs x in
@@ -159,13 +159,13 @@ stands-anonymous s xs b n old new h was none alone anonymous named fragments rep
       named = named ∙ was.named ∙ ap (entries_by (typed_operation s)) (sym (anonymous-named p os n h) ∙ ap (λ l. named_of p l) (sym more));
       fragments = fragments ∙ was.fragments ∙ ap (entries_by (typed_fragment s)) (sym (same_fragments s xs x refl));
       repeated = repeated ∙ was.repeated ∙ without-repeated p os none_kept ∙ sym (only-repeated p os n none_kept none_named) ∙ ap (λ l. repeated_of p l) (sym more);
-      faults = errors ∙ (λ i. was.faults i ++ unless_named (sym none_named i) n.location (faults_in_operation s (AnonymousOperation n.value.operation_type) n))
+      faults = faults ∙ (λ i. was.faults i ++ unless_named (sym none_named i) n.location (faults_in_operation s (AnonymousOperation n.value.operation_type) n))
           ∙ (λ i. document_faults s xs ++ anonymous_faults s (option_map (λ (o : NodeView OperationDefinition). o.location) (sym none_kept i)) (is_repeated s xs) (kept_named s xs) n)
           ∙ ap (λ (o : Option NameView). document_faults s xs ++ operation_faults s xs n o) (sym h) ∙ sym (faults-push s xs x);
     }
 
 -- one more fragment
-pub kept_fragments-push : (s : Option Schema) (xs : List Added) (b : Bool) (n : NodeView FragmentDefinition)
+pub kept_fragments-push : (s : Option Schema) (xs : List DocumentItem) (b : Bool) (n : NodeView FragmentDefinition)
     → kept_fragments s (xs ++ (b, d.FragmentDefinition n) ∷ []) ≡ put_unless_taken n.value.name (lookup_key (same_text n.value.name) (kept_fragments s xs)) (cond (is_on_type s n) (Some n) None) (kept_fragments s xs)
 kept_fragments-push s xs b n =
     ap (first_of_each (same_key same_text)) (
@@ -183,14 +183,14 @@ built_fragment : (s : Option Schema) (n : NodeView FragmentDefinition) (c : Bool
 built_fragment s n true = refl
 built_fragment s n false = refl
 
-pub stands-fragment : (s : Option Schema) (xs : List Added) (b : Bool) (n : NodeView FragmentDefinition) (old new : Tables) → Stands s xs old
+pub stands-fragment : (s : Option Schema) (xs : List DocumentItem) (b : Bool) (n : NodeView FragmentDefinition) (old new : Tables) → Stands s xs old
     → new.operations ≡ old.operations
     → new.fragments ≡ put_unless_taken n.value.name (lookup_key (same_text n.value.name) old.fragments) (cond (has_type s n.value.type_condition) (Some (typed_fragment s n)) None) old.fragments
     → new.multiple_anonymous ≡ old.multiple_anonymous
-    → new.errors ≡ old.errors ++ fragment_faults s (lookup_key (same_text n.value.name) old.fragments) n
+    → new.faults ≡ old.faults ++ fragment_faults s (lookup_key (same_text n.value.name) old.fragments) n
     → Stands s (xs ++ (b, d.FragmentDefinition n) ∷ []) new
-stands-fragment s xs b n old new was kept fragments repeated errors =
-    let x : Added = (b, d.FragmentDefinition n) in
+stands-fragment s xs b n old new was kept fragments repeated faults =
+    let x : DocumentItem = (b, d.FragmentDefinition n) in
     let p = is_rooted s in
     let none : operations xs ≡ operations (xs ++ x ∷ []) = sym (same_operations s xs x refl) in
     let key : lookup_key (same_text n.value.name) old.fragments ≡ lookup_key (same_text n.value.name) (kept_fragments s xs) = ap (lookup_key (same_text n.value.name)) was.fragments ∙ entries-key (typed_fragment s) (same_text n.value.name) (kept_fragments s xs) in
@@ -201,7 +201,7 @@ stands-fragment s xs b n old new was kept fragments repeated errors =
           ∙ entries-put (typed_fragment s) n.value.name (lookup_key (same_text n.value.name) (kept_fragments s xs)) (cond (is_on_type s n) (Some n) None) (kept_fragments s xs)
           ∙ ap (entries_by (typed_fragment s)) (sym (kept_fragments-push s xs b n));
       repeated = repeated ∙ was.repeated ∙ ap (λ l. repeated_of p l) none;
-      faults = errors ∙ (λ i. was.faults i ++ fragment_faults s (key i) n) ∙ sym (faults-push s xs x);
+      faults = faults ∙ (λ i. was.faults i ++ fragment_faults s (key i) n) ∙ sym (faults-push s xs x);
     }
 
 -- a definition, by what it is
@@ -213,14 +213,14 @@ pub as_fragment : (x : Definition) (n : NodeView FragmentDefinition) → fragmen
 as_fragment (d.FragmentDefinition m) n h = ap (λ (o : Option (NodeView FragmentDefinition)). d.FragmentDefinition (unwrap_or o m)) (sym h)
 as_fragment x n h = cc
 
-other_faults : (s : Option Schema) (xs : List Added) (b : Bool) (x : Definition) → operation_of x ≡ None → fragment_of x ≡ None → definition_faults s xs b x ≡ type_system_faults b x
+other_faults : (s : Option Schema) (xs : List DocumentItem) (b : Bool) (x : Definition) → operation_of x ≡ None → fragment_of x ≡ None → definition_faults s xs b x ≡ type_system_faults b x
 other_faults s xs b (d.OperationDefinition n) h g = cc
 other_faults s xs b (d.FragmentDefinition n) h g = cc
 other_faults s xs b x h g = refl
 
 -- one that is neither
-pub stands-other : (s : Option Schema) (xs : List Added) (b : Bool) (x : Definition) (old new : Tables) → operation_of x ≡ None → fragment_of x ≡ None → Stands s xs old
-    → new ≡ record old { errors = old.errors ++ type_system_faults b x } → Stands s (xs ++ (b, x) ∷ []) new
+pub stands-other : (s : Option Schema) (xs : List DocumentItem) (b : Bool) (x : Definition) (old new : Tables) → operation_of x ≡ None → fragment_of x ≡ None → Stands s xs old
+    → new ≡ record old { faults = old.faults ++ type_system_faults b x } → Stands s (xs ++ (b, x) ∷ []) new
 stands-other s xs b x old new h g was is =
     let none : operations xs ≡ operations (xs ++ (b, x) ∷ []) = sym (same_operations s xs (b, x) h) in
     record {
@@ -228,5 +228,5 @@ stands-other s xs b x old new h g was is =
       named = ap (λ t. t.operations.named) is ∙ was.named ∙ ap (λ l. entries_by (typed_operation s) (named_of (is_rooted s) l)) none;
       fragments = ap (λ t. t.fragments) is ∙ was.fragments ∙ ap (entries_by (typed_fragment s)) (sym (same_fragments s xs (b, x) g));
       repeated = ap (λ t. t.multiple_anonymous) is ∙ was.repeated ∙ ap (λ l. repeated_of (is_rooted s) l) none;
-      faults = ap (λ t. t.errors) is ∙ (λ i. was.faults i ++ sym (other_faults s xs b x h g) i) ∙ sym (faults-push s xs (b, x));
+      faults = ap (λ t. t.faults) is ∙ (λ i. was.faults i ++ sym (other_faults s xs b x h g) i) ∙ sym (faults-push s xs (b, x));
     }

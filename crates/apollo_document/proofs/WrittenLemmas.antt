@@ -20,7 +20,7 @@ use Rattle.apollo_component.proofs.FirstOfEachLemmas.{entry_laws}
 use Rattle.apollo_schema.specs.declared.schema.Schema.{Schema}
 use Rattle.apollo_elaboration.specs.declared.build_error.BuildError.TheVariants as e
 use Rattle.apollo_elaboration.specs.declared.selection_path.ExecutableDefinitionName.TheVariants.{AnonymousOperation, NamedOperation}
-use Rattle.apollo_document.specs.AddedDefinitions.{Added, operations, fragments}
+use Rattle.apollo_document.specs.AddedDefinitions.{DocumentItem, operations, fragments}
 use Rattle.apollo_document.specs.KeptDefinitions.{is_rooted, first_if_anonymous, kept_anonymous, kept_named, is_on_type, kept_fragments}
 use Rattle.apollo_document.specs.DocumentFaults.{ambiguous_if, unless_taken, faults_in_operation, named_faults, faults_in_fragment, fragment_faults, operation_faults, faults_at, document_faults}
 use Rattle.apollo_document.specs.Stands.{put_unless_taken}
@@ -44,10 +44,10 @@ IsSoundFragment s x = (x.1.value.name ≡ x.0) × ((is_on_type s x.1 ≡ true) �
 abbrev pub IsSoundAnonymous : Option Schema → Op → Type 0
 IsSoundAnonymous s n = (n.value.name ≡ None) × ((is_rooted s n ≡ true) × (faults_in_operation s (AnonymousOperation n.value.operation_type) n ≡ []))
 
-abbrev pub operation_item : Bool → NameView × Op → Added
+abbrev pub operation_item : Bool → NameView × Op → DocumentItem
 operation_item b x = (b, d.OperationDefinition x.1)
 
-abbrev pub fragment_item : Bool → NameView × Frag → Added
+abbrev pub fragment_item : Bool → NameView × Frag → DocumentItem
 fragment_item b x = (b, d.FragmentDefinition x.1)
 
 -- no name of these is there so far
@@ -74,11 +74,11 @@ no_key m v done h = by (lookup_key (same_text m) done) (sym (some_key (same_text
     by (Some k) e = cc
 
 -- the same list after more of it
-abbrev Keeps : Option Schema → List Added → Option Op → List (NameView × Op) → Type 0
+abbrev Keeps : Option Schema → List DocumentItem → Option Op → List (NameView × Op) → Type 0
 Keeps s zs a done = (kept_anonymous s zs ≡ a) × (kept_named s zs ≡ done)
 
 -- one more named operation
-keeps-push : (s : Option Schema) (b : Bool) (zs : List Added) (a : Option Op) (done : List (NameView × Op)) (x : NameView × Op) → IsSoundOperation s x → list_any (same_key same_text x) done ≡ false
+keeps-push : (s : Option Schema) (b : Bool) (zs : List DocumentItem) (a : Option Op) (done : List (NameView × Op)) (x : NameView × Op) → IsSoundOperation s x → list_any (same_key same_text x) done ≡ false
     → Keeps s zs a done → Keeps s (zs ++ operation_item b x ∷ []) a (done ++ x ∷ [])
 keeps-push s b zs a done x sound fresh k =
     let p = is_rooted s in
@@ -92,7 +92,7 @@ keeps-push s b zs a done x sound fresh k =
 abbrev pub place : Option Op → Option (Option SourceSpan)
 place a = option_map (λ n. n.location) a
 
-named_fault : (s : Option Schema) (b : Bool) (zs : List Added) (a : Option Op) (done : List (NameView × Op)) (x : NameView × Op) → IsSoundOperation s x → list_any (same_key same_text x) done ≡ false
+named_fault : (s : Option Schema) (b : Bool) (zs : List DocumentItem) (a : Option Op) (done : List (NameView × Op)) (x : NameView × Op) → IsSoundOperation s x → list_any (same_key same_text x) done ≡ false
     → Keeps s zs a done → faults_at s zs (operation_item b x) ≡ ambiguous_if (place a)
 named_fault s b zs a done x sound fresh k =
     ap (operation_faults s zs x.1) sound.0
@@ -100,7 +100,7 @@ named_fault s b zs a done x sound fresh k =
     ∙ (λ i. ambiguous_if (place a) ++ unless_taken e.OperationNameCollision x.0 (no_key x.0 x.1 done fresh i) (sound.1.1 i))
     ∙ append-nil (ambiguous_if (place a))
 
-pub all_named : (s : Option Schema) (b : Bool) (zs : List Added) (a : Option Op) (done rest : List (NameView × Op)) → AllByRecursion (IsSoundOperation s) rest → IsDistinct (same_key same_text) rest → Fresh done rest → Keeps s zs a done
+pub all_named : (s : Option Schema) (b : Bool) (zs : List DocumentItem) (a : Option Op) (done rest : List (NameView × Op)) → AllByRecursion (IsSoundOperation s) rest → IsDistinct (same_key same_text) rest → Fresh done rest → Keeps s zs a done
     → Keeps s (zs ++ map (operation_item b) rest) a (done ++ rest) × (each_after (faults_at s) zs (map (operation_item b) rest) ≡ flat_map (λ x. ambiguous_if (place a)) rest)
 unfolding IsDistinct
 all_named s b zs a done [] sound apart fresh k = (
@@ -116,20 +116,20 @@ all_named s b zs a done (x ∷ rest) sound apart fresh k =
     )
 
 -- one more fragment
-fragments-push : (s : Option Schema) (b : Bool) (zs : List Added) (done : List (NameView × Frag)) (x : NameView × Frag) → IsSoundFragment s x → list_any (same_key same_text x) done ≡ false
+fragments-push : (s : Option Schema) (b : Bool) (zs : List DocumentItem) (done : List (NameView × Frag)) (x : NameView × Frag) → IsSoundFragment s x → list_any (same_key same_text x) done ≡ false
     → kept_fragments s zs ≡ done → kept_fragments s (zs ++ fragment_item b x ∷ []) ≡ done ++ x ∷ []
 fragments-push s b zs done x sound fresh k =
     kept_fragments-push s zs b x.1
     ∙ (λ i. put_unless_taken (sound.0 i) (lookup_key (same_text (sound.0 i)) (k i)) (cond (sound.1.0 i) (Some x.1) None) (k i))
     ∙ ap (λ o. put_unless_taken x.0 o (Some x.1) done) (no_key x.0 x.1 done fresh)
 
-fragment_fault : (s : Option Schema) (b : Bool) (zs : List Added) (done : List (NameView × Frag)) (x : NameView × Frag) → IsSoundFragment s x → list_any (same_key same_text x) done ≡ false
+fragment_fault : (s : Option Schema) (b : Bool) (zs : List DocumentItem) (done : List (NameView × Frag)) (x : NameView × Frag) → IsSoundFragment s x → list_any (same_key same_text x) done ≡ false
     → kept_fragments s zs ≡ done → faults_at s zs (fragment_item b x) ≡ []
 fragment_fault s b zs done x sound fresh k =
     (λ i. fragment_faults s (lookup_key (same_text (sound.0 i)) (k i)) x.1)
     ∙ (λ i. unless_taken e.FragmentNameCollision x.1.value.name (no_key x.0 x.1 done fresh i) (sound.1.1 i))
 
-pub all_fragments : (s : Option Schema) (b : Bool) (zs : List Added) (done rest : List (NameView × Frag)) → AllByRecursion (IsSoundFragment s) rest → IsDistinct (same_key same_text) rest → Fresh done rest → kept_fragments s zs ≡ done
+pub all_fragments : (s : Option Schema) (b : Bool) (zs : List DocumentItem) (done rest : List (NameView × Frag)) → AllByRecursion (IsSoundFragment s) rest → IsDistinct (same_key same_text) rest → Fresh done rest → kept_fragments s zs ≡ done
     → (kept_fragments s (zs ++ map (fragment_item b) rest) ≡ done ++ rest) × (each_after (faults_at s) zs (map (fragment_item b) rest) ≡ [])
 unfolding IsDistinct
 all_fragments s b zs done [] sound apart fresh k = (ap (kept_fragments s) (append-nil zs) ∙ k ∙ sym (append-nil done), refl)
@@ -141,19 +141,19 @@ all_fragments s b zs done (x ∷ rest) sound apart fresh k =
     )
 
 -- operations say nothing of fragments, nor fragments of operations
-operations-fragments : (b : Bool) (zs : List Added) (rest : List (NameView × Frag)) → operations (zs ++ map (fragment_item b) rest) ≡ operations zs
+operations-fragments : (b : Bool) (zs : List DocumentItem) (rest : List (NameView × Frag)) → operations (zs ++ map (fragment_item b) rest) ≡ operations zs
 operations-fragments b zs [] = ap operations (append-nil zs)
 operations-fragments b zs (x ∷ rest) =
     ap operations (sym (append_assoc zs (fragment_item b x ∷ []) (map (fragment_item b) rest)))
     ∙ operations-fragments b (zs ++ fragment_item b x ∷ []) rest ∙ same_operations None zs (fragment_item b x) refl
 
-fragments-operations : (s : Option Schema) (b : Bool) (zs : List Added) (rest : List (NameView × Op)) → kept_fragments s (zs ++ map (operation_item b) rest) ≡ kept_fragments s zs
+fragments-operations : (s : Option Schema) (b : Bool) (zs : List DocumentItem) (rest : List (NameView × Op)) → kept_fragments s (zs ++ map (operation_item b) rest) ≡ kept_fragments s zs
 fragments-operations s b zs [] = ap (kept_fragments s) (append-nil zs)
 fragments-operations s b zs (x ∷ rest) =
     ap (kept_fragments s) (sym (append_assoc zs (operation_item b x ∷ []) (map (operation_item b) rest)))
     ∙ fragments-operations s b (zs ++ operation_item b x ∷ []) rest ∙ same_fragments s zs (operation_item b x) refl
 
-abbrev pub anonymous_items : Bool → Option Op → List Added
+abbrev pub anonymous_items : Bool → Option Op → List DocumentItem
 anonymous_items b None = []
 anonymous_items b (Some n) = (b, d.OperationDefinition n) ∷ []
 
@@ -172,7 +172,7 @@ first_kept s b (Some n) sound = (
   ap (λ l. l ++ []) (ap (operation_faults s [] n) sound.0 ∙ sound.1.1),
 )
 
-abbrev pub written : Bool → Option Op → List (NameView × Op) → List (NameView × Frag) → List Added
+abbrev pub written : Bool → Option Op → List (NameView × Op) → List (NameView × Frag) → List DocumentItem
 written b a ns fs = (anonymous_items b a ++ map (operation_item b) ns) ++ map (fragment_item b) fs
 
 pub record AllKept (s : Option Schema) (b : Bool) (a : Option Op) (ns : List (NameView × Op)) (fs : List (NameView × Frag)) : Type 0 where

@@ -7,11 +7,11 @@ use Rattle.graphql_ast.specs.declared.operation.OperationDefinition.{OperationDe
 use Rattle.graphql_ast.specs.declared.operation.FragmentDefinition.{FragmentDefinition}
 
 -- a definition, and whether one of the type system was at fault when it was added
-abbrev pub Added : Type 0
-Added = Bool × Definition
+abbrev pub DocumentItem : Type 0
+DocumentItem = Bool × Definition
 
-abbrev pub added : Bool → List Definition → List Added
-added errors ds = map (λ d. (errors, d)) ds
+abbrev pub document_list : Bool → List Definition → List DocumentItem
+document_list errors ds = map (λ d. (errors, d)) ds
 
 -- the operation or the fragment that a definition is
 abbrev pub operation_of : Definition → Option (NodeView OperationDefinition)
@@ -22,15 +22,15 @@ abbrev pub fragment_of : Definition → Option (NodeView FragmentDefinition)
 fragment_of (d.FragmentDefinition n) = Some n
 fragment_of _ = None
 
-abbrev pub operation_in : Added → Option (NodeView OperationDefinition)
+abbrev pub operation_in : DocumentItem → Option (NodeView OperationDefinition)
 operation_in x = operation_of x.1
 
-abbrev pub fragment_in : Added → Option (NodeView FragmentDefinition)
+abbrev pub fragment_in : DocumentItem → Option (NodeView FragmentDefinition)
 fragment_in x = fragment_of x.1
 
 -- the operations and the fragments of a list, in order
-abbrev pub operations : List Added → List (NodeView OperationDefinition)
+abbrev pub operations : List DocumentItem → List (NodeView OperationDefinition)
 operations xs = filter_map operation_in xs
 
-abbrev pub fragments : List Added → List (NodeView FragmentDefinition)
+abbrev pub fragments : List DocumentItem → List (NodeView FragmentDefinition)
 fragments xs = filter_map fragment_in xs

@@ -15,14 +15,14 @@ use Rattle.graphql_ast.specs.declared.operation.OperationDefinition.{OperationDe
 use Rattle.graphql_ast.specs.declared.operation.FragmentDefinition.{FragmentDefinition}
 use Rattle.apollo_component.specs.EachAfter.{each_after}
 use Rattle.apollo_schema.specs.declared.schema.Schema.{Schema}
-use Rattle.apollo_elaboration.specs.SelectionFaults.{faults_of}
+use Rattle.apollo_elaboration.specs.SelectionFaults.{faults_of_selections}
 use Rattle.apollo_elaboration.specs.Typable.{Fault, has_type}
 use Rattle.apollo_elaboration.specs.declared.build_error.BuildError.{BuildError}
 use Rattle.apollo_elaboration.specs.declared.build_error.BuildError.TheVariants as e
 use Rattle.apollo_elaboration.specs.declared.selection_path.ExecutableDefinitionName.{ExecutableDefinitionName}
 use Rattle.apollo_elaboration.specs.declared.selection_path.ExecutableDefinitionName.TheVariants.{AnonymousOperation, NamedOperation, Fragment}
-use Rattle.apollo_document.specs.AddedDefinitions.{Added}
-use Rattle.apollo_document.specs.KeptDefinitions.{root_in, kept_anonymous, kept_named, kept_fragments, is_repeated}
+use Rattle.apollo_document.specs.AddedDefinitions.{DocumentItem}
+use Rattle.apollo_document.specs.KeptDefinitions.{root_type_of, kept_anonymous, kept_named, kept_fragments, is_repeated}
 
 -- an anonymous operation at this location isn't the only one
 abbrev pub ambiguous : Option SourceSpan → Fault
@@ -39,11 +39,11 @@ unless_taken collision name None wrong = wrong
 
 -- an operation without a root type is at fault; else its selections are
 abbrev pub rooted_faults : Option Schema → ExecutableDefinitionName → NodeView OperationDefinition → Option NameView → List Fault
-rooted_faults s name n (Some root) = faults_of s root (record { root = name; nested_fields = [] }) n.value.selection_set
+rooted_faults s name n (Some root) = faults_of_selections s root (record { root = name; nested_fields = [] }) n.value.selection_set
 rooted_faults s name n None = (n.location, e.UndefinedRootOperation (operation_text n.value.operation_type)) ∷ []
 
 abbrev pub faults_in_operation : Option Schema → ExecutableDefinitionName → NodeView OperationDefinition → List Fault
-faults_in_operation s name n = rooted_faults s name n (root_in s n.value.operation_type)
+faults_in_operation s name n = rooted_faults s name n (root_type_of s n.value.operation_type)
 
 -- a named operation whose name is taken, if it is
 abbrev pub faults_of_named : Option Schema → Option NameView → NameView → NodeView OperationDefinition → List Fault
@@ -68,16 +68,16 @@ anonymous_faults s (Some kept) repeated others n = after_anonymous repeated kept
 anonymous_faults s None repeated others n = unless_named others n.location (faults_in_operation s (AnonymousOperation n.value.operation_type) n)
 
 -- where the operation that is kept as the anonymous one stands
-abbrev pub anonymous_place : Option Schema → List Added → Option (Option SourceSpan)
+abbrev pub anonymous_place : Option Schema → List DocumentItem → Option (Option SourceSpan)
 anonymous_place s before = option_map (λ n. n.location) (kept_anonymous s before)
 
-abbrev pub operation_faults : Option Schema → List Added → NodeView OperationDefinition → Option NameView → List Fault
+abbrev pub operation_faults : Option Schema → List DocumentItem → NodeView OperationDefinition → Option NameView → List Fault
 operation_faults s before n (Some name) = named_faults s (anonymous_place s before) (lookup_key (same_text name) (kept_named s before)) name n
 operation_faults s before n None = anonymous_faults s (anonymous_place s before) (is_repeated s before) (kept_named s before) n
 
 -- a fragment whose condition is no type is at fault; else its selections are
 abbrev pub on_type_faults : Option Schema → NodeView FragmentDefinition → Bool → List Fault
-on_type_faults s n true = faults_of s n.value.type_condition (record { root = Fragment n.value.name; nested_fields = [] }) n.value.selection_set
+on_type_faults s n true = faults_of_selections s n.value.type_condition (record { root = Fragment n.value.name; nested_fields = [] }) n.value.selection_set
 on_type_faults s n false = (n.value.type_condition.location, e.UndefinedTypeInNamedFragmentTypeCondition n.value.type_condition n.value.name) ∷ []
 
 abbrev pub faults_in_fragment : Option Schema → NodeView FragmentDefinition → List Fault
@@ -92,14 +92,14 @@ type_system_faults true d = (location_of d, e.TypeSystemDefinition (name_of d) (
 type_system_faults false d = []
 
 -- what is wrong with a definition after these
-abbrev pub definition_faults : Option Schema → List Added → Bool → Definition → List Fault
+abbrev pub definition_faults : Option Schema → List DocumentItem → Bool → Definition → List Fault
 definition_faults s before errors (d.OperationDefinition n) = operation_faults s before n n.value.name
 definition_faults s before errors (d.FragmentDefinition n) = fragment_faults s (lookup_key (same_text n.value.name) (kept_fragments s before)) n
 definition_faults s before errors other = type_system_faults errors other
 
-abbrev pub faults_at : Option Schema → List Added → Added → List Fault
+abbrev pub faults_at : Option Schema → List DocumentItem → DocumentItem → List Fault
 faults_at s before x = definition_faults s before x.0 x.1
 
 -- what is wrong with a list
-abbrev pub document_faults : Option Schema → List Added → List Fault
+abbrev pub document_faults : Option Schema → List DocumentItem → List Fault
 document_faults s xs = each_after (faults_at s) [] xs

@@ -6,7 +6,7 @@ use Rattle.graphql_nodes.specs.NameView.{NameView}
 use Rattle.apollo_schema.specs.declared.schema.Schema.{Schema}
 use Rattle.apollo_executable.specs.Listed.{listed}
 use Rattle.apollo_executable.specs.declared.document.ExecutableDocument.{ExecutableDocument}
-use Rattle.apollo_document.specs.AddedDefinitions.{Added}
+use Rattle.apollo_document.specs.AddedDefinitions.{DocumentItem}
 use Rattle.apollo_document.specs.KeptDefinitions.{kept_anonymous, kept_named, kept_fragments}
 use Rattle.apollo_document.specs.TypedDefinitions.{IsOperationOf, IsFragmentOf}
 
@@ -15,7 +15,7 @@ abbrev pub IsUnderName : {A B : Type 0} → (A → B → Type 0) → NameView ×
 IsUnderName R kept entry = (entry.0 ≡ kept.0) × R kept.1 entry.1
 
 -- the operations and fragments are the kept ones of the list, each at its place among them
-pub record IsDocumentOf (s : Option Schema) (xs : List Added) (document : ExecutableDocument) : Type 0 where
+pub record IsDocumentOf (s : Option Schema) (xs : List DocumentItem) (document : ExecutableDocument) : Type 0 where
   pub anonymous : AllZip (IsOperationOf s) (listed (kept_anonymous s xs)) (listed document.operations.anonymous)
   pub named : AllZip (IsUnderName (IsOperationOf s)) (kept_named s xs) document.operations.named
   pub fragments : AllZip (IsUnderName (IsFragmentOf s)) (kept_fragments s xs) document.fragments

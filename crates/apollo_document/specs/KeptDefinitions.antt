@@ -14,16 +14,16 @@ use Rattle.apollo_types.specs.SchemaRoots.{root_of}
 use Rattle.apollo_schema.specs.MetaFields.{plain_name}
 use Rattle.apollo_schema.specs.declared.schema.Schema.{Schema}
 use Rattle.apollo_elaboration.specs.Typable.{has_type}
-use Rattle.apollo_document.specs.AddedDefinitions.{Added, operations, fragments}
+use Rattle.apollo_document.specs.AddedDefinitions.{DocumentItem, operations, fragments}
 
 -- the root type of a kind of operation: the one that the schema names, or without a schema the default name
-abbrev pub root_in : Option Schema → OperationType → Option NameView
-root_in None kind = Some (plain_name (default_type_text kind))
-root_in (Some s) kind = option_map (λ root. root.name) (root_of s.schema_definition.value kind)
+abbrev pub root_type_of : Option Schema → OperationType → Option NameView
+root_type_of None kind = Some (plain_name (default_type_text kind))
+root_type_of (Some s) kind = option_map (λ root. root.name) (root_of s.schema_definition.value kind)
 
 -- an operation is rooted if its kind has a root type
 abbrev pub is_rooted : Option Schema → NodeView OperationDefinition → Bool
-is_rooted s n = is_some (root_in s n.value.operation_type)
+is_rooted s n = is_some (root_type_of s n.value.operation_type)
 
 abbrev pub is_anonymous : NodeView OperationDefinition → Bool
 is_anonymous n = not (is_some n.value.name)
@@ -36,7 +36,7 @@ first_if_anonymous None = None
 first_if_anonymous (Some n) = if_anonymous n
 
 -- the anonymous operation: the first rooted operation of the list, if it is anonymous
-abbrev pub kept_anonymous : Option Schema → List Added → Option (NodeView OperationDefinition)
+abbrev pub kept_anonymous : Option Schema → List DocumentItem → Option (NodeView OperationDefinition)
 kept_anonymous s xs = first_if_anonymous (find (is_rooted s) (operations xs))
 
 -- an operation under its name, if it has one
@@ -44,7 +44,7 @@ abbrev pub named : NodeView OperationDefinition → Option (NameView × NodeView
 named n = option_map (λ (name : NameView). (name, n)) n.value.name
 
 -- the named operations: the first rooted one of each name
-abbrev pub kept_named : Option Schema → List Added → List (NameView × NodeView OperationDefinition)
+abbrev pub kept_named : Option Schema → List DocumentItem → List (NameView × NodeView OperationDefinition)
 kept_named s xs = first_of_each (same_key same_text) (filter_map named (filter (is_rooted s) (operations xs)))
 
 -- a fragment has a type if its condition is one
@@ -55,7 +55,7 @@ abbrev pub under_name : NodeView FragmentDefinition → NameView × NodeView Fra
 under_name n = (n.value.name, n)
 
 -- the fragments: the first of each name whose condition is a type
-abbrev pub kept_fragments : Option Schema → List Added → List (NameView × NodeView FragmentDefinition)
+abbrev pub kept_fragments : Option Schema → List DocumentItem → List (NameView × NodeView FragmentDefinition)
 kept_fragments s xs = first_of_each (same_key same_text) (map under_name (filter (is_on_type s) (fragments xs)))
 
 -- what stands after the first that passes
@@ -64,5 +64,5 @@ after_first p [] = []
 after_first p (x ∷ xs) = cond (p x) xs (after_first p xs)
 
 -- an anonymous operation is kept, and another stands after it
-abbrev pub is_repeated : Option Schema → List Added → Bool
+abbrev pub is_repeated : Option Schema → List DocumentItem → Bool
 is_repeated s xs = is_some (kept_anonymous s xs) && list_any is_anonymous (after_first (is_rooted s) (operations xs))

@@ -12,8 +12,8 @@ use Rattle.apollo_executable.specs.declared.operation.Fragment.{Fragment}
 use Rattle.apollo_executable.specs.declared.selection.SelectionSet.{SelectionSet}
 use Rattle.apollo_elaboration.specs.Elaborated.{elaborated}
 use Rattle.apollo_elaboration.specs.Typable.{has_type}
-use Rattle.apollo_document.specs.AddedDefinitions.{Added}
-use Rattle.apollo_document.specs.KeptDefinitions.{root_in, kept_anonymous, kept_named, kept_fragments, is_repeated}
+use Rattle.apollo_document.specs.AddedDefinitions.{DocumentItem}
+use Rattle.apollo_document.specs.KeptDefinitions.{root_type_of, kept_anonymous, kept_named, kept_fragments, is_repeated}
 use Rattle.apollo_document.specs.DocumentFaults.{document_faults}
 use Rattle.apollo_document.specs.declared.tables.Tables.{Tables}
 use Rattle.apollo_document.specs.declared.state.State.{State}
@@ -29,11 +29,11 @@ operation_from s root o = operation_over o (elaborated s root o.selection_set)
 
 -- an operation, typed, if it has a root type
 abbrev pub rooted_operation : Option Schema → NodeView OperationDefinition → Option (NodeView Operation)
-rooted_operation s n = option_map (λ (root : NameView). at_place (operation_from s root) n) (root_in s n.value.operation_type)
+rooted_operation s n = option_map (λ (root : NameView). at_place (operation_from s root) n) (root_type_of s n.value.operation_type)
 
 -- an operation that is kept is rooted
 abbrev pub root_or_none : Option Schema → NodeView OperationDefinition → NameView
-root_or_none s n = unwrap_or (root_in s n.value.operation_type) (plain_name [])
+root_or_none s n = unwrap_or (root_type_of s n.value.operation_type) (plain_name [])
 
 abbrev pub typed_operation : Option Schema → NodeView OperationDefinition → NodeView Operation
 typed_operation s n = at_place (operation_from s (root_or_none s n)) n
@@ -59,18 +59,18 @@ put_unless_taken name None None es = es
 put_unless_taken name (Some kept) v es = es
 
 -- these tables are those of the list
-pub record Stands (s : Option Schema) (xs : List Added) (t : Tables) : Type 0 where
+pub record Stands (s : Option Schema) (xs : List DocumentItem) (t : Tables) : Type 0 where
   pub anonymous : t.operations.anonymous ≡ option_map (typed_operation s) (kept_anonymous s xs)
   pub named : t.operations.named ≡ entries_by (typed_operation s) (kept_named s xs)
   pub fragments : t.fragments ≡ entries_by (typed_fragment s) (kept_fragments s xs)
   pub repeated : t.multiple_anonymous ≡ is_repeated s xs
-  pub faults : t.errors ≡ document_faults s xs
+  pub faults : t.faults ≡ document_faults s xs
 
 -- tables that stood for some list stand for it with these definitions behind it
-abbrev pub StandsWith : Option Schema → List Added → Tables → Tables → Type 0
-StandsWith s new before after = (xs : List Added) → Stands s xs before → Stands s (xs ++ new) after
+abbrev pub StandsWith : Option Schema → List DocumentItem → Tables → Tables → Type 0
+StandsWith s new before after = (xs : List DocumentItem) → Stands s xs before → Stands s (xs ++ new) after
 
-abbrev pub StateStands : Option Schema → List Added → State → Type 0
+abbrev pub StateStands : Option Schema → List DocumentItem → State → Type 0
 StateStands s xs (Open tables) = Stands s xs tables
 StateStands s xs Failed = ⊥
 
@@ -81,5 +81,5 @@ StateFailed Failed = Unit {0}
 
 -- what holds of each builder over this schema: its tables are those of some list; or a call was refused
 abbrev pub HasStood : Option Schema → State → Type 0
-HasStood s (Open tables) = (xs : List Added) × Stands s xs tables
+HasStood s (Open tables) = (xs : List DocumentItem) × Stands s xs tables
 HasStood s Failed = Unit {0}

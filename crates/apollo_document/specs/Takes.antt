@@ -1,10 +1,10 @@
 -- What a step of a builder of documents does, for each list that its tables stand for.
 use Rattle.std.specs.Prelude.{List, [], ◌∷◌, ◌++◌, Option}
 use Rattle.apollo_schema.specs.declared.schema.Schema.{Schema}
-use Rattle.apollo_document.specs.AddedDefinitions.{Added}
+use Rattle.apollo_document.specs.AddedDefinitions.{DocumentItem}
 use Rattle.apollo_document.specs.Stands.{Stands}
 use Rattle.apollo_document.specs.declared.tables.Tables.{Tables}
 
 -- the tables take this definition at the end of their list
-abbrev pub Takes : Option Schema → Added → Tables → Tables → Type 0
-Takes s x old new = (xs : List Added) → Stands s xs old → Stands s (xs ++ x ∷ []) new
+abbrev pub TakesDefinition : Option Schema → DocumentItem → Tables → Tables → Type 0
+TakesDefinition s x old new = (xs : List DocumentItem) → Stands s xs old → Stands s (xs ++ x ∷ []) new

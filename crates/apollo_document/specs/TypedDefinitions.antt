@@ -11,7 +11,7 @@ use Rattle.apollo_executable.specs.declared.operation.Operation.{Operation}
 use Rattle.apollo_executable.specs.declared.operation.Fragment.{Fragment}
 use Rattle.apollo_elaboration.specs.Stripped.{stripped}
 use Rattle.apollo_elaboration.specs.TypedSelections.{IsTypedSet}
-use Rattle.apollo_document.specs.KeptDefinitions.{root_in}
+use Rattle.apollo_document.specs.KeptDefinitions.{root_type_of}
 
 -- an operation, stripped in this root type
 abbrev pub stripped_operation : Option Schema → NameView → OperationDefinition → OperationDefinition
@@ -35,7 +35,7 @@ stripped_fragment s f = record {
 -- a typed operation that is erased to that of a definition, where it stands, stripped in its root type, and is typed in that
 abbrev pub IsOperationOf : Option Schema → NodeView OperationDefinition → NodeView Operation → Type 0
 IsOperationOf s n o = (root : NameView)
-    × ((root_in s n.value.operation_type ≡ Some root) × ((at_place erased_operation o ≡ at_place (stripped_operation s root) n) × IsTypedSet s root o.value.selection_set))
+    × ((root_type_of s n.value.operation_type ≡ Some root) × ((at_place erased_operation o ≡ at_place (stripped_operation s root) n) × IsTypedSet s root o.value.selection_set))
 
 -- a typed fragment that is erased to that of a definition, where it stands, stripped in its condition, and is typed in that
 abbrev pub IsFragmentOf : Option Schema → NodeView FragmentDefinition → NodeView Fragment → Type 0

@@ -6,13 +6,13 @@ use Rattle.apollo_schema.specs.declared.schema.Schema.{Schema}
 use Rattle.apollo_elaboration.specs.Typable.{Fault}
 use Rattle.apollo_executable.specs.Erasure.{erased_definitions}
 use Rattle.apollo_executable.specs.declared.document.ExecutableDocument.{ExecutableDocument}
-use Rattle.apollo_document.specs.AddedDefinitions.{Added, added}
+use Rattle.apollo_document.specs.AddedDefinitions.{DocumentItem, document_list}
 use Rattle.apollo_document.specs.DocumentFaults.{ambiguous_if, document_faults}
 use Rattle.apollo_document.specs.Documents.{IsDocumentOf}
 
 -- a document's write-out as a list, with one setting for definitions of the type system
-abbrev pub list_again : Bool → ExecutableDocument → List Added
-list_again errors document = added errors (erased_definitions document)
+abbrev pub list_again : Bool → ExecutableDocument → List DocumentItem
+list_again errors document = document_list errors (erased_definitions document)
 
 -- the write-out is built to this document
 abbrev pub IsBuiltAgain : Option Schema → Bool → ExecutableDocument → ExecutableDocument → Type 0

@@ -2,7 +2,7 @@
 ghost use Rattle.std.specs.Prelude.{◌≡◌, ◌↔◌, List, [], ◌++◌, Option, Err, OnOk, OnErr, IfOk};
 ghost use Rattle.std.specs.Option.{option_copied};
 ghost use Rattle.graphql_nodes.specs.Sources.{merged};
-ghost use Rattle.apollo_document.specs.AddedDefinitions.{Added, added};
+ghost use Rattle.apollo_document.specs.AddedDefinitions.{DocumentItem, document_list};
 ghost use Rattle.apollo_document.specs.DocumentFaults.{document_faults};
 ghost use Rattle.apollo_document.specs.Documents.{IsDocumentOf};
 ghost use Rattle.apollo_document.specs.Stands.{HasStood};
@@ -89,7 +89,7 @@ impl<'schema> ExecutableDocumentBuilder<'schema> {
         document: &Document,
         type_system_definitions_are_errors: bool,
     ) -> Result<(), BuilderError>
-        ensures stands { OnOk result ((schema : Option schemas.Schema) (xs : List Added) → StandsFor schema xs self.old → StandsFor schema (xs ++ added type_system_definitions_are_errors document.now.definitions) self.new) }
+        ensures stands { OnOk result ((s : Option schemas.Schema) (xs : List DocumentItem) → StandsFor s xs self.old → StandsFor s (xs ++ document_list type_system_definitions_are_errors document.now.definitions) self.new) }
         ensures sources { OnOk result (sources_of self.new ≡ merged (sources_of self.old) document.now.sources) }
         ensures refused { OnErr result (HasFailed self.new) }
         ensures failed { HasFailed self.old ↔ (result ≡ Err BuilderError.Failed) }
@@ -113,8 +113,8 @@ impl<'schema> ExecutableDocumentBuilder<'schema> {
     /// document comes whether anything is wrong or not. It takes no memory: `Failed` comes exactly after a refusal, and no other
     /// error does.
     pub fn build(self) -> Result<(ExecutableDocument, Faults), BuilderError>
-        ensures built { IfOk result (λ built. (schema : Option schemas.Schema) (xs : List Added) → StandsFor schema xs self.entry → IsDocumentOf schema xs built.0) }
-        ensures faults { IfOk result (λ built. (schema : Option schemas.Schema) (xs : List Added) → StandsFor schema xs self.entry → built.1.items ≡ document_faults schema xs) }
+        ensures built { IfOk result (λ built. (schema : Option schemas.Schema) (xs : List DocumentItem) → StandsFor schema xs self.entry → IsDocumentOf schema xs built.0) }
+        ensures faults { IfOk result (λ built. (schema : Option schemas.Schema) (xs : List DocumentItem) → StandsFor schema xs self.entry → built.1.items ≡ document_faults schema xs) }
         ensures sources { IfOk result (λ built. built.0.sources ≡ sources_of self.entry) }
         ensures failed { HasFailed self.entry ↔ (result ≡ Err BuilderError.Failed) }
         ensures refused { OnErr result (HasFailed self.entry) }

@@ -39,17 +39,17 @@ fn build_fragment(
     alloc: Global,
     schema: Option<&Schema>,
     node: &Node<FragmentDefinition>,
-    errors: &mut Items<Fault>,
+    faults: &mut Items<Fault>,
 ) -> Result<Option<Node<Fragment>>, AllocError>
     ensures built { IfOk result (λ fragment. fragment ≡ fragment_if_typed (option_copied schema.entry) node.now) }
-    ensures errors { OnOk result (errors.new ≡ errors.old ++ faults_in_fragment (option_copied schema.entry) node.now) }
+    ensures faults { OnOk result (faults.new ≡ faults.old ++ faults_in_fragment (option_copied schema.entry) node.now) }
 {
     if !has_type(schema, &node.type_condition) {
         let error = BuildError::UndefinedTypeInNamedFragmentTypeCondition {
             type_name: node.type_condition.clone()?,
             fragment_name: node.name.clone()?,
         };
-        errors.push((node.type_condition.location(), error))?;
+        faults.push((node.type_condition.location(), error))?;
         return Ok(None);
     }
     let mut path = SelectionPath {
@@ -59,7 +59,7 @@ fn build_fragment(
     let ty = &node.type_condition;
     let selections = node.selection_set.as_slice();
     elaborated_sets();
-    let set = elaborate_selections(alloc, schema, ty, selections, &mut path, errors)?;
+    let set = elaborate_selections(alloc, schema, ty, selections, &mut path, faults)?;
     let fragment = fragment_over(node, set)?;
     Ok(Some(node.same_location(alloc, fragment)?))
 }
@@ -70,19 +70,19 @@ pub(crate) fn put_fragment(
     schema: Option<&Schema>,
     fragments: &mut FragmentMap,
     node: &Node<FragmentDefinition>,
-    errors: &mut Items<Fault>,
+    faults: &mut Items<Fault>,
 ) -> Result<(), AllocError>
     ensures fragments { OnOk result (fragments.new ≡ put_unless_taken node.now.value.name (lookup_key (same_text node.now.value.name) fragments.old) (fragment_if_typed (option_copied schema.entry) node.now) fragments.old) }
-    ensures errors { OnOk result (errors.new ≡ errors.old ++ fragment_faults (option_copied schema.entry) (lookup_key (same_text node.now.value.name) fragments.old) node.now) }
+    ensures faults { OnOk result (faults.new ≡ faults.old ++ fragment_faults (option_copied schema.entry) (lookup_key (same_text node.now.value.name) fragments.old) node.now) }
 {
     if let Some((kept, _)) = fragments.get_key_value(&node.name) {
         let error = BuildError::FragmentNameCollision {
             name_at_previous_location: kept.clone()?,
         };
-        errors.push((node.name.location(), error))?;
+        faults.push((node.name.location(), error))?;
         return Ok(());
     }
-    let Some(fragment) = build_fragment(alloc, schema, node, errors)? else {
+    let Some(fragment) = build_fragment(alloc, schema, node, faults)? else {
         return Ok(());
     };
     fragments.insert(node.name.clone()?, fragment)?;

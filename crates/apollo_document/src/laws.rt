@@ -3,7 +3,7 @@
 //! Each law is a function that does nothing. A proof cites it by a call, and finds its clauses there.
 ghost use Rattle.std.specs.Prelude.{◌≡◌, ◌⊎◌, Bool, List, Option};
 ghost use Rattle.std.specs.Option.{option_copied};
-ghost use Rattle.apollo_document.specs.AddedDefinitions.{Added};
+ghost use Rattle.apollo_document.specs.AddedDefinitions.{DocumentItem};
 ghost use Rattle.apollo_document.specs.BuilderStands.{StandsFor, HasFailed};
 ghost use Rattle.apollo_document.specs.Documents.{IsDocumentOf};
 ghost use Rattle.apollo_document.specs.WrittenAgain.{AreOneButSources, IsBuiltAgain, ambiguous_again, faults_again};
@@ -19,15 +19,15 @@ use apollo_schema::schema::Schema;
 /// document itself, with every location, and no other. What is wrong with the write-out is one ambiguity for each named operation
 /// if the document has an anonymous one, and nothing otherwise. GraphQL specification of October 2021, sections 2.2 to 2.8.
 pub fn document_again()
-    ensures unique { (schema : Option Schema) (xs : List Added) (a b : ExecutableDocument) → IsDocumentOf schema xs a → IsDocumentOf schema xs b → AreOneButSources a b }
-    ensures itself { (s : Option Schema) (xs : List Added) (errors : Bool) (document : ExecutableDocument) → IsDocumentOf s xs document → IsBuiltAgain s errors document document }
-    ensures again { (s : Option Schema) (xs : List Added) (errors : Bool) (document again : ExecutableDocument) → IsDocumentOf s xs document → IsBuiltAgain s errors document again → AreOneButSources again document }
-    ensures faults { (s : Option Schema) (xs : List Added) (errors : Bool) (document : ExecutableDocument) → IsDocumentOf s xs document → faults_again s errors document ≡ ambiguous_again document.operations }
+    ensures unique { (schema : Option Schema) (xs : List DocumentItem) (a b : ExecutableDocument) → IsDocumentOf schema xs a → IsDocumentOf schema xs b → AreOneButSources a b }
+    ensures itself { (s : Option Schema) (xs : List DocumentItem) (errors : Bool) (document : ExecutableDocument) → IsDocumentOf s xs document → IsBuiltAgain s errors document document }
+    ensures again { (s : Option Schema) (xs : List DocumentItem) (errors : Bool) (document again : ExecutableDocument) → IsDocumentOf s xs document → IsBuiltAgain s errors document again → AreOneButSources again document }
+    ensures faults { (s : Option Schema) (xs : List DocumentItem) (errors : Bool) (document : ExecutableDocument) → IsDocumentOf s xs document → faults_again s errors document ≡ ambiguous_again document.operations }
 {
     typed_sets();
 }
 
 /// Every builder stands for some list over its schema, or a call was refused.
 pub fn every_builder_stands_for_a_list_or_has_failed(builder: &ExecutableDocumentBuilder<'_>)
-    ensures { ∥ ((xs : List Added) × StandsFor (option_copied builder.now.schema) xs builder.now) ⊎ HasFailed builder.now ∥₁ }
+    ensures { ∥ ((xs : List DocumentItem) × StandsFor (option_copied builder.now.schema) xs builder.now) ⊎ HasFailed builder.now ∥₁ }
 {}

@@ -3,8 +3,8 @@ ghost use Rattle.std.specs.Prelude.{◌≡◌, ◌++◌, ◌∷◌, [], Option, 
 ghost use Rattle.std.specs.Option.{option_copied};
 ghost use Rattle.graphql_nodes.specs.SameText.{same_text};
 ghost use Rattle.graphql_nodes.specs.Tables.{lookup_key};
-ghost use Rattle.apollo_elaboration.specs.declared.build_error.BuildError.TheVariants as faults;
-ghost use Rattle.apollo_document.specs.KeptDefinitions.{root_in};
+ghost use Rattle.apollo_elaboration.specs.declared.build_error.BuildError.TheVariants as errors;
+ghost use Rattle.apollo_document.specs.KeptDefinitions.{root_type_of};
 ghost use Rattle.graphql_nodes.specs.OperationTexts.{operation_text};
 ghost use Rattle.apollo_document.specs.DocumentFaults.{ambiguous, ambiguous_if, faults_in_operation, faults_of_named, after_anonymous};
 ghost use Rattle.apollo_document.specs.Stands.{operation_over, rooted_operation, put_unless_taken};
@@ -32,7 +32,7 @@ fn root_type(
     schema: Option<&Schema>,
     operation_type: OperationType,
 ) -> Result<Option<NamedType>, AllocError>
-    ensures { IfOk result (λ root. root ≡ root_in (option_copied schema.entry) operation_type) }
+    ensures { IfOk result (λ root. root ≡ root_type_of (option_copied schema.entry) operation_type) }
 {
     match schema {
         None => Ok(Some(operation_type.default_type_name(alloc)?)),
@@ -62,22 +62,22 @@ fn operation_over(
 /// Notes that an anonymous operation at this location isn't the only one. The error is want of memory.
 pub(crate) fn note_ambiguous(
     place: Option<SourceSpan>,
-    errors: &mut Items<Fault>,
+    faults: &mut Items<Fault>,
 ) -> Result<(), AllocError>
-    ensures { OnOk result (errors.new ≡ errors.old ++ ambiguous place ∷ []) }
+    ensures { OnOk result (faults.new ≡ faults.old ++ ambiguous place ∷ []) }
 {
-    errors.push((place, BuildError::AmbiguousAnonymousOperation))
+    faults.push((place, BuildError::AmbiguousAnonymousOperation))
 }
 
 /// Notes the anonymous operation, if there is one: another operation comes after it.
 pub(crate) fn note_kept(
     anonymous: &Option<Node<Operation>>,
-    errors: &mut Items<Fault>,
+    faults: &mut Items<Fault>,
 ) -> Result<(), AllocError>
-    ensures { OnOk result (errors.new ≡ errors.old ++ ambiguous_if (option_map (λ o. o.location) anonymous.now)) }
+    ensures { OnOk result (faults.new ≡ faults.old ++ ambiguous_if (option_map (λ o. o.location) anonymous.now)) }
 {
     if let Some(kept) = anonymous {
-        note_ambiguous(kept.location(), errors)?;
+        note_ambiguous(kept.location(), faults)?;
     }
     Ok(())
 }
@@ -85,14 +85,14 @@ pub(crate) fn note_kept(
 /// Notes that the operation has no root type.
 fn note_unrooted(
     node: &Node<OperationDefinition>,
-    errors: &mut Items<Fault>,
+    faults: &mut Items<Fault>,
 ) -> Result<(), AllocError>
-    ensures { OnOk result (errors.new ≡ errors.old ++ (node.now.location, faults.UndefinedRootOperation (operation_text node.now.value.operation_type)) ∷ []) }
+    ensures { OnOk result (faults.new ≡ faults.old ++ (node.now.location, errors.UndefinedRootOperation (operation_text node.now.value.operation_type)) ∷ []) }
 {
     let error = BuildError::UndefinedRootOperation {
         operation_type: StaticText::new(node.operation_type.name()),
     };
-    errors.push((node.location(), error))
+    faults.push((node.location(), error))
 }
 
 /// The operation, typed, if it has a root type. What is wrong with it is noted.
@@ -101,13 +101,13 @@ pub(crate) fn build_operation(
     schema: Option<&Schema>,
     node: &Node<OperationDefinition>,
     name: ExecutableDefinitionName,
-    errors: &mut Items<Fault>,
+    faults: &mut Items<Fault>,
 ) -> Result<Option<Node<Operation>>, AllocError>
     ensures built { IfOk result (λ operation. operation ≡ rooted_operation (option_copied schema.entry) node.now) }
-    ensures errors { OnOk result (errors.new ≡ errors.old ++ faults_in_operation (option_copied schema.entry) name node.now) }
+    ensures faults { OnOk result (faults.new ≡ faults.old ++ faults_in_operation (option_copied schema.entry) name node.now) }
 {
     let Some(root) = root_type(alloc, schema, node.operation_type)? else {
-        note_unrooted(node, errors)?;
+        note_unrooted(node, faults)?;
         return Ok(None);
     };
     let mut path = SelectionPath {
@@ -116,7 +116,7 @@ pub(crate) fn build_operation(
     };
     let selections = node.selection_set.as_slice();
     elaborated_sets();
-    let set = elaborate_selections(alloc, schema, &root, selections, &mut path, errors)?;
+    let set = elaborate_selections(alloc, schema, &root, selections, &mut path, faults)?;
     let operation = operation_over(node, set)?;
     Ok(Some(node.same_location(alloc, operation)?))
 }
@@ -128,20 +128,20 @@ pub(crate) fn put_named(
     named: &mut Table<Name, Node<Operation>>,
     node: &Node<OperationDefinition>,
     name: &Name,
-    errors: &mut Items<Fault>,
+    faults: &mut Items<Fault>,
 ) -> Result<(), AllocError>
     ensures named { OnOk result (named.new ≡ put_unless_taken name.now (lookup_key (same_text name.now) named.old) (rooted_operation (option_copied schema.entry) node.now) named.old) }
-    ensures errors { OnOk result (errors.new ≡ errors.old ++ faults_of_named (option_copied schema.entry) (lookup_key (same_text name.now) named.old) name.now node.now) }
+    ensures faults { OnOk result (faults.new ≡ faults.old ++ faults_of_named (option_copied schema.entry) (lookup_key (same_text name.now) named.old) name.now node.now) }
 {
     if let Some((kept, _)) = named.get_key_value(name) {
         let error = BuildError::OperationNameCollision {
             name_at_previous_location: kept.clone()?,
         };
-        errors.push((name.location(), error))?;
+        faults.push((name.location(), error))?;
         return Ok(());
     }
     let root = ExecutableDefinitionName::NamedOperation(node.operation_type, name.clone()?);
-    let Some(operation) = build_operation(alloc, schema, node, root, errors)? else {
+    let Some(operation) = build_operation(alloc, schema, node, root, faults)? else {
         return Ok(());
     };
     named.insert(name.clone()?, operation)?;
@@ -153,13 +153,13 @@ pub(crate) fn note_further_anonymous(
     kept: Option<SourceSpan>,
     multiple_anonymous: bool,
     place: Option<SourceSpan>,
-    errors: &mut Items<Fault>,
+    faults: &mut Items<Fault>,
 ) -> Result<(), AllocError>
-    ensures { OnOk result (errors.new ≡ errors.old ++ after_anonymous multiple_anonymous kept place) }
+    ensures { OnOk result (faults.new ≡ faults.old ++ after_anonymous multiple_anonymous kept place) }
 {
     if !multiple_anonymous {
-        note_ambiguous(kept, errors)?;
+        note_ambiguous(kept, faults)?;
     }
-    note_ambiguous(place, errors)?;
+    note_ambiguous(place, faults)?;
     Ok(())
 }

@@ -3,10 +3,10 @@ ghost use Rattle.std.specs.Prelude.{◌≡◌, Bool, [], ◌++◌, Option, None,
 ghost use Rattle.std.specs.Option.{option_copied};
 ghost use Rattle.graphql_nodes.specs.Sources.{merged};
 ghost use Rattle.apollo_schema.specs.declared.schema.Schema.{Schema};
-ghost use Rattle.apollo_document.specs.AddedDefinitions.{added};
+ghost use Rattle.apollo_document.specs.AddedDefinitions.{document_list};
 ghost use Rattle.apollo_document.specs.DocumentFaults.{type_system_faults};
 ghost use Rattle.apollo_document.specs.Stands.{Stands, StandsWith};
-ghost use Rattle.apollo_document.specs.Takes.{Takes};
+ghost use Rattle.apollo_document.specs.Takes.{TakesDefinition};
 ghost use Rattle.graphql_ast.specs.declared.definition.Definition.TheVariants as definitions;
 
 use crate::definitions::{as_fragment, as_operation};
@@ -39,7 +39,7 @@ pub struct Tables {
     pub fragments: FragmentMap,
     /// Whether an anonymous operation came after the kept one.
     pub multiple_anonymous: bool,
-    pub errors: Items<Fault>,
+    pub faults: Items<Fault>,
 }
 
 impl Drop for Tables {
@@ -50,7 +50,7 @@ impl Drop for Tables {
             operations: _,
             fragments: _,
             multiple_anonymous: _,
-            errors: _,
+            faults: _,
         } = self;
     }
 }
@@ -67,7 +67,7 @@ impl Tables {
             operations: OperationMap::with_keys(alloc, keys),
             fragments: Table::with_keys(alloc, keys),
             multiple_anonymous: false,
-            errors: Items::new(alloc),
+            faults: Items::new(alloc),
         }
     }
 
@@ -78,17 +78,17 @@ impl Tables {
         node: &Node<OperationDefinition>,
         name: &Name,
     ) -> Result<(), AllocError>
-        ensures stands { OnOk result (node.now.value.name ≡ Some name.now → (errors : Bool) → Takes (option_copied schema.entry) (errors, definitions.OperationDefinition node.now) self.old self.new) }
+        ensures stands { OnOk result (node.now.value.name ≡ Some name.now → (errors : Bool) → TakesDefinition (option_copied schema.entry) (errors, definitions.OperationDefinition node.now) self.old self.new) }
         ensures sources { self.new.sources ≡ self.old.sources }
     {
-        note_kept(&self.operations.anonymous, &mut self.errors)?;
+        note_kept(&self.operations.anonymous, &mut self.faults)?;
         put_named(
             self.alloc,
             schema,
             &mut self.operations.named,
             node,
             name,
-            &mut self.errors,
+            &mut self.faults,
         )?;
         Ok(())
     }
@@ -99,7 +99,7 @@ impl Tables {
         schema: Option<&Schema>,
         node: &Node<OperationDefinition>,
     ) -> Result<(), AllocError>
-        ensures stands { OnOk result (node.now.value.name ≡ None → (errors : Bool) → Takes (option_copied schema.entry) (errors, definitions.OperationDefinition node.now) self.old self.new) }
+        ensures stands { OnOk result (node.now.value.name ≡ None → (errors : Bool) → TakesDefinition (option_copied schema.entry) (errors, definitions.OperationDefinition node.now) self.old self.new) }
         ensures sources { self.new.sources ≡ self.old.sources }
     {
         if let Some(kept) = &self.operations.anonymous {
@@ -108,13 +108,13 @@ impl Tables {
                 kept,
                 self.multiple_anonymous,
                 node.location(),
-                &mut self.errors,
+                &mut self.faults,
             )?;
             self.multiple_anonymous = true;
             return Ok(());
         }
         if !self.operations.named.is_empty() {
-            note_ambiguous(node.location(), &mut self.errors)?;
+            note_ambiguous(node.location(), &mut self.faults)?;
             return Ok(());
         }
         let root = ExecutableDefinitionName::AnonymousOperation(node.operation_type);
@@ -123,7 +123,7 @@ impl Tables {
             schema,
             node,
             root,
-            &mut self.errors,
+            &mut self.faults,
         )?;
         Ok(())
     }
@@ -134,7 +134,7 @@ impl Tables {
         schema: Option<&Schema>,
         node: &Node<OperationDefinition>,
     ) -> Result<(), AllocError>
-        ensures stands { OnOk result ((errors : Bool) → Takes (option_copied schema.entry) (errors, definitions.OperationDefinition node.now) self.old self.new) }
+        ensures stands { OnOk result ((errors : Bool) → TakesDefinition (option_copied schema.entry) (errors, definitions.OperationDefinition node.now) self.old self.new) }
         ensures sources { self.new.sources ≡ self.old.sources }
     {
         match &node.name {
@@ -150,7 +150,7 @@ impl Tables {
         schema: Option<&Schema>,
         node: &Node<FragmentDefinition>,
     ) -> Result<(), AllocError>
-        ensures stands { OnOk result ((errors : Bool) → Takes (option_copied schema.entry) (errors, definitions.FragmentDefinition node.now) self.old self.new) }
+        ensures stands { OnOk result ((errors : Bool) → TakesDefinition (option_copied schema.entry) (errors, definitions.FragmentDefinition node.now) self.old self.new) }
         ensures sources { self.new.sources ≡ self.old.sources }
     {
         put_fragment(
@@ -158,7 +158,7 @@ impl Tables {
             schema,
             &mut self.fragments,
             node,
-            &mut self.errors,
+            &mut self.faults,
         )?;
         Ok(())
     }
@@ -169,7 +169,7 @@ impl Tables {
         definition: &Definition,
         type_system_definitions_are_errors: bool,
     ) -> Result<(), AllocError>
-        ensures noted { OnOk result (self.new ≡ record self.old { errors = self.old.errors ++ type_system_faults type_system_definitions_are_errors definition.now }) }
+        ensures noted { OnOk result (self.new ≡ record self.old { faults = self.old.faults ++ type_system_faults type_system_definitions_are_errors definition.now }) }
         ensures sources { self.new.sources ≡ self.old.sources }
     {
         if !type_system_definitions_are_errors {
@@ -179,7 +179,7 @@ impl Tables {
             name: definition.name().cloned()?,
             describe: StaticText::new(definition.describe()),
         };
-        self.errors.push((definition.location(), error))
+        self.faults.push((definition.location(), error))
     }
 
     /// Takes a definition.
@@ -189,7 +189,7 @@ impl Tables {
         definition: &Definition,
         type_system_definitions_are_errors: bool,
     ) -> Result<(), AllocError>
-        ensures stands { OnOk result (Takes (option_copied schema.entry) (type_system_definitions_are_errors, definition.now) self.old self.new) }
+        ensures stands { OnOk result (TakesDefinition (option_copied schema.entry) (type_system_definitions_are_errors, definition.now) self.old self.new) }
         ensures sources { self.new.sources ≡ self.old.sources }
     {
         if let Some(node) = as_operation(definition) {
@@ -211,7 +211,7 @@ impl Tables {
         definitions: &[Definition],
         type_system_definitions_are_errors: bool,
     ) -> Result<(), AllocError>
-        ensures stands { OnOk result (StandsWith (option_copied schema.entry) (added type_system_definitions_are_errors definitions.now) self.old self.new) }
+        ensures stands { OnOk result (StandsWith (option_copied schema.entry) (document_list type_system_definitions_are_errors definitions.now) self.old self.new) }
         ensures sources { self.new.sources ≡ self.old.sources }
     {
         for definition in definitions {
@@ -228,7 +228,7 @@ impl Tables {
         document: &Document,
         type_system_definitions_are_errors: bool,
     ) -> Result<(), AllocError>
-        ensures stands { OnOk result (StandsWith (option_copied schema.entry) (added type_system_definitions_are_errors document.now.definitions) self.old self.new) }
+        ensures stands { OnOk result (StandsWith (option_copied schema.entry) (document_list type_system_definitions_are_errors document.now.definitions) self.old self.new) }
         ensures sources { OnOk result (self.new.sources ≡ merged self.old.sources document.now.sources) }
     {
         self.take(
@@ -243,7 +243,7 @@ impl Tables {
     /// The document of these tables, and the faults.
     pub fn into_document(self) -> (ExecutableDocument, Faults)
         ensures document { result.0 ≡ record { sources = self.sources; operations = self.operations; fragments = self.fragments } }
-        ensures faults { result.1.items ≡ self.errors }
+        ensures faults { result.1.items ≡ self.faults }
     {
         let Tables {
             alloc: _,
@@ -251,13 +251,13 @@ impl Tables {
             operations,
             fragments,
             multiple_anonymous: _,
-            errors,
+            faults,
         } = self;
         let document = ExecutableDocument {
             sources,
             operations,
             fragments,
         };
-        (document, errors.into_vec())
+        (document, faults.into_vec())
     }
 }

@@ -24,7 +24,7 @@ use Rattle.apollo_executable.specs.declared.selection.SelectionSet.{SelectionSet
 use Rattle.apollo_elaboration.specs.Typable.{child_of, is_bare, typable_field, if_typable}
 use Rattle.apollo_elaboration.specs.Stripped.{in_place_of, stripped}
 use Rattle.apollo_elaboration.specs.Elaborated.{set_of, field_of, fragment_of, elaborated_selection, elaborated_field, elaborated_fragment, elaborated}
-use Rattle.apollo_elaboration.specs.SelectionFaults.{FS, FN, faults_step, field_faults_step, fragment_faults_step, found, inside, faults_of, faults_of_selection, faults_of_field, faults_of_fragment}
+use Rattle.apollo_elaboration.specs.SelectionFaults.{FS, FN, faults_step, field_faults_step, fragment_faults_step, found, inside, faults_of_selections, faults_of_selection, faults_of_field, faults_of_fragment}
 use Rattle.apollo_elaboration.specs.TypedSelections.{IsTyped, IsTypedField, IsTypedFragment, IsTypedSet}
 use Rattle.apollo_elaboration.specs.declared.selection_path.SelectionPath.{SelectionPath}
 use Rattle.apollo_elaboration.proofs.Equations.{is_bare-map, typed_in, elaborated-field, elaborated-fragment, faults-field, faults-fragment}
@@ -45,7 +45,7 @@ abbrev PI : Option Schema → InlineFragment → Type 0
 PI s x = (ty : NameView) → IsTypedFragment s ty x → (elaborated_fragment s ty (erased_inline_fragment x) ≡ Some x) × ((place : Option SourceSpan) (path : SelectionPath) → faults_of_fragment s ty place path (erased_inline_fragment x) ≡ [])
 
 abbrev PL : Option Schema → SelectionSet → Type 0
-PL s x = (ty : NameView) → IsTypedSet s ty x → (elaborated s ty (erased_set x) ≡ x) × ((path : SelectionPath) → faults_of s ty path (erased_set x) ≡ [])
+PL s x = (ty : NameView) → IsTypedSet s ty x → (elaborated s ty (erased_set x) ≡ x) × ((path : SelectionPath) → faults_of_selections s ty path (erased_set x) ≡ [])
 
 abbrev WS : Option Schema → Type 0
 WS s = (x : Selection) × PS s x
@@ -60,7 +60,7 @@ abbrev WL : Option Schema → Type 0
 WL s = (x : SelectionSet) × PL s x
 
 list_again : (s : Option Schema) (ty : NameView) (ys : List (WS s)) → AllByRecursion (λ (x : Selection). IsTyped s ty x) (map (λ (y : WS s). y.0) ys)
-    → (typed_in s (map erased (map (λ (y : WS s). y.0) ys)) ty ≡ map (λ (y : WS s). y.0) ys) × ((path : SelectionPath) → faults_of s ty path (map erased (map (λ (y : WS s). y.0) ys)) ≡ [])
+    → (typed_in s (map erased (map (λ (y : WS s). y.0) ys)) ty ≡ map (λ (y : WS s). y.0) ys) × ((path : SelectionPath) → faults_of_selections s ty path (map erased (map (λ (y : WS s). y.0) ys)) ≡ [])
 list_again s ty [] h = (refl, λ path. refl)
 list_again s ty (y ∷ ys) h =
     let a = y.1 ty h.0 in let b = list_again s ty ys h.1 in
@@ -72,7 +72,7 @@ set_again s y ty h =
     let t = along (set-roll s ty x) h in
     let r : erased_set (roll-SelectionSet x) ≡ map erased x.selections = typed_folds.fold-roll-SelectionSet ES EF EI EL e.selection_step e.field_step e.inline_step e.set_step x in
     let b = list_again s ty y.selections t.1 in
-    ((λ i. elaborated s ty (r i)) ∙ (λ i. set_of (sym t.0 i) (b.0 i)), λ path. ap (faults_of s ty path) r ∙ b.1 path)
+    ((λ i. elaborated s ty (r i)) ∙ (λ i. set_of (sym t.0 i) (b.0 i)), λ path. ap (faults_of_selections s ty path) r ∙ b.1 path)
 
 field_again : (s : Option Schema) (y : typed_layer.Field-F (WS s) (WF s) (WI s) (WL s)) → PF s (roll-Field (typed_folds.map-Field (WS s) (WF s) (WI s) (WL s) Selection Field InlineFragment SelectionSet (λ e. e.0) (λ e. e.0) (λ e. e.0) (λ e. e.0) y))
 field_again s y ty h =
@@ -88,7 +88,7 @@ field_again s y ty h =
       ap (elaborated_field s ty) r ∙ elaborated-field s ty z ∙ ap (if_typable (field_of y.alias y.name y.arguments y.directives (typed_in s (erased_set y.selection_set.0)))) c
           ∙ (λ i. Some (roll-Field (record { definition = y.definition; alias = y.alias; name = y.name; arguments = y.arguments; directives = y.directives; selection_set = b.0 i }))),
       λ place path. ap (faults_of_field s ty place path) r ∙ faults-field s ty place path z
-          ∙ ap (found (λ (d : NodeView FieldDefinition). faults_of s (child_of d) (within path) (erased_set y.selection_set.0)) place (within path)) c ∙ b.1 (within path),
+          ∙ ap (found (λ (d : NodeView FieldDefinition). faults_of_selections s (child_of d) (within path) (erased_set y.selection_set.0)) place (within path)) c ∙ b.1 (within path),
     )
 
 fragment_again : (s : Option Schema) (y : typed_layer.InlineFragment-F (WS s) (WF s) (WI s) (WL s)) → PI s (roll-InlineFragment (typed_folds.map-InlineFragment (WS s) (WF s) (WI s) (WL s) Selection Field InlineFragment SelectionSet (λ e. e.0) (λ e. e.0) (λ e. e.0) (λ e. e.0) y))
@@ -101,7 +101,7 @@ fragment_again s y ty h =
       ap (elaborated_fragment s ty) r ∙ elaborated-fragment s ty z ∙ ap (if_typable (fragment_of y.type_condition y.directives (typed_in s (erased_set y.selection_set.0)))) t.1.0
           ∙ (λ i. Some (roll-InlineFragment (record { type_condition = y.type_condition; directives = y.directives; selection_set = b.0 i }))),
       λ place path. ap (faults_of_fragment s ty place path) r ∙ faults-fragment s ty place path z
-          ∙ ap (found (λ (child : NameView). faults_of s child path (erased_set y.selection_set.0)) place path) t.1.0 ∙ b.1 path,
+          ∙ ap (found (λ (child : NameView). faults_of_selections s child path (erased_set y.selection_set.0)) place path) t.1.0 ∙ b.1 path,
     )
 
 selection_again : (s : Option Schema) (y : typed_layer.Selection-F (WS s) (WF s) (WI s) (WL s)) → PS s (roll-Selection (typed_folds.map-Selection (WS s) (WF s) (WI s) (WL s) Selection Field InlineFragment SelectionSet (λ e. e.0) (λ e. e.0) (λ e. e.0) (λ e. e.0) y))
@@ -133,7 +133,7 @@ set_is_again s = typed_folds.ind-SelectionSet (PS s) (PF s) (PI s) (PL s)
 pub stripped_again : (s : Option Schema) (ty : NameView) (x : SelectionSet) → IsTypedSet s ty x → stripped s ty (erased_set x) ≡ erased_set x
 stripped_again s ty x h = sym (erased_is_stripped s ty (erased_set x)) ∙ ap erased_set (set_is_again s x ty h).0
 
-pub faultless_again : (s : Option Schema) (ty : NameView) (path : SelectionPath) (x : SelectionSet) → IsTypedSet s ty x → faults_of s ty path (erased_set x) ≡ []
+pub faultless_again : (s : Option Schema) (ty : NameView) (path : SelectionPath) (x : SelectionSet) → IsTypedSet s ty x → faults_of_selections s ty path (erased_set x) ≡ []
 faultless_again s ty path x h = (set_is_again s x ty h).1 path
 
 pub one_typed : (s : Option Schema) (ty : NameView) (x y : SelectionSet) → IsTypedSet s ty x → IsTypedSet s ty y → erased_set x ≡ erased_set y → x ≡ y

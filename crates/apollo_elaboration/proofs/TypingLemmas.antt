@@ -21,7 +21,7 @@ use Rattle.apollo_executable.specs.declared.selection.SelectionSet.{SelectionSet
 use Rattle.apollo_elaboration.specs.Typable.{Wrong, child_of, is_bare, leaf_at, unless_leaf, with_subselections, defined_in, typable_field, typable_fragment, if_typable}
 use Rattle.apollo_elaboration.specs.Stripped.{in_place_of}
 use Rattle.apollo_elaboration.specs.Elaborated.{typed_spread, set_of, field_of, fragment_of, elaborated_selection, elaborated_field, elaborated_fragment, elaborated}
-use Rattle.apollo_elaboration.specs.TypedSelections.{In, selection_in, field_in, fragment_in, set_in, IsTyped, IsTypedField, IsTypedFragment, IsTypedSet}
+use Rattle.apollo_elaboration.specs.TypedSelections.{In, selection_in, typed_field_in, fragment_in, set_in, IsTyped, IsTypedField, IsTypedFragment, IsTypedSet}
 use Rattle.apollo_elaboration.proofs.Equations.{typed_in, elaborated-field, elaborated-fragment}
 use Rattle.apollo_elaboration.proofs.ErasureLemmas.{elaborated-roll}
 
@@ -42,15 +42,15 @@ set_natural X X' X'' X3 v v' v'' v3 k x = λ i ty. (x.ty ≡ ty) × all-map v (�
 pub selection-roll : (s : Option Schema) (ty : NameView) (x : typed_layer.Selection-F Selection Field InlineFragment SelectionSet) → IsTyped s ty (roll-Selection x) ≡ selection_in Selection Field InlineFragment SelectionSet (λ f t. IsTypedField s t f) (λ f t. IsTypedFragment s t f) x ty
 selection-roll s ty x = ap (λ (u : In). u ty) (typed_folds.rec-roll-Selection In In In In
     (λ X X' X'' X3 v v' v'' v3 k k' k'' k3. selection_in X X' X'' X3 k' k'')
-    (λ X X' X'' X3 v v' v'' v3 k k' k'' k3. field_in s X X' X'' X3 v3 k3)
+    (λ X X' X'' X3 v v' v'' v3 k k' k'' k3. typed_field_in s X X' X'' X3 v3 k3)
     (λ X X' X'' X3 v v' v'' v3 k k' k'' k3. fragment_in s X X' X'' X3 k3)
     (λ X X' X'' X3 v v' v'' v3 k k' k'' k3. set_in X X' X'' X3 k)
     (λ X X' X'' X3 v v' v'' v3 k k' k'' k3. selection_natural X X' X'' X3 v v' v'' v3 k' k'') x)
 
-pub field-roll : (s : Option Schema) (ty : NameView) (x : typed_layer.Field-F Selection Field InlineFragment SelectionSet) → IsTypedField s ty (roll-Field x) ≡ field_in s Selection Field InlineFragment SelectionSet (λ y. y) (λ y t. IsTypedSet s t y) x ty
+pub field-roll : (s : Option Schema) (ty : NameView) (x : typed_layer.Field-F Selection Field InlineFragment SelectionSet) → IsTypedField s ty (roll-Field x) ≡ typed_field_in s Selection Field InlineFragment SelectionSet (λ y. y) (λ y t. IsTypedSet s t y) x ty
 field-roll s ty x = ap (λ (u : In). u ty) (typed_folds.rec-roll-Field In In In In
     (λ X X' X'' X3 v v' v'' v3 k k' k'' k3. selection_in X X' X'' X3 k' k'')
-    (λ X X' X'' X3 v v' v'' v3 k k' k'' k3. field_in s X X' X'' X3 v3 k3)
+    (λ X X' X'' X3 v v' v'' v3 k k' k'' k3. typed_field_in s X X' X'' X3 v3 k3)
     (λ X X' X'' X3 v v' v'' v3 k k' k'' k3. fragment_in s X X' X'' X3 k3)
     (λ X X' X'' X3 v v' v'' v3 k k' k'' k3. set_in X X' X'' X3 k)
     (λ X X' X'' X3 v v' v'' v3 k k' k'' k3 x. refl) x)
@@ -58,7 +58,7 @@ field-roll s ty x = ap (λ (u : In). u ty) (typed_folds.rec-roll-Field In In In 
 pub fragment-roll : (s : Option Schema) (ty : NameView) (x : typed_layer.InlineFragment-F Selection Field InlineFragment SelectionSet) → IsTypedFragment s ty (roll-InlineFragment x) ≡ fragment_in s Selection Field InlineFragment SelectionSet (λ y t. IsTypedSet s t y) x ty
 fragment-roll s ty x = ap (λ (u : In). u ty) (typed_folds.rec-roll-InlineFragment In In In In
     (λ X X' X'' X3 v v' v'' v3 k k' k'' k3. selection_in X X' X'' X3 k' k'')
-    (λ X X' X'' X3 v v' v'' v3 k k' k'' k3. field_in s X X' X'' X3 v3 k3)
+    (λ X X' X'' X3 v v' v'' v3 k k' k'' k3. typed_field_in s X X' X'' X3 v3 k3)
     (λ X X' X'' X3 v v' v'' v3 k k' k'' k3. fragment_in s X X' X'' X3 k3)
     (λ X X' X'' X3 v v' v'' v3 k k' k'' k3. set_in X X' X'' X3 k)
     (λ X X' X'' X3 v v' v'' v3 k k' k'' k3 x. refl) x)
@@ -66,7 +66,7 @@ fragment-roll s ty x = ap (λ (u : In). u ty) (typed_folds.rec-roll-InlineFragme
 pub set-roll : (s : Option Schema) (ty : NameView) (x : typed_layer.SelectionSet-F Selection Field InlineFragment SelectionSet) → IsTypedSet s ty (roll-SelectionSet x) ≡ ((x.ty ≡ ty) × AllByRecursion (λ (y : Selection). IsTyped s ty y) x.selections)
 set-roll s ty x = ap (λ (u : In). u ty) (typed_folds.rec-roll-SelectionSet In In In In
     (λ X X' X'' X3 v v' v'' v3 k k' k'' k3. selection_in X X' X'' X3 k' k'')
-    (λ X X' X'' X3 v v' v'' v3 k k' k'' k3. field_in s X X' X'' X3 v3 k3)
+    (λ X X' X'' X3 v v' v'' v3 k k' k'' k3. typed_field_in s X X' X'' X3 v3 k3)
     (λ X X' X'' X3 v v' v'' v3 k k' k'' k3. fragment_in s X X' X'' X3 k3)
     (λ X X' X'' X3 v v' v'' v3 k k' k'' k3. set_in X X' X'' X3 k)
     (λ X X' X'' X3 v v' v'' v3 k k' k'' k3. set_natural X X' X'' X3 v v' v'' v3 k) x)

@@ -60,5 +60,5 @@ abbrev pub faults_of_fragment : Option Schema → NameView → Option SourceSpan
 faults_of_fragment s ty place path f = folds.fold-InlineFragment FS FN FN faults_step (field_faults_step s) (fragment_faults_step s) f ty place path
 
 -- those of a list
-abbrev pub faults_of : Option Schema → NameView → SelectionPath → List Selection → List Fault
-faults_of s ty path xs = flat_map (faults_of_selection s ty path) xs
+abbrev pub faults_of_selections : Option Schema → NameView → SelectionPath → List Selection → List Fault
+faults_of_selections s ty path xs = flat_map (faults_of_selection s ty path) xs

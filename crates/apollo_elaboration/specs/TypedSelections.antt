@@ -24,8 +24,8 @@ selection_in X X' X'' X3 k' k'' (Selection-F.Field n) ty = k' n.value ty
 selection_in X X' X'' X3 k' k'' (Selection-F.FragmentSpread n) ty = Unit {0}
 selection_in X X' X'' X3 k' k'' (Selection-F.InlineFragment n) ty = k'' n.value ty
 
-abbrev pub field_in : Option Schema → (X X' X'' X3 : Type 0) → (X3 → SelectionSet) → (X3 → In) → Field-F X X' X'' X3 → In
-field_in s X X' X'' X3 v3 k3 f ty = (typable_field s ty f.name (is_bare (v3 f.selection_set).selections) ≡ Ok f.definition) × k3 f.selection_set (child_of f.definition)
+abbrev pub typed_field_in : Option Schema → (X X' X'' X3 : Type 0) → (X3 → SelectionSet) → (X3 → In) → Field-F X X' X'' X3 → In
+typed_field_in s X X' X'' X3 v3 k3 f ty = (typable_field s ty f.name (is_bare (v3 f.selection_set).selections) ≡ Ok f.definition) × k3 f.selection_set (child_of f.definition)
 
 abbrev pub fragment_in : Option Schema → (X X' X'' X3 : Type 0) → (X3 → In) → InlineFragment-F X X' X'' X3 → In
 fragment_in s X X' X'' X3 k3 f ty = (child : NameView) × ((typable_fragment s ty f.type_condition ≡ Ok child) × k3 f.selection_set child)
@@ -36,7 +36,7 @@ set_in X X' X'' X3 k x ty = (x.ty ≡ ty) × AllByRecursion (λ (y : X). k y ty)
 abbrev pub IsTyped : Option Schema → NameView → Selection → Type 0
 IsTyped s ty x = folds.rec-Selection In In In In
     (λ X X' X'' X3 v v' v'' v3 k k' k'' k3. selection_in X X' X'' X3 k' k'')
-    (λ X X' X'' X3 v v' v'' v3 k k' k'' k3. field_in s X X' X'' X3 v3 k3)
+    (λ X X' X'' X3 v v' v'' v3 k k' k'' k3. typed_field_in s X X' X'' X3 v3 k3)
     (λ X X' X'' X3 v v' v'' v3 k k' k'' k3. fragment_in s X X' X'' X3 k3)
     (λ X X' X'' X3 v v' v'' v3 k k' k'' k3. set_in X X' X'' X3 k)
     x ty
@@ -44,7 +44,7 @@ IsTyped s ty x = folds.rec-Selection In In In In
 abbrev pub IsTypedField : Option Schema → NameView → Field → Type 0
 IsTypedField s ty x = folds.rec-Field In In In In
     (λ X X' X'' X3 v v' v'' v3 k k' k'' k3. selection_in X X' X'' X3 k' k'')
-    (λ X X' X'' X3 v v' v'' v3 k k' k'' k3. field_in s X X' X'' X3 v3 k3)
+    (λ X X' X'' X3 v v' v'' v3 k k' k'' k3. typed_field_in s X X' X'' X3 v3 k3)
     (λ X X' X'' X3 v v' v'' v3 k k' k'' k3. fragment_in s X X' X'' X3 k3)
     (λ X X' X'' X3 v v' v'' v3 k k' k'' k3. set_in X X' X'' X3 k)
     x ty
@@ -52,7 +52,7 @@ IsTypedField s ty x = folds.rec-Field In In In In
 abbrev pub IsTypedFragment : Option Schema → NameView → InlineFragment → Type 0
 IsTypedFragment s ty x = folds.rec-InlineFragment In In In In
     (λ X X' X'' X3 v v' v'' v3 k k' k'' k3. selection_in X X' X'' X3 k' k'')
-    (λ X X' X'' X3 v v' v'' v3 k k' k'' k3. field_in s X X' X'' X3 v3 k3)
+    (λ X X' X'' X3 v v' v'' v3 k k' k'' k3. typed_field_in s X X' X'' X3 v3 k3)
     (λ X X' X'' X3 v v' v'' v3 k k' k'' k3. fragment_in s X X' X'' X3 k3)
     (λ X X' X'' X3 v v' v'' v3 k k' k'' k3. set_in X X' X'' X3 k)
     x ty
@@ -60,7 +60,7 @@ IsTypedFragment s ty x = folds.rec-InlineFragment In In In In
 abbrev pub IsTypedSet : Option Schema → NameView → SelectionSet → Type 0
 IsTypedSet s ty x = folds.rec-SelectionSet In In In In
     (λ X X' X'' X3 v v' v'' v3 k k' k'' k3. selection_in X X' X'' X3 k' k'')
-    (λ X X' X'' X3 v v' v'' v3 k k' k'' k3. field_in s X X' X'' X3 v3 k3)
+    (λ X X' X'' X3 v v' v'' v3 k k' k'' k3. typed_field_in s X X' X'' X3 v3 k3)
     (λ X X' X'' X3 v v' v'' v3 k k' k'' k3. fragment_in s X X' X'' X3 k3)
     (λ X X' X'' X3 v v' v'' v3 k k' k'' k3. set_in X X' X'' X3 k)
     x ty

@@ -9,7 +9,7 @@ ghost use Rattle.apollo_executable.specs.SelectionParts.{key_of};
 ghost use Rattle.apollo_elaboration.specs.Elaborated as spec;
 ghost use Rattle.apollo_elaboration.specs.Elaborated.{elaborated, elaborated_selection, elaborated_field, elaborated_fragment};
 ghost use Rattle.apollo_elaboration.specs.Stripped.{in_place_of};
-ghost use Rattle.apollo_elaboration.specs.SelectionFaults.{faults_of, faults_of_selection, faults_of_field, faults_of_fragment};
+ghost use Rattle.apollo_elaboration.specs.SelectionFaults.{faults_of_selections, faults_of_selection, faults_of_field, faults_of_fragment};
 ghost use Rattle.apollo_elaboration.specs.Within.{faults_within};
 
 use crate::build_error::Fault;
@@ -79,7 +79,7 @@ fn field_over(
 }
 
 /// The inline fragment with this set.
-fn fragment_over(
+fn inline_fragment_over(
     fragment: &ast::InlineFragment,
     selection_set: SelectionSet,
 ) -> Result<InlineFragment, AllocError>
@@ -103,7 +103,7 @@ pub(crate) fn elaborate_set(
     faults: &mut Items<Fault>,
 ) -> Result<SelectionSet, AllocError>
     ensures set { IfOk result (λ set. set ≡ elaborated (option_copied schema.entry) ty.now selections.now) }
-    ensures faults { OnOk result (faults.new ≡ faults.old ++ faults_of (option_copied schema.entry) ty.now path.old selections.now) }
+    ensures faults { OnOk result (faults.new ≡ faults.old ++ faults_of_selections (option_copied schema.entry) ty.now path.old selections.now) }
     ensures path { path.new ≡ path.old }
 {
     if selections.is_empty() {
@@ -130,7 +130,7 @@ fn elaborate_all(
     faults: &mut Items<Fault>,
 ) -> Result<Items<Selection>, AllocError>
     ensures kept { IfOk result (λ kept. kept ≡ filter_map (elaborated_selection (option_copied parent.now.schema) parent.now.ty.now) selections.now) }
-    ensures faults { OnOk result (faults.new ≡ faults.old ++ faults_of (option_copied parent.now.schema) parent.now.ty.now path.old selections.now) }
+    ensures faults { OnOk result (faults.new ≡ faults.old ++ faults_of_selections (option_copied parent.now.schema) parent.now.ty.now path.old selections.now) }
     ensures path { path.new ≡ path.old }
 {
     let mut kept = Items::new(alloc);
@@ -245,7 +245,7 @@ fn elaborate_fragment(
         path,
         faults,
     )?;
-    let inline = fragment_over(node, set)?;
+    let inline = inline_fragment_over(node, set)?;
     let typed = node.same_location(alloc, inline)?;
     Ok(Some(typed))
 }

@@ -2,7 +2,7 @@
 ghost use Rattle.std.specs.Prelude.{◌≡◌, ◌++◌, IfOk, OnErr, OnOk};
 ghost use Rattle.std.specs.Option.{option_copied};
 ghost use Rattle.apollo_executable.specs.Erasure.{erased_set};
-ghost use Rattle.apollo_elaboration.specs.SelectionFaults.{faults_of};
+ghost use Rattle.apollo_elaboration.specs.SelectionFaults.{faults_of_selections};
 ghost use Rattle.apollo_elaboration.specs.Stripped.{stripped};
 ghost use Rattle.apollo_elaboration.specs.TypedSelections.{IsTypedSet};
 
@@ -36,7 +36,7 @@ pub fn elaborate_selections(
 ) -> Result<SelectionSet, AllocError>
     ensures kept { IfOk result (λ set. erased_set set ≡ stripped (option_copied schema.entry) ty.now selections.now) }
     ensures typed { IfOk result (IsTypedSet (option_copied schema.entry) ty.now) }
-    ensures faults { OnOk result (faults.new ≡ faults.old ++ faults_of (option_copied schema.entry) ty.now path.old selections.now) }
+    ensures faults { OnOk result (faults.new ≡ faults.old ++ faults_of_selections (option_copied schema.entry) ty.now path.old selections.now) }
     ensures unchanged { OnErr result (faults.new ≡ faults.old) }
     ensures path { path.new ≡ path.old }
 {

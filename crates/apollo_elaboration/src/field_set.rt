@@ -4,7 +4,7 @@ ghost use Rattle.std.specs.Prelude.{◌≡◌, [], Some, IfOk};
 ghost use Rattle.graphql_nodes.specs.declared.operation_type.OperationType.TheVariants.{Query};
 ghost use Rattle.apollo_executable.specs.Erasure.{erased_set};
 ghost use Rattle.apollo_elaboration.specs.FieldSets.{field_set_path};
-ghost use Rattle.apollo_elaboration.specs.SelectionFaults.{faults_of};
+ghost use Rattle.apollo_elaboration.specs.SelectionFaults.{faults_of_selections};
 ghost use Rattle.apollo_elaboration.specs.Stripped.{stripped};
 ghost use Rattle.apollo_elaboration.specs.TypedSelections.{IsTypedSet};
 
@@ -63,7 +63,7 @@ impl FieldSet {
         ensures kept { IfOk result (λ made. erased_set made.0.selection_set ≡ stripped (Some schema.now) ty selections.now) }
         ensures typed { IfOk result (λ made. IsTypedSet (Some schema.now) ty made.0.selection_set) }
         ensures sources { IfOk result (λ made. made.0.sources ≡ []) }
-        ensures faults { IfOk result (λ made. made.1.items ≡ faults_of (Some schema.now) ty field_set_path selections.now) }
+        ensures faults { IfOk result (λ made. made.1.items ≡ faults_of_selections (Some schema.now) ty field_set_path selections.now) }
     {
         let mut faults = Items::new(alloc);
         let mut path = SelectionPath {

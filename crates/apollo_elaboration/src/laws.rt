@@ -13,7 +13,7 @@ ghost use Rattle.apollo_executable.specs.Walks.FieldsIn.{fields_in};
 ghost use Rattle.apollo_elaboration.specs.BareErrors.{bare_root, bare_path, bare_build_error};
 ghost use Rattle.apollo_elaboration.specs.BareLeaves.{IsBareOnLeaf};
 ghost use Rattle.apollo_elaboration.specs.Elaborated.{elaborated};
-ghost use Rattle.apollo_elaboration.specs.SelectionFaults.{faults_of};
+ghost use Rattle.apollo_elaboration.specs.SelectionFaults.{faults_of_selections};
 ghost use Rattle.apollo_elaboration.specs.Stripped.{stripped};
 ghost use Rattle.apollo_elaboration.specs.TypedSelections.{IsTypedSet};
 
@@ -28,7 +28,7 @@ use graphql_ast::selection::Selection;
 /// sets from one type are erased to the same selections. GraphQL specification of October 2021, sections 2.4 to 2.8.
 pub fn typed_sets()
     ensures stripped { (schema : Option Schema) (ty : NameView) (set : SelectionSet) → IsTypedSet schema ty set → stripped schema ty (erased_set set) ≡ erased_set set }
-    ensures faultless { (schema : Option Schema) (ty : NameView) (path : SelectionPath) (set : SelectionSet) → IsTypedSet schema ty set → faults_of schema ty path (erased_set set) ≡ [] }
+    ensures faultless { (schema : Option Schema) (ty : NameView) (path : SelectionPath) (set : SelectionSet) → IsTypedSet schema ty set → faults_of_selections schema ty path (erased_set set) ≡ [] }
     ensures unique { (schema : Option Schema) (ty : NameView) (a b : SelectionSet) → IsTypedSet schema ty a → IsTypedSet schema ty b → erased_set a ≡ erased_set b → a ≡ b }
 {}
 

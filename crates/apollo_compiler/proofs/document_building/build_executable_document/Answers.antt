@@ -2,7 +2,7 @@ use Rattle.std.proofs.Common.{take, List, Some, sym, ap, subst, ◌∙◌, arith
 use Rattle.std.proofs.lemmas.List.{take_all}
 use Rattle.graphql_nodes.specs.Sources.{merged}
 use Rattle.graphql_ast.specs.declared.document.Document.{Document}
-use Rattle.apollo_document.specs.AddedDefinitions.{Added}
+use Rattle.apollo_document.specs.AddedDefinitions.{DocumentItem}
 use Rattle.apollo_document.specs.BuilderStands.{StandsFor}
 use Rattle.apollo_document.specs.DocumentFaults.{document_faults}
 use Rattle.apollo_document.specs.Documents.{IsDocumentOf}
@@ -19,7 +19,7 @@ loop-document-preserved c =
     let d = c.document-item.result in
     let was = c.loop-document.invariant in
     record {
-      stands = subst (λ (l : List Added). StandsFor s l c.add_ast_document.new.self) (sym (executable_list-turn ds i d (omega arith) c.document-item.is b)) (c.in-Ok.ensures.stands s (executable_list b (take i ds)) was.stands);
+      stands = subst (λ (l : List DocumentItem). StandsFor s l c.add_ast_document.new.self) (sym (executable_list-turn ds i d (omega arith) c.document-item.is b)) (c.in-Ok.ensures.stands s (executable_list b (take i ds)) was.stands);
       sources = c.in-Ok.ensures.sources ∙ ap (λ files. merged files d.sources) was.sources ∙ sym (all_sources-turn ds i d (omega arith) c.document-item.is);
     }
 

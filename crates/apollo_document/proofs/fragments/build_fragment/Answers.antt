@@ -8,5 +8,5 @@ returns-clause-built c =
     let sets : ElaboratedSetsLaw = record { kept = c.elaborated_sets.ensures.kept; typed = c.elaborated_sets.ensures.typed; unique = c.elaborated_sets.ensures.unique } in
     fragment_made sets (option_copied c.args.schema) c.args.node.now c.deref-5.result.now _ _ c.in_ok-set.set c.in_ok-fragment.fragment _ (search rules) c.deref-5.ensures (search rules) (search rules) c.in_ok-set.ensures.kept c.in_ok-set.ensures.typed c.in_ok-fragment.ensures (search rules)
 
-pub returns-clause-errors : goal.returns-clause-errors
-returns-clause-errors c = c.in_ok-set.ensures.faults ∙ fragment_faults_made (option_copied c.args.schema) c.args.node.now _ _ _ c.args.errors.now (search rules) (search rules) (search rules) (search rules)
+pub returns-clause-faults : goal.returns-clause-faults
+returns-clause-faults c = c.in_ok-set.ensures.faults ∙ fragment_faults_made (option_copied c.args.schema) c.args.node.now _ _ _ c.args.faults.now (search rules) (search rules) (search rules) (search rules)

@@ -8,5 +8,5 @@ returns-clause-built c =
     let sets : ElaboratedSetsLaw = record { kept = c.elaborated_sets.ensures.kept; typed = c.elaborated_sets.ensures.typed; unique = c.elaborated_sets.ensures.unique } in
     operation_made sets (option_copied c.args.schema) c.args.node.now c.deref-3.result.now c.in-Some.root _ c.in_ok-set.set c.in_ok-operation.operation _ (search rules) c.deref-3.ensures (search rules) c.in_ok-set.ensures.kept c.in_ok-set.ensures.typed c.in_ok-operation.ensures (search rules)
 
-pub returns-clause-errors : goal.returns-clause-errors
-returns-clause-errors c = c.in_ok-set.ensures.faults ∙ operation_faults_made (option_copied c.args.schema) c.args.node.now c.args.name c.in-Some.root _ _ c.args.errors.now (search rules) (search rules) (search rules)
+pub returns-clause-faults : goal.returns-clause-faults
+returns-clause-faults c = c.in_ok-set.ensures.faults ∙ operation_faults_made (option_copied c.args.schema) c.args.node.now c.args.name c.in-Some.root _ _ c.args.faults.now (search rules) (search rules) (search rules)

@@ -4,7 +4,7 @@ use Rattle.graphql_nodes.specs.NameView.{NameView}
 use Rattle.graphql_ast.specs.TypeReferences.{inner_name}
 use Rattle.apollo_executable.specs.SelectionParts.{key_of}
 use Rattle.apollo_elaboration.specs.Typable.{Fault, child_of, typable_fragment, if_typable}
-use Rattle.apollo_elaboration.specs.SelectionFaults.{found, faults_of, faults_of_selection, faults_of_fragment}
+use Rattle.apollo_elaboration.specs.SelectionFaults.{found, faults_of_selections, faults_of_selection, faults_of_fragment}
 use Rattle.apollo_elaboration.specs.Elaborated.{elaborated_selection}
 use Rattle.apollo_elaboration.specs.Stripped.{in_place_of}
 use Rattle.apollo_elaboration.specs.Within.{faults_within}
@@ -62,7 +62,7 @@ elaborate_fragment-returns-clause-faults t c =
     let so_far : c.typable_fragment.new.faults ≡ faults ++ found (λ _. []) place path (typable_fragment s ty f.type_condition) =
     c.in_ok-child.ensures.faults place ∙ (λ i. faults ++ found (λ _. []) place path (typable_fragment s ty (c.deref.ensures i).type_condition)) in
     let below : c.as_slice.result.now ≡ f.selection_set = c.as_slice.ensures ∙ (λ i. (c.deref-2.ensures i).selection_set) in
-    c.in_ok-set.ensures.faults ∙ (λ i. so_far i ++ faults_of s child path (below i)) ∙ fragment_stands_faults s ty place path f child faults some
+    c.in_ok-set.ensures.faults ∙ (λ i. so_far i ++ faults_of_selections s child path (below i)) ∙ fragment_stands_faults s ty place path f child faults some
 
 pub elaborate_all-loop-selection-preserved : goal.elaborate_all-loop-selection-preserved
 elaborate_all-loop-selection-preserved t c =
@@ -101,4 +101,4 @@ elaborate_within-returns-clause-faults t c =
     let d = c.in-Some.definition in
     let is : c.inner_named_type-child.result.now ≡ child_of d = c.inner_named_type-child.ensures ∙ (λ i. inner_name (c.deref.ensures i).ty) in
     let below : c.as_slice.result.now ≡ f.selection_set = c.as_slice.ensures ∙ (λ i. (c.deref-2.ensures i).selection_set) in
-    c.in_ok-set.ensures.faults ∙ (λ i. c.in_ok-definition.ensures.faults i ++ faults_of s (is i) path (below i)) ∙ field_stands_faults s ty place path f d faults (sym c.in-Some.is ∙ c.in_ok-definition.ensures.typable)
+    c.in_ok-set.ensures.faults ∙ (λ i. c.in_ok-definition.ensures.faults i ++ faults_of_selections s (is i) path (below i)) ∙ field_stands_faults s ty place path f d faults (sym c.in-Some.is ∙ c.in_ok-definition.ensures.typable)
