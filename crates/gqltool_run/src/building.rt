@@ -20,7 +20,8 @@ use std::alloc::Global;
 /// keys.
 ///
 /// `RefusedLine` tells the first line that says nothing where it stands; `ExtensionIds` comes only where the numbers don't
-/// suffice for the extensions of the input; `Memory` is want of memory. There is no other error.
+/// suffice for the extensions of the input; `Memory` is want of memory. There is no other error. Without an error the documents
+/// that were read are left to the end of the process.
 pub fn build_input(
     alloc: Global,
     keys: HashKeys,
@@ -40,7 +41,7 @@ pub fn build_input(
 /// What the documents of an input are compiled to with these options, without executable documents. All tables hash by these
 /// keys.
 ///
-/// The errors are those of [`build_input`].
+/// The errors are those of [`build_input`], and the documents are left as there.
 pub fn compile_input(
     alloc: Global,
     keys: HashKeys,

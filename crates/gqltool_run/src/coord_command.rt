@@ -21,7 +21,7 @@ use std::alloc::{AllocError, Global};
 /// The answer of `coord` to an input: the line of the coordinate, the line of what it points to in the schema of the input's
 /// documents, and then a line for each fault. It is looked up where there are faults too.
 ///
-/// The errors are those of [`build_input`].
+/// The errors are those of [`build_input`]. What was built is left to the end of the process, but after an error.
 pub fn coord_answer(
     alloc: Global,
     keys: HashKeys,

@@ -16,7 +16,7 @@ use std::alloc::Global;
 /// The answer of `doc` to an input: the print of the typed document's write-out, then a line for each fault of the schema, and
 /// then one for each fault of the document.
 ///
-/// The errors are those of [`compile_documents`].
+/// The errors are those of [`compile_documents`]. What was built is left to the end of the process, but after an error.
 pub fn doc_answer(alloc: Global, keys: HashKeys, input: &str) -> Result<Answer, Failure>
     ensures read { OnOk result (All IsLine (lines_of input.now)) }
     ensures means { IfOk result (λ answer. IsDocAnswer input.now (string_bytes answer.text) answer.has_faults) }

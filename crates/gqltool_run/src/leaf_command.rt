@@ -19,7 +19,7 @@ use std::alloc::{AllocError, Global};
 /// The answer of `leaf` to an input: a line for each leaf fault of the typed document over its schema, then one for each
 /// fault of the schema, and then one for each fault of the document.
 ///
-/// The errors are those of [`compile_documents`].
+/// The errors are those of [`compile_documents`]. What was built is left to the end of the process, but after an error.
 pub fn leaf_answer(alloc: Global, keys: HashKeys, input: &str) -> Result<Answer, Failure>
     ensures read { OnOk result (All IsLine (lines_of input.now)) }
     ensures means { IfOk result (λ answer. IsLeafAnswer input.now (string_bytes answer.text) answer.has_faults) }

@@ -18,7 +18,7 @@ use std::alloc::Global;
 
 /// The answer of `schema` with these options to an input: the print of the write-out, and then a line for each fault.
 ///
-/// The errors are those of [`compile_input`].
+/// The errors are those of [`compile_input`]. What was built is left to the end of the process, but after an error.
 pub fn schema_answer(
     alloc: Global,
     keys: HashKeys,

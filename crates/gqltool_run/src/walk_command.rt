@@ -21,7 +21,7 @@ use std::alloc::{AllocError, Global};
 /// The answer of `walk` to an input: for each operation and then each fragment of the typed document the lines of its walks,
 /// then a line for each fault of the schema, and then one for each fault of the document.
 ///
-/// The errors are those of [`compile_documents`].
+/// The errors are those of [`compile_documents`]. What was built is left to the end of the process, but after an error.
 pub fn walk_answer(alloc: Global, keys: HashKeys, input: &str) -> Result<Answer, Failure>
     ensures read { OnOk result (All IsLine (lines_of input.now)) }
     ensures means { IfOk result (λ answer. IsWalkAnswer input.now (string_bytes answer.text) answer.has_faults) }
