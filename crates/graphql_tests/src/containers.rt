@@ -160,3 +160,16 @@ fn sets(rt: HostRuntime) {
     assert!(rt; are_keys(&set) && is_copied(&set) && is_key_removed(&set));
     assert!(rt; is_set_kept(set));
 }
+
+/// How many entries a table has room for once it has one.
+fn first_room(alloc: Global) -> Result<usize, AllocError> {
+    let mut table = Table::new(alloc);
+    table.insert(1, 2)?;
+    Ok(table.as_index_map().capacity())
+}
+
+/// A build gives a table room at once where it is to have more entries than that.
+#[test]
+fn a_table_of_one_entry_has_room_for_nine(rt: HostRuntime) {
+    assert!(rt; first_room(rt.alloc()) == Ok(9));
+}
