@@ -14,6 +14,7 @@ ghost use Rattle.apollo_compiler.specs.Compilation.{Compilation, IsRebuiltAsItWa
 ghost use Rattle.apollo_compiler.specs.Headline.{HasOneWalk, IsFolded, all_items, kept_definitions, type_named};
 ghost use Rattle.apollo_compiler.specs.Lists.{executable_list, handed_in};
 ghost use Rattle.graphql_nodes.specs.Clones.{IsExact};
+ghost use Rattle.graphql_nodes.specs.Comparing.{ComparesBy};
 
 // Names, nodes and containers: `==` compares text or value, without locations, and tables and sets without order.
 pub use graphql_nodes::laws as nodes;
@@ -106,6 +107,12 @@ pub fn headline()
     walks_reach_each_field_once::<Node<Field>>();
     walks_take_few_turns::<Node<Field>>();
 }
+
+/// Choices of options are equal exactly where they are one, and so are errors.
+pub fn equality_of_options_and_errors()
+    ensures options { ComparesBy ⟦<CompileOptions as PartialEq>⟧.eq (λ options. options) }
+    ensures error { ComparesBy ⟦<CompileError as PartialEq>⟧.eq (λ error. error) }
+{}
 
 /// Each clone of a choice of options is the original, and so is each clone of an error.
 pub fn clones_are_exact()
