@@ -39,10 +39,10 @@ use Rattle.apollo_canonical.specs.MeaningLaws.{MeaningLaws}
 use Rattle.apollo_component.proofs.FirstOfEachLemmas.{name_laws}
 use Rattle.apollo_canonical.specs.WrittenAgain.{IsMeantByList, with_built_ins}
 use Rattle.apollo_canonical.proofs.Rebuild.About.{Name, Others, TheSchema, Topic, about, directives-about, faultless-by_topic}
-use Rattle.apollo_canonical.proofs.Rebuild.BuiltIns.{built_ins}
+use Rattle.apollo_canonical.proofs.Rebuild.Meant.{built_ins}
 use Rattle.apollo_canonical.proofs.Rebuild.DirectivesAgain.{built_in-marked, built_in_directives, find-unmarked, texts, unique, written_directives}
 use Rattle.apollo_canonical.proofs.Rebuild.LeftOut.{roots_where}
-use Rattle.apollo_canonical.proofs.Rebuild.OnceInParts.{once-in_parts, written_parts}
+use Rattle.apollo_canonical.proofs.NamesOnce.{once-in_parts, written_parts}
 use Rattle.apollo_canonical.proofs.Rebuild.OneSchema.{schema_extension_of, written_parts_of}
 use Rattle.apollo_canonical.proofs.Rebuild.OneType.{once}
 use Rattle.apollo_canonical.proofs.Rebuild.RootFaults.{begun-none, early-none, schema-faultless, written-distinct}

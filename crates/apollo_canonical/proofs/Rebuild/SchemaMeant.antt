@@ -25,8 +25,7 @@ use Rattle.apollo_schema.specs.declared.schema.Schema.{Schema}
 use Rattle.apollo_canonical.specs.MeaningLaws.{MeaningLaws}
 use Rattle.apollo_canonical.specs.WrittenAgain.{IsMeantByList, with_built_ins}
 use Rattle.apollo_canonical.proofs.Kept.{both-empty}
-use Rattle.apollo_canonical.proofs.Rebuild.BuiltIns.{built_ins, no-schema_definitions}
-use Rattle.apollo_canonical.proofs.Rebuild.Meant.{adopted-split, adopted_items, items, rooted}
+use Rattle.apollo_canonical.proofs.Rebuild.Meant.{no-schema_definitions, adopted-split, items, rooted}
 use Rattle.apollo_canonical.proofs.Rebuild.Numbers.{rising-distinct, schema_numbers, schema_numbers-rise}
 use Rattle.apollo_canonical.proofs.Rebuild.OneSchema.{IsMadeSchema, made_schema, root_under, written_parts_of}
 use Rattle.apollo_canonical.proofs.Rebuild.SchemaSaid.{all-none, no-directives, own-root}
@@ -124,9 +123,7 @@ module _ (laws : MeaningLaws) (schema : Schema) (list : IsMeantByList schema) wh
   xs = whole adopts (with_built_ins more)
 
   definitions-of : filter_map defined_schema W ≡ filter_map defined_schema (added_items more)
-  definitions-of =
-      ap (filter_map defined_schema) (adopted-split adopts more) ∙ filter_map-append defined_schema built_ins (added_items more ++ adopted_items adopts more)
-      ∙ (λ i. no-schema_definitions i ++ (filter_map-append defined_schema (added_items more) (adopted_items adopts more) ∙ (λ j. filter_map defined_schema (added_items more) ++ by adopts j) ∙ append-nil (filter_map defined_schema (added_items more))) i)
+  definitions-of = ap (filter_map defined_schema) (adopted-split adopts more) ∙ simp (filter_map-append, no-schema_definitions, by adopts, append-nil)
     where
       one : (ps : List TypePart) → filter_map defined_schema (adopted_by ps) ≡ []
       one [] = refl
