@@ -142,11 +142,7 @@ module _ {X : Type 0} (same : X → X → Bool) (laws : IsEquivalence same) wher
     back-absent = each-weaken (λ x. (new_to xs x ≡ true) × (p x ≡ true)) (λ x. there x ≡ false) (λ x h. not-true (there x) h.0) back (each-filter (λ x. new_to xs x ≡ true) p (filter (new_to xs) later) (passes (new_to xs) later))
 
     left : filter (new_to xs) (front ++ back) ≡ filter kept later
-    left =
-        filter-append (new_to xs) front back
-        ∙ ap (λ l. l ++ filter (new_to xs) back) (filter-fails (λ x. there x ≡ true) (new_to xs) (λ x e. ap not e) front front-there)
-        ∙ ap (filter (new_to xs)) (filter-filter p (new_to xs) later)
-        ∙ filter-filter (new_to xs) (λ x. new_to xs x && p x) later
+    left = simp (filter-append, filter-fails (λ x. there x ≡ true) (new_to xs) (λ x e. ap not e) front front-there, filter-filter)
 
   -- the first of each of joined lists come in the order of the lists
   first-kept_in_order : (p : X → Bool) (xss : List (List X)) → in_order (map (λ xs x. list_any (same x) xs) xss) (filter p (first_of_each same (flat_map (λ xs. xs) xss))) ≡ true

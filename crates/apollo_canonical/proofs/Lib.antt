@@ -1,5 +1,4 @@
 pub mod ComponentsKept
-pub mod DirectivesInOrder
 pub mod FirstAppearance
 pub mod Kept
 pub mod NamesOnce

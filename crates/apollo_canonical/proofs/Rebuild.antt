@@ -7,8 +7,6 @@ pub mod TypeFaults
 pub mod About
 pub mod Tables
 pub mod OwnDefinition
-pub mod BuiltIns
-pub mod OnceInParts
 pub mod Meant
 pub mod Held
 pub mod TypesAgain
@@ -24,6 +22,5 @@ pub mod SameSchema
 pub mod Canonical
 pub mod RootFaults
 pub mod Faultless
-pub mod FoldedOnce
-pub mod OriginsOfParts
 pub mod FoldsNoMore
+pub mod OriginsOfParts

@@ -31,10 +31,10 @@ names : (cs : List ComponentName) → map of_name cs ≡ as_parts parts.Name (ma
 names cs = sym (map-map (λ x. (x.0, parts.Name x.1)) name_of cs)
 
 two : {X : Type 0} {xs ys us vs : List X} → xs ≡ us → ys ≡ vs → xs ++ ys ≡ us ++ (vs ++ [])
-two {X} {xs} {ys} {us} {vs} e f = (λ i. e i ++ f i) ∙ ap (λ l. us ++ l) (sym (append-nil vs))
+two e f = simp (e, f, append-nil)
 
 three : {X : Type 0} {xs ys zs us vs ws : List X} → xs ≡ us → ys ≡ vs → zs ≡ ws → (xs ++ ys) ++ zs ≡ us ++ (vs ++ (ws ++ []))
-three {X} {xs} {ys} {zs} {us} {vs} {ws} e f g = (λ i. (e i ++ f i) ++ g i) ∙ append_assoc us vs ws ∙ ap (λ l. us ++ (vs ++ l)) (sym (append-nil ws))
+three e f g = simp (e, f, g, append_assoc, append-nil)
 
 -- the components of a type are those of its sections
 pub components-sections : (t : ExtendedType) → type_components t ≡ in_sections (type_sections t)

@@ -16,7 +16,7 @@ use Rattle.apollo_meaning.specs.Completion.ImpliedSchema.{completed, default_roo
 use Rattle.apollo_meaning.specs.Items.ListItems.{ListItem, Defined, extended_part}
 use Rattle.apollo_meaning.specs.Items.Named.{extensions_of, first}
 use Rattle.apollo_meaning.specs.Items.Parts.{TypePart, key_of, kind_of, roots_in, same_kind}
-use Rattle.apollo_rearrangement.proofs.Agreement.{extensions-agree, first-agree, first_schema-agree, schema_extensions-agree}
+use Rattle.apollo_rearrangement.proofs.Subjects.{extensions-agree, first-agree, first_schema-agree, schema_extensions-agree}
 use Rattle.apollo_rearrangement.proofs.Filters.{filter-permutation, filter_map-permutation, flat_map-permutation, one-element-permutation}
 use Rattle.apollo_rearrangement.proofs.Rearranging.{rearranged-append, rearranged-refl}
 use Rattle.apollo_rearrangement.specs.Rearranged.{AreRearranged, Group, DefinitionsOf, ExtensionsOf, SchemaDefinitions, SchemaExtensions, is_in}
@@ -30,7 +30,7 @@ use Rattle.apollo_component.proofs.Lists.EachAfter.{each_after-push}
 use Rattle.apollo_component.proofs.Lists.Ends.{snoc_ind}
 use Rattle.apollo_rearrangement.proofs.BySubject.{IsOwn, IsTest, by_subject}
 
--- the first of each name, of names in another order
+-- names are told apart by their texts
 same_laws : IsTest same
 same_laws = record { is = same-true; itself = λ n. same-is n n refl }
 

@@ -12,11 +12,10 @@ use Rattle.apollo_meaning.specs.Directives.{directive_part, has_text}
 use Rattle.apollo_meaning.specs.Items.ListItems.{ListItem, Defined, Extended, SchemaDefined, SchemaExtended, Other, defined_schema}
 use Rattle.apollo_meaning.specs.Items.Named.{extensions_of, schema_extensions}
 use Rattle.apollo_meaning.specs.Steps.Prefixes.{found, found_at}
-use Rattle.apollo_rearrangement.proofs.Agreement.{definitions-agree, definitions_of, extensions-agree, found_at-agree, found_at-own, schema_definitions-agree, schema_extensions-agree, first_schema-agree}
 use Rattle.apollo_rearrangement.proofs.BySubject.{by_subject}
 use Rattle.apollo_rearrangement.proofs.Filters.{filter-permutation, flat_map-permutation, exchange}
 use Rattle.apollo_rearrangement.proofs.Regrouped.{finding_schemas, finding_types, grouped, schema-regrouped, type-regrouped}
-use Rattle.apollo_rearrangement.proofs.Subjects.{Subject, DirectiveNamed, NoSubject, TheSchema, TypeNamed, of_directive, same_subject, subject, subject_laws, subject_of_group}
+use Rattle.apollo_rearrangement.proofs.Subjects.{Subject, DirectiveNamed, NoSubject, TheSchema, TypeNamed, of_directive, same_subject, subject, subject_laws, subject_of_group, definitions-agree, definitions_of, extensions-agree, found_at-agree, found_at-own, schema_definitions-agree, schema_extensions-agree, first_schema-agree}
 use Rattle.apollo_rearrangement.specs.Rearranged.{AreRearranged, Group, DefinitionsOf, ExtensionsOf, DirectiveDefinitionsOf, SchemaDefinitions, SchemaExtensions, is_in}
 use Rattle.apollo_component.proofs.Lists.EachAfter.{each_after-append}
 use Rattle.apollo_meaning.proofs.Completion.CompletionLemmas.{faults-completed}

@@ -1,4 +1,3 @@
-mod Agreement
 mod BareTypes
 mod BySubject
 mod Completed

@@ -25,8 +25,7 @@ use Rattle.apollo_meaning.specs.Items.Parts.{TypePart, SchemaPart, key_of, kind_
 use Rattle.apollo_meaning.specs.Order.Places.{Family, schemas, types}
 use Rattle.apollo_meaning.specs.Steps.Joining.{joining_faults, schema_begun_faults, schema_joining_faults, type_begun_faults}
 use Rattle.apollo_meaning.specs.Steps.Prefixes.{found, found_at}
-use Rattle.apollo_rearrangement.proofs.Agreement.{definitions_of, first-is, found_at-own}
-use Rattle.apollo_rearrangement.proofs.Subjects.{Subject, TheSchema, TypeNamed, of_directive, same_subject, subject}
+use Rattle.apollo_rearrangement.proofs.Subjects.{Subject, TheSchema, TypeNamed, of_directive, same_subject, subject, definitions_of, first-is, found_at-own}
 
 -- how faults are found: at a further definition, at the first one with extensions before it, and at an extension after
 -- a first definition and extensions

@@ -29,10 +29,9 @@ use Rattle.apollo_meaning.specs.Steps.Joining.{schema_begun_faults, type_begun_f
 use Rattle.apollo_meaning.specs.Steps.Prefixes.{found, found_at}
 use Rattle.apollo_meaning.specs.declared.build_error.BuildError.{BuildError}
 use Rattle.apollo_meaning.specs.declared.build_error.BuildError.TheVariants as errors
-use Rattle.apollo_rearrangement.proofs.Agreement.{first-is}
 use Rattle.apollo_rearrangement.proofs.FaultSubjects.{AllFrom, all-stay, begun-from, begun-joined, dropped_from, found_at-apart, further-from, is_from, joined-from, none-stay}
 use Rattle.apollo_rearrangement.proofs.Regrouped.{Finding, Plays, at_definition, at_extension, by_plays, defined_of, extended_of, finding_schemas, finding_types, plays-schema, plays-type}
-use Rattle.apollo_rearrangement.proofs.Subjects.{Subject, NoSubject, TheSchema, TypeNamed, same_subject}
+use Rattle.apollo_rearrangement.proofs.Subjects.{Subject, NoSubject, TheSchema, TypeNamed, same_subject, first-is}
 use Rattle.apollo_rearrangement.specs.Reported.{is_collision_of, is_repeated_root}
 
 module _ (k : Subject) (none : same_subject k NoSubject ≡ false) where

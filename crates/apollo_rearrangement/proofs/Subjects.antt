@@ -1,15 +1,27 @@
--- What a definition is about: the type of a name, the directive of a name, the schema, or none of these.
-use Rattle.std.proofs.Common.{◌≡◌, ℕ, Bool, true, false, List, Option, Some, None, refl, sym, ap, true≢false}
-use Rattle.std.specs.Option.{option_map_or}
+-- What a definition is about, and what lists say of a subject, where those of its groups stand in both in the same order.
+use Rattle.std.proofs.Common.{◌≡◌, ℕ, Bool, true, false, List, Option, Some, None, refl, sym, ap, true≢false, ◌&&◌, [], ◌∷◌, filter, slice_get, ◌∙◌, arith}
+use Rattle.std.specs.Option.{option_map_or, option_or}
 use Rattle.graphql_nodes.proofs.Texts.{same-is, same-true}
 use Rattle.graphql_nodes.specs.NodeView.{NodeView}
 use Rattle.graphql_nodes.specs.SameText.{same}
 use Rattle.graphql_ast.specs.declared.type_system.DirectiveDefinition.{DirectiveDefinition}
-use Rattle.apollo_meaning.specs.Directives.{directive_part, has_text}
-use Rattle.apollo_meaning.specs.Items.ListItems.{ListItem, Defined, Extended, SchemaDefined, SchemaExtended, Other}
-use Rattle.apollo_meaning.specs.Items.Parts.{key_of}
-use Rattle.apollo_rearrangement.proofs.BySubject.{IsTest}
+use Rattle.apollo_meaning.specs.Directives.{directive_part, has_text, Directives, directive_definitions, directive_of, is_handed_in}
+use Rattle.apollo_meaning.specs.Items.ListItems.{ListItem, Defined, Extended, SchemaDefined, SchemaExtended, Other, defined_part, defined_schema, extended_part, extended_schema}
+use Rattle.apollo_meaning.specs.Items.Parts.{key_of, TypePart}
+use Rattle.apollo_rearrangement.proofs.BySubject.{IsTest, IsOwn}
 use Rattle.apollo_rearrangement.specs.Rearranged.{Group, DefinitionsOf, ExtensionsOf, DirectiveDefinitionsOf, SchemaDefinitions, SchemaExtensions, is_in}
+use Rattle.std.specs.List.{filter_map, find, last_or}
+use Rattle.std.specs.Map.{lookup}
+use Rattle.graphql_ast.specs.declared.definition.Definition.{Definition}
+use Rattle.graphql_ast.specs.declared.definition.Definition.TheVariants as ast
+use Rattle.apollo_meaning.specs.Faults.OtherFaults.{directive_faults, other_faults}
+use Rattle.apollo_meaning.specs.Faults.RootFaults.{further_schema, schema_faults}
+use Rattle.apollo_meaning.specs.Faults.TypeFaults.{extension_faults, further_definition}
+use Rattle.apollo_meaning.specs.declared.build_error.BuildError.TheVariants as errors
+use Rattle.apollo_meaning.specs.Items.Named.{extensions_of, first, first_schema, named, schema_extensions}
+use Rattle.apollo_meaning.specs.Steps.Joining.{schema_begun_faults, type_begun_faults}
+use Rattle.apollo_meaning.specs.Steps.Prefixes.{found_at}
+use Rattle.apollo_rearrangement.proofs.Filters.{filter-filter_map, filter-wider, filter_map-takes, find-filter}
 
 pub data Subject : Type 0 where
   TypeNamed : List ℕ → Subject
@@ -69,3 +81,79 @@ in-subject (DirectiveDefinitionsOf n) (Other d) e = by (directive_part (Other d)
     by None h = absurd (true≢false (sym h))
     by (Some m) h = ap DirectiveNamed (same-true n m.value.name.text h)
 in-subject g x e = absurd (true≢false (sym e))
+
+-- the definitions of a name, in order
+abbrev pub definitions_of : List ListItem → List ℕ → List TypePart
+definitions_of xs n = filter (λ p. same n (key_of p)) (filter_map defined_part xs)
+
+lookup-first : (n : List ℕ) (ps : List TypePart) → lookup (same n) (named ps) ≡ slice_get (filter (λ p. same n (key_of p)) ps) 0
+lookup-first n [] = refl
+lookup-first n (p ∷ ps) = grind (arith, lookup-first n ps)
+
+pub first-is : (xs : List ListItem) (n : List ℕ) → first xs n ≡ slice_get (definitions_of xs n) 0
+first-is xs n = lookup-first n (filter_map defined_part xs)
+
+-- the fault of something else than a type or the schema, with a directive's name or without
+other_faults-is : (ds : Directives) (d : Definition) → other_faults ds d ≡ option_map_or (directive_faults ds) (directive_part (Other d)) (other_faults [] d)
+other_faults-is ds (ast.DirectiveDefinition n) = refl
+other_faults-is ds d = refl
+
+module _ (xs ys : List ListItem) where
+  -- those of a group stand in both lists in the same order
+  abbrev pub Agree : Group → Type 0
+  Agree g = filter (is_in g) xs ≡ filter (is_in g) ys
+
+  pub definitions-agree : (n : List ℕ) → Agree (DefinitionsOf n) → definitions_of xs n ≡ definitions_of ys n
+  definitions-agree n a =
+      filter-filter_map defined_part (λ p. same n (key_of p)) xs ∙ ap (filter_map defined_part) a ∙ sym (filter-filter_map defined_part (λ p. same n (key_of p)) ys)
+
+  pub first-agree : (n : List ℕ) → Agree (DefinitionsOf n) → first xs n ≡ first ys n
+  first-agree n a = first-is xs n ∙ ap (λ l. slice_get l 0) (definitions-agree n a) ∙ sym (first-is ys n)
+
+  pub extensions-agree : (n : List ℕ) → Agree (ExtensionsOf n) → extensions_of xs n ≡ extensions_of ys n
+  extensions-agree n a =
+      filter-filter_map extended_part (λ p. same n (key_of p)) xs ∙ ap (filter_map extended_part) a ∙ sym (filter-filter_map extended_part (λ p. same n (key_of p)) ys)
+
+  directives-agree : (n : List ℕ) → Agree (DirectiveDefinitionsOf n) → filter (has_text n) (directive_definitions xs) ≡ filter (has_text n) (directive_definitions ys)
+  directives-agree n a = filter-filter_map directive_part (has_text n) xs ∙ ap (filter_map directive_part) a ∙ sym (filter-filter_map directive_part (has_text n) ys)
+
+  pub schema_definitions-agree : Agree SchemaDefinitions → filter_map defined_schema xs ≡ filter_map defined_schema ys
+  schema_definitions-agree a = filter_map-takes defined_schema xs ∙ ap (filter_map defined_schema) a ∙ sym (filter_map-takes defined_schema ys)
+
+  pub first_schema-agree : Agree SchemaDefinitions → first_schema xs ≡ first_schema ys
+  first_schema-agree a = ap (λ l. slice_get l 0) (schema_definitions-agree a)
+
+  pub schema_extensions-agree : Agree SchemaExtensions → schema_extensions xs ≡ schema_extensions ys
+  schema_extensions-agree a = filter_map-takes extended_schema xs ∙ ap (filter_map extended_schema) a ∙ sym (filter_map-takes extended_schema ys)
+
+  -- the first directive definition of a name that is handed in
+  handed_in-agree : (n : List ℕ) → Agree (DirectiveDefinitionsOf n)
+      → find (λ d. has_text n d && is_handed_in d) (directive_definitions xs) ≡ find (λ d. has_text n d && is_handed_in d) (directive_definitions ys)
+  handed_in-agree n a =
+      find-filter (has_text n) is_handed_in (directive_definitions xs) ∙ ap (find is_handed_in) (directives-agree n a) ∙ sym (find-filter (has_text n) is_handed_in (directive_definitions ys))
+
+  pub directive_of-agree : (n : List ℕ) → Agree (DirectiveDefinitionsOf n) → directive_of (directive_definitions xs) n ≡ directive_of (directive_definitions ys) n
+  directive_of-agree n a = λ i. option_or (handed_in-agree n a i) (last_or None (directives-agree n a i))
+
+  -- what is found at an item after either list
+  pub found_at-agree : (x : ListItem) → ((g : Group) → subject_of_group g ≡ subject x → Agree g) → found_at xs x ≡ found_at ys x
+  found_at-agree (Defined d) a = λ i.
+      option_map_or (λ f. further_definition f d) (first-agree (key_of d) (a (DefinitionsOf (key_of d)) refl) i) (type_begun_faults d (extensions-agree (key_of d) (a (ExtensionsOf (key_of d)) refl) i))
+  found_at-agree (Extended e) a = λ i.
+      option_map_or (λ d. extension_faults d (extensions-agree (key_of e) (a (ExtensionsOf (key_of e)) refl) i) e) (first-agree (key_of e) (a (DefinitionsOf (key_of e)) refl) i) []
+  found_at-agree (SchemaDefined s) a = λ i.
+      option_map_or (λ f. further_schema f s ∷ []) (first_schema-agree (a SchemaDefinitions refl) i) (schema_begun_faults s (schema_extensions-agree (a SchemaExtensions refl) i))
+  found_at-agree (SchemaExtended e) a = λ i.
+      option_map_or (λ s. schema_faults (s ∷ schema_extensions-agree (a SchemaExtensions refl) i) e) (first_schema-agree (a SchemaDefinitions refl) i) []
+  found_at-agree (Other d) a = other_faults-is (directive_definitions xs) d ∙ by (directive_part (Other d)) refl ∙ sym (other_faults-is (directive_definitions ys) d)
+    where
+      by : (o : Option (NodeView DirectiveDefinition)) → directive_part (Other d) ≡ o
+          → option_map_or (directive_faults (directive_definitions xs)) o (other_faults [] d) ≡ option_map_or (directive_faults (directive_definitions ys)) o (other_faults [] d)
+      by None e = refl
+      by (Some n) e = ap (λ o. option_map_or (λ kept. (n.value.name.location, errors.DirectiveDefinitionCollision kept.value.name.location n.value.name) ∷ []) o [])
+          (handed_in-agree n.value.name.text (a (DirectiveDefinitionsOf n.value.name.text) (ap of_directive (sym e))))
+
+-- what is found at an item is decided by those of its subject before it
+pub found_at-own : IsOwn same_subject subject_laws subject found_at
+found_at-own p respects before x e =
+    found_at-agree (filter p before) before x (λ g is. filter-wider p (is_in g) (λ y h. respects y x (sym (in-subject g y h) ∙ is) ∙ e) before)

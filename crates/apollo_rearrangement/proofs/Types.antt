@@ -7,7 +7,7 @@ use Rattle.apollo_meaning.specs.Items.Named.{extensions_of, first, of_kind, firs
 use Rattle.apollo_meaning.specs.Items.Parts.{TypePart, kind_of, SchemaPart}
 use Rattle.apollo_meaning.specs.Order.Places.{folding_order}
 use Rattle.apollo_meaning.specs.Types.Meaning.{parts, sourced, type_from}
-use Rattle.apollo_rearrangement.proofs.Agreement.{extensions-agree, first-agree, first_schema-agree, schema_extensions-agree}
+use Rattle.apollo_rearrangement.proofs.Subjects.{extensions-agree, first-agree, first_schema-agree, schema_extensions-agree}
 use Rattle.apollo_rearrangement.proofs.BareTypes.{parts_of, types-alike, definitions-alike}
 use Rattle.apollo_rearrangement.specs.Rearranged.{AreRearranged, DefinitionsOf, ExtensionsOf, type_meant, SchemaDefinitions, SchemaExtensions, schema_meant}
 use Rattle.apollo_meaning.specs.Schema.Definition.{schema_from, schema_parts, schema_sourced}

@@ -25,11 +25,10 @@ use Rattle.apollo_schema.specs.SchemaWriteOut.{write_directives, write_held_sche
 use Rattle.apollo_schema.specs.declared.schema.Schema.{Schema}
 use Rattle.apollo_canonical.specs.MeaningLaws.{MeaningLaws}
 use Rattle.apollo_canonical.specs.WrittenAgain.{IsMeantByList, with_built_ins, written_again}
-use Rattle.apollo_canonical.proofs.Rebuild.BuiltIns.{built_ins}
+use Rattle.apollo_canonical.proofs.Rebuild.Meant.{built_ins, items-split}
 use Rattle.apollo_canonical.proofs.Rebuild.DirectivesAgain.{directives-again, unique, written_directives, same_keys, same_meaning}
 use Rattle.apollo_canonical.proofs.Rebuild.Faultless.{faults-none}
-use Rattle.apollo_canonical.proofs.Rebuild.Held.{document_items, document_items-append, items-types}
-use Rattle.apollo_canonical.proofs.Rebuild.Meant.{items-split}
+use Rattle.apollo_canonical.proofs.Rebuild.Held.{document_items-append, items-types}
 use Rattle.apollo_canonical.proofs.Rebuild.OneType.{IsAgain}
 use Rattle.apollo_canonical.proofs.Rebuild.SchemaMeant.{schema_node}
 use Rattle.apollo_canonical.proofs.Rebuild.SchemaWritten.{directives-listed, list-directives, written_list}
@@ -47,11 +46,7 @@ use Rattle.apollo_canonical.proofs.Rebuild.About.{first-about}
 -- the items of a list with a schema's write-out
 pub items-listed : (c : Bool) (schema : Schema)
     → added_items (written_again c schema) ≡ written_list c schema.schema_definition.value schema.schema_definition.location schema.types (filter is_handed_in (values_of schema.directive_definitions)) (values_of schema.types)
-items-listed c schema =
-    items-split true (added c (write_schema schema))
-    ∙ ap (λ l. built_ins ++ l) (document_items-append c (write_held_schema_definition schema ++ write_directives (values_of schema.directive_definitions)) (flat_map write_held_type (values_of schema.types))
-    ∙ (λ i. (document_items-append c (write_held_schema_definition schema) (write_directives (values_of schema.directive_definitions))
-    ∙ ap (λ l. document_items c (write_held_schema_definition schema) ++ l) (directives-listed c (values_of schema.directive_definitions))) i ++ items-types c (values_of schema.types) i))
+items-listed c schema = items-split true (added c (write_schema schema)) ∙ simp (document_items-append c, directives-listed c, items-types c)
 
 module _ (laws : MeaningLaws) (schema : Schema) (list : IsMeantByList schema) (c : Bool) where
   open list use {start, adopts, more, means}

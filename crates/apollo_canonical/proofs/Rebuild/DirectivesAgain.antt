@@ -25,8 +25,7 @@ use Rattle.apollo_schema.specs.declared.schema.Schema.{Schema}
 use Rattle.apollo_canonical.specs.WrittenAgain.{IsMeantByList, with_built_ins}
 use Rattle.apollo_canonical.proofs.FirstAppearance.{first_of_each-again, new_to-same, new_to_these}
 use Rattle.apollo_canonical.proofs.Kept.{each-both, each-from_map, find-made, find-none, found-holds, found-passes, passes}
-use Rattle.apollo_canonical.proofs.Rebuild.BuiltIns.{built_ins}
-use Rattle.apollo_canonical.proofs.Rebuild.Meant.{IsHandedIn, handed, handed-later, later_items, whole-split}
+use Rattle.apollo_canonical.proofs.Rebuild.Meant.{built_ins, IsHandedIn, handed, handed-later, later_items, whole-split}
 use Rattle.apollo_canonical.proofs.Rebuild.Tables.{each-entry, each-found, lookup-absent}
 
 abbrev pub built_in_directives : Directives

@@ -21,7 +21,7 @@ use Rattle.apollo_types.specs.SchemaDefinitionWriteOut.{is_written}
 use Rattle.apollo_types.specs.declared.extended_type.ExtendedType.{ExtendedType}
 use Rattle.apollo_types.specs.declared.schema_definition.SchemaDefinition.{SchemaDefinition}
 use Rattle.apollo_meaning.specs.Completion.Adoption.{extended_names, orphans_of, schema_orphans}
-use Rattle.apollo_meaning.specs.Completion.ImpliedSchema.{adopting_schema, implicit_roots, implied_schema, schema_for, schema_of_roots}
+use Rattle.apollo_meaning.specs.Completion.ImpliedSchema.{adopting_schema, implicit_roots, implied_schema, schema_of_roots}
 use Rattle.apollo_meaning.specs.Directives.{Directives, directive_definitions, directive_part, has_text, is_handed_in}
 use Rattle.apollo_meaning.specs.Faults.Collisions.{Fault}
 use Rattle.apollo_meaning.specs.Faults.ListFaults.{faults_in}
@@ -39,18 +39,18 @@ use Rattle.apollo_canonical.specs.MeaningLaws.{MeaningLaws}
 use Rattle.apollo_component.proofs.FirstOfEachLemmas.{name_laws}
 use Rattle.apollo_canonical.specs.WrittenAgain.{IsMeantByList, with_built_ins}
 use Rattle.apollo_canonical.proofs.Rebuild.About.{Name, Others, TheSchema, Topic, about, directives-about, faultless-by_topic}
-use Rattle.apollo_canonical.proofs.Rebuild.BuiltIns.{built_ins}
+use Rattle.apollo_canonical.proofs.Rebuild.Meant.{built_ins}
 use Rattle.apollo_canonical.proofs.Rebuild.DirectivesAgain.{built_in-marked, built_in_directives, find-unmarked, texts, unique, written_directives}
 use Rattle.apollo_canonical.proofs.Rebuild.LeftOut.{roots_where}
-use Rattle.apollo_canonical.proofs.Rebuild.OnceInParts.{once-in_parts, written_parts}
+use Rattle.apollo_canonical.proofs.NamesOnce.{once-in_parts, written_parts}
 use Rattle.apollo_canonical.proofs.Rebuild.OneSchema.{schema_extension_of, written_parts_of}
 use Rattle.apollo_canonical.proofs.Rebuild.OneType.{once}
 use Rattle.apollo_canonical.proofs.Rebuild.RootFaults.{begun-none, early-none, schema-faultless, written-distinct}
 use Rattle.apollo_canonical.proofs.Rebuild.SchemaMeant.{first_schema-append, schema_node}
-use Rattle.apollo_canonical.proofs.Rebuild.SchemaWritten.{directive_items, directives-of_items, list-about_others, list-about_schema, list-first_schema, list-schema_extensions, schema-listed, written_head}
+use Rattle.apollo_canonical.proofs.Rebuild.SchemaWritten.{directive_items, directives-of_items, list-about_others, list-about_schema, schema-listed, written_head}
 use Rattle.apollo_canonical.proofs.Rebuild.TypeFaults.{HaveEachNameOnce, new-after, type-faultless}
 use Rattle.apollo_canonical.proofs.Rebuild.TypesAgain.{fits, flag, is-made, view-type}
-use Rattle.apollo_canonical.proofs.Rebuild.WrittenList.{Y, Z, alone, first-nothing, implicit-again, object_at, orphans-none, others, quiet, with-adopted}
+use Rattle.apollo_canonical.proofs.Rebuild.WrittenList.{Y, Z, exts-Y, unwritten-Y, written-Y, alone, first-nothing, implicit-again, object_at, orphans-none, others, quiet, with-adopted}
 use Rattle.apollo_canonical.proofs.Rebuild.WrittenParts.{definition_part, extension_of, written}
 
 -- handed-in directive definitions whose names differ
@@ -185,9 +185,6 @@ module _ (laws : MeaningLaws) (schema : Schema) (list : IsMeantByList schema) (c
       go [] = refl
       go (n ∷ ns) = (λ i. orphans-none laws schema list c n i ++ go ns i)
 
-  first-ys : first_schema ys ≡ cond (is_written types node.value) (Some (written_head node.value node.location)) None
-  first-ys = list-first_schema c node.value node.location types ds (values_of types)
-
   -- what is found at the end: at an implied definition, and of extensions without any
   end-none : (each_after found_at ys (implied_schema true ys) ≡ []) × (schema_orphans zs ≡ [])
   end-none = by (is_written types node.value) refl
@@ -199,26 +196,24 @@ module _ (laws : MeaningLaws) (schema : Schema) (list : IsMeantByList schema) (c
       at s none is d = (
         ap (each_after found_at ys) is ∙ append-nil (found_at ys (SchemaDefined s))
             ∙ ap (λ o. option_map_or (λ f. further_schema f s ∷ []) o (schema_begun_faults s (schema_extensions ys))) none
-            ∙ ap (schema_begun_faults s) (list-schema_extensions c node.value node.location types ds (values_of types)) ∙ begun-none laws.same_root s exts d,
+            ∙ ap (schema_begun_faults s) (exts-Y laws schema list c) ∙ begun-none laws.same_root s exts d,
         defined s (first_schema-append ys (implied_schema true ys) ∙ (λ i. option_or (none i) (first_schema (is i)))),
       )
 
       by : (b : Bool) → is_written types node.value ≡ b → (each_after found_at ys (implied_schema true ys) ≡ []) × (schema_orphans zs ≡ [])
       by true e =
-          let here : first_schema ys ≡ Some (written_head node.value node.location) = first-ys ∙ ap (λ b. cond b (Some (written_head node.value node.location)) None) e in (
-            ap (λ o. each_after found_at ys (option_map_or (λ _. []) o (schema_for true (roots_in (schema_extensions ys)) (implicit_roots ys)))) here,
-            defined (written_head node.value node.location) (first_schema-append ys (implied_schema true ys) ∙ ap (λ o. option_or o (first_schema (implied_schema true ys))) here),
-          )
+          let both = written-Y laws schema list c e in
+          (ap (each_after found_at ys) both.1, defined (written_head node.value node.location) (first_schema-append ys (implied_schema true ys) ∙ ap (λ o. option_or o (first_schema (implied_schema true ys))) both.0))
       by false e = unnamed (roots_in (schema_extensions ys)) refl
         where
           none : first_schema ys ≡ None
-          none = first-ys ∙ ap (λ b. cond b (Some (written_head node.value node.location)) None) e
+          none = (unwritten-Y laws schema list c e).0
 
           are_ends : implied_schema true ys ≡ adopting_schema (roots_in (schema_extensions ys)) (implicit_roots ys)
-          are_ends = ap (λ o. option_map_or (λ _. []) o (schema_for true (roots_in (schema_extensions ys)) (implicit_roots ys))) none
+          are_ends = (unwritten-Y laws schema list c e).1
 
           same_exts : schema_extensions ys ≡ exts
-          same_exts = list-schema_extensions c node.value node.location types ds (values_of types)
+          same_exts = exts-Y laws schema list c
 
           unnamed : (named : List Root) → roots_in (schema_extensions ys) ≡ named → (each_after found_at ys (implied_schema true ys) ≡ []) × (schema_orphans zs ≡ [])
           unnamed (r ∷ rs) g = at (schema_of_roots []) none (are_ends ∙ ap (λ l. adopting_schema l (implicit_roots ys)) g) (distinct-back (written_parts_of node.value).definition.roots (roots_in exts) (written-distinct laws.same_root node.value))

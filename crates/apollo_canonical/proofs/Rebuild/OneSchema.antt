@@ -30,8 +30,7 @@ use Rattle.apollo_meaning.specs.Schema.Definition.{root_in, roots_of, same_opera
 use Rattle.apollo_meaning.specs.Types.Components.{component, component_name}
 use Rattle.apollo_canonical.specs.Sections.{Sections, in_sections, joined, with_origins}
 use Rattle.apollo_canonical.specs.TypeSections.{no_components, node_of, placed}
-use Rattle.apollo_canonical.proofs.ComponentsKept.{kept, origins-split, roots-there, HasOrigins}
-use Rattle.apollo_canonical.proofs.DirectivesInOrder.{directives-in_order}
+use Rattle.apollo_canonical.proofs.ComponentsKept.{kept, origins-split, roots-there, HasOrigins, directives-in_order}
 use Rattle.apollo_canonical.proofs.FirstAppearance.{in_order}
 use Rattle.apollo_canonical.proofs.Kept.{find-first, find-made}
 use Rattle.apollo_canonical.proofs.TypeLemmas.{same-placed}

@@ -14,7 +14,7 @@ use Rattle.apollo_meaning.specs.Types.Meaning.{type_at, type_from, extension_par
 use Rattle.apollo_canonical.specs.MeaningLaws.{MeaningLaws}
 use Rattle.apollo_canonical.specs.Sections.{sections_of}
 use Rattle.apollo_canonical.specs.TypeSections.{node_of, type_sections, HasWhatIsWritten, HasEachNameOnce}
-use Rattle.apollo_canonical.proofs.DirectivesInOrder.{directives-in_order}
+use Rattle.apollo_canonical.proofs.ComponentsKept.{directives-in_order}
 use Rattle.apollo_canonical.proofs.NamesOnce.{made-once}
 use Rattle.apollo_canonical.proofs.TypeLemmas.{components-again, components-sections, same_parts, type-again}
 use Rattle.apollo_canonical.proofs.Rebuild.EqualTypes.{HasNamedEntries, named-made, equal-types}

@@ -26,7 +26,7 @@ use Rattle.apollo_meaning.specs.Types.Meaning.{extension_part}
 use Rattle.apollo_component.proofs.FirstOfEachLemmas.{each-first, entry_laws, name_laws}
 use Rattle.apollo_canonical.specs.TypeSections.{node_of, name_of, type_sections}
 use Rattle.apollo_canonical.proofs.FirstAppearance.{new_to_these, first_of_each-append}
-use Rattle.apollo_canonical.proofs.Kept.{all-first}
+use Rattle.apollo_canonical.proofs.Kept.{all-first, each-of, map-each}
 use Rattle.apollo_canonical.proofs.SectionLemmas.{of_origin-sections, parts_in, picked, picked-append, picked-of}
 use Rattle.apollo_canonical.proofs.TypeLemmas.{components-sections}
 use Rattle.apollo_canonical.proofs.Rebuild.OneType.{made}
@@ -82,11 +82,7 @@ entries-own : {T : Type 0} (name : NodeView T → NameView) (entry : ComponentOr
 entries-own {T} name entry is named of head es d =
     ap (picked Definition) (map-map node_of (λ (e : NameView × Component T). e.1) (distinct_entries (flat_map (λ s. map (entry s.0) (of s.1)) ((Definition, head) ∷ map extension_part es))))
     ∙ kept-own (λ (e : NameView × Component T). node_of e.1) entry is (λ a b. same_text a.0 b.0) entry_laws of head es
-    (all-first same_text (λ (e : NameView × Component T). e.0) (map (entry Definition) (of head)) (subst (IsDistinct same_text) (append-nil (map name (of head)) ∙ sym (keys (of head))) d))
-  where
-    keys : (xs : List (NodeView T)) → map (λ (e : NameView × Component T). e.0) (map (entry Definition) xs) ≡ map name xs
-    keys [] = refl
-    keys (x ∷ xs) = λ i. named Definition x i ∷ keys xs i
+    (all-first same_text (λ (e : NameView × Component T). e.0) (map (entry Definition) (of head)) (subst (IsDistinct same_text) (append-nil (map name (of head)) ∙ sym (map-map (λ (e : NameView × Component T). e.0) (entry Definition) (of head) ∙ map-each (λ n. (entry Definition n).0) name (of head) (each-of (λ n. (entry Definition n).0 ≡ name n) (named Definition) (of head)))) d))
 
 module _ (name : NameView) (place : Option SourceSpan) (description : Option NameView) (directives : List (NodeView Directive)) (es : List (ℕ × TypePart)) where
   abbrev part_with : TypeBody → TypePart
@@ -102,35 +98,26 @@ module _ (name : NameView) (place : Option SourceSpan) (description : Option Nam
   own_directives : (body : TypeBody) → picked Definition (map node_of (flat_map (λ s. map (component s.0) s.1.directives) ((Definition, part_with body) ∷ map extension_part es))) ≡ directives
   own_directives body = picked-own node_of component (λ o a. refl) directives (flat_map (λ s. map (component s.0) s.1.directives) (map extension_part es)) (later-extensions node_of component (λ o a. refl) (λ p. p.directives) es)
 
+  fields-own : (head : TypePart) → HaveEachNameOnce (head ∷ []) → picked Definition (map node_of (values_of (distinct_entries (flat_map (λ s. map (field_entry s.0) (body_fields s.1.body)) ((Definition, head) ∷ map extension_part es))))) ≡ body_fields head.body
+  fields-own head h = entries-own (λ f. f.value.name) field_entry (λ o n. refl) (λ o n. refl) (λ p. body_fields p.body) head es h.fields
+
   definition-with : (body : TypeBody) → HaveEachNameOnce (part_with body ∷ []) → written_with body ≡ part_with body
   definition-with ScalarBody h = by_sections (made (part_with ScalarBody) es) ∙ (λ i. record (part_with ScalarBody) { directives = own_directives ScalarBody i })
   definition-with (ObjectBody interfaces fields) h =
       let head : TypePart = part_with (ObjectBody interfaces fields) in
-      by_sections (made head es) ∙ (λ i. record head {
-        directives = own_directives (ObjectBody interfaces fields) i;
-        body = ObjectBody (names-own (λ p. body_interfaces p.body) head es h.interfaces i) (entries-own (λ f. f.value.name) field_entry (λ o n. refl) (λ o n. refl) (λ p. body_fields p.body) head es h.fields i);
-      })
+      by_sections (made head es) ∙ (λ i. record head { directives = own_directives head.body i; body = ObjectBody (names-own (λ p. body_interfaces p.body) head es h.interfaces i) (fields-own head h i) })
   definition-with (InterfaceBody interfaces fields) h =
       let head : TypePart = part_with (InterfaceBody interfaces fields) in
-      by_sections (made head es) ∙ (λ i. record head {
-        directives = own_directives (InterfaceBody interfaces fields) i;
-        body = InterfaceBody (names-own (λ p. body_interfaces p.body) head es h.interfaces i) (entries-own (λ f. f.value.name) field_entry (λ o n. refl) (λ o n. refl) (λ p. body_fields p.body) head es h.fields i);
-      })
+      by_sections (made head es) ∙ (λ i. record head { directives = own_directives head.body i; body = InterfaceBody (names-own (λ p. body_interfaces p.body) head es h.interfaces i) (fields-own head h i) })
   definition-with (UnionBody members) h =
       let head : TypePart = part_with (UnionBody members) in
-      by_sections (made head es) ∙ (λ i. record head { directives = own_directives (UnionBody members) i; body = UnionBody (names-own (λ p. body_members p.body) head es h.members i) })
+      by_sections (made head es) ∙ (λ i. record head { directives = own_directives head.body i; body = UnionBody (names-own (λ p. body_members p.body) head es h.members i) })
   definition-with (EnumBody values) h =
       let head : TypePart = part_with (EnumBody values) in
-      by_sections (made head es) ∙ (λ i. record head {
-        directives = own_directives (EnumBody values) i;
-        body = EnumBody (entries-own (λ v. v.value.value) value_entry (λ o n. refl) (λ o n. refl) (λ p. body_values p.body) head es h.values i);
-      })
+      by_sections (made head es) ∙ (λ i. record head { directives = own_directives head.body i; body = EnumBody (entries-own (λ v. v.value.value) value_entry (λ o n. refl) (λ o n. refl) (λ p. body_values p.body) head es h.values i) })
   definition-with (InputObjectBody fields) h =
       let head : TypePart = part_with (InputObjectBody fields) in
-      by_sections (made head es) ∙ (λ i. record head {
-        directives = own_directives (InputObjectBody fields) i;
-        body = InputObjectBody (entries-own (λ f. f.value.name) input_field_entry (λ o n. refl) (λ o n. refl) (λ p. body_input_fields p.body) head es h.input_fields i);
-      })
+      by_sections (made head es) ∙ (λ i. record head { directives = own_directives head.body i; body = InputObjectBody (entries-own (λ f. f.value.name) input_field_entry (λ o n. refl) (λ o n. refl) (λ p. body_input_fields p.body) head es h.input_fields i) })
 
 pub definition-own : (head : TypePart) (es : List (ℕ × TypePart)) → head.ignorable ≡ false → HaveEachNameOnce (head ∷ []) → definition_part (made head es) ≡ head
 definition-own head es plain h =

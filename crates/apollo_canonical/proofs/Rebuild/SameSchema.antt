@@ -3,12 +3,12 @@ use Rattle.std.proofs.Common.{◌≡◌, ℕ, Bool, true, false, cond, List, [],
 use Rattle.std.proofs.lemmas.List.{append-nil}
 use Rattle.std.proofs.lemmas.List.Elements.{filter_map-append}
 use Rattle.std.specs.List.{IsDistinct, filter_map}
-use Rattle.std.specs.Option.{option_map_or, option_or}
+use Rattle.std.specs.Option.{option_or}
 use Rattle.graphql_nodes.specs.NameView.{NameView}
 use Rattle.graphql_nodes.specs.NodeView.{NodeView}
 use Rattle.graphql_nodes.specs.OperationTexts.{default_type_text}
 use Rattle.graphql_nodes.specs.SameText.{by_text}
-use Rattle.graphql_nodes.specs.Tables.{lookup, values_of}
+use Rattle.graphql_nodes.specs.Tables.{lookup}
 use Rattle.graphql_nodes.specs.declared.operation_type.OperationType.{OperationType}
 use Rattle.graphql_nodes.specs.declared.operation_type.OperationType.TheVariants.{Query, Mutation, Subscription}
 use Rattle.apollo_component.specs.declared.component.ComponentName.{ComponentName}
@@ -19,7 +19,7 @@ use Rattle.apollo_types.specs.TypeKinds.{is_object}
 use Rattle.apollo_types.specs.declared.extended_type.ExtendedType.{ExtendedType}
 use Rattle.apollo_types.specs.declared.extended_type.ExtendedType.TheVariants.{Scalar}
 use Rattle.apollo_types.specs.declared.schema_definition.SchemaDefinition.{SchemaDefinition}
-use Rattle.apollo_meaning.specs.Completion.ImpliedSchema.{adopting_schema, implicit_roots, schema_for, schema_of_roots}
+use Rattle.apollo_meaning.specs.Completion.ImpliedSchema.{adopting_schema, implicit_roots, schema_of_roots}
 use Rattle.apollo_meaning.specs.Items.ListItems.{ListItem, SchemaDefined, extended_schema}
 use Rattle.apollo_meaning.specs.Items.Named.{first_schema, schema_extensions}
 use Rattle.apollo_meaning.specs.Items.Parts.{Root, SchemaPart, roots_in}
@@ -30,15 +30,14 @@ use Rattle.apollo_schema.specs.declared.schema.Schema.{Schema}
 use Rattle.apollo_canonical.specs.MeaningLaws.{MeaningLaws}
 use Rattle.apollo_canonical.specs.WrittenAgain.{IsMeantByList}
 use Rattle.apollo_canonical.proofs.Kept.{both-empty}
-use Rattle.apollo_canonical.proofs.Rebuild.DirectivesAgain.{written_directives}
 use Rattle.apollo_canonical.proofs.Rebuild.LeftOut.{has_one, implied-unwritten, left-out, left-out-equal, left-out-written}
 use Rattle.apollo_canonical.proofs.Rebuild.Numbers.{rising-distinct, schema_numbers, schema_numbers-rise}
 use Rattle.apollo_canonical.proofs.Rebuild.OneSchema.{IsSchemaAgain, IsWrittenHead, equal-again, extension_written, made_schema, schema-again, schema_extension_of, written_parts_of}
 use Rattle.apollo_canonical.proofs.Rebuild.SchemaMeant.{IsMeantSchema, first_schema-append, meant-schema, node-of, schema_node, schema_numbers-parts}
 use Rattle.apollo_canonical.proofs.Rebuild.SchemaSaid.{SameImplied, no-own, written-alike}
-use Rattle.apollo_canonical.proofs.Rebuild.SchemaWritten.{list-first_schema, list-schema_extensions, written_head}
+use Rattle.apollo_canonical.proofs.Rebuild.SchemaWritten.{written_head}
 use Rattle.apollo_canonical.proofs.Rebuild.TypesAgain.{none-there, type-there}
-use Rattle.apollo_canonical.proofs.Rebuild.WrittenList.{W, Y, Z, ends, implicit-again, implicit-listed, implied_here, node, object_at, others, quiet, quiet-implied}
+use Rattle.apollo_canonical.proofs.Rebuild.WrittenList.{W, Y, Z, exts-Y, unwritten-Y, written-Y, ends, implicit-again, implicit-listed, implied_here, node, object_at, others, quiet, quiet-implied}
 use Rattle.graphql_nodes.specs.declared.source.SourceSpan.{SourceSpan}
 
 -- an object type is one by what `==` compares
@@ -123,32 +122,25 @@ module _ (laws : MeaningLaws) (schema : Schema) (list : IsMeantByList schema) (c
       let a : IsSchemaAgain d (made_schema head (schema_numbers again (folding_order zs))) = schema-again d m.made head h (schema_numbers again (folding_order zs)) apart (schema_numbers-parts laws again zs head here ∙ exts) in
       subst Same (sym (node-of again zs head here)) (equal-again d (made_schema head (schema_numbers again (folding_order zs))) a, written-alike d (made_schema head (schema_numbers again (folding_order zs))) a types types_again same_implied place head.location at)
 
-  first-Y : first_schema ys ≡ cond (is_written types d) (Some (written_head d place)) None
-  first-Y = list-first_schema c d place types (written_directives schema list) (values_of types)
-
-  exts-Y : schema_extensions ys ≡ map schema_extension_of (written_parts_of d).extensions
-  exts-Y = list-schema_extensions c d place types (written_directives schema list) (values_of types)
+  exts-ys : schema_extensions ys ≡ map schema_extension_of (written_parts_of d).extensions
+  exts-ys = exts-Y laws schema list c
 
   -- where a definition is written
   where-written : is_written types d ≡ true → Same (schema_node again zs)
   where-written e =
-      let here : first_schema ys ≡ Some (written_head d place) = first-Y ∙ ap (λ b. cond b (Some (written_head d place)) None) e in
-      let nothing : end_items ≡ [] = ap (λ o. option_map_or (λ _. []) o (schema_for true (roots_in (schema_extensions ys)) (implicit_roots ys))) here in
-      from-head (written_head d place) (first_schema-append ys end_items ∙ (λ i. option_or (here i) (first_schema end_items)))
-      (filter_map-append extended_schema ys end_items ∙ (λ i. exts-Y i ++ filter_map extended_schema (nothing i)) ∙ append-nil (map schema_extension_of (written_parts_of d).extensions))
+      let both = written-Y laws schema list c e in
+      from-head (written_head d place) (first_schema-append ys end_items ∙ (λ i. option_or (both.0 i) (first_schema end_items)))
+      (filter_map-append extended_schema ys end_items ∙ (λ i. exts-ys i ++ filter_map extended_schema (both.1 i)) ∙ append-nil (map schema_extension_of (written_parts_of d).extensions))
       (record { description = refl; directives = refl; roots = refl }) (λ _. refl)
 
   module _ (e : is_written types d ≡ false) where
-    none-Y : first_schema ys ≡ None
-    none-Y = first-Y ∙ ap (λ b. cond b (Some (written_head d place)) None) e
-
     ends-are : end_items ≡ adopting_schema (roots_in (schema_extensions ys)) (implicit_roots ys)
-    ends-are = ap (λ o. option_map_or (λ _. []) o (schema_for true (roots_in (schema_extensions ys)) (implicit_roots ys))) none-Y
+    ends-are = (unwritten-Y laws schema list c e).1
 
     at-end : (head : SchemaPart) → end_items ≡ SchemaDefined head ∷ [] → (first_schema zs ≡ Some head) × (schema_extensions zs ≡ map schema_extension_of (written_parts_of d).extensions)
     at-end head is = (
-      first_schema-append ys end_items ∙ (λ i. option_or (none-Y i) (first_schema (is i))),
-      filter_map-append extended_schema ys end_items ∙ (λ i. exts-Y i ++ filter_map extended_schema (is i)) ∙ append-nil (map schema_extension_of (written_parts_of d).extensions),
+      first_schema-append ys end_items ∙ (λ i. option_or ((unwritten-Y laws schema list c e).0 i) (first_schema (is i))),
+      filter_map-append extended_schema ys end_items ∙ (λ i. exts-ys i ++ filter_map extended_schema (is i)) ∙ append-nil (map schema_extension_of (written_parts_of d).extensions),
     )
 
     -- where it is left out
@@ -156,7 +148,7 @@ module _ (laws : MeaningLaws) (schema : Schema) (list : IsMeantByList schema) (c
     where-left-out f =
         let l = left-out d types f in
         let no_exts : (written_parts_of d).extensions ≡ [] = ap (map (extension_written d)) l.extensions in
-        let is : end_items ≡ SchemaDefined (schema_of_roots (implied_here laws schema list c)) ∷ [] = ends-are ∙ (λ i. adopting_schema (roots_in ((exts-Y ∙ ap (map schema_extension_of) no_exts) i)) ((implicit-again laws schema list c) i)) in
+        let is : end_items ≡ SchemaDefined (schema_of_roots (implied_here laws schema list c)) ∷ [] = ends-are ∙ (λ i. adopting_schema (roots_in ((exts-ys ∙ ap (map schema_extension_of) no_exts) i)) ((implicit-again laws schema list c) i)) in
         let here = at-end (schema_of_roots (implied_here laws schema list c)) is in
         let none : schema_numbers again (folding_order zs) ≡ [] = empty (schema_numbers again (folding_order zs)) (schema_numbers-parts laws again zs (schema_of_roots (implied_here laws schema list c)) here.0 ∙ here.1 ∙ ap (map schema_extension_of) no_exts) in
         subst Same (sym (node-of again zs (schema_of_roots (implied_here laws schema list c)) here.0 ∙ ap of_extensions none)) (
@@ -196,7 +188,7 @@ module _ (laws : MeaningLaws) (schema : Schema) (list : IsMeantByList schema) (c
             let parts : map (λ e. e.1) (schema_numbers again (folding_order zs)) ≡ map schema_extension_of (written_parts_of d).extensions = schema_numbers-parts laws again zs (schema_of_roots (implicit_roots ys)) here.0 ∙ here.1 in
             let a : IsSchemaAgain d (made_schema (schema_of_roots []) (schema_numbers again (folding_order zs))) = schema-again d m.made (schema_of_roots []) (written-head [] refl) (schema_numbers again (folding_order zs)) apart parts in
             let nothing : (op : OperationType) → root_of d op ≡ None =
-            λ op. unnamed (root_of d op) (sym (a.roots op) ∙ ap (option_map (λ (n : ComponentName). n.name)) (no-roots (schema_numbers again (folding_order zs)) (ap roots_in (parts ∙ sym exts-Y) ∙ g) op)) in
+            λ op. unnamed (root_of d op) (sym (a.roots op) ∙ ap (option_map (λ (n : ComponentName). n.name)) (no-roots (schema_numbers again (folding_order zs)) (ap roots_in (parts ∙ sym exts-ys) ∙ g) op)) in
             from-head (schema_of_roots (implicit_roots ys)) here.0 here.1 (written-head (implicit_roots ys) ((implicit-again laws schema list c) ∙ sym (implicit-listed laws schema list c) ∙ m.roots own nothing)) unwritten
           where
             unnamed : (o : Option ComponentName) → option_map (λ n. n.name) o ≡ None → o ≡ None

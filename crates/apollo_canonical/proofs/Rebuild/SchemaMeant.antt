@@ -14,7 +14,7 @@ use Rattle.apollo_types.specs.SchemaDefinitionWriteOut.{has_own_root}
 use Rattle.apollo_types.specs.SchemaRoots.{root_of}
 use Rattle.apollo_types.specs.declared.schema_definition.SchemaDefinition.{SchemaDefinition}
 use Rattle.apollo_meaning.specs.Completion.Adoption.{adopted, adopted_by, extended_names, orphans_of, with_adopted}
-use Rattle.apollo_meaning.specs.Completion.ImpliedSchema.{adopting_schema, implicit_roots, implied_schema, rooted_schema, schema_for, schema_of_roots}
+use Rattle.apollo_meaning.specs.Completion.ImpliedSchema.{implicit_roots, implied_schema, schema_for, schema_of_roots}
 use Rattle.apollo_meaning.specs.Items.ListItems.{ListItem, SchemaDefined, added_items, defined_schema, extended_schema}
 use Rattle.apollo_meaning.specs.Items.Named.{first_schema, schema_extensions}
 use Rattle.apollo_meaning.specs.Items.Parts.{Root, SchemaPart, TypePart, roots_in}
@@ -25,8 +25,7 @@ use Rattle.apollo_schema.specs.declared.schema.Schema.{Schema}
 use Rattle.apollo_canonical.specs.MeaningLaws.{MeaningLaws}
 use Rattle.apollo_canonical.specs.WrittenAgain.{IsMeantByList, with_built_ins}
 use Rattle.apollo_canonical.proofs.Kept.{both-empty}
-use Rattle.apollo_canonical.proofs.Rebuild.BuiltIns.{built_ins, no-schema_definitions}
-use Rattle.apollo_canonical.proofs.Rebuild.Meant.{adopted-split, adopted_items, items, rooted}
+use Rattle.apollo_canonical.proofs.Rebuild.Meant.{no-schema_definitions, adopted-split, items, rooted}
 use Rattle.apollo_canonical.proofs.Rebuild.Numbers.{rising-distinct, schema_numbers, schema_numbers-rise}
 use Rattle.apollo_canonical.proofs.Rebuild.OneSchema.{IsMadeSchema, made_schema, root_under, written_parts_of}
 use Rattle.apollo_canonical.proofs.Rebuild.SchemaSaid.{all-none, no-directives, own-root}
@@ -124,9 +123,7 @@ module _ (laws : MeaningLaws) (schema : Schema) (list : IsMeantByList schema) wh
   xs = whole adopts (with_built_ins more)
 
   definitions-of : filter_map defined_schema W ≡ filter_map defined_schema (added_items more)
-  definitions-of =
-      ap (filter_map defined_schema) (adopted-split adopts more) ∙ filter_map-append defined_schema built_ins (added_items more ++ adopted_items adopts more)
-      ∙ (λ i. no-schema_definitions i ++ (filter_map-append defined_schema (added_items more) (adopted_items adopts more) ∙ (λ j. filter_map defined_schema (added_items more) ++ by adopts j) ∙ append-nil (filter_map defined_schema (added_items more))) i)
+  definitions-of = ap (filter_map defined_schema) (adopted-split adopts more) ∙ simp (filter_map-append, no-schema_definitions, by adopts, append-nil)
     where
       one : (ps : List TypePart) → filter_map defined_schema (adopted_by ps) ≡ []
       one [] = refl
@@ -163,38 +160,28 @@ module _ (laws : MeaningLaws) (schema : Schema) (list : IsMeantByList schema) wh
       is_meant : (s : SchemaPart) → first_schema xs ≡ Some s → IsMeantSchema (made_schema s (schema_numbers start (folding_order xs))) (implicit_roots W) → IsMeantSchema (schema_node start xs).value (implicit_roots W)
       is_meant s h m = subst (λ n. IsMeantSchema n.value (implicit_roots W)) (sym (node-of start xs s h)) m
 
-      adopting : first_schema W ≡ None → (named implied : List Root) → roots_in (schema_extensions W) ≡ named → implicit_roots W ≡ implied → implied_schema adopts W ≡ adopting_schema named implied → IsMeantSchema (schema_node start xs).value (implicit_roots W)
-      adopting none [] implied named_is implied_is is =
-          is_meant (schema_of_roots implied) (completed-first (schema_of_roots implied) none is)
-          (meant-of_roots implied (schema_numbers start (folding_order xs)) (implicit_roots W) apart (λ own nothing. implied_is ∙ at implied own))
+      implied : first_schema W ≡ None → (b : Bool) (named implicit : List Root) → roots_in (schema_extensions W) ≡ named → implicit_roots W ≡ implicit → implied_schema adopts W ≡ schema_for b named implicit → IsMeantSchema (schema_node start xs).value (implicit_roots W)
+      implied none true [] implicit named_is implicit_is is =
+          is_meant (schema_of_roots implicit) (completed-first (schema_of_roots implicit) none is)
+          (meant-of_roots implicit (schema_numbers start (folding_order xs)) (implicit_roots W) apart (λ own nothing. implicit_is ∙ at implicit own))
         where
           at : (rs : List Root) → has_own_root (made_schema (schema_of_roots rs) (schema_numbers start (folding_order xs))) ≡ false → rs ≡ []
           at [] own = refl
           at (r ∷ rs) own = absurd (let g : true ≡ false = sym (own-root (schema_of_roots (r ∷ rs)) r rs (schema_numbers start (folding_order xs)) refl) ∙ own in cc)
-      adopting none (r ∷ rs) implied named_is implied_is is =
+      implied none true (r ∷ rs) implicit named_is implicit_is is =
           let here : first_schema xs ≡ Some (schema_of_roots []) = completed-first (schema_of_roots []) none is in
           is_meant (schema_of_roots []) here
           (meant-of_roots [] (schema_numbers start (folding_order xs)) (implicit_roots W) apart
           (λ own nothing. absurd (let g : r ∷ rs ≡ [] = sym named_is ∙ ap roots_in (sym (extensions-kept (schema_of_roots []) is) ∙ sym (schema_numbers-parts laws start xs (schema_of_roots []) here)) ∙ none-named (schema_of_roots []) (schema_numbers start (folding_order xs)) nothing in cc)))
-
-      rooted_by : first_schema W ≡ None → (implied : List Root) → implicit_roots W ≡ implied → implied_schema adopts W ≡ rooted_schema implied → IsMeantSchema (schema_node start xs).value (implicit_roots W)
-      rooted_by none [] implied_is is =
+      implied none false named [] named_is implicit_is is =
           let nothing : first_schema xs ≡ None = first_schema-append W (implied_schema adopts W) ∙ (λ i. option_or (none i) (first_schema (is i))) in
-          subst (λ n. IsMeantSchema n.value (implicit_roots W)) (sym (node-none start xs nothing)) (meant-of_roots [] [] (implicit_roots W) no-numbers (λ own nothing. implied_is))
-      rooted_by none (r ∷ rs) implied_is is =
+          subst (λ n. IsMeantSchema n.value (implicit_roots W)) (sym (node-none start xs nothing)) (meant-of_roots [] [] (implicit_roots W) no-numbers (λ own nothing. implicit_is))
+      implied none false named (r ∷ rs) named_is implicit_is is =
           is_meant (schema_of_roots (r ∷ rs)) (completed-first (schema_of_roots (r ∷ rs)) none is)
           (meant-explicit (schema_of_roots (r ∷ rs)) (schema_numbers start (folding_order xs)) (implicit_roots W) apart (λ e. let g : r ∷ rs ≡ [] = e in cc))
-
-      implied : first_schema W ≡ None → (b : Bool) → adopts ≡ b → IsMeantSchema (schema_node start xs).value (implicit_roots W)
-      implied none true e =
-          adopting none (roots_in (schema_extensions W)) (implicit_roots W) refl refl
-          (ap (λ o. option_map_or (λ _. []) o (schema_for adopts (roots_in (schema_extensions W)) (implicit_roots W))) none ∙ ap (λ b. schema_for b (roots_in (schema_extensions W)) (implicit_roots W)) e)
-      implied none false e =
-          rooted_by none (implicit_roots W) refl
-          (ap (λ o. option_map_or (λ _. []) o (schema_for adopts (roots_in (schema_extensions W)) (implicit_roots W))) none ∙ ap (λ b. schema_for b (roots_in (schema_extensions W)) (implicit_roots W)) e)
 
       by : (o : Option SchemaPart) → first_schema W ≡ o → IsMeantSchema (schema_node start xs).value (implicit_roots W)
       by (Some s) h =
           is_meant s (first_schema-append W (implied_schema adopts W) ∙ ap (λ o. option_or o (first_schema (implied_schema adopts W))) h)
           (meant-explicit s (schema_numbers start (folding_order xs)) (implicit_roots W) apart (first-roots s h))
-      by None h = implied h adopts refl
+      by None h = implied h adopts (roots_in (schema_extensions W)) (implicit_roots W) refl refl (ap (λ o. option_map_or (λ _. []) o (schema_for adopts (roots_in (schema_extensions W)) (implicit_roots W))) h)

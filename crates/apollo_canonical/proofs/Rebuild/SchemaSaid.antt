@@ -32,7 +32,7 @@ use Rattle.apollo_meaning.specs.Schema.Definition.{roots_of, same_operation, sch
 use Rattle.apollo_meaning.specs.Types.Components.{component_name}
 use Rattle.apollo_canonical.specs.Sections.{with_origins}
 use Rattle.apollo_canonical.specs.TypeSections.{placed}
-use Rattle.apollo_canonical.proofs.DirectivesInOrder.{has_none}
+use Rattle.apollo_canonical.proofs.ComponentsKept.{has_none}
 use Rattle.apollo_canonical.proofs.SectionLemmas.{definition-alone, has_some, of-alone, picked}
 use Rattle.apollo_canonical.proofs.Rebuild.Numbers.{directives_alone, numbered_parts}
 use Rattle.apollo_canonical.proofs.Rebuild.OneSchema.{IsSchemaAgain, directives-in_parts, extension_written, made_schema, root_under, written_parts_of}
@@ -49,9 +49,7 @@ any-one op None rest = refl
 any-one op (Some n) rest = refl
 
 has_own-three : (d : SchemaDefinition) → has_own_root d ≡ (is_own d.query || (is_own d.mutation || (is_own d.subscription || false)))
-has_own-three d =
-    any-one Query d.query (cons_option (option_map (λ n. (Mutation, n)) d.mutation) (cons_option (option_map (λ n. (Subscription, n)) d.subscription) []))
-    ∙ ap (λ b. is_own d.query || b) (any-one Mutation d.mutation (cons_option (option_map (λ n. (Subscription, n)) d.subscription) []) ∙ ap (λ b. is_own d.mutation || b) (any-one Subscription d.subscription []))
+has_own-three d = simp any-one
 
 -- a definition that names a root has a root of its own
 pub own-root : (head : SchemaPart) (r : Root) (rs : List Root) (es : List (ℕ × SchemaPart)) → head.roots ≡ r ∷ rs → has_own_root (made_schema head es) ≡ true
@@ -92,10 +90,7 @@ pub own-said : (d : SchemaDefinition) → has_own_root d ≡ has_some (written_p
 own-said d =
     has_own-three d
     ∙ (λ i. own-entry Query d.query i || (own-entry Mutation d.mutation i || (own-entry Subscription d.subscription i || false)))
-    ∙ sym (ap has_some (ap (λ q. q.roots) (of_schema-origin d origins.Definition) ∙ picked-roots origins.Definition d)
-    ∙ has_some-append (picked origins.Definition (entries Query d.query)) (picked origins.Definition (entries Mutation d.mutation) ++ (picked origins.Definition (entries Subscription d.subscription) ++ []))
-    ∙ ap (λ b. has_some (picked origins.Definition (entries Query d.query)) || b) (has_some-append (picked origins.Definition (entries Mutation d.mutation)) (picked origins.Definition (entries Subscription d.subscription) ++ [])
-    ∙ ap (λ b. has_some (picked origins.Definition (entries Mutation d.mutation)) || b) (has_some-append (picked origins.Definition (entries Subscription d.subscription)) [])))
+    ∙ sym (ap has_some (ap (λ q. q.roots) (of_schema-origin d origins.Definition) ∙ picked-roots origins.Definition d) ∙ simp has_some-append)
 
 pub no-own : (d : SchemaDefinition) → has_own_root d ≡ false → (written_parts_of d).definition.roots ≡ []
 no-own d h = has_none (written_parts_of d).definition.roots (sym (own-said d) ∙ h)

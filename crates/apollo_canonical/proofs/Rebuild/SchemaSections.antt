@@ -78,18 +78,11 @@ module _ (o : ComponentOrigin) where
 
   module _ (d : SchemaDefinition) where
     pub picked-roots : picked o (root_entries d) ≡ picked o (entries Query d.query) ++ (picked o (entries Mutation d.mutation) ++ (picked o (entries Subscription d.subscription) ++ []))
-    picked-roots =
-        picked-append o (entries Query d.query) (entries Mutation d.mutation ++ (entries Subscription d.subscription ++ []))
-        ∙ ap (λ l. picked o (entries Query d.query) ++ l) (picked-append o (entries Mutation d.mutation) (entries Subscription d.subscription ++ [])
-        ∙ ap (λ l. picked o (entries Mutation d.mutation) ++ l) (picked-append o (entries Subscription d.subscription) []))
+    picked-roots = simp (picked-append o)
 
     pieces : (op : OperationType) → filter (is_op op) (picked o (root_entries d))
         ≡ cond (same_operation op Query) (picked o (entries Query d.query)) [] ++ (cond (same_operation op Mutation) (picked o (entries Mutation d.mutation)) [] ++ (cond (same_operation op Subscription) (picked o (entries Subscription d.subscription)) [] ++ []))
-    pieces op =
-        ap (filter (is_op op)) picked-roots
-        ∙ filter-append (is_op op) (picked o (entries Query d.query)) (picked o (entries Mutation d.mutation) ++ (picked o (entries Subscription d.subscription) ++ []))
-        ∙ (λ i. piece op Query d.query i ++ (filter-append (is_op op) (picked o (entries Mutation d.mutation)) (picked o (entries Subscription d.subscription) ++ [])
-        ∙ (λ j. piece op Mutation d.mutation j ++ (filter-append (is_op op) (picked o (entries Subscription d.subscription)) [] ∙ ap (λ l. l ++ []) (piece op Subscription d.subscription)) j)) i)
+    pieces op = ap (filter (is_op op)) picked-roots ∙ simp (filter-append (is_op op), piece op Query d.query, piece op Mutation d.mutation, piece op Subscription d.subscription)
 
     -- of one operation type there is its root
     pub picked-for : (op : OperationType) → filter (is_op op) (picked o (root_entries d)) ≡ picked o (entries op (root_of d op))
@@ -129,12 +122,7 @@ module _ (d : SchemaDefinition) where
   id_lists = ids_in (map node_of d.directives.0) ∷ ids_in (entries Query d.query) ∷ ids_in (entries Mutation d.mutation) ∷ ids_in (entries Subscription d.subscription) ∷ []
 
   ids-listed : ids_in (schema_components d) ≡ flat_map (λ l. l) id_lists
-  ids-listed =
-      ap ids_in (schema-components d) ∙ ids_in-sections (schema_sections d)
-      ∙ ap (λ l. ids_in (map node_of d.directives.0) ++ l) (append-nil (ids_in (root_entries d))
-      ∙ ids_in-append (entries Query d.query) (entries Mutation d.mutation ++ (entries Subscription d.subscription ++ []))
-      ∙ ap (λ l. ids_in (entries Query d.query) ++ l) (ids_in-append (entries Mutation d.mutation) (entries Subscription d.subscription ++ [])
-      ∙ ap (λ l. ids_in (entries Mutation d.mutation) ++ l) (ids_in-append (entries Subscription d.subscription) [])))
+  ids-listed = ap ids_in (schema-components d) ∙ ids_in-sections (schema_sections d) ∙ simp (append-nil, ids_in-append)
 
   -- the parts of extensions are written in the order of these
   pub schema-in_order : in_order schema_sorts (map (λ e. e.1) (of_extensions (schema_components d))) ≡ true

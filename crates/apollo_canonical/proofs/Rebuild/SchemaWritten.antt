@@ -17,14 +17,14 @@ use Rattle.apollo_types.specs.SchemaDefinitionWriteOut.{is_written, write_schema
 use Rattle.apollo_types.specs.TypeWriteOut.{type_location}
 use Rattle.apollo_types.specs.declared.extended_type.ExtendedType.{ExtendedType}
 use Rattle.apollo_types.specs.declared.schema_definition.SchemaDefinition.{SchemaDefinition}
-use Rattle.apollo_meaning.specs.Directives.{Directives, directive_definitions, directive_part, is_handed_in}
+use Rattle.apollo_meaning.specs.Directives.{Directives, directive_definitions, is_handed_in}
 use Rattle.apollo_meaning.specs.Items.ListItems.{Defined, Extended, ListItem, Other, SchemaDefined, SchemaExtended, defined_schema, extended_part, extended_schema}
 use Rattle.apollo_meaning.specs.Items.Named.{first_schema, schema_extensions}
 use Rattle.apollo_meaning.specs.Items.Parts.{SchemaPart}
 use Rattle.apollo_schema.specs.SchemaWriteOut.{write_directives}
 use Rattle.apollo_canonical.proofs.Kept.{each-map, each-of, filter-all}
 use Rattle.apollo_canonical.proofs.Rebuild.About.{Others, TheSchema, Topic, about, directives-about, first_schema-about, is_about, schema_extensions-about}
-use Rattle.apollo_canonical.proofs.Rebuild.BuiltIns.{built_ins, no-extensions}
+use Rattle.apollo_canonical.proofs.Rebuild.Meant.{built_ins, no-extensions}
 use Rattle.apollo_canonical.proofs.Rebuild.Held.{document_items, document_items-append, extension_items, held_items}
 use Rattle.apollo_canonical.proofs.Rebuild.OneSchema.{schema_extension_of, written_parts_of}
 use Rattle.apollo_canonical.proofs.Rebuild.TypesAgain.{IsQuiet, extends-quiet}
@@ -128,10 +128,7 @@ module _ (c : Bool) (d : SchemaDefinition) (place : Option SourceSpan) (types : 
 
   -- what is about the schema, and what about directives, of the three parts after the built-in definitions
   about-parts : (topic : Topic) (ss os : List ListItem) → about topic (schema_items c d place types) ≡ ss → about topic (directive_items ds) ≡ os → about topic (flat_map (held_items c) ts) ≡ [] → about topic written_list ≡ about topic built_ins ++ (ss ++ os)
-  about-parts topic ss os s o t =
-      filter-append (is_about topic) built_ins ((schema_items c d place types ++ directive_items ds) ++ flat_map (held_items c) ts)
-      ∙ ap (λ l. about topic built_ins ++ l) (filter-append (is_about topic) (schema_items c d place types ++ directive_items ds) (flat_map (held_items c) ts)
-      ∙ (λ i. (filter-append (is_about topic) (schema_items c d place types) (directive_items ds) ∙ (λ j. s j ++ o j)) i ++ t i) ∙ append-nil (ss ++ os))
+  about-parts topic ss os s o t = simp (filter-append (is_about topic), s, o, t, append-nil)
 
   pub list-about_schema : about TheSchema written_list ≡ schema_items c d place types
   list-about_schema =
@@ -167,14 +164,9 @@ module _ (c : Bool) (d : SchemaDefinition) (place : Option SourceSpan) (types : 
       by false = exts-all (written_parts_of d).extensions
 
   pub list-directives : directive_definitions written_list ≡ directive_definitions built_ins ++ ds
-  list-directives =
-      directives-about written_list ∙ ap directive_definitions list-about_others ∙ filter_map-append directive_part (about Others built_ins) (directive_items ds)
-      ∙ (λ i. sym (directives-about built_ins) i ++ directives-of_items ds i)
+  list-directives = directives-about written_list ∙ ap directive_definitions list-about_others ∙ simp (filter_map-append, ← directives-about built_ins, directives-of_items)
 
   -- types alone have extensions of types
   pub list-extended : filter_map extended_part written_list ≡ filter_map extended_part (flat_map (held_items c) ts)
   list-extended =
-      filter_map-append extended_part built_ins ((schema_items c d place types ++ directive_items ds) ++ flat_map (held_items c) ts)
-      ∙ (λ i. no-extensions i ++ (filter_map-append extended_part (schema_items c d place types ++ directive_items ds) (flat_map (held_items c) ts)
-      ∙ ap (λ l. l ++ filter_map extended_part (flat_map (held_items c) ts)) (extends-quiet (schema_items c d place types ++ directive_items ds)
-      (each-append IsQuiet (schema_items c d place types) (directive_items ds) (schema-quiet c d place types) (directives-quiet ds)))) i)
+      simp (filter_map-append, no-extensions, extends-quiet (schema_items c d place types) (schema-quiet c d place types), extends-quiet (directive_items ds) (directives-quiet ds))

@@ -41,8 +41,7 @@ module _ (c : Collection) (ty : NameView) (before : List NameView) where
   after-none done [] d = refl
   after-none done (e ∷ es) d =
       let others : List NameView = before ++ map (λ e. e.0) done in
-      let more : (before ++ map (λ e. e.0) (done ++ e ∷ [])) ++ map (λ e. e.0) es ≡ others ++ e.0 ∷ map (λ e. e.0) es =
-      ap (λ l. (before ++ l) ++ map (λ e. e.0) es) (map-append (λ (e : Entry). e.0) done (e ∷ [])) ∙ ap (λ l. l ++ map (λ e. e.0) es) (sym (append_assoc before (map (λ e. e.0) done) (e.0 ∷ []))) ∙ append_assoc others (e.0 ∷ []) (map (λ e. e.0) es) in
+      let more : (before ++ map (λ e. e.0) (done ++ e ∷ [])) ++ map (λ e. e.0) es ≡ others ++ e.0 ∷ map (λ e. e.0) es = simp (map-append, append_assoc) in
       (λ i. option_map_or (λ kept. (e.1, collision c kept ty) ∷ []) (find-none (same_text e.0) others (new-after same_text name_laws others e.0 (map (λ e. e.0) es) d) i) [] ++ after-none (done ++ e ∷ []) es (subst (IsDistinct same_text) (sym more) d) i)
 
   collisions-none : (es : List Entry) → IsDistinct same_text (before ++ map (λ e. e.0) es) → collisions c ty before es ≡ []

@@ -32,9 +32,8 @@ use Rattle.apollo_canonical.specs.WrittenAgain.{IsMeantByList, with_built_ins}
 use Rattle.apollo_canonical.proofs.FirstAppearance.{first_of_each-again, new_to_these}
 use Rattle.apollo_canonical.proofs.Kept.{each-both, each-from_map, filter-all, passes}
 use Rattle.apollo_canonical.proofs.Rebuild.About.{Name, about, is_about, first-about, extensions-about}
-use Rattle.apollo_canonical.proofs.Rebuild.BuiltIns.{built_ins, built_in_names, about-built_ins, first-built_in}
+use Rattle.apollo_canonical.proofs.Rebuild.Meant.{built_ins, built_in_names, about-built_ins, first-built_in, first-unmarked, handed, later_items, whole-split}
 use Rattle.apollo_canonical.proofs.Rebuild.Held.{held_items, extension_items, about-types, defines-types}
-use Rattle.apollo_canonical.proofs.Rebuild.Meant.{first-unmarked, handed, later_items, whole-split}
 use Rattle.apollo_canonical.proofs.Rebuild.Numbers.{numbers_of, numbers-rise, rising-distinct}
 use Rattle.apollo_canonical.proofs.Rebuild.OneType.{IsMade, IsAgain, made, rebuilt}
 use Rattle.apollo_canonical.proofs.Rebuild.OwnDefinition.{definition-own}
@@ -171,11 +170,7 @@ module _ (laws : MeaningLaws) (schema : Schema) (list : IsMeantByList schema) wh
 
     view : (n : List ℕ) → about (Name n) again_items ≡ about (Name n) built_ins ++ option_map_or (held_items c) (lookup (by_text n) types) []
     view n =
-        filter-append (is_about (Name n)) (built_ins ++ (others ++ flat_map (held_items c) (values_of types))) ends
-        ∙ (λ i. filter-append (is_about (Name n)) built_ins (others ++ flat_map (held_items c) (values_of types)) i ++ about-quiet n ends quiet_end i)
-        ∙ append-nil (about (Name n) built_ins ++ about (Name n) (others ++ flat_map (held_items c) (values_of types)))
-        ∙ ap (λ l. about (Name n) built_ins ++ l) (filter-append (is_about (Name n)) others (flat_map (held_items c) (values_of types))
-        ∙ (λ i. about-quiet n others quiet i ++ about-types c n types (unique laws start xs types are) (own_names laws start xs types are) i))
+        simp (filter-append (is_about (Name n)), about-quiet n ends quiet_end, about-quiet n others quiet, about-types c n types (unique laws start xs types are) (own_names laws start xs types are), append-nil)
 
     pub view-nothing : (n : List ℕ) → lookup (by_text n) types ≡ None → about (Name n) again_items ≡ []
     view-nothing n none =
@@ -228,12 +223,7 @@ module _ (laws : MeaningLaws) (schema : Schema) (list : IsMeantByList schema) wh
         keys = are.names ∙ laws.names xs ∙ ap (λ l. first_of_each same_text (defined_names l)) (whole-split adopts more) ∙ ap (first_of_each same_text) (defined_names-append built_ins (later_items adopts more))
 
         defined : defined_names again_items ≡ built_in_names ++ filter new (keys_of types)
-        defined =
-            defined_names-append (built_ins ++ (others ++ flat_map (held_items c) (values_of types))) ends
-            ∙ (λ i. defined_names-append built_ins (others ++ flat_map (held_items c) (values_of types)) i ++ defines-quiet ends quiet_end i)
-            ∙ append-nil (built_in_names ++ defined_names (others ++ flat_map (held_items c) (values_of types)))
-            ∙ ap (λ l. built_in_names ++ l) (defined_names-append others (flat_map (held_items c) (values_of types))
-            ∙ (λ i. defines-quiet others quiet i ++ defines-types c built_in_names types (own_names laws start xs types are) marked i))
+        defined = simp (defined_names-append, defines-quiet ends quiet_end, defines-quiet others quiet, defines-types c built_in_names types (own_names laws start xs types are) marked, append-nil)
 
     module _ (again : ℕ) (types_again : List (NameView × ExtendedType)) (are_again : AreTypesOf again (folding_order again_items) again_items types_again) where
       -- each type is there again

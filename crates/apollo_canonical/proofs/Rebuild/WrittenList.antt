@@ -1,5 +1,5 @@
 -- The list with a write-out, and what it is completed with.
-use Rattle.std.proofs.Common.{◌≡◌, ℕ, Bool, true, false, List, [], ◌∷◌, ◌++◌, None, Option, Some, flat_map, refl, sym, ap, ◌∙◌}
+use Rattle.std.proofs.Common.{◌≡◌, cond, map, ℕ, Bool, true, false, List, [], ◌∷◌, ◌++◌, None, Option, Some, flat_map, refl, sym, ap, ◌∙◌}
 use Rattle.std.proofs.lemmas.List.{append-nil}
 use Rattle.std.specs.List.{AllByRecursion}
 use Rattle.std.specs.Option.{option_map_or, option_or}
@@ -13,18 +13,18 @@ use Rattle.graphql_nodes.specs.declared.operation_type.OperationType.TheVariants
 use Rattle.graphql_nodes.specs.declared.type_kind.TypeKind.TheVariants as kinds
 use Rattle.apollo_component.proofs.Lists.Each.{each-append}
 use Rattle.apollo_component.proofs.Lists.Ends.{or-none}
-use Rattle.apollo_types.specs.SchemaDefinitionWriteOut.{is_some_object}
+use Rattle.apollo_types.specs.SchemaDefinitionWriteOut.{is_some_object, is_written}
 use Rattle.apollo_types.specs.TypeKinds.{is_object}
 use Rattle.apollo_types.specs.TypeWriteOut.{type_kind}
 use Rattle.apollo_types.specs.declared.extended_type.ExtendedType.{ExtendedType}
 use Rattle.apollo_types.specs.declared.extended_type.ExtendedType.TheVariants.{Scalar}
 use Rattle.apollo_types.specs.declared.schema_definition.SchemaDefinition.{SchemaDefinition}
 use Rattle.apollo_meaning.specs.Completion.Adoption.{adopted, adopted_by, extended_names, orphans_of, with_adopted}
-use Rattle.apollo_meaning.specs.Completion.ImpliedSchema.{implicit_roots, implied_schema, is_object_name}
+use Rattle.apollo_meaning.specs.Completion.ImpliedSchema.{implicit_roots, implied_schema, is_object_name, adopting_schema, schema_for}
 use Rattle.apollo_meaning.specs.Directives.{directive_definitions}
 use Rattle.apollo_meaning.specs.Items.ListItems.{ListItem}
-use Rattle.apollo_meaning.specs.Items.Named.{extensions_of, first}
-use Rattle.apollo_meaning.specs.Items.Parts.{Root, TypePart, kind_of, same_kind}
+use Rattle.apollo_meaning.specs.Items.Named.{extensions_of, first, first_schema, schema_extensions}
+use Rattle.apollo_meaning.specs.Items.Parts.{Root, TypePart, kind_of, same_kind, roots_in}
 use Rattle.apollo_meaning.specs.Order.Places.{folding_order}
 use Rattle.apollo_meaning.specs.Schema.Whole.{whole}
 use Rattle.apollo_meaning.specs.Types.Meaning.{AreTypesOf}
@@ -36,8 +36,9 @@ use Rattle.apollo_canonical.proofs.Rebuild.DirectivesAgain.{written_directives}
 use Rattle.apollo_canonical.proofs.Rebuild.LeftOut.{roots_where}
 use Rattle.apollo_canonical.proofs.Rebuild.Meant.{by_implied, items}
 use Rattle.apollo_canonical.proofs.Rebuild.SchemaMeant.{schema_node}
-use Rattle.apollo_canonical.proofs.Rebuild.SchemaWritten.{directive_items, directives-quiet, schema-quiet, schema_items, written_list}
+use Rattle.apollo_canonical.proofs.Rebuild.SchemaWritten.{directive_items, directives-quiet, schema-quiet, schema_items, written_list, list-first_schema, list-schema_extensions, written_head}
 use Rattle.apollo_canonical.proofs.Rebuild.TypesAgain.{IsQuiet, again_items, first-again, meant, unmeant, view-nothing}
+use Rattle.apollo_canonical.proofs.Rebuild.OneSchema.{schema_extension_of, written_parts_of}
 use Rattle.apollo_canonical.proofs.Rebuild.WrittenParts.{kind-body, written}
 
 -- an object type is one by its kind
@@ -149,3 +150,25 @@ module _ (laws : MeaningLaws) (schema : Schema) (list : IsMeantByList schema) (c
 
   pub implicit-again : implicit_roots Y ≡ implied_here
   implicit-again = (λ i. roots_where (object-again (default_type_text Query) i) (object-again (default_type_text Mutation) i) (object-again (default_type_text Subscription) i))
+
+  abbrev pub d : SchemaDefinition
+  d = node.value
+
+  -- the first schema definition, and the extensions of the schema
+  pub first-Y : first_schema Y ≡ cond (is_written types d) (Some (written_head d node.location)) None
+  first-Y = list-first_schema c d node.location types (written_directives schema list) (values_of types)
+
+  pub exts-Y : schema_extensions Y ≡ map schema_extension_of (written_parts_of d).extensions
+  exts-Y = list-schema_extensions c d node.location types (written_directives schema list) (values_of types)
+
+  -- where a definition is written, the list is completed with nothing
+  pub written-Y : is_written types d ≡ true → (first_schema Y ≡ Some (written_head d node.location)) × (ends ≡ [])
+  written-Y e =
+      let here : first_schema Y ≡ Some (written_head d node.location) = first-Y ∙ ap (λ b. cond b (Some (written_head d node.location)) None) e in
+      (here, ap (λ o. option_map_or (λ _. []) o (schema_for true (roots_in (schema_extensions Y)) (implicit_roots Y))) here)
+
+  -- where none is, with one that has the implied roots, if no extension names one
+  pub unwritten-Y : is_written types d ≡ false → (first_schema Y ≡ None) × (ends ≡ adopting_schema (roots_in (schema_extensions Y)) (implicit_roots Y))
+  unwritten-Y e =
+      let none : first_schema Y ≡ None = first-Y ∙ ap (λ b. cond b (Some (written_head d node.location)) None) e in
+      (none, ap (λ o. option_map_or (λ _. []) o (schema_for true (roots_in (schema_extensions Y)) (implicit_roots Y))) none)

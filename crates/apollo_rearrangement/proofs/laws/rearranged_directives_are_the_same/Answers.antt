@@ -1,4 +1,4 @@
-use Rattle.apollo_rearrangement.proofs.Agreement.{directive_of-agree}
+use Rattle.apollo_rearrangement.proofs.Subjects.{directive_of-agree}
 use Rattle.apollo_rearrangement.proofs.laws.rearranged_directives_are_the_same.Goals as goal
 use Rattle.apollo_rearrangement.specs.Rearranged.{DirectiveDefinitionsOf}
 

@@ -1,4 +1,4 @@
-use Rattle.apollo_rearrangement.proofs.Agreement.{first_schema-agree, schema_extensions-agree}
+use Rattle.apollo_rearrangement.proofs.Subjects.{first_schema-agree, schema_extensions-agree}
 use Rattle.apollo_rearrangement.proofs.laws.rearranged_schema_parts_are_the_same.Goals as goal
 use Rattle.apollo_rearrangement.specs.Rearranged.{SchemaDefinitions, SchemaExtensions}
 
