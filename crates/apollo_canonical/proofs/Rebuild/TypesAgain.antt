@@ -33,13 +33,12 @@ use Rattle.apollo_canonical.proofs.FirstAppearance.{first_of_each-again, new_to_
 use Rattle.apollo_canonical.proofs.Kept.{each-both, each-from_map, filter-all, passes}
 use Rattle.apollo_canonical.proofs.Rebuild.About.{Name, about, is_about, first-about, extensions-about}
 use Rattle.apollo_canonical.proofs.Rebuild.Meant.{built_ins, built_in_names, about-built_ins, first-built_in, first-unmarked, handed, later_items, whole-split}
-use Rattle.apollo_canonical.proofs.Rebuild.Held.{held_items, extension_items, about-types, defines-types}
 use Rattle.apollo_canonical.proofs.Rebuild.Numbers.{numbers_of, numbers-rise, rising-distinct}
 use Rattle.apollo_canonical.proofs.Rebuild.OneType.{IsMade, IsAgain, made, rebuilt}
 use Rattle.apollo_canonical.proofs.Rebuild.OwnDefinition.{definition-own}
 use Rattle.apollo_canonical.proofs.Rebuild.Tables.{each-entry, values-by_keys, defined_names, defined_names-append, names-of_first, among-defined, first-key}
 use Rattle.apollo_canonical.proofs.Rebuild.TypeFaults.{Fits, fits-of_kind}
-use Rattle.apollo_canonical.proofs.Rebuild.WrittenParts.{written, definition_part, extension_of, kind-body}
+use Rattle.apollo_canonical.proofs.Rebuild.WrittenParts.{written, definition_part, extension_of, kind-body, held_items, extension_items, about-types, defines-types}
 
 -- a type of a list is made of its name's first definition
 pub record IsMeant (xs : List ListItem) (n : List ℕ) (t : ExtendedType) : Type 0 where
