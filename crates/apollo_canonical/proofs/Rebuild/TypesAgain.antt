@@ -243,21 +243,20 @@ module _ (laws : MeaningLaws) (schema : Schema) (list : IsMeantByList schema) wh
       pub same_names : keys_of types_again ≡ keys_of types
       same_names = are_again.names ∙ names-again
 
-      -- what equal types give is the same
-      pub equal_types : entries_by_text bare_extended_type types_again ≡ entries_by_text bare_extended_type types
-      equal_types = λ i n. by n (lookup (by_text n) types) refl i
+      -- what sees the same of equal types sees the same under each name
+      pub same-seen : {R : Type 0} (see : Option ExtendedType → R) → ((t u : ExtendedType) → IsAgain t u → see (Some u) ≡ see (Some t)) → (n : List ℕ) → see (lookup (by_text n) types_again) ≡ see (lookup (by_text n) types)
+      same-seen see alike n = by (lookup (by_text n) types) refl
         where
-          by : (n : List ℕ) (o : Option ExtendedType) → lookup (by_text n) types ≡ o → option_map bare_extended_type (lookup (by_text n) types_again) ≡ option_map bare_extended_type (lookup (by_text n) types)
-          by n None e = ap (option_map bare_extended_type) (none-there n e ∙ sym e)
-          by n (Some t) e = ap (option_map bare_extended_type) (type-there n t e).1 ∙ ap Some (type-there n t e).2.equal ∙ sym (ap (option_map bare_extended_type) e)
+          by : (o : Option ExtendedType) → lookup (by_text n) types ≡ o → see (lookup (by_text n) types_again) ≡ see (lookup (by_text n) types)
+          by None e = ap see (none-there n e ∙ sym e)
+          by (Some t) e = ap see (type-there n t e).1 ∙ alike t (type-there n t e).0 (type-there n t e).2 ∙ sym (ap see e)
+
+      pub equal_types : entries_by_text bare_extended_type types_again ≡ entries_by_text bare_extended_type types
+      equal_types = λ i n. same-seen (option_map bare_extended_type) (λ t u a. ap Some a.equal) n i
 
       -- and so is what they are written out as
       pub same_written : {X : Type 0} (give : ExtendedType → List X) → ((t u : ExtendedType) → IsAgain t u → give u ≡ give t) → flat_map give (values_of types_again) ≡ flat_map give (values_of types)
       same_written give alike =
           values-by_keys give types_again (subst (IsDistinct same_text) (sym same_names) (unique laws start xs types are))
-          ∙ (λ i. flat_map (λ k. by k.text (lookup (by_text k.text) types) refl i) (same_names i))
+          ∙ (λ i. flat_map (λ k. same-seen (λ o. option_map_or give o []) alike k.text i) (same_names i))
           ∙ sym (values-by_keys give types (unique laws start xs types are))
-        where
-          by : (n : List ℕ) (o : Option ExtendedType) → lookup (by_text n) types ≡ o → option_map_or give (lookup (by_text n) types_again) [] ≡ option_map_or give (lookup (by_text n) types) []
-          by n None e = ap (λ o. option_map_or give o []) (none-there n e ∙ sym e)
-          by n (Some t) e = ap (λ o. option_map_or give o []) (type-there n t e).1 ∙ alike t (type-there n t e).0 (type-there n t e).2 ∙ sym (ap (λ o. option_map_or give o []) e)
