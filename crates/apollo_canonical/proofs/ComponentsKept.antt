@@ -205,11 +205,7 @@ module _ (q : PartsByOrigin) (distinct : IsDistinct same_id (map (λ e. e.0) q.e
   all_directives : (later : List ExtensionId) → picked Definition directives ++ flat_map (λ e. picked (Extension e) directives) (first_of_each same_id (ids_in directives ++ later)) ≡ map (λ d. d.1) directives
   all_directives later =
       ap (λ l. picked Definition directives ++ flat_map (λ e. picked (Extension e) directives) l) (first-ids later)
-      ∙ ap (λ l. picked Definition directives ++ l) (flat_map-append (λ e. picked (Extension e) directives) (map (λ e. e.0) (filter has_directives q.extensions)) (filter (new_to_these same_id (ids_in directives)) (first_of_each same_id later))
-      ∙ (λ i. of_first i ++ of_later (first_of_each same_id later) i) ∙ append-nil (flat_map (λ g. of_parts g.1) q.extensions)
-      ∙ sym (flat_map-map (λ (g : ComponentOrigin × DefinitionParts). of_parts g.1) (λ e. (Extension e.0, e.1)) q.extensions))
-      ∙ ap (λ l. l ++ flat_map (λ (g : ComponentOrigin × DefinitionParts). of_parts g.1) (map (λ e. (Extension e.0, e.1)) q.extensions))
-      (of-alone Definition of_parts (with_origins q) (Definition, q.definition) (definition-alone q))
+      ∙ (simp (flat_map-append, of_first, of_later (first_of_each same_id later), append-nil, of-alone Definition of_parts (with_origins q) (Definition, q.definition) (definition-alone q), flat_map-map))
       ∙ sym (joined-values of_parts (with_origins q))
 
 pub directives-in_order : (s : Sections) (q p : PartsByOrigin) → IsDistinct same_id (map (λ e. e.0) q.extensions) → s.directives ≡ (sections_of q).directives

@@ -69,10 +69,7 @@ module _ {X : Type 0} (same : X → X → Bool) (laws : IsEquivalence same) wher
 
   pub first_of_each-append : (xs ys : List X) → first_of_each same (xs ++ ys) ≡ first_of_each same xs ++ filter (new_to xs) (first_of_each same ys)
   first_of_each-append [] ys = sym (filter-all (new_to []) (first_of_each same ys) (each-of (λ y. true ≡ true) (λ y. refl) (first_of_each same ys)))
-  first_of_each-append (x ∷ xs) ys =
-      ap (λ l. x ∷ filter (λ y. not (same x y)) l) (first_of_each-append xs ys)
-      ∙ ap (λ l. x ∷ l) (filter-append (λ y. not (same x y)) (first_of_each same xs) (filter (new_to xs) (first_of_each same ys))
-      ∙ ap (λ l. filter (λ y. not (same x y)) (first_of_each same xs) ++ l) (new_to-more x xs (first_of_each same ys)))
+  first_of_each-append (x ∷ xs) ys = simp (first_of_each-append xs ys, filter-append, new_to-more x xs (first_of_each same ys))
 
   pub new_to-same : (zs : List X) (a b : X) → same a b ≡ true → new_to zs a ≡ new_to zs b
   new_to-same zs a b e = (λ i. not (list_any (λ c. laws.congr a b c e i) zs))
@@ -107,10 +104,7 @@ module _ {X : Type 0} (same : X → X → Bool) (laws : IsEquivalence same) wher
 
     -- what is new in the first of each
     new-left : filter new (first_of_each same (known ++ more)) ≡ filter new (first_of_each same more)
-    new-left =
-        ap (filter new) (first_of_each-append known more) ∙ filter-append new (first_of_each same known) (filter new (first_of_each same more))
-        ∙ (λ i. filter-fails (λ k. list_any (same k) known ≡ true) new (λ k e. ap not e) (first_of_each same known) (first-there known) i
-        ++ filter-all new (filter new (first_of_each same more)) (passes new (first_of_each same more)) i)
+    new-left = simp (first_of_each-append, filter-append, filter-fails (λ k. list_any (same k) known ≡ true) new (λ k e. ap not e) (first_of_each same known) (first-there known), filter-all new (filter new (first_of_each same more)) (passes new (first_of_each same more)))
 
     pub first_of_each-again : (others : List X) → filter new others ≡ filter new (first_of_each same (known ++ more)) → first_of_each same (known ++ others) ≡ first_of_each same (known ++ more)
     first_of_each-again others alike =

@@ -1,14 +1,12 @@
-pub mod EqualTypes
+pub mod OneType
 pub mod Numbers
 pub mod TypeAgain
 pub mod WrittenParts
-pub mod OneType
 pub mod TypeFaults
 pub mod About
 pub mod Tables
 pub mod OwnDefinition
 pub mod Meant
-pub mod Held
 pub mod TypesAgain
 pub mod SchemaSections
 pub mod OneSchema

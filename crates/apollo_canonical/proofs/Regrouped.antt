@@ -47,7 +47,7 @@ module _ {X : Type 0} (same : X → X → Bool) (laws : IsEquivalence same) wher
     apart-filter k t [] a = tt
     apart-filter k t (g ∷ gs) a = elim (t g) as (λ b. AllByRecursion (λ x. same k x ≡ false) (map key (cond b (g ∷ filter t gs) (filter t gs)))) [ true ↦ (a.0, apart-filter k t gs a.1) | false ↦ apart-filter k t gs a.1 ]
 
-    distinct-filter : (t : G → Bool) (gs : List G) → IsDistinct same (map key gs) → IsDistinct same (map key (filter t gs))
+    pub distinct-filter : (t : G → Bool) (gs : List G) → IsDistinct same (map key gs) → IsDistinct same (map key (filter t gs))
     unfolding IsDistinct
     distinct-filter t [] d = tt
     distinct-filter t (g ∷ gs) d = elim (t g) as (λ b. IsDistinct same (map key (cond b (g ∷ filter t gs) (filter t gs)))) [ true ↦ (apart-filter (key g) t gs d.0, distinct-filter t gs d.1) | false ↦ distinct-filter t gs d.1 ]

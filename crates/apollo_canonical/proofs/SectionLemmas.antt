@@ -32,27 +32,12 @@ ids_in xs = filter_map id_of (map (λ x. x.0) xs)
 pub ids_in-append : {A : Type 0} (xs ys : List (ComponentOrigin × A)) → ids_in (xs ++ ys) ≡ ids_in xs ++ ids_in ys
 ids_in-append xs ys = ap (filter_map id_of) (map-append (λ x. x.0) xs ys) ∙ filter_map-append id_of (map (λ x. x.0) xs) (map (λ x. x.0) ys)
 
-ids_in-joined : (css : List (List SourcedPart)) → ids_in (flat_map (λ cs. cs) css) ≡ flat_map (λ ids. ids) (map ids_in css)
-ids_in-joined [] = refl
-ids_in-joined (cs ∷ css) = ids_in-append cs (flat_map (λ cs. cs) css) ∙ ap (λ l. ids_in cs ++ l) (ids_in-joined css)
-
-ids_in-parts : {A : Type 0} (part : A → DefinitionPart) (xs : List (ComponentOrigin × A)) → ids_in (as_parts part xs) ≡ ids_in xs
-ids_in-parts part xs = ap (filter_map id_of) (map-map (λ x. x.0) (λ x. (x.0, part x.1)) xs)
-
 -- the identities of each section
 abbrev section_ids : Sections → List (List ExtensionId)
 section_ids s = ids_in s.directives ∷ ids_in s.names ∷ ids_in s.fields ∷ ids_in s.values ∷ ids_in s.input_fields ∷ ids_in s.roots ∷ []
 
 pub ids_in-sections : (s : Sections) → ids_in (in_sections s) ≡ flat_map (λ ids. ids) (section_ids s)
-ids_in-sections s =
-    ids_in-joined (
-    as_parts parts.Directive s.directives ∷ as_parts parts.Name s.names ∷ as_parts parts.Field s.fields
-    ∷ as_parts parts.EnumValue s.values ∷ as_parts parts.InputField s.input_fields ∷ as_parts parts.Root s.roots ∷ []
-    )
-    ∙ (λ i. flat_map (λ ids. ids) (
-    ids_in-parts parts.Directive s.directives i ∷ ids_in-parts parts.Name s.names i ∷ ids_in-parts parts.Field s.fields i
-    ∷ ids_in-parts parts.EnumValue s.values i ∷ ids_in-parts parts.InputField s.input_fields i ∷ ids_in-parts parts.Root s.roots i ∷ []
-    ))
+ids_in-sections s = simp (ids_in-append, map-map)
 
 module _ (origin : ComponentOrigin) where
   -- what is of the origin
@@ -68,27 +53,22 @@ module _ (origin : ComponentOrigin) where
   found-in part which (x ∷ xs) = elim (same_origin origin x.0) as (λ b. filter_map which (map (λ c. c.1) (cond b ((x.0, part x.1) ∷ filter (λ c. same_origin origin c.0) (as_parts part xs)) (filter (λ c. same_origin origin c.0) (as_parts part xs))))
       ≡ filter_map (λ a. which (part a)) (map (λ c. c.1) (cond b (x ∷ filter (λ c. same_origin origin c.0) xs) (filter (λ c. same_origin origin c.0) xs)))) [ true ↦ ap (cons_option (which (part x.1))) (found-in part which xs) | false ↦ found-in part which xs ]
 
-  found-joined : {A : Type 0} (which : DefinitionPart → Option A) (css : List (List SourcedPart)) → filter_map which (picked (flat_map (λ cs. cs) css)) ≡ flat_map (λ cs. filter_map which (picked cs)) css
-  found-joined which [] = refl
-  found-joined which (cs ∷ css) =
-      ap (filter_map which) (picked-append cs (flat_map (λ cs. cs) css))
-      ∙ filter_map-append which (picked cs) (picked (flat_map (λ cs. cs) css))
-      ∙ ap (λ l. filter_map which (picked cs) ++ l) (found-joined which css)
-
   module _ (s : Sections) where
     -- a choice that takes one sort finds that section
     found : {A : Type 0} (which : DefinitionPart → Option A) (l : List A)
         → filter_map (λ a. which (parts.Directive a)) (picked s.directives) ++ (filter_map (λ a. which (parts.Name a)) (picked s.names) ++ (filter_map (λ a. which (parts.Field a)) (picked s.fields)
         ++ (filter_map (λ a. which (parts.EnumValue a)) (picked s.values) ++ (filter_map (λ a. which (parts.InputField a)) (picked s.input_fields) ++ (filter_map (λ a. which (parts.Root a)) (picked s.roots) ++ []))))) ≡ l
         → filter_map which (picked (in_sections s)) ≡ l
-    found which l e =
-        found-joined which (
-        as_parts parts.Directive s.directives ∷ as_parts parts.Name s.names ∷ as_parts parts.Field s.fields
-        ∷ as_parts parts.EnumValue s.values ∷ as_parts parts.InputField s.input_fields ∷ as_parts parts.Root s.roots ∷ []
-        )
-        ∙ (λ i. found-in parts.Directive which s.directives i ++ (found-in parts.Name which s.names i ++ (found-in parts.Field which s.fields i
-        ++ (found-in parts.EnumValue which s.values i ++ (found-in parts.InputField which s.input_fields i ++ (found-in parts.Root which s.roots i ++ []))))))
-        ∙ e
+    found which l e = simp (
+      picked-append,
+      filter_map-append,
+      found-in parts.Directive which s.directives,
+      found-in parts.Name which s.names,
+      found-in parts.Field which s.fields,
+      found-in parts.EnumValue which s.values,
+      found-in parts.InputField which s.input_fields,
+      found-in parts.Root which s.roots,
+    ) e
 
     -- what is of one origin, sort by sort
     abbrev pub parts_in : DefinitionParts

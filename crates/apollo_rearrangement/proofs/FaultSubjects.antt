@@ -69,12 +69,7 @@ collisions-from c ty before =
   where
     named : (c : Collection) (kept : NameView) → dropped_from (collision c kept ty) ≡ TypeNamed ty.text
     named ObjectInterfaces kept = refl
-    named InterfaceInterfaces kept = refl
-    named ObjectFields kept = refl
-    named InterfaceFields kept = refl
-    named EnumValues kept = refl
-    named UnionMembers kept = refl
-    named InputFields kept = refl
+    named c kept = refl
 
     by : (e : Entry) (o : Option NameView) → AllFrom (TypeNamed ty.text) (option_map_or (λ kept. (e.1, collision c kept ty) ∷ []) o [])
     by e None = tt
@@ -170,17 +165,12 @@ module _ (k : Subject) (none : same_subject k NoSubject ≡ false) where
 
       by : (b : Bool) → filter (is_from k) rest ≡ filter (is_from k) (each_after part_faults (parts ++ cond b (e ∷ []) []) (of_kind (kind_of d) es))
           → filter (is_from k) (cond b (part_faults parts e) (kind_mismatch d e ∷ []) ++ rest) ≡ filter (is_from k) (each_after part_faults parts (cond b (e ∷ of_kind (kind_of d) es) (of_kind (kind_of d) es)))
-      by true same =
-          filter-append (is_from k) (part_faults parts e) rest ∙ ap (λ l. filter (is_from k) (part_faults parts e) ++ l) same
-          ∙ sym (filter-append (is_from k) (part_faults parts e) (each_after part_faults (parts ++ e ∷ []) (of_kind (kind_of d) es)))
+      by true same = simp (filter-append, same)
       by false same = rw none (same ∙ ap (λ l. filter (is_from k) (each_after part_faults l (of_kind (kind_of d) es))) (append-nil parts))
 
   -- what is dropped from a type with extensions is what is dropped from it with those of its kind
   pub begun-joined : (d : TypePart) (es : List TypePart) → filter (is_from k) (type_begun_faults d es) ≡ filter (is_from k) (joined_faults (d ∷ of_kind (kind_of d) es))
-  begun-joined d es =
-      filter-append (is_from k) (part_faults [] d) (each_after (λ before. joining_fault d (d ∷ of_kind (kind_of d) before)) [] es)
-      ∙ ap (λ l. filter (is_from k) (part_faults [] d) ++ l) (mismatches-fall d [] es)
-      ∙ sym (filter-append (is_from k) (part_faults [] d) (each_after part_faults (d ∷ []) (of_kind (kind_of d) es)))
+  begun-joined d es = simp (filter-append, mismatches-fall d [] es)
 
   -- at an item of another subject nothing is found that is dropped from this one
   pub found_at-apart : (before : List ListItem) (x : ListItem) → same_subject k (subject x) ≡ false → filter (is_from k) (found_at before x) ≡ []

@@ -28,7 +28,7 @@ use Rattle.apollo_canonical.specs.WrittenAgain.{IsMeantByList, with_built_ins, w
 use Rattle.apollo_canonical.proofs.Rebuild.Meant.{built_ins, items-split}
 use Rattle.apollo_canonical.proofs.Rebuild.DirectivesAgain.{directives-again, unique, written_directives, same_keys, same_meaning}
 use Rattle.apollo_canonical.proofs.Rebuild.Faultless.{faults-none}
-use Rattle.apollo_canonical.proofs.Rebuild.Held.{document_items-append, items-types}
+use Rattle.apollo_canonical.proofs.Rebuild.WrittenParts.{document_items-append, items-types}
 use Rattle.apollo_canonical.proofs.Rebuild.OneType.{IsAgain}
 use Rattle.apollo_canonical.proofs.Rebuild.SchemaMeant.{schema_node}
 use Rattle.apollo_canonical.proofs.Rebuild.SchemaWritten.{directives-listed, list-directives, written_list}

@@ -38,6 +38,7 @@ use Rattle.apollo_schema.specs.declared.schema.Schema.{Schema}
 use Rattle.apollo_canonical.specs.MeaningLaws.{MeaningLaws}
 use Rattle.apollo_component.proofs.FirstOfEachLemmas.{name_laws}
 use Rattle.apollo_canonical.specs.WrittenAgain.{IsMeantByList, with_built_ins}
+use Rattle.apollo_canonical.proofs.Regrouped.{distinct-filter}
 use Rattle.apollo_canonical.proofs.Rebuild.About.{Name, Others, TheSchema, Topic, about, directives-about, faultless-by_topic}
 use Rattle.apollo_canonical.proofs.Rebuild.Meant.{built_ins}
 use Rattle.apollo_canonical.proofs.Rebuild.DirectivesAgain.{built_in-marked, built_in_directives, find-unmarked, texts, unique, written_directives}
@@ -81,25 +82,18 @@ directives-none before is done (e ∷ es) d =
         ∙ find-append (λ x. has_text e.value.name.text x && is_handed_in x) built_in_directives done
         ∙ (λ i. option_or (find-unmarked e.value.name.text built_in_directives built_in-marked i) (none-named e.value.name done absent i)))
 
--- the names of a table's handed-in values differ
-values-distinct : (es : List (NameView × NodeView DirectiveDefinition)) → HasUniqueKeys same_text es → AllByRecursion (λ e. has_text e.0.text e.1 ≡ true) es → IsDistinct same_text (map (λ d. d.value.name) (filter is_handed_in (values_of es)))
+-- the names of a table's values differ, and so do those of the handed-in ones
+names-distinct : (es : List (NameView × NodeView DirectiveDefinition)) → HasUniqueKeys same_text es → AllByRecursion (λ e. has_text e.0.text e.1 ≡ true) es → IsDistinct same_text (map (λ d. d.value.name) (values_of es))
 unfolding IsDistinct
-values-distinct [] d t = tt
-values-distinct (e ∷ es) d t = by (is_handed_in e.1) (values-distinct es d.1 t.1)
+names-distinct [] d t = tt
+names-distinct (e ∷ es) d t = (apart es d.0 t.1, names-distinct es d.1 t.1)
   where
-    apart : (fs : List (NameView × NodeView DirectiveDefinition)) → AllByRecursion (λ k. same_text e.0 k ≡ false) (keys_of fs) → AllByRecursion (λ f. has_text f.0.text f.1 ≡ true) fs
-        → AllByRecursion (λ k. same_text e.1.value.name k ≡ false) (map (λ d. d.value.name) (filter is_handed_in (values_of fs)))
+    apart : (fs : List (NameView × NodeView DirectiveDefinition)) → AllByRecursion (λ k. same_text e.0 k ≡ false) (keys_of fs) → AllByRecursion (λ f. has_text f.0.text f.1 ≡ true) fs → AllByRecursion (λ k. same_text e.1.value.name k ≡ false) (map (λ d. d.value.name) (values_of fs))
     apart [] a u = tt
-    apart (f ∷ fs) a u = at (is_handed_in f.1) (apart fs a.1 u.1)
-      where
-        at : (b : Bool) → AllByRecursion (λ k. same_text e.1.value.name k ≡ false) (map (λ d. d.value.name) (filter is_handed_in (values_of fs)))
-            → AllByRecursion (λ k. same_text e.1.value.name k ≡ false) (map (λ d. d.value.name) (cond b (f.1 ∷ filter is_handed_in (values_of fs)) (filter is_handed_in (values_of fs))))
-        at true rest = ((λ i. same (sym (same-true e.0.text e.1.value.name.text t.0) i) (sym (same-true f.0.text f.1.value.name.text u.0) i)) ∙ a.0, rest)
-        at false rest = rest
+    apart (f ∷ fs) a u = ((λ i. same (sym (same-true e.0.text e.1.value.name.text t.0) i) (sym (same-true f.0.text f.1.value.name.text u.0) i)) ∙ a.0, apart fs a.1 u.1)
 
-    by : (b : Bool) → IsDistinct same_text (map (λ d. d.value.name) (filter is_handed_in (values_of es))) → IsDistinct same_text (map (λ d. d.value.name) (cond b (e.1 ∷ filter is_handed_in (values_of es)) (filter is_handed_in (values_of es))))
-    by true rest = (apart es d.0 t.1, rest)
-    by false rest = rest
+values-distinct : (es : List (NameView × NodeView DirectiveDefinition)) → HasUniqueKeys same_text es → AllByRecursion (λ e. has_text e.0.text e.1 ≡ true) es → IsDistinct same_text (map (λ d. d.value.name) (filter is_handed_in (values_of es)))
+values-distinct es d t = distinct-filter same_text name_laws (λ d. d.value.name) is_handed_in (values_of es) (names-distinct es d t)
 
 distinct-back : (xs ys : List Root) → IsDistinct same_root (xs ++ ys) → IsDistinct same_root ys
 unfolding IsDistinct

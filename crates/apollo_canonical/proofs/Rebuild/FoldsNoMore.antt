@@ -37,14 +37,13 @@ use Rattle.apollo_schema.specs.declared.schema.Schema.{Schema}
 use Rattle.apollo_component.proofs.FirstOfEachLemmas.{name_laws}
 use Rattle.apollo_canonical.specs.WrittenAgain.{written_again}
 use Rattle.apollo_canonical.proofs.Rebuild.Canonical.{items-listed}
-use Rattle.apollo_canonical.proofs.Rebuild.Held.{extension_items, held_items}
 use Rattle.apollo_canonical.proofs.Rebuild.Numbers.{numbers_of, schema_numbers}
 use Rattle.apollo_canonical.proofs.Rebuild.OneSchema.{schema_extension_of, written_parts_of}
 use Rattle.apollo_canonical.proofs.Rebuild.SchemaWritten.{list-extended, list-schema_extensions}
 use Rattle.apollo_canonical.proofs.Rebuild.Tables.{each-entry}
 use Rattle.apollo_canonical.proofs.Rebuild.TypesAgain.{unique}
 use Rattle.apollo_canonical.proofs.Rebuild.OriginsOfParts.{schema-few, type-few}
-use Rattle.apollo_canonical.proofs.Rebuild.WrittenParts.{definition_part, extension_of, written}
+use Rattle.apollo_canonical.proofs.Rebuild.WrittenParts.{definition_part, extension_of, written, extension_items, held_items}
 
 -- how many extensions a list has, of types and of the schema
 abbrev pub extensions_in : List ListItem → ℕ

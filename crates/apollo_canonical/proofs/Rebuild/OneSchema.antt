@@ -1,6 +1,6 @@
 -- A schema definition that a list means, and the one that what is written of it means.
 use Rattle.std.proofs.Common.{◌≡◌, ℕ, List, [], ◌∷◌, ◌++◌, None, Option, Some, map, find, flat_map, length, option_map, slice_get, refl, sym, ap, ◌∙◌, ◌==◌}
-use Rattle.std.proofs.lemmas.List.{length-map, map-append}
+use Rattle.std.proofs.lemmas.List.{length-map}
 use Rattle.std.proofs.lemmas.Simd.{map-map}
 use Rattle.std.specs.List.{AllByRecursion, IsDistinct}
 use Rattle.std.specs.List.Sorted.{IsPermutation}
@@ -32,10 +32,10 @@ use Rattle.apollo_canonical.specs.Sections.{Sections, in_sections, joined, with_
 use Rattle.apollo_canonical.specs.TypeSections.{no_components, node_of, placed}
 use Rattle.apollo_canonical.proofs.ComponentsKept.{kept, origins-split, roots-there, HasOrigins, directives-in_order}
 use Rattle.apollo_canonical.proofs.FirstAppearance.{in_order}
-use Rattle.apollo_canonical.proofs.Kept.{find-first, find-made}
+use Rattle.apollo_canonical.proofs.Kept.{find-first, find-made, map-flat_map}
 use Rattle.apollo_canonical.proofs.TypeLemmas.{same-placed}
 use Rattle.apollo_canonical.proofs.Rebuild.Numbers.{directives_alone, numbered-distinct, numbered-written, numbered_parts, paired, paired-self, renumbered, renumbered-distinct, renumbered-placed}
-use Rattle.apollo_canonical.proofs.Rebuild.TypeAgain.{directives-numbered, shown-joined, shown-made}
+use Rattle.apollo_canonical.proofs.Rebuild.TypeAgain.{directives-numbered, shown-joined, shown-made, shown_in}
 use Rattle.apollo_canonical.proofs.Rebuild.SchemaSections.{IsSchemaRow, entries, is_op, roots-origin, roots_for, schema-components, schema-in_order, schema-row, schema_sections, schema_sorts, alone-permuted, filter-joined, from-values, in_operation_order, none-permuted, schema-parts_again}
 
 -- an extension's identity with what is written of it
@@ -165,15 +165,11 @@ module _ (d : SchemaDefinition) (m : IsMadeSchema d) (head : SchemaPart) (h : Is
 
   roots-listed : flat_map roots_of ((Definition, head) ∷ map schema_extension_source es) ≡ map named_entry (joined (λ d. d.roots) (with_origins p))
   roots-listed =
-      (λ i. (ap (map (root_under Definition)) h.roots ∙ one Definition p.definition.roots) i ++ (ap (flat_map roots_of) sourced ∙ later gs) i)
-      ∙ sym (map-append named_entry (map (λ x. (Definition, x)) p.definition.roots) (joined (λ d. d.roots) (map (λ e. (Extension e.0, e.1)) gs)))
+      ap (λ l. flat_map roots_of ((Definition, head) ∷ l)) sourced ∙ by_origin_listed all
+      ∙ ap (map named_entry) (λ i. originated Definition (h.roots i) ++ shown-joined (λ (s : SchemaPart). s.roots) (λ d. d.roots) (λ g. Extension g.0) schema_extension_of (λ g. g.1) (λ g. refl) gs i)
     where
-      one : (o : ComponentOrigin) (rs : List Root) → map (root_under o) rs ≡ map named_entry (originated o rs)
-      one o rs = sym (map-map named_entry (λ (x : Root). (o, x)) rs)
-
-      later : (fs : List (ExtensionId × DefinitionParts)) → flat_map roots_of (map (λ g. (Extension g.0, schema_extension_of g)) fs) ≡ map named_entry (joined (λ d. d.roots) (map (λ e. (Extension e.0, e.1)) fs))
-      later [] = refl
-      later (f ∷ fs) = (λ i. one (Extension f.0) f.1.roots i ++ later fs i) ∙ sym (map-append named_entry (map (λ x. (Extension f.0, x)) f.1.roots) (joined (λ d. d.roots) (map (λ e. (Extension e.0, e.1)) fs)))
+      by_origin_listed : (ps : List (ComponentOrigin × SchemaPart)) → flat_map roots_of ps ≡ map named_entry (shown_in (λ (s : SchemaPart). s.roots) ps)
+      by_origin_listed ps = sym (simp (map-flat_map, map-map))
 
   -- of each operation type there is the root that was there
   root-found : (op : OperationType) → root_in op ((Definition, head) ∷ map schema_extension_source es) ≡ option_map (λ x. component_name x.0 x.1.value.1) (slice_get (joined (roots_for op) (with_origins p)) 0)

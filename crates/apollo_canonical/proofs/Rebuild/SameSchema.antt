@@ -36,7 +36,7 @@ use Rattle.apollo_canonical.proofs.Rebuild.OneSchema.{IsSchemaAgain, IsWrittenHe
 use Rattle.apollo_canonical.proofs.Rebuild.SchemaMeant.{IsMeantSchema, first_schema-append, meant-schema, node-of, schema_node, schema_numbers-parts}
 use Rattle.apollo_canonical.proofs.Rebuild.SchemaSaid.{SameImplied, no-own, written-alike}
 use Rattle.apollo_canonical.proofs.Rebuild.SchemaWritten.{written_head}
-use Rattle.apollo_canonical.proofs.Rebuild.TypesAgain.{none-there, type-there}
+use Rattle.apollo_canonical.proofs.Rebuild.TypesAgain.{same-seen}
 use Rattle.apollo_canonical.proofs.Rebuild.WrittenList.{W, Y, Z, exts-Y, unwritten-Y, written-Y, ends, implicit-again, implicit-listed, implied_here, node, object_at, others, quiet, quiet-implied}
 use Rattle.graphql_nodes.specs.declared.source.SourceSpan.{SourceSpan}
 
@@ -96,13 +96,7 @@ module _ (laws : MeaningLaws) (schema : Schema) (list : IsMeantByList schema) (c
   m = meant-schema laws schema list
 
   object-same : (n : List ℕ) → is_some_object (lookup (by_text n) types_again) ≡ is_some_object (lookup (by_text n) types)
-  object-same n = by (lookup (by_text n) types) refl
-    where
-      by : (o : Option ExtendedType) → lookup (by_text n) types ≡ o → is_some_object (lookup (by_text n) types_again) ≡ is_some_object (lookup (by_text n) types)
-      by None e = ap is_some_object (none-there laws schema list c (others laws schema list c) end_items (quiet laws schema list c) (quiet-implied ys) again types_again are_again n e ∙ sym e)
-      by (Some t) e =
-          let there = type-there laws schema list c (others laws schema list c) end_items (quiet laws schema list c) (quiet-implied ys) again types_again are_again n t e in
-          ap is_some_object there.1 ∙ object-bare there.0 ∙ ap is_bare_object there.2.equal ∙ sym (object-bare t) ∙ sym (ap is_some_object e)
+  object-same = same-seen laws schema list c (others laws schema list c) end_items (quiet laws schema list c) (quiet-implied ys) again types_again are_again is_some_object (λ t u a. object-bare u ∙ ap is_bare_object a.equal ∙ sym (object-bare t))
 
   same_implied : SameImplied types types_again
   same_implied op = ap (λ b. cond b (Some (default_type_text op)) None) (object-same (default_type_text op))

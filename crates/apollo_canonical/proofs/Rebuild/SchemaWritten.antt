@@ -25,10 +25,9 @@ use Rattle.apollo_schema.specs.SchemaWriteOut.{write_directives}
 use Rattle.apollo_canonical.proofs.Kept.{each-map, each-of, filter-all}
 use Rattle.apollo_canonical.proofs.Rebuild.About.{Others, TheSchema, Topic, about, directives-about, first_schema-about, is_about, schema_extensions-about}
 use Rattle.apollo_canonical.proofs.Rebuild.Meant.{built_ins, no-extensions}
-use Rattle.apollo_canonical.proofs.Rebuild.Held.{document_items, document_items-append, extension_items, held_items}
 use Rattle.apollo_canonical.proofs.Rebuild.OneSchema.{schema_extension_of, written_parts_of}
 use Rattle.apollo_canonical.proofs.Rebuild.TypesAgain.{IsQuiet, extends-quiet}
-use Rattle.apollo_canonical.proofs.Rebuild.WrittenParts.{written, definition_part, extension_of}
+use Rattle.apollo_canonical.proofs.Rebuild.WrittenParts.{written, definition_part, extension_of, document_items, document_items-append, extension_items, held_items}
 
 no-schema-built_in : about TheSchema built_ins ≡ []
 unfolding built_in_definitions

@@ -33,13 +33,12 @@ use Rattle.apollo_canonical.proofs.FirstAppearance.{first_of_each-again, new_to_
 use Rattle.apollo_canonical.proofs.Kept.{each-both, each-from_map, filter-all, passes}
 use Rattle.apollo_canonical.proofs.Rebuild.About.{Name, about, is_about, first-about, extensions-about}
 use Rattle.apollo_canonical.proofs.Rebuild.Meant.{built_ins, built_in_names, about-built_ins, first-built_in, first-unmarked, handed, later_items, whole-split}
-use Rattle.apollo_canonical.proofs.Rebuild.Held.{held_items, extension_items, about-types, defines-types}
 use Rattle.apollo_canonical.proofs.Rebuild.Numbers.{numbers_of, numbers-rise, rising-distinct}
 use Rattle.apollo_canonical.proofs.Rebuild.OneType.{IsMade, IsAgain, made, rebuilt}
 use Rattle.apollo_canonical.proofs.Rebuild.OwnDefinition.{definition-own}
 use Rattle.apollo_canonical.proofs.Rebuild.Tables.{each-entry, values-by_keys, defined_names, defined_names-append, names-of_first, among-defined, first-key}
 use Rattle.apollo_canonical.proofs.Rebuild.TypeFaults.{Fits, fits-of_kind}
-use Rattle.apollo_canonical.proofs.Rebuild.WrittenParts.{written, definition_part, extension_of, kind-body}
+use Rattle.apollo_canonical.proofs.Rebuild.WrittenParts.{written, definition_part, extension_of, kind-body, held_items, extension_items, about-types, defines-types}
 
 -- a type of a list is made of its name's first definition
 pub record IsMeant (xs : List ListItem) (n : List ℕ) (t : ExtendedType) : Type 0 where
@@ -244,21 +243,20 @@ module _ (laws : MeaningLaws) (schema : Schema) (list : IsMeantByList schema) wh
       pub same_names : keys_of types_again ≡ keys_of types
       same_names = are_again.names ∙ names-again
 
-      -- what equal types give is the same
-      pub equal_types : entries_by_text bare_extended_type types_again ≡ entries_by_text bare_extended_type types
-      equal_types = λ i n. by n (lookup (by_text n) types) refl i
+      -- what sees the same of equal types sees the same under each name
+      pub same-seen : {R : Type 0} (see : Option ExtendedType → R) → ((t u : ExtendedType) → IsAgain t u → see (Some u) ≡ see (Some t)) → (n : List ℕ) → see (lookup (by_text n) types_again) ≡ see (lookup (by_text n) types)
+      same-seen see alike n = by (lookup (by_text n) types) refl
         where
-          by : (n : List ℕ) (o : Option ExtendedType) → lookup (by_text n) types ≡ o → option_map bare_extended_type (lookup (by_text n) types_again) ≡ option_map bare_extended_type (lookup (by_text n) types)
-          by n None e = ap (option_map bare_extended_type) (none-there n e ∙ sym e)
-          by n (Some t) e = ap (option_map bare_extended_type) (type-there n t e).1 ∙ ap Some (type-there n t e).2.equal ∙ sym (ap (option_map bare_extended_type) e)
+          by : (o : Option ExtendedType) → lookup (by_text n) types ≡ o → see (lookup (by_text n) types_again) ≡ see (lookup (by_text n) types)
+          by None e = ap see (none-there n e ∙ sym e)
+          by (Some t) e = ap see (type-there n t e).1 ∙ alike t (type-there n t e).0 (type-there n t e).2 ∙ sym (ap see e)
+
+      pub equal_types : entries_by_text bare_extended_type types_again ≡ entries_by_text bare_extended_type types
+      equal_types = λ i n. same-seen (option_map bare_extended_type) (λ t u a. ap Some a.equal) n i
 
       -- and so is what they are written out as
       pub same_written : {X : Type 0} (give : ExtendedType → List X) → ((t u : ExtendedType) → IsAgain t u → give u ≡ give t) → flat_map give (values_of types_again) ≡ flat_map give (values_of types)
       same_written give alike =
           values-by_keys give types_again (subst (IsDistinct same_text) (sym same_names) (unique laws start xs types are))
-          ∙ (λ i. flat_map (λ k. by k.text (lookup (by_text k.text) types) refl i) (same_names i))
+          ∙ (λ i. flat_map (λ k. same-seen (λ o. option_map_or give o []) alike k.text i) (same_names i))
           ∙ sym (values-by_keys give types (unique laws start xs types are))
-        where
-          by : (n : List ℕ) (o : Option ExtendedType) → lookup (by_text n) types ≡ o → option_map_or give (lookup (by_text n) types_again) [] ≡ option_map_or give (lookup (by_text n) types) []
-          by n None e = ap (λ o. option_map_or give o []) (none-there n e ∙ sym e)
-          by n (Some t) e = ap (λ o. option_map_or give o []) (type-there n t e).1 ∙ alike t (type-there n t e).0 (type-there n t e).2 ∙ sym (ap (λ o. option_map_or give o []) e)
