@@ -300,6 +300,6 @@ module _ {start : ℕ} {xs : List ListItem} {t : Tables} (was : Stands start xs 
     directives = subst (λ ds. AreDirectivesOf ds u.directive_definitions) (sym (filter_map-append directive_part xs (Other d ∷ []))) directives;
     waiting = same_waiting (Other d) u waiting refl refl;
     names = same_names (Other d) u (ap keys_of waiting) refl;
-    faults = more_faults (Other d) u (other_faults (directive_definitions xs) d) errors refl;
+    faults = more_faults (Other d) u (other_faults (directive_definitions xs) d) faults refl;
     next = next ∙ was.next ∙ ap source_at (sym at ∙ omega arith ∙ counted start xs (Other d) [] [] (next_number t.ids) at refl refl);
   }
