@@ -1,8 +1,10 @@
 pub mod Comparisons
 pub mod KeySetClones
+pub mod KeysTried
 pub mod LineColumnLemmas
 pub mod NameEquality
 pub mod PlaceEquality
+pub mod SameLength
 pub mod TableEquality
 pub mod TableLemmas
 pub mod Texts

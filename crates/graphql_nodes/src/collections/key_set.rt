@@ -3,7 +3,7 @@ ghost use Rattle.std.specs.Prelude.{◌≡◌, ◌==◌, ◌<◌, ◌^◌, [], l
 ghost use Rattle.std.specs.Cmp;
 ghost use Rattle.std.specs.Option.{option_copied};
 ghost use Rattle.std.specs.Map.Iter.{ShowsInOrder, deref};
-ghost use Rattle.std.specs.List.{find, list_any, IsDistinct};
+ghost use Rattle.std.specs.List.{find, list_all, list_any, IsDistinct};
 ghost use Rattle.graphql_nodes.specs.KeySets.{set_eq, set_eq_equiv, insert_key, remove_key, has_key, IsSetClone};
 
 use crate::collections::hash_keys::HashKeys;
@@ -155,6 +155,29 @@ impl<T: Eq + Hash> KeySet<T> {
     {
         self.set.iter()
     }
+
+    /// Whether a key equal to this one is there, as [`contains`](KeySet::contains) answers. No hash is made if it stands at
+    /// the place.
+    fn contains_from(&self, place: usize, key: &T) -> bool
+        ensures { result ≡ has_key (T.eq key.now) self.now }
+    {
+        match self.get_index(place) {
+            Some(there) if key == there => true,
+            _ => self.contains(key),
+        }
+    }
+
+    /// Whether the other set has each key of this one. That takes no hash where both have their keys in one order.
+    fn has_its_keys_in(&self, other: &KeySet<T>) -> bool
+        ensures { result ≡ list_all (λ k. has_key (T.eq k) other.now) self.now }
+    {
+        for (place, key) in self.as_slice().iter().enumerate() {
+            if !other.contains_from(place, key) {
+                return false;
+            }
+        }
+        true
+    }
 }
 
 impl<T: Eq + Hash + Drop> KeySet<T> {
@@ -193,8 +216,9 @@ impl<T: Eq + Hash> PartialEq for KeySet<T> {
 
     ghost laws = { Cmp.partial_equiv_from_equiv (set_eq_equiv T.eq T.Eq.laws) };
 
+    #[tactic(auto, using(crate::proofs::SameLength::sets_of_one_length, crate::proofs::SameLength::sets_of_two_lengths))]
     fn eq(&self, other: &KeySet<T>) -> bool {
-        self.set == other.set
+        self.len() == other.len() && self.has_its_keys_in(other)
     }
 }
 

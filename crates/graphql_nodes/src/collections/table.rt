@@ -5,7 +5,8 @@ ghost use Rattle.std.specs.Cmp;
 ghost use Rattle.std.specs.Cmp.{partial_equiv_from_equiv};
 ghost use Rattle.std.specs.HashMap.Eq.{hash_map_eq_symm, hash_map_eq_trans, hash_map_eq_refl};
 ghost use Rattle.std.specs.Map.Iter.{ShowsInOrder, ShowsValuesInOrder, deref, deref_pair};
-ghost use Rattle.std.specs.Option.{option_copied, option_copied_mut};
+ghost use Rattle.std.specs.List.{list_all};
+ghost use Rattle.std.specs.Option.{option_copied, option_copied_mut, option_eq};
 ghost use Rattle.graphql_nodes.specs.Tables.{keys_of, values_of, lookup, lookup_key, set_value, remove_entry, insert_entry, insert_all, set_value_at, as_map, table_eq, HasUniqueKeys, IsTableClone};
 
 use crate::collections::hash_keys::HashKeys;
@@ -209,6 +210,47 @@ impl<K: Eq + Hash, V> Table<K, V> {
     {
         self.map.values()
     }
+
+    /// The value at the key, if there is one, as [`get`](Table::get) finds it. No hash is made if its entry stands at the
+    /// place.
+    fn get_from(&self, place: usize, key: &K) -> Option<&V>
+        ensures { option_copied result ≡ lookup (K.eq key.now) self.now }
+    {
+        match self.map.get_index(place) {
+            Some((there, value)) if key == there => Some(value),
+            _ => self.map.get(key),
+        }
+    }
+
+    /// Whether an equal value stands at the key. No hash is made if its entry stands at the place.
+    fn has_from(&self, place: usize, key: &K, value: &V) -> bool
+    where
+        V: PartialEq,
+        ensures { result ≡ option_eq V.eq (Some value.now) (lookup (K.eq key.now) self.now) }
+    {
+        match self.get_from(place, key) {
+            Some(there) => value == there,
+            None => false,
+        }
+    }
+
+    /// Whether the other table has an equal value at each key of this one. That takes no hash where both have their keys
+    /// in one order.
+    fn has_its_values_in(&self, other: &Table<K, V>) -> bool
+    where
+        V: PartialEq,
+        ensures { result ≡ list_all (λ k. option_eq V.eq (lookup (K.eq k) self.now) (lookup (K.eq k) other.now)) (keys_of self.now) }
+    {
+        for place in 0..self.len() {
+            let Some((key, value)) = self.map.get_index(place) else {
+                break;
+            };
+            if !other.has_from(place, key, value) {
+                return false;
+            }
+        }
+        true
+    }
 }
 
 impl<K: Eq + Hash + Drop, V> Table<K, V> {
@@ -264,8 +306,9 @@ impl<K: Eq + Hash, V: PartialEq> PartialEq for Table<K, V> {
 
     ghost laws = { let v = V.laws in record { symm = λ a b. hash_map_eq_symm K.eq V.eq v.symm (as_map a) (as_map b); trans = λ a b c. hash_map_eq_trans K.eq V.eq K.Eq.laws v.trans (as_map a) (as_map b) (as_map c) } };
 
+    #[tactic(auto, using(crate::proofs::SameLength::tables_of_one_length, crate::proofs::SameLength::tables_of_two_lengths))]
     fn eq(&self, other: &Table<K, V>) -> bool {
-        self.map == other.map
+        self.len() == other.len() && self.has_its_values_in(other)
     }
 }
 
