@@ -128,6 +128,86 @@ fn tables(rt: HostRuntime) {
     assert!(rt; is_table_kept(table));
 }
 
+/// The table of these entries.
+fn table_of(alloc: Global, entries: &[(i32, char)]) -> Result<Table<i32, char>, AllocError> {
+    let mut table = Table::new(alloc);
+    for (key, value) in entries.iter() {
+        table.insert(*key, *value)?;
+    }
+    Ok(table)
+}
+
+/// Whether `==` answers so, whichever of the two stands first.
+fn compares<T: PartialEq>(a: &T, b: &T, equal: bool) -> bool {
+    (a == b) == equal && (b == a) == equal
+}
+
+/// Whether `==` answers so at the tables of these entries.
+fn compares_tables(
+    alloc: Global,
+    entries: &[(i32, char)],
+    others: &[(i32, char)],
+    equal: bool,
+) -> Result<bool, AllocError> {
+    Ok(compares(&table_of(alloc, entries)?, &table_of(alloc, others)?, equal))
+}
+
+const ENTRIES: [(i32, char); 4] = [(5, 'a'), (3, 'b'), (9, 'c'), (7, 'd')];
+
+#[test]
+fn tables_are_equal_in_any_order(rt: HostRuntime) {
+    let turned = [(7, 'd'), (9, 'c'), (3, 'b'), (5, 'a')];
+    let late = [(5, 'a'), (3, 'b'), (7, 'd'), (9, 'c')];
+    assert!(rt; compares_tables(rt.alloc(), &ENTRIES, &ENTRIES, true) == Ok(true));
+    assert!(rt; compares_tables(rt.alloc(), &ENTRIES, &turned, true) == Ok(true));
+    assert!(rt; compares_tables(rt.alloc(), &ENTRIES, &late, true) == Ok(true));
+}
+
+#[test]
+fn tables_that_differ_late_differ(rt: HostRuntime) {
+    let value = [(5, 'a'), (3, 'b'), (9, 'c'), (7, 'e')];
+    let key = [(5, 'a'), (3, 'b'), (9, 'c'), (8, 'd')];
+    let turned = [(5, 'a'), (3, 'b'), (7, 'd'), (9, 'e')];
+    assert!(rt; compares_tables(rt.alloc(), &ENTRIES, &value, false) == Ok(true));
+    assert!(rt; compares_tables(rt.alloc(), &ENTRIES, &key, false) == Ok(true));
+    assert!(rt; compares_tables(rt.alloc(), &ENTRIES, &turned, false) == Ok(true));
+}
+
+#[test]
+fn tables_of_two_lengths_differ(rt: HostRuntime) {
+    assert!(rt; compares_tables(rt.alloc(), &ENTRIES, &[], false) == Ok(true));
+    assert!(rt; compares_tables(rt.alloc(), &ENTRIES, &[(5, 'a'), (3, 'b')], false) == Ok(true));
+}
+
+/// The table of the tables of these entries, under these keys.
+fn nested(
+    alloc: Global,
+    keys: &[i32; 2],
+    first: &[(i32, char)],
+    second: &[(i32, char)],
+) -> Result<Table<i32, Table<i32, char>>, AllocError> {
+    let mut table = Table::new(alloc);
+    table.insert(keys[0], table_of(alloc, first)?)?;
+    table.insert(keys[1], table_of(alloc, second)?)?;
+    Ok(table)
+}
+
+/// Whether tables of tables are compared by their inner entries, in any order at both levels.
+fn are_nested_compared(alloc: Global) -> Result<bool, AllocError> {
+    let few = [(5, 'a')];
+    let turned = [(7, 'd'), (9, 'c'), (3, 'b'), (5, 'a')];
+    let late = [(7, 'd'), (9, 'c'), (3, 'b'), (5, 'e')];
+    let table = nested(alloc, &[1, 2], &few, &ENTRIES)?;
+    let same = nested(alloc, &[2, 1], &turned, &few)?;
+    let other = nested(alloc, &[2, 1], &late, &few)?;
+    Ok(compares(&table, &same, true) && compares(&table, &other, false))
+}
+
+#[test]
+fn tables_of_tables(rt: HostRuntime) {
+    assert!(rt; are_nested_compared(rt.alloc()) == Ok(true));
+}
+
 /// Whether three calls answer which keys are new.
 fn are_keys_inserted(set: &mut KeySet<i32>) -> bool {
     let is_new = [set.insert(5).ok(), set.insert(3).ok(), set.insert(5).ok()];
@@ -159,6 +239,33 @@ fn sets(rt: HostRuntime) {
     assert!(rt; are_keys_inserted(&mut set));
     assert!(rt; are_keys(&set) && is_copied(&set) && is_key_removed(&set));
     assert!(rt; is_set_kept(set));
+}
+
+/// The set of these keys.
+fn set_of(alloc: Global, keys: &[i32]) -> Result<KeySet<i32>, AllocError> {
+    let mut set = KeySet::new(alloc);
+    for key in keys.iter() {
+        set.insert(*key)?;
+    }
+    Ok(set)
+}
+
+/// Whether `==` answers so at the sets of these keys.
+fn compares_sets(
+    alloc: Global,
+    keys: &[i32],
+    others: &[i32],
+    equal: bool,
+) -> Result<bool, AllocError> {
+    Ok(compares(&set_of(alloc, keys)?, &set_of(alloc, others)?, equal))
+}
+
+#[test]
+fn sets_are_equal_in_any_order(rt: HostRuntime) {
+    assert!(rt; compares_sets(rt.alloc(), &[5, 3, 9], &[5, 3, 9], true) == Ok(true));
+    assert!(rt; compares_sets(rt.alloc(), &[5, 3, 9], &[5, 9, 3], true) == Ok(true));
+    assert!(rt; compares_sets(rt.alloc(), &[5, 3, 9], &[5, 3, 7], false) == Ok(true));
+    assert!(rt; compares_sets(rt.alloc(), &[5, 3, 9], &[5, 3], false) == Ok(true));
 }
 
 /// How many entries a table has room for once it has one.
