@@ -1,16 +1,8 @@
 -- What a list is completed with: types that are adopted, and the definition of the schema that is implied.
-use Rattle.std.proofs.Common.{◌≡◌, ℕ, ◌+◌, ◌<◌, Bool, true, false, ◌||◌, ◌&&◌, ◌==◌, not, if◌then◌else◌, get_or, take, drop, List, [], ◌∷◌, ◌++◌, Option, None, Some, length, map, refl, sym, ap, ◌∙◌, arith}
-use Rattle.std.proofs.lemmas.Bool.Decides.{nat_tests}
-use Rattle.std.specs.List.{list_any, cons_option}
-use Rattle.std.specs.Option.{option_map}
-use Rattle.std.proofs.lemmas.List.{take-append-drop}
-use Rattle.graphql_nodes.specs.NodeView.{NodeView}
+use Rattle.apollo_meaning.proofs.Prelude.{◌≡◌, ℕ, ◌+◌, ◌<◌, Bool, true, false, ◌||◌, ◌&&◌, ◌==◌, not, if◌then◌else◌, get_or, take, drop, List, [], ◌∷◌, ◌++◌, Option, None, Some, length, map, refl, sym, ap, ◌∙◌, arith, nat_tests, list_any, option_map, take-append-drop, NodeView, Definition, TypePart, schema_extension_part, Root, roots_in, Defined, SchemaDefined, item_of, extended_part, extended_parts, adopted_part, adopted_by, schema_for}
+use Rattle.std.specs.List.{cons_option}
 use Rattle.graphql_ast.specs.declared.type_system.SchemaExtension.{SchemaExtension}
-use Rattle.graphql_ast.specs.declared.definition.Definition.{Definition}
-use Rattle.apollo_meaning.specs.Items.Parts.{TypePart, schema_extension_part, Root, roots_in}
-use Rattle.apollo_meaning.specs.Items.ListItems.{Defined, SchemaDefined, item_of, extended_part, extended_parts}
-use Rattle.apollo_meaning.specs.Completion.Adoption.{adopted_part, adopted_by}
-use Rattle.apollo_meaning.specs.Completion.ImpliedSchema.{schema_of_roots, adopting_schema, rooted_schema, schema_for}
+use Rattle.apollo_meaning.specs.Completion.ImpliedSchema.{schema_of_roots, adopting_schema, rooted_schema}
 use Rattle.apollo_meaning.proofs.Order.FoldingLemmas.{extended_parts-append, extended_parts-turn}
 
 -- what the first extension of a type among definitions is adopted as

@@ -1,28 +1,11 @@
 -- What names mean among directive definitions with one more, and tables that hold it.
-use Rattle.std.proofs.Common.{◌≡◌, ℕ, Bool, true, false, cond, not, ◌&&◌, List, [], ◌∷◌, ◌++◌, map, filter, Option, Some, None, is_some, refl, sym, ap, ◌∙◌, true≢false}
-use Rattle.std.specs.List.{find, last_or, list_any}
-use Rattle.std.specs.Option.{option_or, unwrap_or}
-use Rattle.std.specs.Map.{lookup, keys_of, set_value}
-use Rattle.std.specs.Cmp.{IsEquivalence, on_equiv}
-use Rattle.std.specs.Cmp.Lexicographic.{nat_list_eq_equiv}
+use Rattle.apollo_meaning.proofs.Prelude.{◌≡◌, ℕ, Bool, true, false, cond, not, ◌&&◌, List, [], ◌∷◌, ◌++◌, map, filter, Option, Some, None, is_some, refl, sym, ap, ◌∙◌, true≢false, find, list_any, option_or, unwrap_or, lookup, keys_of, set_value, IsEquivalence, on_equiv, nat_list_eq_equiv, append-nil, map-append, filter-append, keys-set_value, insert_entry, NameView, NodeView, is_built_in, same_text, same, by_text, DirectiveDefinition, first_of_each, list_any-first_of_each, first_of_each-push_new, first_of_each-push_old, is_some-lookup, Directives, AreDirectivesOf, or-none, same-true}
+use Rattle.std.specs.List.{last_or}
 use Rattle.std.proofs.lemmas.Bool.{and_right}
-use Rattle.std.proofs.lemmas.List.{append-nil, map-append}
-use Rattle.std.proofs.lemmas.List.Elements.{filter-append}
 use Rattle.std.proofs.lemmas.List.Folds.{find-append}
-use Rattle.std.proofs.lemmas.Map.{keys-set_value}
-use Rattle.indexmap.specs.IndexMap.{insert_entry}
-use Rattle.graphql_nodes.specs.NameView.{NameView}
-use Rattle.graphql_nodes.specs.NodeView.{NodeView}
-use Rattle.graphql_nodes.specs.BuiltIn.{is_built_in}
-use Rattle.graphql_nodes.specs.SameText.{same_text, same, by_text}
-use Rattle.graphql_ast.specs.declared.type_system.DirectiveDefinition.{DirectiveDefinition}
-use Rattle.apollo_component.specs.FirstOfEach.{first_of_each}
-use Rattle.apollo_component.proofs.FirstOfEachLemmas.{list_any-first_of_each, first_of_each-push_new, first_of_each-push_old, is_some-lookup}
 use Rattle.apollo_meaning.specs.declared.build_error.BuildError.TheVariants as errors
-use Rattle.apollo_meaning.specs.Directives.{Directives, has_text, is_handed_in, directive_of, directive_names, AreDirectivesOf}
+use Rattle.apollo_meaning.specs.Directives.{has_text, is_handed_in, directive_of, directive_names}
 use Rattle.apollo_meaning.specs.Faults.OtherFaults.{directive_faults}
-use Rattle.apollo_component.proofs.Lists.Ends.{or-none}
-use Rattle.graphql_nodes.proofs.Texts.{same-true}
 use Rattle.apollo_folding.proofs.NameTables.{lookup-put, keys-put, lookup-write}
 
 last_or-push : {X : Type 0} (o : Option X) (xs : List X) (x : X) → last_or o (xs ++ x ∷ []) ≡ Some x

@@ -1,13 +1,5 @@
 -- What waits under names after a table of waiting lists was written.
-use Rattle.std.proofs.Common.{◌≡◌, ℕ, Bool, true, false, cond, List, [], ◌∷◌, ◌++◌, Option, Some, None, refl, sym, ap, ◌∙◌}
-use Rattle.std.specs.Map.{lookup, set_value}
-use Rattle.std.proofs.lemmas.List.{map-append}
-use Rattle.indexmap.specs.IndexMap.{insert_entry}
-use Rattle.graphql_nodes.specs.NameView.{NameView}
-use Rattle.graphql_nodes.specs.SameText.{same_text, same, by_text}
-use Rattle.graphql_ast.specs.declared.definition.Definition.{Definition}
-use Rattle.apollo_meaning.specs.Items.ListItems.{item_of, items_of, items_held}
-use Rattle.graphql_nodes.proofs.Texts.{same-true}
+use Rattle.apollo_meaning.proofs.Prelude.{◌≡◌, ℕ, Bool, true, false, cond, List, [], ◌∷◌, ◌++◌, Option, Some, None, refl, sym, ap, ◌∙◌, lookup, set_value, map-append, insert_entry, NameView, same_text, same, by_text, Definition, item_of, items_of, items_held, same-true}
 use Rattle.apollo_folding.proofs.NameTables.{lookup-put, lookup-write}
 
 held-cond : (b : Bool) (v : List Definition) (o : Option (List Definition)) → items_held (cond b (Some v) o) ≡ cond b (items_of v) (items_held o)

@@ -1,21 +1,8 @@
 -- What is wrong with extensions that join a type, one after another.
-use Rattle.std.proofs.Common.{◌≡◌, ℕ, ◌+◌, ◌<◌, true, false, get_or, take, List, [], ◌∷◌, ◌++◌, length, map, refl, sym, ap, ◌∙◌, append_assoc, codes, arith}
+use Rattle.apollo_meaning.proofs.Prelude.{◌≡◌, ℕ, ◌+◌, ◌<◌, true, false, get_or, take, List, [], ◌∷◌, ◌++◌, length, map, refl, sym, ap, ◌∙◌, append_assoc, arith, append-nil, map-append, filter-append, TypeKind, Definition, each_after, each_after-append, each_after-start, TypePart, kind_of, same_kind, extended_parts, of_kind, Sourced, extension_part, numbered, Fault, joining_faults, codes}
 use Rattle.std.proofs.lemmas.Bool.{false_from_ne_true}
-use Rattle.std.proofs.lemmas.List.{append-nil, map-append}
-use Rattle.std.proofs.lemmas.List.Elements.{filter-append}
 use Rattle.graphql_nodes.specs.KindTexts.{kind_text, kind_extension_text}
-use Rattle.graphql_nodes.specs.declared.type_kind.TypeKind.{TypeKind}
-use Rattle.graphql_ast.specs.declared.definition.Definition.{Definition}
-use Rattle.apollo_component.specs.EachAfter.{each_after}
-use Rattle.apollo_component.proofs.Lists.EachAfter.{each_after-append, each_after-start}
-use Rattle.apollo_meaning.specs.Items.Parts.{TypePart, kind_of, same_kind}
-use Rattle.apollo_meaning.specs.Items.ListItems.{extended_parts}
-use Rattle.apollo_meaning.specs.Items.Named.{of_kind}
-use Rattle.apollo_meaning.specs.Types.Components.{Sourced}
-use Rattle.apollo_meaning.specs.Types.Meaning.{extension_part, numbered}
-use Rattle.apollo_meaning.specs.Faults.Collisions.{Fault}
 use Rattle.apollo_meaning.specs.Faults.TypeFaults.{joining_fault}
-use Rattle.apollo_meaning.specs.Steps.Joining.{joining_faults}
 use Rattle.apollo_meaning.proofs.Order.FoldingLemmas.{extended_parts-turn}
 
 same_kind-true : (a b : TypeKind) → same_kind a b ≡ true → a ≡ b

@@ -1,12 +1,12 @@
 -- A name put into a set of names: it goes last, unless it is there.
-use Rattle.std.proofs.Common.{◌≡◌, false, [], ◌∷◌, ◌++◌, List, Option, Some, None, is_some, refl, sym, ap, ◌∙◌, true≢false, map, if◌then◌else◌}
-use Rattle.std.specs.List.{find, list_any}
-use Rattle.std.specs.Option.{option_map}
-use Rattle.graphql_nodes.specs.SameText.{same_text}
-use Rattle.apollo_component.specs.declared.component.ComponentName.{ComponentName}
+use Rattle.apollo_meaning.proofs.Prelude.{◌≡◌, false, [], ◌∷◌, ◌++◌, List, Option, Some, None, is_some, refl, sym, ap, ◌∙◌, true≢false, map, if◌then◌else◌, find, list_any, option_map, same_text, ComponentName, same_component_name, distinct_names}
 use Rattle.apollo_component.proofs.LaterLemmas.{found-any}
-use Rattle.apollo_meaning.specs.Types.Components.{same_component_name, distinct_names}
 use Rattle.apollo_meaning.proofs.Faults.KeptLemmas.{component_name_laws, found-name, kept-old, kept-put}
+
+-- what isn't there is none
+pub none-of : {X : Type 0} (o : Option X) → is_some o ≡ false → o ≡ None
+none-of None h = refl
+none-of (Some x) h = absurd (true≢false h)
 
 module _ (ks : List ComponentName) (x : ComponentName) where
   abbrev there : Option ComponentName
@@ -22,8 +22,4 @@ module _ (ks : List ComponentName) (x : ComponentName) where
           ∙ kept-old same_component_name component_name_laws ks x k is
 
   pub name-nowhere : list_any (same_component_name x) (distinct_names ks) ≡ false → find (same_text x.name) (map (λ k. k.name) ks) ≡ None
-  name-nowhere absent = found-name x ks ∙ ap (option_map (λ (k : ComponentName). k.name)) (by there refl (found-any (same_component_name x) (distinct_names ks) ∙ absent))
-    where
-      by : (o : Option ComponentName) → there ≡ o → is_some o ≡ false → there ≡ None
-      by None is t = is
-      by (Some k) is t = absurd (true≢false t)
+  name-nowhere absent = found-name x ks ∙ ap (option_map (λ (k : ComponentName). k.name)) (none-of there (found-any (same_component_name x) (distinct_names ks) ∙ absent))

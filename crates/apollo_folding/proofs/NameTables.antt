@@ -1,15 +1,7 @@
 -- Tables under names, looked up by text.
-use Rattle.std.proofs.Common.{◌≡◌, ℕ, Bool, true, false, cond, List, [], ◌∷◌, ◌++◌, Some, None, is_some, IsSome, unwrap_or, refl, sym, ap, ◌∙◌, true≢false}
-use Rattle.std.specs.Map.{lookup, lookup_key, keys_of, set_value}
-use Rattle.std.specs.Cmp.{on_equiv}
-use Rattle.std.specs.Cmp.Lexicographic.{nat_list_eq_equiv}
+use Rattle.apollo_meaning.proofs.Prelude.{◌≡◌, ℕ, Bool, true, false, cond, List, [], ◌∷◌, ◌++◌, Some, None, is_some, refl, sym, ap, ◌∙◌, true≢false, lookup, lookup_key, keys_of, set_value, on_equiv, nat_list_eq_equiv, map-append, insert_entry, NameView, same_text, same, by_text, is_some-lookup, same-true, same-is, same-flip, IsSome, unwrap_or}
 use Rattle.std.proofs.lemmas.Map.{lookup-set_value}
-use Rattle.std.proofs.lemmas.List.{map-append}
-use Rattle.indexmap.specs.IndexMap.{insert_entry}
-use Rattle.graphql_nodes.specs.NameView.{NameView}
-use Rattle.graphql_nodes.specs.SameText.{same_text, same, by_text}
-use Rattle.apollo_component.proofs.FirstOfEachLemmas.{is_some-lookup, insert_entry-last}
-use Rattle.graphql_nodes.proofs.Texts.{same-true, same-is, same-flip}
+use Rattle.apollo_component.proofs.FirstOfEachLemmas.{insert_entry-last}
 
 module _ {V : Type 0} where
   -- an entry that is put is found under its text, and each other as before

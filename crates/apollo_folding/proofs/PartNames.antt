@@ -1,14 +1,8 @@
 -- The names of what parts have in a collection, joined.
-use Rattle.std.proofs.Common.{◌≡◌, List, [], ◌∷◌, ◌++◌, map, refl, ◌∙◌}
-use Rattle.std.specs.List.{flat_map}
-use Rattle.std.specs.Map.{keys_of}
-use Rattle.std.proofs.lemmas.List.{map-append, map-id}
-use Rattle.std.proofs.lemmas.Simd.{map-map}
-use Rattle.graphql_nodes.specs.NameView.{NameView}
-use Rattle.apollo_component.specs.declared.component.ComponentName.{ComponentName}
-use Rattle.apollo_meaning.specs.Items.Parts.{TypePart}
-use Rattle.apollo_meaning.specs.Types.Components.{Sourced, component_name, body_interfaces, body_fields, body_members, body_values, body_input_fields, interfaces_of, members_of, fields_of, values_of, input_fields_of, field_entry, value_entry, input_field_entry}
-use Rattle.apollo_meaning.specs.Faults.TypeFaults.{interface_names, member_names, field_names, value_names, input_field_names}
+use Rattle.apollo_meaning.proofs.Prelude.{◌≡◌, List, [], ◌∷◌, ◌++◌, map, refl, ◌∙◌, flat_map, keys_of, map-append, map-map, NameView, ComponentName, TypePart, Sourced, component_name, interfaces_of, fields_of, interface_names, field_names}
+use Rattle.std.proofs.lemmas.List.{map-id}
+use Rattle.apollo_meaning.specs.Types.Components.{body_interfaces, body_fields, body_members, body_values, body_input_fields, members_of, values_of, input_fields_of, field_entry, value_entry, input_field_entry}
+use Rattle.apollo_meaning.specs.Faults.TypeFaults.{member_names, value_names, input_field_names}
 
 -- where the names of each part's components are those of the part, the names of all are those of the parts
 module _ {X : Type 0} (of : Sourced → List X) (name : X → NameView) (of_part : TypePart → List NameView) (one : (s : Sourced) → map name (of s) ≡ of_part s.1) where

@@ -1,29 +1,13 @@
 -- The roots of a schema definition and its extensions, one after another.
-use Rattle.std.proofs.Common.{◌≡◌, ℕ, ◌+◌, ◌<◌, Bool, true, false, cond, get_or, take, List, [], ◌∷◌, ◌++◌, Option, None, Some, length, map, refl, sym, ap, ◌∙◌, append_assoc}
-use Rattle.std.specs.List.{find, flat_map}
-use Rattle.std.specs.Option.{option_map, option_map_or, option_or}
-use Rattle.std.proofs.lemmas.List.{append-nil, map-append, take_more}
+use Rattle.apollo_meaning.proofs.Prelude.{◌≡◌, ℕ, ◌+◌, ◌<◌, Bool, true, false, cond, get_or, take, List, [], ◌∷◌, ◌++◌, Option, None, Some, length, map, refl, sym, ap, ◌∙◌, append_assoc, find, flat_map, option_map, option_map_or, option_or, append-nil, map-append, take_more, flat_map-append, map-map, NameView, OperationType, Query, Mutation, Subscription, each_after, each_after-push, each_after-start, ComponentName, SchemaDefinition, enumerate_from-append, or-none, Fault, SchemaPart, Root, roots_in, SourcedSchema, schema_definition_of, schema_faults, schema_numbered}
 use Rattle.std.proofs.lemmas.List.Folds.{find-append}
-use Rattle.std.proofs.lemmas.Grind.{flat_map-append}
-use Rattle.std.proofs.lemmas.Simd.{map-map}
-use Rattle.graphql_nodes.specs.NameView.{NameView}
 use Rattle.graphql_nodes.specs.OperationTexts.{operation_text}
-use Rattle.graphql_nodes.specs.declared.operation_type.OperationType.{OperationType}
-use Rattle.graphql_nodes.specs.declared.operation_type.OperationType.TheVariants.{Query, Mutation, Subscription}
-use Rattle.apollo_component.specs.EachAfter.{each_after}
-use Rattle.apollo_component.proofs.Lists.EachAfter.{each_after-push, each_after-start}
-use Rattle.apollo_component.specs.declared.component.ComponentName.{ComponentName}
 use Rattle.apollo_component.specs.declared.extension.ComponentOrigin.{ComponentOrigin}
 use Rattle.apollo_types.specs.SchemaRoots.{root_of}
-use Rattle.apollo_types.specs.declared.schema_definition.SchemaDefinition.{SchemaDefinition}
-use Rattle.apollo_component.proofs.Lists.Ends.{enumerate_from-append, or-none}
 use Rattle.apollo_meaning.specs.declared.build_error.BuildError.TheVariants as errors
-use Rattle.apollo_meaning.specs.Faults.Collisions.{Fault}
-use Rattle.apollo_meaning.specs.Items.Parts.{SchemaPart, Root, roots_in}
-use Rattle.apollo_meaning.specs.Schema.Definition.{SourcedSchema, same_operation, schema_directives_of, roots_of, schema_definition_of}
-use Rattle.apollo_meaning.specs.Faults.RootFaults.{root_fault, root_faults, schema_faults}
+use Rattle.apollo_meaning.specs.Schema.Definition.{same_operation, schema_directives_of, roots_of}
+use Rattle.apollo_meaning.specs.Faults.RootFaults.{root_fault, root_faults}
 use Rattle.apollo_folding.specs.RootTables.{NamedRoot, named_root, first_named, with_roots, put_root, held_fault, held_faults}
-use Rattle.apollo_meaning.specs.Steps.Joining.{schema_numbered}
 
 -- one more root
 first-push : (op : OperationType) (rs : List NamedRoot) (r : NamedRoot) → first_named op (rs ++ r ∷ []) ≡ option_or (first_named op rs) (cond (same_operation op r.0) (Some r.1) None)

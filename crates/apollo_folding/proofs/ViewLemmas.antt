@@ -1,6 +1,5 @@
 -- What follows from how a definition is seen.
-use Rattle.std.proofs.Common.{◌≡◌, None, refl}
-use Rattle.apollo_meaning.specs.Items.ListItems.{extended_part}
+use Rattle.apollo_meaning.proofs.Prelude.{◌≡◌, None, refl, extended_part}
 use Rattle.apollo_folding.specs.declared.views.PartView.{PartView}
 use Rattle.apollo_folding.specs.declared.views.ItemView.{ItemView}
 use Rattle.apollo_folding.specs.declared.views.ItemView.TheVariants as items

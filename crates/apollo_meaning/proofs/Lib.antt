@@ -5,3 +5,4 @@ pub mod Items
 pub mod Order
 pub mod Schema
 pub mod Types
+pub mod Prelude

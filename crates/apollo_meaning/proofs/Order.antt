@@ -1,4 +1,5 @@
 pub mod FoldingLemmas
 pub mod LongerLemmas
+pub mod MomentLemmas
 pub mod OnceLemmas
 pub mod PlaceLemmas

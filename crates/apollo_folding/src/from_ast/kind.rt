@@ -70,7 +70,7 @@ pub fn fold_into<K: Kind>(
 ) -> Result<(), AllocError>
     ensures folded { OnOk result (kind_of (part_seen part.now) ≡ K.kind → JoinsOne K.made node.old.value origin (part_seen part.now) node.new.value) }
     ensures faults { OnOk result (kind_of (part_seen part.now) ≡ K.kind → FindsOne K.made node.old.value (part_seen part.now) faults.old faults.new) }
-    ensures place { OnOk result (node.new.location ≡ node.old.location) }
+    ensures location { OnOk result (node.new.location ≡ node.old.location) }
 {
     let ty = node.make_mut()?;
     ty.fold(part, origin, faults)

@@ -1,27 +1,8 @@
 -- What a list that is completed at its end leaves without a definition, and what is found in it.
-use Rattle.std.proofs.Common.{◌≡◌, ℕ, Bool, true, false, cond, not, ◌==◌, List, [], ◌∷◌, ◌++◌, length, filter, map, Option, Some, None, is_some, refl, sym, ap, subst, ◌∙◌, arith}
-use Rattle.std.specs.List.{AllByRecursion, filter_map, flat_map, list_any}
-use Rattle.std.specs.Option.{option_map_or, option_or}
-use Rattle.std.specs.Cmp.Lexicographic.{nat_list_eq_equiv}
-use Rattle.std.proofs.lemmas.Bool.Decides.{nat_tests}
-use Rattle.std.proofs.lemmas.List.{append-nil}
-use Rattle.std.proofs.lemmas.List.Elements.{filter_map-append}
-use Rattle.apollo_component.proofs.FirstOfEachLemmas.{list_any-first_of_each}
-use Rattle.apollo_component.specs.EachAfter.{each_after}
+use Rattle.apollo_meaning.proofs.Prelude.{◌≡◌, ℕ, Bool, true, false, cond, not, ◌==◌, List, [], ◌∷◌, ◌++◌, length, filter, map, Option, Some, None, is_some, refl, sym, ap, subst, ◌∙◌, arith, AllByRecursion, filter_map, flat_map, list_any, option_map_or, option_or, nat_list_eq_equiv, nat_tests, append-nil, filter_map-append, list_any-first_of_each, each_after, TypePart, key_of, ListItem, extended_part, same, first, extensions_of, Fault, orphan, schema_orphan, extended_names, orphans_of, schema_orphans, adopted_part, adopted_by, adopted, with_adopted, implied_schema, completed, found_at, found, same-true}
 use Rattle.apollo_meaning.proofs.Items.ItemLemmas.{first-append}
-use Rattle.apollo_meaning.specs.Items.Parts.{TypePart, key_of}
-use Rattle.apollo_meaning.specs.Items.ListItems.{ListItem, extended_part}
-use Rattle.graphql_nodes.specs.SameText.{same}
-use Rattle.apollo_meaning.specs.Items.Named.{first, extensions_of}
-use Rattle.apollo_meaning.specs.Faults.Collisions.{Fault}
-use Rattle.apollo_meaning.specs.Faults.TypeFaults.{orphan}
-use Rattle.apollo_meaning.specs.Faults.RootFaults.{schema_orphan}
-use Rattle.apollo_meaning.specs.Completion.Adoption.{extended_names, orphans_of, schema_orphans, adopted_part, adopted_by, adopted, with_adopted}
-use Rattle.apollo_meaning.specs.Completion.ImpliedSchema.{implied_schema, completed}
 use Rattle.apollo_meaning.specs.Faults.ListFaults.{found_from, faults_in}
 use Rattle.apollo_meaning.specs.Completion.OrphanNames.{first_name, orphan_names}
-use Rattle.apollo_meaning.specs.Steps.Prefixes.{found_at, found}
-use Rattle.graphql_nodes.proofs.Texts.{same-true}
 use Rattle.apollo_meaning.proofs.Faults.FoundLemmas.{found_after-order, found_in-order}
 use Rattle.apollo_meaning.proofs.Completion.OrphanLemmas.{no_extension}
 

@@ -1,29 +1,11 @@
 -- What waits to the end is what has no definition.
-use Rattle.std.proofs.Common.{◌≡◌, ℕ, Bool, true, false, cond, not, ◌||◌, ◌==◌, List, [], ◌∷◌, ◌++◌, length, map, Option, Some, None, is_some, filter, refl, sym, ap, subst, ◌∙◌, arith}
-use Rattle.std.specs.List.{filter_map, flat_map, list_any, IsDistinct}
-use Rattle.std.specs.Option.{option_map_or}
-use Rattle.std.specs.Cmp.Lexicographic.{nat_list_eq_equiv}
-use Rattle.std.specs.Map.{lookup, keys_of, values_of}
-use Rattle.std.proofs.lemmas.Bool.Decides.{nat_tests}
-use Rattle.std.proofs.lemmas.List.{append-nil, map-append}
-use Rattle.std.proofs.lemmas.List.Elements.{filter-append, filter_map-append}
-use Rattle.std.proofs.lemmas.List.Folds.{flat_map-map, list_any-append}
+use Rattle.apollo_meaning.proofs.Prelude.{◌≡◌, ℕ, Bool, true, false, cond, not, ◌||◌, ◌==◌, List, [], ◌∷◌, ◌++◌, length, map, Option, Some, None, is_some, filter, refl, sym, ap, subst, ◌∙◌, arith, filter_map, flat_map, list_any, option_map_or, nat_list_eq_equiv, lookup, keys_of, nat_tests, append-nil, map-append, filter-append, filter_map-append, list_any-append, NameView, same_text, same, by_text, Definition, first_of_each, first_of_each-push_new, first_of_each-push_old, is_some-lookup, list_any-first_of_each, name_laws, filter_map-push_none, snoc_ind, TypePart, key_of, ListItem, Defined, Extended, SchemaDefined, SchemaExtended, Other, extended_part, items_of, extended_parts, items_held, first, extensions_of, types, Placed, first_place, extended_names, orphans_of, adopted_by, adopted, waited_at, waited, same-true, same-is, same-flip, flat_map-each}
+use Rattle.std.specs.List.{IsDistinct}
+use Rattle.std.specs.Map.{values_of}
+use Rattle.std.proofs.lemmas.List.Folds.{flat_map-map}
 use Rattle.std.proofs.lemmas.Map.Keys.{IsDistinct-head, IsDistinct-tail, IsDistinct-push}
-use Rattle.graphql_nodes.specs.NameView.{NameView}
 use Rattle.graphql_nodes.specs.Tables.{HasUniqueKeys}
-use Rattle.graphql_nodes.specs.SameText.{same_text, same, by_text}
-use Rattle.graphql_ast.specs.declared.definition.Definition.{Definition}
-use Rattle.apollo_component.specs.FirstOfEach.{first_of_each}
-use Rattle.apollo_component.proofs.FirstOfEachLemmas.{first_of_each-push_new, first_of_each-push_old, is_some-lookup, list_any-first_of_each, name_laws}
-use Rattle.apollo_component.proofs.Lists.Ends.{filter_map-made, filter_map-push_none, snoc_ind}
-use Rattle.apollo_meaning.specs.Items.Parts.{TypePart, key_of}
-use Rattle.apollo_meaning.specs.Items.ListItems.{ListItem, Defined, Extended, SchemaDefined, SchemaExtended, Other, extended_part, items_of, extended_parts, items_held}
-use Rattle.apollo_meaning.specs.Items.Named.{first, extensions_of}
-use Rattle.apollo_meaning.specs.Order.Places.{types, Placed, first_place}
-use Rattle.apollo_meaning.specs.Completion.Adoption.{extended_names, orphans_of, adopted_by, adopted}
-use Rattle.apollo_meaning.specs.Steps.Prefixes.{waited_at, waited}
-use Rattle.graphql_nodes.proofs.Texts.{same-true, same-is, same-flip}
-use Rattle.apollo_component.proofs.Lists.Each.{flat_map-each}
+use Rattle.apollo_component.proofs.Lists.Ends.{filter_map-made}
 use Rattle.apollo_meaning.proofs.Items.ItemLemmas.{first-push_undefined, waited-push}
 use Rattle.apollo_meaning.proofs.Order.PlaceLemmas.{first-none, first-some, first_place-stays}
 

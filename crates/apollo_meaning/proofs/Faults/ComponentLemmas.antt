@@ -1,26 +1,13 @@
 -- What is at fault among the components of a type, definition and extensions joined, is what `first_of_each` drops.
-use Rattle.std.proofs.Common.{◌≡◌, ℕ, Bool, true, false, cond, ◌&&◌, List, [], ◌∷◌, ◌++◌, map, Option, Some, None, filter, refl, sym, ap, ◌∙◌, true≢false, append_assoc}
+use Rattle.apollo_meaning.proofs.Prelude.{◌≡◌, ℕ, Bool, true, false, cond, ◌&&◌, List, [], ◌∷◌, ◌++◌, map, Option, Some, None, filter, refl, sym, ap, ◌∙◌, true≢false, append_assoc, find, flat_map, option_map, option_map_or, IsEquivalence, on_equiv, flat_map-append, append-nil, map-append, filter-append, map-map, NameView, same_text, first_of_each, each_after, each_after-append, Collection, TypePart, TypeBody, ScalarBody, ObjectBody, InterfaceBody, UnionBody, EnumBody, InputObjectBody, Fault, Entry, collision, collision_at, collisions, name_entries, field_entries, body_faults, part_faults}
 use Rattle.std.specs.Prelude.{nat_eq}
-use Rattle.std.specs.List.{find, flat_map}
-use Rattle.std.specs.Option.{option_map, option_map_or}
-use Rattle.std.specs.Cmp.{IsEquivalence, on_equiv}
 use Rattle.std.proofs.lemmas.Cmp.{nat_eq_equiv}
-use Rattle.std.proofs.lemmas.Grind.{flat_map-append}
-use Rattle.std.proofs.lemmas.List.{append-nil, map-append}
-use Rattle.std.proofs.lemmas.List.Elements.{filter-append}
-use Rattle.std.proofs.lemmas.Simd.{map-map}
-use Rattle.graphql_nodes.specs.NameView.{NameView}
-use Rattle.graphql_nodes.specs.SameText.{same_text}
-use Rattle.apollo_component.specs.FirstOfEach.{first_of_each, later_of_each}
-use Rattle.apollo_component.specs.EachAfter.{each_after}
-use Rattle.apollo_component.proofs.Lists.EachAfter.{each_after-append}
+use Rattle.apollo_component.specs.FirstOfEach.{later_of_each}
 use Rattle.apollo_component.proofs.LaterLemmas.{saying, said, said-later}
-use Rattle.apollo_meaning.specs.declared.collision.Collection.{Collection}
 use Rattle.apollo_meaning.specs.declared.collision.Collection.TheVariants as c
-use Rattle.apollo_meaning.specs.Items.Parts.{TypePart, TypeBody, ScalarBody, ObjectBody, InterfaceBody, UnionBody, EnumBody, InputObjectBody}
 use Rattle.apollo_meaning.specs.Types.Components.{body_interfaces, body_members, body_fields, body_values, body_input_fields}
-use Rattle.apollo_meaning.specs.Faults.Collisions.{Fault, Entry, collision, collision_at, collisions, same_name}
-use Rattle.apollo_meaning.specs.Faults.TypeFaults.{name_entries, field_entries, value_entries, input_field_entries, body_faults, part_faults}
+use Rattle.apollo_meaning.specs.Faults.Collisions.{same_name}
+use Rattle.apollo_meaning.specs.Faults.TypeFaults.{value_entries, input_field_entries}
 use Rattle.apollo_meaning.specs.Faults.TypeComponents.{TypeComponent, component_in, body_components, components_of, what_is_held, same_component, dropped_from_type, joined_faults}
 use Rattle.apollo_meaning.proofs.Faults.DroppedLemmas.{same_name_laws}
 

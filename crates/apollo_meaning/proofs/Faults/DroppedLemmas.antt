@@ -1,29 +1,13 @@
 -- What is at fault among components and roots is what `first_of_each` drops.
-use Rattle.std.proofs.Common.{◌≡◌, ◌+◌, Bool, true, false, cond, List, [], ◌∷◌, ◌++◌, length, map, take, Some, refl, sym, ap, ◌∙◌, true≢false}
-use Rattle.std.specs.List.{find, flat_map}
-use Rattle.std.specs.Option.{option_map_or}
-use Rattle.std.specs.Cmp.{IsEquivalence, on_equiv}
-use Rattle.std.proofs.lemmas.Grind.{flat_map-append}
-use Rattle.std.proofs.lemmas.List.{append-nil, length-map, map-append}
-use Rattle.graphql_nodes.specs.NameView.{NameView}
-use Rattle.graphql_nodes.specs.SameText.{same_text}
+use Rattle.apollo_meaning.proofs.Prelude.{arith, ◌≡◌, ◌+◌, Bool, true, false, cond, List, [], ◌∷◌, ◌++◌, length, map, take, Some, refl, sym, ap, ◌∙◌, find, flat_map, option_map_or, IsEquivalence, on_equiv, flat_map-append, append-nil, map-append, NameView, same_text, OperationType, first_of_each, each_after, each_after-append, each_after-start, Collection, Fault, Entry, collision, collision_at, collisions, SchemaPart, Root, roots_in, ListItem, schema_extensions, schema_faults, schema_joining_faults, schemas, Placed, extension_places, first_place}
+use Rattle.std.proofs.lemmas.List.{length-map}
 use Rattle.graphql_nodes.specs.OperationTexts.{operation_text}
-use Rattle.graphql_nodes.specs.declared.operation_type.OperationType.{OperationType}
-use Rattle.graphql_nodes.specs.declared.operation_type.OperationType.TheVariants.{Query, Mutation, Subscription}
-use Rattle.apollo_component.specs.FirstOfEach.{first_of_each, later_of_each}
-use Rattle.apollo_component.specs.EachAfter.{each_after}
-use Rattle.apollo_component.proofs.Lists.EachAfter.{each_after-append, each_after-start}
+use Rattle.apollo_component.specs.FirstOfEach.{later_of_each}
 use Rattle.apollo_component.proofs.LaterLemmas.{saying, said, said-later, length-first_later}
-use Rattle.apollo_meaning.specs.declared.collision.Collection.{Collection}
 use Rattle.apollo_meaning.specs.declared.build_error.BuildError.TheVariants as errors
-use Rattle.apollo_meaning.specs.Faults.Collisions.{Fault, Entry, collision, collision_at, collisions, same_name, dropped_component}
-use Rattle.apollo_meaning.specs.Items.Parts.{SchemaPart, Root, roots_in}
-use Rattle.apollo_meaning.specs.Items.ListItems.{ListItem}
-use Rattle.apollo_meaning.specs.Items.Named.{schema_extensions}
+use Rattle.apollo_meaning.specs.Faults.Collisions.{same_name, dropped_component}
 use Rattle.apollo_meaning.specs.Schema.Definition.{same_operation}
-use Rattle.apollo_meaning.specs.Faults.RootFaults.{root_fault, root_faults, same_root, dropped_root, schema_faults}
-use Rattle.apollo_meaning.specs.Steps.Joining.{schema_joining_faults}
-use Rattle.apollo_meaning.specs.Order.Places.{schemas, Placed, extension_places, first_place}
+use Rattle.apollo_meaning.specs.Faults.RootFaults.{root_fault, root_faults, same_root, dropped_root}
 use Rattle.apollo_meaning.specs.Faults.ListFaults.{found_of_schema}
 use Rattle.apollo_component.proofs.FirstOfEachLemmas.{entry_laws}
 use Rattle.apollo_meaning.proofs.Faults.FoundLemmas.{schema_faults_with-joining}
@@ -72,31 +56,13 @@ operation_laws : IsEquivalence same_operation
 operation_laws = record { refl = same; symm = flip; congr = through }
   where
     same : (a : OperationType) → same_operation a a ≡ true
-    same Query = refl
-    same Mutation = refl
-    same Subscription = refl
+    same a = grind arith
 
     flip : (a b : OperationType) → same_operation a b ≡ same_operation b a
-    flip Query Query = refl
-    flip Query Mutation = refl
-    flip Query Subscription = refl
-    flip Mutation Query = refl
-    flip Mutation Mutation = refl
-    flip Mutation Subscription = refl
-    flip Subscription Query = refl
-    flip Subscription Mutation = refl
-    flip Subscription Subscription = refl
+    flip a b = grind arith
 
     through : (a b d : OperationType) → same_operation a b ≡ true → same_operation a d ≡ same_operation b d
-    through Query Query d e = refl
-    through Query Mutation d e = absurd (true≢false (sym e))
-    through Query Subscription d e = absurd (true≢false (sym e))
-    through Mutation Query d e = absurd (true≢false (sym e))
-    through Mutation Mutation d e = refl
-    through Mutation Subscription d e = absurd (true≢false (sym e))
-    through Subscription Query d e = absurd (true≢false (sym e))
-    through Subscription Mutation d e = absurd (true≢false (sym e))
-    through Subscription Subscription d e = refl
+    through a b d e = grind arith
 
 pub same_root_laws : IsEquivalence same_root
 same_root_laws = on_equiv (λ r. r.value.0) operation_laws

@@ -1,31 +1,15 @@
 -- What is found by places, moment by moment, is what the code finds.
-use Rattle.std.proofs.Common.{◌≡◌, ℕ, ◌<◌, Bool, true, false, cond, ◌==◌, List, [], ◌∷◌, ◌++◌, length, take, zero, suc, Option, Some, None, is_some, filter, slice_get, refl, sym, ap, ◌∙◌, arith}
-use Rattle.std.specs.List.{filter_map, flat_map}
-use Rattle.std.specs.Option.{option_map, option_map_or, unwrap_or}
-use Rattle.std.specs.Map.{lookup}
+use Rattle.apollo_meaning.proofs.Prelude.{◌≡◌, ℕ, ◌<◌, Bool, true, false, cond, ◌==◌, List, [], ◌∷◌, ◌++◌, length, take, suc, Option, Some, None, is_some, filter, slice_get, refl, sym, ap, ◌∙◌, arith, filter_map, flat_map, option_map, option_map_or, unwrap_or, lookup, nat_tests, append-nil, each_after, each_after-push, each_after-start, snoc_ind, TypePart, SchemaPart, key_of, ListItem, Defined, Extended, SchemaDefined, SchemaExtended, Other, extended_part, extended_schema, same, extensions_of, schema_extensions, Family, types, schemas, Placed, extension_places, first_place, Fault, part_faults, extension_faults, further_definition, schema_faults, further_schema, joining_faults, schema_joining_faults, schema_begun_faults, directive_definitions, other_faults, found_at, found, same-true, same-is, each-filter, flat_map-each, zero}
 use Rattle.std.proofs.Math.Seq.{take-append_seam}
 use Rattle.std.proofs.lemmas.Bool.{eq-eqb}
-use Rattle.std.proofs.lemmas.Bool.Decides.{nat_tests}
-use Rattle.std.proofs.lemmas.List.{append-nil, take-append-le}
-use Rattle.apollo_component.specs.EachAfter.{each_after}
-use Rattle.apollo_component.proofs.Lists.EachAfter.{each_after-push, each_after-start}
-use Rattle.apollo_component.proofs.Lists.Ends.{all-kept, slice_get-front, slice_get-last, snoc_ind}
-use Rattle.apollo_meaning.specs.Items.Parts.{TypePart, SchemaPart, key_of}
-use Rattle.apollo_meaning.specs.Items.ListItems.{ListItem, Defined, Extended, SchemaDefined, SchemaExtended, Other, extended_part, extended_schema}
-use Rattle.graphql_nodes.specs.SameText.{same}
-use Rattle.apollo_meaning.specs.Items.Named.{extensions_of, schema_extensions}
-use Rattle.apollo_meaning.specs.Order.Places.{Family, types, schemas, Placed, extension_places, first_place, met_when}
-use Rattle.apollo_meaning.specs.Faults.Collisions.{Fault}
-use Rattle.apollo_meaning.specs.Faults.TypeFaults.{part_faults, extension_faults, further_definition}
-use Rattle.apollo_meaning.specs.Faults.RootFaults.{schema_faults, further_schema}
-use Rattle.apollo_meaning.specs.Steps.Joining.{joining_faults, type_begun_faults, schema_joining_faults, schema_begun_faults}
-use Rattle.apollo_meaning.specs.Directives.{directive_definitions}
-use Rattle.apollo_meaning.specs.Faults.OtherFaults.{other_faults}
+use Rattle.std.proofs.lemmas.List.{take-append-le}
+use Rattle.apollo_component.proofs.Lists.Ends.{all-kept, slice_get-front, slice_get-last}
+use Rattle.apollo_meaning.specs.Order.Places.{met_when}
+use Rattle.apollo_meaning.specs.Steps.Joining.{type_begun_faults}
 use Rattle.apollo_meaning.specs.Faults.ListFaults.{own_faults, faults_of_extension, faults_of_schema_extension, found_when, found_from}
-use Rattle.apollo_meaning.specs.Steps.Prefixes.{found_at, found}
-use Rattle.graphql_nodes.proofs.Texts.{same-true, same-is}
-use Rattle.apollo_component.proofs.Lists.Each.{each-filter, flat_map-each, moments-on}
-use Rattle.apollo_meaning.proofs.Order.PlaceLemmas.{IsBelow, placed-after, extensions-below, keyed, first-forget, first-none, first-some, first_schema-none, first_schema-some, filter-schemas, first_place-below, first_place-stays, first_place-new, IsDefined, met-defined, types-apart, schemas-apart, met_when-push, met_when-early, met_when-late, met_when-new, met_when-again, met_when-other}
+use Rattle.apollo_component.proofs.Lists.Each.{moments-on}
+use Rattle.apollo_meaning.proofs.Order.PlaceLemmas.{IsBelow, placed-after, extensions-below, keyed, first-forget, first-none, first-some, first_schema-none, first_schema-some, filter-schemas, first_place-below, first_place-stays, first_place-new}
+use Rattle.apollo_meaning.proofs.Order.MomentLemmas.{IsDefined, met-defined, types-apart, schemas-apart, met_when-push, met_when-early, met_when-late, met_when-new, met_when-again, met_when-other}
 
 module _ {P : Type 0} (f : Family P) where
   -- the definition at a place gives its key a first one

@@ -1,25 +1,8 @@
 -- Components that a name before them keeps out, and those that are kept.
-use Rattle.std.proofs.Common.{◌≡◌, ◌+◌, ◌<◌, ℕ, Bool, true, false, cond, ◌||◌, List, [], ◌∷◌, ◌++◌, length, map, take, get_or, Some, None, is_some, refl, sym, ap, ◌∙◌, append_assoc, if◌then◌else◌}
-use Rattle.std.specs.List.{find, list_any}
-use Rattle.std.specs.Option.{option_map}
-use Rattle.std.specs.Map.{keys_of, lookup_key}
-use Rattle.std.specs.Cmp.{IsEquivalence, on_equiv}
-use Rattle.std.proofs.lemmas.List.{take_more, map-append}
-use Rattle.indexmap.specs.IndexMap.{insert_entry}
-use Rattle.graphql_nodes.specs.NameView.{NameView}
-use Rattle.graphql_nodes.specs.NodeView.{NodeView}
-use Rattle.graphql_nodes.specs.SameText.{same_text}
+use Rattle.apollo_meaning.proofs.Prelude.{◌≡◌, ◌+◌, ◌<◌, ℕ, Bool, true, false, cond, ◌||◌, List, [], ◌∷◌, ◌++◌, length, map, take, get_or, Some, None, is_some, refl, sym, ap, ◌∙◌, append_assoc, if◌then◌else◌, find, list_any, option_map, keys_of, lookup_key, IsEquivalence, on_equiv, take_more, map-append, insert_entry, NameView, NodeView, same_text, first_of_each, same_key, Component, ComponentName, each_after-push, first_of_each-push_new, first_of_each-push_old, list_any-first_of_each, name_laws, Collection, component, component_name, same_component_name, distinct_names, name_entries, Fault, Entry, collision_at, collisions}
 use Rattle.apollo_component.specs.declared.extension.ComponentOrigin.{ComponentOrigin}
-use Rattle.apollo_component.specs.FirstOfEach.{first_of_each, same_key}
-use Rattle.apollo_component.specs.declared.component.Component.{Component}
-use Rattle.apollo_component.specs.declared.component.ComponentName.{ComponentName}
-use Rattle.apollo_component.proofs.Lists.EachAfter.{each_after-push}
-use Rattle.apollo_component.proofs.FirstOfEachLemmas.{entry_laws, find-first_of_each, first_of_each-push_new, first_of_each-push_old, keys_of-first_of_each, lookup_key-find, list_any-first_of_each, insert_entry-last, name_laws}
+use Rattle.apollo_component.proofs.FirstOfEachLemmas.{entry_laws, find-first_of_each, keys_of-first_of_each, lookup_key-find, insert_entry-last}
 use Rattle.apollo_component.proofs.LaterLemmas.{found-any}
-use Rattle.apollo_meaning.specs.declared.collision.Collection.{Collection}
-use Rattle.apollo_meaning.specs.Types.Components.{component, component_name, same_component_name, distinct_names}
-use Rattle.apollo_meaning.specs.Faults.TypeFaults.{name_entries}
-use Rattle.apollo_meaning.specs.Faults.Collisions.{Fault, Entry, collision_at, collisions}
 
 pub component_name_laws : IsEquivalence same_component_name
 component_name_laws = on_equiv (λ c. c.name) name_laws

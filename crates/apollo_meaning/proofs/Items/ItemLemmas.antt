@@ -1,18 +1,7 @@
 -- What a list says of a name with one more item.
-use Rattle.std.proofs.Common.{◌≡◌, ℕ, ◌+◌, ◌≤◌, cond, List, [], ◌∷◌, ◌++◌, length, filter, slice_get, Some, None, ap, ◌∙◌, append_assoc, length-append, arith}
-use Rattle.std.specs.List.{filter_map}
-use Rattle.std.specs.Option.{option_or}
-use Rattle.std.specs.Map.{lookup}
-use Rattle.std.proofs.lemmas.List.{append-nil, map-append}
-use Rattle.std.proofs.lemmas.List.Elements.{filter-append, filter_map-append}
-use Rattle.apollo_component.proofs.Lists.EachAfter.{each_after-push}
-use Rattle.apollo_component.proofs.Lists.Ends.{enumerate_from-append, filter_map-push_none, lookup-append, slice_get-push}
-use Rattle.apollo_meaning.specs.Items.Parts.{TypePart, SchemaPart, key_of}
-use Rattle.apollo_meaning.specs.Items.ListItems.{ListItem, Defined, Extended, SchemaDefined, SchemaExtended, Folding, defined_part, extended_part, defined_schema, extended_schema}
-use Rattle.graphql_nodes.specs.SameText.{same}
-use Rattle.apollo_meaning.specs.Items.Named.{named, definitions, first, extensions_of, first_schema, schema_extensions}
-use Rattle.apollo_meaning.specs.Steps.Prefixes.{folded_at, folded, found_at, found, waited_at, waited}
-use Rattle.apollo_meaning.specs.Types.Meaning.{sourced}
+use Rattle.apollo_meaning.proofs.Prelude.{◌≡◌, ℕ, ◌+◌, ◌≤◌, cond, List, [], ◌∷◌, ◌++◌, length, filter, slice_get, Some, None, ap, ◌∙◌, append_assoc, length-append, arith, filter_map, option_or, lookup, append-nil, map-append, filter-append, filter_map-append, each_after-push, enumerate_from-append, filter_map-push_none, TypePart, SchemaPart, key_of, ListItem, Defined, Extended, SchemaDefined, SchemaExtended, Folding, defined_part, extended_part, defined_schema, extended_schema, same, first, extensions_of, first_schema, schema_extensions, folded_at, folded, found_at, found, waited_at, waited, sourced}
+use Rattle.apollo_component.proofs.Lists.Ends.{lookup-append, slice_get-push}
+use Rattle.apollo_meaning.specs.Items.Named.{named, definitions}
 
 -- the first definition of a name in a front, or else in the rest
 pub first-append : (xs ys : List ListItem) (n : List ℕ) → first (xs ++ ys) n ≡ option_or (first xs n) (first ys n)

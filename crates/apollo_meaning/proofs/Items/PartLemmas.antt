@@ -1,16 +1,5 @@
 -- The parts of a name are its first definition and the extensions of its kind, rising.
-use Rattle.std.proofs.Common.{◌≡◌, ℕ, Bool, true, false, cond, List, [], ◌∷◌, ◌++◌, Option, Some, None, filter, refl, sym, ap, subst, ◌∙◌}
-use Rattle.std.specs.List.{filter_map}
-use Rattle.std.specs.Option.{option_or, unwrap_or}
-use Rattle.std.proofs.lemmas.List.{append-nil}
-use Rattle.std.proofs.lemmas.List.Elements.{filter-append}
-use Rattle.apollo_component.proofs.Lists.Ends.{snoc_ind}
-use Rattle.apollo_meaning.specs.Items.Parts.{TypePart, kind_of, key_of, same_kind}
-use Rattle.apollo_meaning.specs.Items.ListItems.{ListItem, Defined, Extended, SchemaDefined, SchemaExtended, Other, defined_part, extended_part}
-use Rattle.graphql_nodes.specs.SameText.{same}
-use Rattle.apollo_meaning.specs.Items.Named.{first, extensions_of, of_kind}
-use Rattle.apollo_meaning.specs.Steps.Prefixes.{types_folded_at, folded}
-use Rattle.graphql_nodes.proofs.Texts.{same-true, same-is}
+use Rattle.apollo_meaning.proofs.Prelude.{◌≡◌, ℕ, Bool, true, false, cond, List, [], ◌∷◌, ◌++◌, Option, Some, None, filter, refl, sym, ap, subst, ◌∙◌, filter_map, option_or, unwrap_or, append-nil, filter-append, snoc_ind, TypePart, kind_of, key_of, same_kind, ListItem, Defined, Extended, SchemaDefined, SchemaExtended, Other, defined_part, extended_part, same, first, extensions_of, of_kind, types_folded_at, folded, same-true, same-is}
 use Rattle.apollo_meaning.proofs.Items.ItemLemmas.{first-push_definition, first-push_undefined, extensions_of-push_extension, extensions_of-push_unextended}
 use Rattle.apollo_meaning.proofs.Types.TypeLemmas.{Own, Apart, type_foldings, type_foldings-push, Own-named, Own-of_kind, Apart-own, Apart-folded, types_folded_at-new, types_folded_at-again, types_folded_at-early, types_folded_at-late}
 

@@ -1,18 +1,8 @@
 -- Extensions that are folded one after another.
-use Rattle.std.proofs.Common.{◌≡◌, ℕ, ◌+◌, ◌<◌, ◌≤◌, get_or, take, drop, Bool, List, [], ◌∷◌, ◌++◌, length, map, true, refl, sym, ap, ◌∙◌, append_assoc, length-append, arith}
-use Rattle.std.specs.List.{filter_map}
-use Rattle.std.proofs.lemmas.List.{map-append, take_more, take-append-drop}
-use Rattle.std.proofs.lemmas.List.Elements.{filter-append, filter_map-append}
-use Rattle.graphql_nodes.specs.declared.type_kind.TypeKind.{TypeKind}
+use Rattle.apollo_meaning.proofs.Prelude.{◌≡◌, ℕ, ◌+◌, ◌<◌, ◌≤◌, get_or, take, drop, Bool, List, [], ◌∷◌, ◌++◌, length, map, true, sym, ap, ◌∙◌, append_assoc, length-append, arith, filter_map, map-append, take_more, take-append-drop, filter-append, filter_map-append, TypeKind, Definition, enumerate_from-append, TypePart, TypeBody, kind_of, same_kind, item_of, items_of, extended_part, extended_parts, of_kind, Sourced, type_at, type_from, extension_part, numbered, type_kind}
 use Rattle.apollo_component.specs.declared.extension.ComponentOrigin.TheVariants as origins
-use Rattle.graphql_ast.specs.declared.definition.Definition.{Definition}
-use Rattle.apollo_component.proofs.Lists.Ends.{enumerate_from-append}
-use Rattle.apollo_meaning.specs.Items.Parts.{TypePart, TypeBody, ScalarBody, ObjectBody, InterfaceBody, UnionBody, EnumBody, InputObjectBody, body_kind, kind_of, same_kind}
-use Rattle.apollo_meaning.specs.Items.ListItems.{item_of, items_of, extended_part, extended_parts}
-use Rattle.apollo_meaning.specs.Items.Named.{of_kind}
-use Rattle.apollo_meaning.specs.Types.Components.{Sourced}
-use Rattle.apollo_meaning.specs.Types.Meaning.{type_at, type_from, extension_part, numbered}
-use Rattle.apollo_types.specs.TypeWriteOut.{type_kind, type_description, type_name, type_location}
+use Rattle.apollo_meaning.specs.Items.Parts.{body_kind}
+use Rattle.apollo_types.specs.TypeWriteOut.{type_description, type_name, type_location}
 
 -- more extensions have the next numbers
 pub numbered-more : (done : List Sourced) (start : ℕ) (ps qs : List TypePart)
@@ -55,48 +45,28 @@ pub type_kind-from : (head : TypePart) (done : List Sourced) → type_kind (type
 type_kind-from head done = by head.body
   where
     by : (b : TypeBody) → type_kind (type_at b head done) ≡ body_kind b
-    by ScalarBody = refl
-    by (ObjectBody interfaces fields) = refl
-    by (InterfaceBody interfaces fields) = refl
-    by (UnionBody members) = refl
-    by (EnumBody values) = refl
-    by (InputObjectBody fields) = refl
+    by b = grind arith
 
 -- and its description
 pub type_description-from : (head : TypePart) (done : List Sourced) → type_description (type_from head done) ≡ head.description
 type_description-from head done = by head.body
   where
     by : (b : TypeBody) → type_description (type_at b head done) ≡ head.description
-    by ScalarBody = refl
-    by (ObjectBody interfaces fields) = refl
-    by (InterfaceBody interfaces fields) = refl
-    by (UnionBody members) = refl
-    by (EnumBody values) = refl
-    by (InputObjectBody fields) = refl
+    by b = grind arith
 
 -- and its name
 pub type_name-from : (head : TypePart) (done : List Sourced) → type_name (type_from head done) ≡ head.name
 type_name-from head done = by head.body
   where
     by : (b : TypeBody) → type_name (type_at b head done) ≡ head.name
-    by ScalarBody = refl
-    by (ObjectBody interfaces fields) = refl
-    by (InterfaceBody interfaces fields) = refl
-    by (UnionBody members) = refl
-    by (EnumBody values) = refl
-    by (InputObjectBody fields) = refl
+    by b = grind arith
 
--- and its place
+-- and its location
 pub type_location-from : (head : TypePart) (done : List Sourced) → type_location (type_from head done) ≡ head.location
 type_location-from head done = by head.body
   where
     by : (b : TypeBody) → type_location (type_at b head done) ≡ head.location
-    by ScalarBody = refl
-    by (ObjectBody interfaces fields) = refl
-    by (InterfaceBody interfaces fields) = refl
-    by (UnionBody members) = refl
-    by (EnumBody values) = refl
-    by (InputObjectBody fields) = refl
+    by b = grind arith
 
 -- whether a definition is ignorable changes no type
 pub type_from-ignorable : (p : TypePart) (b : Bool) (es : List Sourced)
@@ -107,9 +77,4 @@ type_from-ignorable p b es = by p.body
     q = record p { ignorable = b }
 
     by : (body : TypeBody) → type_at body q ((origins.Definition, q) ∷ es) ≡ type_at body p ((origins.Definition, p) ∷ es)
-    by ScalarBody = refl
-    by (ObjectBody interfaces fields) = refl
-    by (InterfaceBody interfaces fields) = refl
-    by (UnionBody members) = refl
-    by (EnumBody values) = refl
-    by (InputObjectBody fields) = refl
+    by body = grind arith

@@ -1,14 +1,8 @@
 -- What a list folds is no more than what a longer one does, once that is completed.
-use Rattle.std.proofs.Common.{◌≡◌, ℕ, ◌≤◌, Bool, true, false, List, ◌++◌, length, ap, arith}
-use Rattle.std.proofs.lemmas.List.{map-append}
-use Rattle.apollo_meaning.specs.Items.ListItems.{ListItem, Added, added_item, added_items}
-use Rattle.apollo_meaning.specs.Order.Places.{folding_order}
-use Rattle.apollo_meaning.specs.Completion.Adoption.{adopted, with_adopted}
-use Rattle.apollo_meaning.specs.Completion.ImpliedSchema.{implied_schema, completed}
-use Rattle.apollo_meaning.specs.Schema.Whole.{whole, folds}
+use Rattle.apollo_meaning.proofs.Prelude.{◌≡◌, ℕ, ◌≤◌, Bool, true, false, List, ◌++◌, length, ap, arith, map-append, ListItem, Added, added_item, added_items, folding_order, adopted, with_adopted, implied_schema, completed, whole, folded}
+use Rattle.apollo_meaning.specs.Schema.Whole.{folds}
 use Rattle.apollo_meaning.specs.Order.SpentIds.{SpendsIdsSoFar, SpendsIds}
-use Rattle.apollo_meaning.specs.Steps.Prefixes.{folded}
-use Rattle.apollo_meaning.proofs.Order.PlaceLemmas.{folding_order-forget}
+use Rattle.apollo_meaning.proofs.Order.MomentLemmas.{folding_order-forget}
 use Rattle.apollo_meaning.proofs.Items.ItemLemmas.{length-folded-front}
 
 -- what is adopted only adds to it

@@ -1,12 +1,8 @@
 -- Each extension is met at one moment or at none.
-use Rattle.std.proofs.Common.{◌≡◌, ℕ, ◌+◌, ◌<◌, ◌≤◌, Bool, true, false, ◌==◌, max, List, [], ◌∷◌, length, zero, suc, Option, Some, None, filter, refl, sym, ap, arith}
+use Rattle.apollo_meaning.proofs.Prelude.{◌≡◌, ℕ, ◌+◌, ◌<◌, ◌≤◌, Bool, true, false, ◌==◌, List, [], ◌∷◌, length, suc, Option, Some, None, filter, refl, sym, ap, arith, option_map_or, nat_tests, ListItem, Family, Placed, extension_places, first_place, each-weaken, max, zero}
 use Rattle.std.specs.List.{All, range_with_len}
-use Rattle.std.specs.Option.{option_map_or}
-use Rattle.std.proofs.lemmas.Bool.Decides.{nat_tests}
 use Rattle.std.proofs.lemmas.List.Elements.{All-from_recursion}
-use Rattle.apollo_meaning.specs.Items.ListItems.{ListItem}
-use Rattle.apollo_meaning.specs.Order.Places.{Family, Placed, extension_places, first_place, is_met}
-use Rattle.apollo_component.proofs.Lists.Each.{each-weaken}
+use Rattle.apollo_meaning.specs.Order.Places.{is_met}
 use Rattle.apollo_meaning.proofs.Order.PlaceLemmas.{IsBelow, extensions-below, first_place-below}
 
 -- a number stands once in a row of numbers, or not at all

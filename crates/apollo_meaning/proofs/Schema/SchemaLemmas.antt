@@ -1,16 +1,7 @@
 -- The schema definition of a list with one more item.
-use Rattle.std.proofs.Common.{◌≡◌, ℕ, ◌+◌, List, [], ◌∷◌, ◌++◌, length, map, Option, Some, None, refl, sym, ap, ◌∙◌}
-use Rattle.std.specs.Option.{option_map, option_map_or, option_or}
-use Rattle.std.proofs.lemmas.List.{append-nil, map-append}
-use Rattle.std.proofs.lemmas.List.Elements.{filter_map-append}
+use Rattle.apollo_meaning.proofs.Prelude.{◌≡◌, ℕ, ◌+◌, List, [], ◌∷◌, ◌++◌, length, map, Option, Some, None, refl, sym, ap, ◌∙◌, option_map, option_map_or, option_or, append-nil, map-append, filter_map-append, enumerate_from-append, snoc_ind, TypePart, SchemaPart, ListItem, Defined, Extended, SchemaDefined, SchemaExtended, Other, Folding, OfType, OfSchema, extended_schema, first_schema, schema_extensions, SourcedSchema, schema_from, schema_of, schema_numbered, types_folded_at, schemas_folded_at, folded}
 use Rattle.apollo_component.specs.declared.extension.ComponentOrigin.TheVariants as origins
-use Rattle.apollo_component.proofs.Lists.Ends.{enumerate_from-append, snoc_ind}
-use Rattle.apollo_meaning.specs.Items.Parts.{TypePart, SchemaPart}
-use Rattle.apollo_meaning.specs.Items.ListItems.{ListItem, Defined, Extended, SchemaDefined, SchemaExtended, Other, Folding, OfType, OfSchema, extended_schema}
-use Rattle.apollo_meaning.specs.Items.Named.{first_schema, schema_extensions}
-use Rattle.apollo_meaning.specs.Schema.Definition.{SourcedSchema, schema_extension_source, schema_sourced, schema_from, schema_parts, schema_of}
-use Rattle.apollo_meaning.specs.Steps.Joining.{schema_numbered}
-use Rattle.apollo_meaning.specs.Steps.Prefixes.{types_folded_at, schemas_folded_at, folded}
+use Rattle.apollo_meaning.specs.Schema.Definition.{schema_extension_source, schema_sourced, schema_parts}
 use Rattle.apollo_meaning.proofs.Items.ItemLemmas.{first_schema-push_definition, first_schema-push_undefined, schema_extensions-push_extension, schema_extensions-push_unextended, folded-push}
 
 schema_sourced-append : (start : ℕ) (fs gs : List Folding) → schema_sourced start (fs ++ gs) ≡ schema_sourced start fs ++ schema_sourced (start + length fs) gs

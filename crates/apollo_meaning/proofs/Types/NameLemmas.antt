@@ -1,13 +1,6 @@
 -- The names of the types of a list.
-use Rattle.std.proofs.Common.{◌≡◌, ℕ, List, map, sym, ap, ◌∙◌}
-use Rattle.std.specs.List.{filter_map}
-use Rattle.std.proofs.lemmas.Simd.{map-map}
-use Rattle.graphql_nodes.specs.SameText.{same, same_text}
-use Rattle.apollo_component.specs.FirstOfEach.{first_of_each, same_key}
+use Rattle.apollo_meaning.proofs.Prelude.{◌≡◌, ℕ, List, map, sym, ap, ◌∙◌, filter_map, map-map, same, same_text, first_of_each, same_key, ListItem, defined_part, TypePart, key_of, type_names}
 use Rattle.apollo_component.proofs.FirstOfEachLemmas.{first_of_each-map}
-use Rattle.apollo_meaning.specs.Items.ListItems.{ListItem, defined_part}
-use Rattle.apollo_meaning.specs.Items.Parts.{TypePart, key_of}
-use Rattle.apollo_meaning.specs.Types.Meaning.{type_names}
 
 -- they are the first of each text among those that are defined
 pub type_names-first : (xs : List ListItem) → type_names xs ≡ first_of_each same_text (map (λ p. p.name) (filter_map defined_part xs))

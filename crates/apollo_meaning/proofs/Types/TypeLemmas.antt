@@ -1,20 +1,7 @@
 -- The type of a name with one more item.
-use Rattle.std.proofs.Common.{◌≡◌, ℕ, ◌+◌, Bool, true, false, cond, List, [], ◌∷◌, ◌++◌, length, map, Option, Some, None, filter, refl, sym, ap, subst, ◌∙◌, append_assoc}
-use Rattle.std.specs.List.{filter_map}
-use Rattle.std.specs.Option.{option_map, option_or}
-use Rattle.std.proofs.lemmas.List.{append-nil}
-use Rattle.std.proofs.lemmas.List.Elements.{filter_map-append}
-use Rattle.graphql_nodes.specs.declared.type_kind.TypeKind.{TypeKind}
+use Rattle.apollo_meaning.proofs.Prelude.{◌≡◌, ℕ, ◌+◌, Bool, true, false, cond, List, [], ◌∷◌, ◌++◌, length, map, Option, Some, None, filter, refl, sym, ap, subst, ◌∙◌, append_assoc, filter_map, option_map, option_or, append-nil, filter_map-append, TypeKind, each_after, TypePart, SchemaPart, kind_of, key_of, same_kind, ListItem, Defined, Extended, SchemaDefined, SchemaExtended, Other, Folding, OfType, OfSchema, extended_part, same, first, extensions_of, of_kind, types_folded_at, schemas_folded_at, folded_at, folded, Sourced, type_from, extension_part, numbered, sourced, parts, same-true, same-is}
 use Rattle.apollo_component.specs.declared.extension.ComponentOrigin.TheVariants as origins
-use Rattle.apollo_component.specs.EachAfter.{each_after}
-use Rattle.apollo_meaning.specs.Items.Parts.{TypePart, SchemaPart, kind_of, key_of, same_kind}
-use Rattle.apollo_meaning.specs.Items.ListItems.{ListItem, Defined, Extended, SchemaDefined, SchemaExtended, Other, Folding, OfType, OfSchema, extended_part}
-use Rattle.graphql_nodes.specs.SameText.{same}
-use Rattle.apollo_meaning.specs.Items.Named.{first, extensions_of, of_kind}
-use Rattle.apollo_meaning.specs.Steps.Prefixes.{types_folded_at, schemas_folded_at, folded_at, folded}
-use Rattle.apollo_meaning.specs.Types.Components.{Sourced}
-use Rattle.apollo_meaning.specs.Types.Meaning.{type_from, extension_part, numbered, sourced, parts, type_of}
-use Rattle.graphql_nodes.proofs.Texts.{same-true, same-is}
+use Rattle.apollo_meaning.specs.Types.Meaning.{type_of}
 use Rattle.apollo_meaning.proofs.Items.ItemLemmas.{first-push_definition, folded-push, sourced-append, first-append}
 
 -- each part has the name

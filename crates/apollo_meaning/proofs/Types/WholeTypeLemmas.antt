@@ -1,21 +1,9 @@
 -- The components that are dropped from a type of a list, by places, are those that are dropped from its parts, joined.
-use Rattle.std.proofs.Common.{◌≡◌, Bool, true, false, cond, ◌&&◌, List, [], ◌∷◌, ◌++◌, length, take, Some, filter, refl, sym, ap, ◌∙◌, true≢false}
-use Rattle.std.specs.List.{filter_map, flat_map}
-use Rattle.std.specs.Option.{option_map_or}
+use Rattle.apollo_meaning.proofs.Prelude.{◌≡◌, Bool, true, false, cond, ◌&&◌, List, [], ◌∷◌, ◌++◌, length, take, Some, filter, refl, sym, ap, ◌∙◌, true≢false, filter_map, flat_map, option_map_or, each_after, each_after-start, TypePart, kind_of, key_of, same_kind, ListItem, extended_part, same, extensions_of, of_kind, types, Placed, extension_places, first_place, Fault, part_faults, extension_faults, same-true, each-filter, flat_map-each}
 use Rattle.std.proofs.lemmas.List.Elements.{filter_agree}
-use Rattle.apollo_component.specs.EachAfter.{each_after}
-use Rattle.apollo_component.proofs.Lists.EachAfter.{each_after-start}
-use Rattle.apollo_meaning.specs.Items.Parts.{TypePart, kind_of, key_of, same_kind}
-use Rattle.apollo_meaning.specs.Items.ListItems.{ListItem, extended_part}
-use Rattle.graphql_nodes.specs.SameText.{same}
-use Rattle.apollo_meaning.specs.Items.Named.{extensions_of, of_kind}
-use Rattle.apollo_meaning.specs.Order.Places.{types, Placed, extension_places, first_place, is_folded}
-use Rattle.apollo_meaning.specs.Faults.Collisions.{Fault}
-use Rattle.apollo_meaning.specs.Faults.TypeFaults.{part_faults, extension_faults}
+use Rattle.apollo_meaning.specs.Order.Places.{is_folded}
 use Rattle.apollo_meaning.specs.Faults.TypeComponents.{joined_faults}
 use Rattle.apollo_meaning.specs.Faults.ListFaults.{faults_of_extension, found_of_type}
-use Rattle.graphql_nodes.proofs.Texts.{same-true}
-use Rattle.apollo_component.proofs.Lists.Each.{each-filter, flat_map-each}
 use Rattle.apollo_meaning.proofs.Order.PlaceLemmas.{IsBelow, placed-after, extensions-below}
 
 module _ (d : TypePart) where

@@ -1,8 +1,4 @@
-use Rattle.std.proofs.Common.{◌≡◌, Some, None, [], ◌∷◌, ◌++◌, sym, ap, ◌∙◌, arith}
-use Rattle.std.specs.Option.{option_map}
-use Rattle.std.proofs.lemmas.List.{map-append}
-use Rattle.apollo_meaning.specs.Items.ListItems.{Extended, Defined, item_of, items_of, extended_part}
-use Rattle.apollo_meaning.specs.Completion.Adoption.{adopted_part}
+use Rattle.apollo_meaning.proofs.Prelude.{◌≡◌, Some, None, [], ◌∷◌, ◌++◌, sym, ap, ◌∙◌, arith, option_map, map-append, Extended, Defined, item_of, items_of, extended_part, adopted_part}
 use Rattle.apollo_folding.specs.Views.{part_seen, item_seen}
 use Rattle.apollo_folding.proofs.CompletionLemmas.{adopted-first, adopted-none}
 use Rattle.apollo_folding.proofs.ViewLemmas.{unextended}

@@ -1,5 +1,4 @@
-use Rattle.std.proofs.Common.{◌≡◌, [], take}
-use Rattle.apollo_meaning.specs.Items.ListItems.{extended_parts}
+use Rattle.apollo_meaning.proofs.Prelude.{◌≡◌, [], take, extended_parts}
 use Rattle.apollo_folding.proofs.adoption.adopt_first.Given as goal
 
 abbrev pub invariant-loop-extension : goal.invariant-loop-extension

@@ -1,8 +1,5 @@
-use Rattle.std.proofs.Common.{◌≡◌, None, refl, ap, ◌∙◌, rules}
+use Rattle.apollo_meaning.proofs.Prelude.{◌≡◌, None, refl, ap, ◌∙◌, rules, adopted_part, Defined, item_of, kind_of}
 use Rattle.graphql_ast.specs.DefinitionParts.{no_parts, type_definition}
-use Rattle.apollo_meaning.specs.Completion.Adoption.{adopted_part}
-use Rattle.apollo_meaning.specs.Items.ListItems.{Defined, item_of}
-use Rattle.apollo_meaning.specs.Items.Parts.{kind_of}
 use Rattle.apollo_folding.specs.Views.{part_seen}
 use Rattle.apollo_folding.specs.declared.views.BodyView.{BodyView}
 use Rattle.apollo_folding.specs.declared.views.BodyView.TheVariants as bodies

@@ -1,6 +1,4 @@
-use Rattle.std.proofs.Common.{◌≡◌, ◌==◌, true, false, None, [], ◌∷◌, length, sym, ap, ◌∙◌, rules}
-use Rattle.apollo_meaning.specs.Items.Parts.{SchemaPart, schema_definition_part}
-use Rattle.apollo_meaning.specs.Items.ListItems.{SchemaDefined}
+use Rattle.apollo_meaning.proofs.Prelude.{◌≡◌, ◌==◌, true, false, None, [], ◌∷◌, length, sym, ap, ◌∙◌, rules, SchemaPart, schema_definition_part, SchemaDefined}
 use Rattle.apollo_meaning.specs.Completion.ImpliedSchema.{schema_of_roots}
 use Rattle.apollo_folding.specs.HeldRoots.{held_roots}
 use Rattle.apollo_folding.proofs.CompletionLemmas.{implied-adopting, implied-some}

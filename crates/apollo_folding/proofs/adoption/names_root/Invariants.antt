@@ -1,5 +1,4 @@
-use Rattle.std.proofs.Common.{◌≡◌, ◌==◌, length, not, false, take}
-use Rattle.std.specs.List.{list_any}
+use Rattle.apollo_meaning.proofs.Prelude.{◌≡◌, ◌==◌, length, not, false, take, list_any}
 use Rattle.apollo_folding.proofs.adoption.names_root.Given as goal
 
 abbrev pub invariant-loop-extension : goal.invariant-loop-extension

@@ -1,13 +1,5 @@
-use Rattle.std.proofs.Common.{◌≡◌, true, false, [], ◌∷◌, ◌++◌, Some, None, subst, sym, ap, ◌∙◌, rules}
-use Rattle.std.specs.Map.{lookup, set_value}
-use Rattle.std.specs.Option.{option_copied_mut}
-use Rattle.std.proofs.lemmas.List.{append-nil}
-use Rattle.indexmap.specs.IndexMap.{insert_entry}
-use Rattle.graphql_nodes.specs.SameText.{same_text, by_text}
-use Rattle.graphql_nodes.specs.BuiltIn.{is_built_in}
-use Rattle.graphql_ast.specs.declared.type_system.DirectiveDefinition.{DirectiveDefinition}
+use Rattle.apollo_meaning.proofs.Prelude.{◌≡◌, true, false, [], ◌∷◌, ◌++◌, Some, None, subst, sym, ap, ◌∙◌, rules, lookup, set_value, option_copied_mut, append-nil, insert_entry, same_text, by_text, is_built_in, DirectiveDefinition, AreDirectivesOf}
 use Rattle.apollo_meaning.specs.declared.build_error.BuildError.TheVariants as errors
-use Rattle.apollo_meaning.specs.Directives.{AreDirectivesOf}
 use Rattle.apollo_folding.proofs.DirectiveLemmas.{AreDirectivesOf-put, AreDirectivesOf-replace, AreDirectivesOf-drop, directive_faults-put, directive_faults-replace, directive_faults-drop}
 use Rattle.apollo_folding.proofs.directive_definition.define_directive.Goals as goal
 

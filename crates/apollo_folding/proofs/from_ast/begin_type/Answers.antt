@@ -1,9 +1,5 @@
-use Rattle.std.proofs.Common.{[], ◌∷◌, ◌++◌, sym, ap, ◌∙◌, append_assoc}
+use Rattle.apollo_meaning.proofs.Prelude.{[], ◌∷◌, ◌++◌, sym, ap, ◌∙◌, append_assoc, TypePart, extended_parts, part_faults, joining_faults}
 use Rattle.apollo_component.specs.declared.extension.ComponentOrigin.TheVariants as origins
-use Rattle.apollo_meaning.specs.Items.Parts.{TypePart}
-use Rattle.apollo_meaning.specs.Items.ListItems.{extended_parts}
-use Rattle.apollo_meaning.specs.Faults.TypeFaults.{part_faults}
-use Rattle.apollo_meaning.specs.Steps.Joining.{joining_faults}
 use Rattle.apollo_meaning.proofs.Order.FoldingLemmas.{type_from-ignorable}
 use Rattle.apollo_folding.specs.Views.{part_seen}
 use Rattle.apollo_folding.proofs.from_ast.begin_type.Goals as goal

@@ -1,13 +1,4 @@
-use Rattle.std.proofs.Common.{◌≡◌, ℕ, ◌+◌, [], ◌∷◌, ◌++◌, map, length, take, sym, ap, ◌∙◌, append_assoc, arith, length-append}
-use Rattle.std.proofs.lemmas.Result.{err_from_is_err_and}
-use Rattle.graphql_nodes.specs.declared.type_kind.TypeKind.{TypeKind}
-use Rattle.apollo_component.specs.Extensions.{next_number, source_at}
-use Rattle.apollo_meaning.specs.Items.ListItems.{extended_parts}
-use Rattle.apollo_meaning.specs.Items.Parts.{kind_of}
-use Rattle.apollo_meaning.specs.Items.Named.{of_kind}
-use Rattle.apollo_meaning.specs.Types.Meaning.{type_from, extension_part, numbered}
-use Rattle.apollo_meaning.specs.Steps.Joining.{joining_faults}
-use Rattle.apollo_types.specs.TypeWriteOut.{type_kind}
+use Rattle.apollo_meaning.proofs.Prelude.{◌≡◌, ℕ, ◌+◌, [], ◌∷◌, ◌++◌, map, length, take, sym, ap, ◌∙◌, append_assoc, arith, length-append, err_from_is_err_and, TypeKind, next_number, source_at, extended_parts, kind_of, of_kind, type_from, extension_part, numbered, joining_faults, type_kind}
 use Rattle.apollo_meaning.proofs.Order.FoldingLemmas.{numbered-more, of_kind-turn, of_kind-past, type_kind-from}
 use Rattle.apollo_folding.proofs.JoiningLemmas.{parts-numbered, joining-turn}
 use Rattle.apollo_folding.proofs.RefusalLemmas.{RefusedAs-weaker}

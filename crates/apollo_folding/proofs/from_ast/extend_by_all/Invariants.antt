@@ -1,12 +1,4 @@
-use Rattle.std.proofs.Common.{◌≡◌, ◌+◌, List, ◌++◌, map, length, take}
-use Rattle.apollo_component.specs.Extensions.{next_number, source_at}
-use Rattle.apollo_meaning.specs.Items.Parts.{TypePart, kind_of}
-use Rattle.apollo_meaning.specs.Items.ListItems.{extended_parts}
-use Rattle.apollo_meaning.specs.Items.Named.{of_kind}
-use Rattle.apollo_meaning.specs.Types.Components.{Sourced}
-use Rattle.apollo_meaning.specs.Types.Meaning.{type_from, extension_part, numbered}
-use Rattle.apollo_meaning.specs.Steps.Joining.{joining_faults}
-use Rattle.apollo_types.specs.TypeWriteOut.{type_kind}
+use Rattle.apollo_meaning.proofs.Prelude.{◌≡◌, ◌+◌, List, ◌++◌, map, length, take, next_number, source_at, TypePart, kind_of, extended_parts, of_kind, Sourced, type_from, extension_part, numbered, joining_faults, type_kind}
 use Rattle.apollo_folding.proofs.from_ast.extend_by_all.Given as goal
 
 abbrev pub invariant-loop-extension : goal.invariant-loop-extension

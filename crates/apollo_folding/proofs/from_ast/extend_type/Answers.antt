@@ -1,9 +1,7 @@
-use Rattle.std.proofs.Common.{rules, ◌≡◌, true, [], ◌∷◌, ◌++◌, map, sym, ap, ◌∙◌, if◌then◌else◌}
+use Rattle.apollo_meaning.proofs.Prelude.{rules, ◌≡◌, true, [], ◌∷◌, ◌++◌, map, sym, ap, ◌∙◌, if◌then◌else◌, type_kind, kind_of, same_kind, part_faults}
 use denote.Enum.Bare.{differs_false}
 use Rattle.graphql_nodes.specs.contracts.type_kind.TypeKind.{the_type}
-use Rattle.apollo_types.specs.TypeWriteOut.{type_kind}
-use Rattle.apollo_meaning.specs.Items.Parts.{kind_of, same_kind}
-use Rattle.apollo_meaning.specs.Faults.TypeFaults.{part_faults, kind_mismatch}
+use Rattle.apollo_meaning.specs.Faults.TypeFaults.{kind_mismatch}
 use Rattle.apollo_meaning.proofs.Order.FoldingLemmas.{same_kind-refl, type_kind-from}
 use Rattle.apollo_folding.specs.Views.{part_seen}
 use Rattle.apollo_folding.proofs.JoiningLemmas.{joining-one}

@@ -1,7 +1,4 @@
-use Rattle.std.proofs.Common.{◌≡◌, ◌++◌, map}
-use Rattle.std.specs.List.{flat_map}
-use Rattle.apollo_meaning.specs.Items.ListItems.{extended_parts}
-use Rattle.apollo_meaning.specs.Faults.TypeFaults.{orphan}
+use Rattle.apollo_meaning.proofs.Prelude.{◌≡◌, ◌++◌, map, flat_map, extended_parts, orphan}
 use Rattle.apollo_folding.proofs.orphans.note_orphans.Given as goal
 
 abbrev pub invariant-loop-extensions : goal.invariant-loop-extensions

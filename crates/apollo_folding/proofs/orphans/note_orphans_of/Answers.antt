@@ -1,7 +1,4 @@
-use Rattle.std.proofs.Common.{[], ◌∷◌, ◌++◌, map, take, sym, ap, ◌∙◌, append_assoc, arith}
-use Rattle.std.proofs.lemmas.List.{map-append, take_more}
-use Rattle.apollo_meaning.specs.Items.ListItems.{extended_parts}
-use Rattle.apollo_meaning.specs.Faults.TypeFaults.{orphan}
+use Rattle.apollo_meaning.proofs.Prelude.{[], ◌∷◌, ◌++◌, map, take, sym, ap, ◌∙◌, append_assoc, arith, map-append, take_more, extended_parts, orphan}
 use Rattle.apollo_meaning.proofs.Order.FoldingLemmas.{extended_parts-append}
 use Rattle.apollo_folding.proofs.orphans.note_orphans_of.Goals as goal
 

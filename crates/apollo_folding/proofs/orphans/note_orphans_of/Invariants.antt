@@ -1,6 +1,4 @@
-use Rattle.std.proofs.Common.{◌≡◌, ◌++◌, map, take}
-use Rattle.apollo_meaning.specs.Items.ListItems.{extended_parts}
-use Rattle.apollo_meaning.specs.Faults.TypeFaults.{orphan}
+use Rattle.apollo_meaning.proofs.Prelude.{◌≡◌, ◌++◌, map, take, extended_parts, orphan}
 use Rattle.apollo_folding.proofs.orphans.note_orphans_of.Given as goal
 
 abbrev pub invariant-loop-extension : goal.invariant-loop-extension

@@ -1,9 +1,8 @@
-use Rattle.std.proofs.Common.{◌≡◌, cond, sym, ap, ◌∙◌}
+use Rattle.apollo_meaning.proofs.Prelude.{◌≡◌, cond, sym, ap, ◌∙◌, kind_of}
 use denote.Enum.Bare.{sameb, same_false}
 use Rattle.graphql_nodes.specs.contracts.type_kind.TypeKind.{the_type}
 use Rattle.graphql_nodes.specs.declared.type_kind.TypeKind.TheVariants as kinds
 use Rattle.apollo_meaning.specs.declared.build_error.BuildError.TheVariants as errors
-use Rattle.apollo_meaning.specs.Items.Parts.{kind_of}
 use Rattle.apollo_meaning.specs.Faults.TypeFaults.{redefinition}
 use Rattle.apollo_folding.specs.Views.{part_seen}
 use Rattle.apollo_folding.proofs.JoiningLemmas.{same_kind-false}

@@ -1,5 +1,4 @@
-use Rattle.std.proofs.Common.{◌≡◌, false, cond, [], ◌∷◌, ◌++◌, sym, ap, ◌∙◌}
-use Rattle.graphql_nodes.specs.BuiltIn.{is_built_in}
+use Rattle.apollo_meaning.proofs.Prelude.{◌≡◌, false, cond, [], ◌∷◌, ◌++◌, sym, ap, ◌∙◌, is_built_in}
 use Rattle.apollo_types.specs.TypeWriteOut.{type_location}
 use Rattle.apollo_meaning.specs.Faults.TypeFaults.{redefinition, built_in_redefinition}
 use Rattle.apollo_meaning.proofs.Order.FoldingLemmas.{type_location-from}

@@ -1,9 +1,4 @@
-use Rattle.std.proofs.Common.{◌≡◌, [], Some, sym, ap, ◌∙◌}
-use Rattle.std.specs.Map.{keys_of, lookup, set_value}
-use Rattle.std.proofs.lemmas.Map.{keys-set_value}
-use Rattle.std.specs.Option.{option_copied_mut}
-use Rattle.graphql_nodes.specs.SameText.{by_text}
-use Rattle.apollo_meaning.specs.Items.ListItems.{items_held}
+use Rattle.apollo_meaning.proofs.Prelude.{◌≡◌, [], Some, sym, ap, ◌∙◌, keys_of, lookup, set_value, keys-set_value, option_copied_mut, by_text, items_held}
 use Rattle.apollo_folding.proofs.HeldLemmas.{held-write}
 use Rattle.apollo_folding.proofs.waiting.take_waiting.Goals as goal
 

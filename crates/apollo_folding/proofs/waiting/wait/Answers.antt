@@ -1,10 +1,4 @@
-use Rattle.std.proofs.Common.{◌≡◌, [], ◌∷◌, ◌++◌, Some, None, is_some, sym, ap, ◌∙◌, if◌then◌else◌, rules}
-use Rattle.std.specs.Map.{keys_of, lookup, set_value}
-use Rattle.std.proofs.lemmas.Map.{keys-set_value}
-use Rattle.std.specs.Option.{option_copied_mut}
-use Rattle.indexmap.specs.IndexMap.{insert_entry}
-use Rattle.graphql_nodes.specs.SameText.{same_text, by_text}
-use Rattle.apollo_meaning.specs.Items.ListItems.{items_held}
+use Rattle.apollo_meaning.proofs.Prelude.{◌≡◌, [], ◌∷◌, ◌++◌, Some, None, is_some, sym, ap, ◌∙◌, if◌then◌else◌, rules, keys_of, lookup, set_value, keys-set_value, option_copied_mut, insert_entry, same_text, by_text, items_held}
 use Rattle.apollo_folding.proofs.HeldLemmas.{held-write_more, held-put}
 use Rattle.apollo_folding.proofs.NameTables.{keys-put}
 use Rattle.apollo_folding.proofs.waiting.wait.Goals as goal

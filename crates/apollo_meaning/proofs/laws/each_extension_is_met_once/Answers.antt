@@ -1,4 +1,4 @@
-use Rattle.apollo_meaning.specs.Order.Places.{types, schemas}
+use Rattle.apollo_meaning.proofs.Prelude.{types, schemas}
 use Rattle.apollo_meaning.proofs.Order.OnceLemmas.{each-met-once}
 use Rattle.apollo_meaning.proofs.laws.each_extension_is_met_once.Goals as goal
 

@@ -1,4 +1,4 @@
-use Rattle.std.proofs.Common.{refl}
+use Rattle.apollo_meaning.proofs.Prelude.{refl}
 use Rattle.apollo_meaning.proofs.laws.extensions_on_either_side.Goals as goal
 
 pub returns-clause-writes : goal.returns-clause-writes

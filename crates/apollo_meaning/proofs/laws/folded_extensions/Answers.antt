@@ -1,12 +1,6 @@
-use Rattle.std.proofs.Common.{◌≡◌, ℕ, ◌+◌, Bool, true, false, List, [], ◌∷◌, map, filter, refl, ap, ◌∙◌}
-use Rattle.apollo_meaning.specs.Items.Parts.{TypePart, key_of}
-use Rattle.apollo_meaning.specs.Items.ListItems.{Folding, OfType, OfSchema}
-use Rattle.graphql_nodes.specs.SameText.{same}
-use Rattle.apollo_meaning.specs.Order.Places.{folding_order}
-use Rattle.apollo_meaning.specs.Types.Components.{Sourced}
-use Rattle.apollo_meaning.specs.Types.Meaning.{sourced}
+use Rattle.apollo_meaning.proofs.Prelude.{◌≡◌, ℕ, ◌+◌, Bool, true, false, List, [], ◌∷◌, map, filter, refl, ap, ◌∙◌, TypePart, key_of, Folding, OfType, OfSchema, same, folding_order, Sourced, sourced}
 use Rattle.apollo_meaning.proofs.Types.TypeLemmas.{type_foldings}
-use Rattle.apollo_meaning.proofs.Order.PlaceLemmas.{folding_order-forget}
+use Rattle.apollo_meaning.proofs.Order.MomentLemmas.{folding_order-forget}
 use Rattle.apollo_meaning.proofs.Items.PartLemmas.{of_name}
 use Rattle.apollo_meaning.proofs.laws.folded_extensions.Goals as goal
 

@@ -1,6 +1,6 @@
-use Rattle.std.proofs.Common.{map, ap, ◌∙◌}
-use Rattle.apollo_meaning.specs.Schema.Definition.{SourcedSchema, schema_sourced}
-use Rattle.apollo_meaning.proofs.Order.PlaceLemmas.{folding_order-forget}
+use Rattle.apollo_meaning.proofs.Prelude.{map, ap, ◌∙◌, SourcedSchema}
+use Rattle.apollo_meaning.specs.Schema.Definition.{schema_sourced}
+use Rattle.apollo_meaning.proofs.Order.MomentLemmas.{folding_order-forget}
 use Rattle.apollo_meaning.proofs.Schema.SchemaLemmas.{schema_sourced-parts}
 use Rattle.apollo_meaning.proofs.laws.folded_schema_extensions.Goals as goal
 

@@ -1,5 +1,4 @@
-use Rattle.std.proofs.Common.{◌≡◌, ◌++◌, map, take}
-use Rattle.apollo_meaning.specs.Types.Components.{component}
+use Rattle.apollo_meaning.proofs.Prelude.{◌≡◌, ◌++◌, map, take, component}
 use Rattle.apollo_folding.proofs.from_ast.folding.fold_directives.Given as goal
 
 abbrev pub invariant-loop-directive : goal.invariant-loop-directive

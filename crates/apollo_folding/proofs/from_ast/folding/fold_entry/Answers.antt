@@ -1,15 +1,6 @@
-use Rattle.std.proofs.Common.{◌≡◌, true, false, List, Option, Some, None, is_some, [], ◌∷◌, ◌++◌, refl, sym, ap, ◌∙◌, true≢false, rules}
-use Rattle.std.specs.List.{find}
-use Rattle.std.specs.Map.{lookup, lookup_key, keys_of}
-use Rattle.std.specs.Option.{option_map_or}
-use Rattle.std.proofs.lemmas.List.{append-nil}
-use Rattle.graphql_nodes.specs.NameView.{NameView}
-use Rattle.graphql_nodes.specs.SameText.{same_text}
-use Rattle.indexmap.specs.IndexMap.{insert_entry}
-use Rattle.apollo_component.specs.declared.component.Component.{Component}
-use Rattle.apollo_meaning.specs.Types.Components.{component, distinct_entries}
-use Rattle.apollo_meaning.specs.Faults.Collisions.{collision}
+use Rattle.apollo_meaning.proofs.Prelude.{◌≡◌, true, List, Option, Some, None, is_some, [], ◌∷◌, ◌++◌, refl, sym, ap, ◌∙◌, true≢false, rules, find, lookup, lookup_key, keys_of, option_map_or, append-nil, NameView, same_text, insert_entry, Component, component, distinct_entries, collision}
 use Rattle.apollo_meaning.proofs.Faults.KeptLemmas.{entry-old, entry-put, found-key}
+use Rattle.apollo_folding.proofs.KeptNames.{none-of}
 use Rattle.apollo_folding.proofs.NameTables.{key-there, put-back}
 use Rattle.apollo_folding.proofs.from_ast.folding.fold_entry.Goals as goal
 
@@ -21,13 +12,6 @@ module _ {T : Type 0} (es : List (NameView × Component T)) (n : NameView) (v : 
       by None is t = absurd (true≢false (sym t))
       by (Some k) is t = entry-old es n v k is
 
-  none : is_some (lookup_key (same_text n) (distinct_entries es)) ≡ false → lookup_key (same_text n) (distinct_entries es) ≡ None
-  none absent = by (lookup_key (same_text n) (distinct_entries es)) refl absent
-    where
-      by : (o : Option NameView) → lookup_key (same_text n) (distinct_entries es) ≡ o → is_some o ≡ false → lookup_key (same_text n) (distinct_entries es) ≡ None
-      by None is t = is
-      by (Some k) is t = absurd (true≢false t)
-
 pub returns-in_default-clause-added : goal.returns-in_default-clause-added
 returns-in_default-clause-added g c = λ es was.
     let n = g.T.Named.name_of c.args.node.now.value in
@@ -37,7 +21,7 @@ returns-in_default-clause-added g c = λ es was.
     sym (λ i. lookup (same_text (key i)) (was i)) ∙ sym c.in_ok-standing.ensures.old ∙ c.in_default.is in
     c.in_ok-standing.ensures.entries
     ∙ (λ i. insert_entry same_text (was i) (key i) (value i))
-    ∙ entry-put es n (component c.args.origin c.args.node.now) (none es n (component c.args.origin c.args.node.now) (key-there n (distinct_entries es) ∙ ap is_some absent))
+    ∙ entry-put es n (component c.args.origin c.args.node.now) (none-of (lookup_key (same_text n) (distinct_entries es)) (key-there n (distinct_entries es) ∙ ap is_some absent))
 
 pub returns-in_default-clause-faults : goal.returns-in_default-clause-faults
 returns-in_default-clause-faults g c = λ es was.
@@ -46,7 +30,7 @@ returns-in_default-clause-faults g c = λ es was.
     let absent : lookup (same_text n) (distinct_entries es) ≡ None =
     sym (λ i. lookup (same_text (key i)) (was i)) ∙ sym c.in_ok-standing.ensures.old ∙ c.in_default.is in
     let nowhere : find (same_text n) (keys_of es) ≡ None =
-    found-key n es ∙ none es n (component c.args.origin c.args.node.now) (key-there n (distinct_entries es) ∙ ap is_some absent) in
+    found-key n es ∙ none-of (lookup_key (same_text n) (distinct_entries es)) (key-there n (distinct_entries es) ∙ ap is_some absent) in
     sym (append-nil c.args.faults.now)
     ∙ ap (λ o. c.args.faults.now ++ option_map_or (λ k. (c.args.node.now.location, collision c.args.collection k c.args.type_name.now) ∷ []) o []) (sym nowhere)
 

@@ -1,9 +1,4 @@
-use Rattle.std.proofs.Common.{◌≡◌, Bool, true, false, not, [], ◌∷◌, ◌++◌, sym, ap, ◌∙◌, if◌then◌else◌, rules}
-use Rattle.std.specs.List.{list_any}
-use Rattle.std.specs.Option.{option_map_or}
-use Rattle.std.proofs.lemmas.List.{append-nil}
-use Rattle.apollo_meaning.specs.Types.Components.{component_name, same_component_name, distinct_names}
-use Rattle.apollo_meaning.specs.Faults.Collisions.{collision}
+use Rattle.apollo_meaning.proofs.Prelude.{◌≡◌, Bool, true, false, not, [], ◌∷◌, ◌++◌, sym, ap, ◌∙◌, if◌then◌else◌, rules, list_any, option_map_or, append-nil, component_name, same_component_name, distinct_names, collision}
 use Rattle.apollo_folding.proofs.KeptNames.{name-put, name-nowhere}
 use Rattle.apollo_folding.proofs.from_ast.folding.fold_name.Goals as goal
 

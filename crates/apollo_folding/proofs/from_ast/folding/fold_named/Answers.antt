@@ -1,9 +1,4 @@
-use Rattle.std.proofs.Common.{◌++◌, map, take, sym, ap, ◌∙◌, arith}
-use Rattle.graphql_nodes.specs.NameView.{NameView}
-use Rattle.graphql_nodes.specs.NodeView.{NodeView}
-use Rattle.apollo_component.specs.declared.component.Component.{Component}
-use Rattle.apollo_meaning.specs.Faults.Collisions.{Entry}
-use Rattle.apollo_meaning.specs.Types.Components.{component, distinct_entries}
+use Rattle.apollo_meaning.proofs.Prelude.{◌++◌, map, take, sym, ap, ◌∙◌, arith, NameView, NodeView, Component, Entry, component, distinct_entries}
 use Rattle.apollo_meaning.proofs.Faults.KeptLemmas.{map-turn, collisions-turn, keys-of-nodes}
 use Rattle.apollo_folding.proofs.from_ast.folding.fold_named.Goals as goal
 

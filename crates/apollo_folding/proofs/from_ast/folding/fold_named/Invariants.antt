@@ -1,10 +1,5 @@
-use Rattle.std.proofs.Common.{◌≡◌, List, ◌++◌, map, take}
-use Rattle.graphql_nodes.specs.NameView.{NameView}
-use Rattle.graphql_nodes.specs.NodeView.{NodeView}
+use Rattle.apollo_meaning.proofs.Prelude.{◌≡◌, List, ◌++◌, map, take, NameView, NodeView, Component, component, distinct_entries, collisions}
 use Rattle.graphql_nodes.specs.Tables.{keys_of}
-use Rattle.apollo_component.specs.declared.component.Component.{Component}
-use Rattle.apollo_meaning.specs.Types.Components.{component, distinct_entries}
-use Rattle.apollo_meaning.specs.Faults.Collisions.{collisions}
 use Rattle.apollo_folding.proofs.from_ast.folding.fold_named.Given as goal
 
 abbrev pub invariant-loop-node : goal.invariant-loop-node

@@ -1,7 +1,4 @@
-use Rattle.std.proofs.Common.{◌++◌, map, take, sym, ap, ◌∙◌, arith}
-use Rattle.graphql_nodes.specs.NameView.{NameView}
-use Rattle.apollo_meaning.specs.Types.Components.{component_name, distinct_names}
-use Rattle.apollo_meaning.specs.Faults.Collisions.{Entry}
+use Rattle.apollo_meaning.proofs.Prelude.{◌++◌, map, take, sym, ap, ◌∙◌, arith, NameView, component_name, distinct_names, Entry}
 use Rattle.apollo_meaning.proofs.Faults.KeptLemmas.{map-turn, collisions-turn, names-of-names}
 use Rattle.apollo_folding.proofs.from_ast.folding.fold_names.Goals as goal
 

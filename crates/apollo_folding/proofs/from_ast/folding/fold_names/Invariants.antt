@@ -1,8 +1,4 @@
-use Rattle.std.proofs.Common.{◌≡◌, List, ◌++◌, map, take}
-use Rattle.apollo_component.specs.declared.component.ComponentName.{ComponentName}
-use Rattle.apollo_meaning.specs.Types.Components.{component_name, distinct_names}
-use Rattle.apollo_meaning.specs.Faults.Collisions.{collisions}
-use Rattle.apollo_meaning.specs.Faults.TypeFaults.{name_entries}
+use Rattle.apollo_meaning.proofs.Prelude.{◌≡◌, List, ◌++◌, map, take, ComponentName, component_name, distinct_names, collisions, name_entries}
 use Rattle.apollo_folding.proofs.from_ast.folding.fold_names.Given as goal
 
 abbrev pub invariant-loop-name : goal.invariant-loop-name

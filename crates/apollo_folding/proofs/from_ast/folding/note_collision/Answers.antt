@@ -1,10 +1,4 @@
-use Rattle.std.proofs.Common.{◌≡◌, Some, None, [], ◌∷◌, ◌++◌, sym, ap, ◌∙◌, rules}
-use Rattle.std.specs.List.{find}
-use Rattle.std.specs.Map.{lookup_key, keys_of}
-use Rattle.std.specs.Option.{option_map, option_map_or}
-use Rattle.std.proofs.lemmas.List.{append-nil}
-use Rattle.graphql_nodes.specs.SameText.{same_text}
-use Rattle.apollo_meaning.specs.Faults.Collisions.{collision}
+use Rattle.apollo_meaning.proofs.Prelude.{◌≡◌, Some, None, [], ◌∷◌, ◌++◌, sym, ap, ◌∙◌, rules, find, lookup_key, keys_of, option_map, option_map_or, append-nil, same_text, collision}
 use Rattle.apollo_meaning.proofs.Faults.KeptLemmas.{found-key}
 use Rattle.apollo_folding.proofs.from_ast.folding.note_collision.Goals as goal
 

@@ -1,12 +1,6 @@
-use Rattle.std.proofs.Common.{◌≡◌, [], ◌∷◌, ◌++◌, map, sym, ap, ◌∙◌, rules}
-use Rattle.std.specs.List.{find}
-use Rattle.std.specs.Option.{option_map, option_map_or, option_copied}
-use Rattle.std.proofs.lemmas.List.{append-nil}
-use Rattle.graphql_nodes.specs.SameText.{same_text}
-use Rattle.apollo_component.specs.declared.component.ComponentName.{ComponentName}
+use Rattle.apollo_meaning.proofs.Prelude.{◌≡◌, [], ◌∷◌, ◌++◌, map, sym, ap, ◌∙◌, rules, find, option_map, option_map_or, append-nil, same_text, ComponentName, component_name, same_component_name, collision}
+use Rattle.std.specs.Option.{option_copied}
 use Rattle.apollo_component.specs.declared.extension.ComponentOrigin.TheVariants as origins
-use Rattle.apollo_meaning.specs.Types.Components.{component_name, same_component_name}
-use Rattle.apollo_meaning.specs.Faults.Collisions.{collision}
 use Rattle.apollo_meaning.proofs.Faults.KeptLemmas.{found-name}
 use Rattle.apollo_folding.proofs.from_ast.folding.note_listed.Goals as goal
 use Rattle.apollo_folding.proofs.from_ast.folding.note_listed.Goals.{in-Some+in_ok-error+in_ok-push, in_default}

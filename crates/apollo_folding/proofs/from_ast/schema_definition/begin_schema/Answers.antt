@@ -1,8 +1,5 @@
-use Rattle.std.proofs.Common.{[], ◌∷◌, ◌++◌, map, ap, ◌∙◌, append_assoc}
+use Rattle.apollo_meaning.proofs.Prelude.{[], ◌∷◌, ◌++◌, map, ap, ◌∙◌, append_assoc, schema_definition_part, schema_extension_part, schema_faults, schema_joining_faults}
 use Rattle.apollo_component.specs.declared.extension.ComponentOrigin.TheVariants.{Definition}
-use Rattle.apollo_meaning.specs.Items.Parts.{schema_definition_part, schema_extension_part}
-use Rattle.apollo_meaning.specs.Faults.RootFaults.{schema_faults}
-use Rattle.apollo_meaning.specs.Steps.Joining.{schema_joining_faults}
 use Rattle.apollo_folding.proofs.from_ast.schema_definition.begin_schema.Goals as goal
 
 pub returns-clause-made : goal.returns-clause-made

@@ -1,10 +1,6 @@
-use Rattle.std.proofs.Common.{◌≡◌, [], ◌∷◌, ◌++◌, ap, ◌∙◌, rules}
+use Rattle.apollo_meaning.proofs.Prelude.{◌≡◌, [], ◌∷◌, ◌++◌, ap, ◌∙◌, rules, NodeView, SchemaDefinition, schema_extension_part, schema_definition_of, schema_from}
 use Rattle.std.specs.Result.{IsOk}
-use Rattle.graphql_nodes.specs.NodeView.{NodeView}
 use Rattle.apollo_component.specs.declared.extension.ComponentOrigin.TheVariants.{Extension}
-use Rattle.apollo_types.specs.declared.schema_definition.SchemaDefinition.{SchemaDefinition}
-use Rattle.apollo_meaning.specs.Items.Parts.{schema_extension_part}
-use Rattle.apollo_meaning.specs.Schema.Definition.{schema_definition_of, schema_from}
 use Rattle.apollo_folding.proofs.from_ast.schema_definition.extend_schema.Goals as goal
 
 pub returns-clause-folded : goal.returns-clause-folded

@@ -1,13 +1,6 @@
-use Rattle.std.proofs.Common.{◌≡◌, ℕ, ◌+◌, [], ◌∷◌, ◌++◌, map, length, take, sym, ap, ◌∙◌, append_assoc, arith}
-use Rattle.std.proofs.lemmas.List.{length-map, length-take-le, take_all}
-use Rattle.std.proofs.lemmas.Result.{err_from_is_err_and}
-use Rattle.apollo_component.specs.Extensions.{next_number, source_at}
-use Rattle.apollo_meaning.specs.Items.Parts.{schema_extension_part}
-use Rattle.apollo_meaning.specs.Schema.Definition.{schema_from}
-use Rattle.apollo_meaning.specs.Faults.RootFaults.{schema_faults}
-use Rattle.apollo_meaning.specs.Steps.Joining.{schema_numbered, schema_joining_faults}
+use Rattle.apollo_meaning.proofs.Prelude.{◌≡◌, ℕ, ◌+◌, [], ◌∷◌, ◌++◌, map, length, take, sym, ap, ◌∙◌, append_assoc, arith, take_all, err_from_is_err_and, next_number, source_at, schema_extension_part, schema_from, schema_faults, schema_numbered, schema_joining_faults, each_after-push}
+use Rattle.std.proofs.lemmas.List.{length-map, length-take-le}
 use Rattle.apollo_meaning.proofs.Faults.KeptLemmas.{map-turn}
-use Rattle.apollo_component.proofs.Lists.EachAfter.{each_after-push}
 use Rattle.apollo_folding.proofs.RootLemmas.{schema_numbered-more, schema_parts-numbered}
 use Rattle.apollo_folding.proofs.RefusalLemmas.{RefusedAs-weaker}
 use Rattle.apollo_folding.proofs.from_ast.schema_definition.extend_schema_by_all.Goals as goal

@@ -1,8 +1,4 @@
-use Rattle.std.proofs.Common.{◌≡◌, ◌+◌, List, ◌++◌, map, length, take}
-use Rattle.apollo_component.specs.Extensions.{next_number, source_at}
-use Rattle.apollo_meaning.specs.Items.Parts.{SchemaPart, schema_extension_part}
-use Rattle.apollo_meaning.specs.Schema.Definition.{SourcedSchema, schema_from}
-use Rattle.apollo_meaning.specs.Steps.Joining.{schema_numbered, schema_joining_faults}
+use Rattle.apollo_meaning.proofs.Prelude.{◌≡◌, ◌+◌, List, ◌++◌, map, length, take, next_number, source_at, SchemaPart, schema_extension_part, SourcedSchema, schema_from, schema_numbered, schema_joining_faults}
 use Rattle.apollo_folding.proofs.from_ast.schema_definition.extend_schema_by_all.Given as goal
 
 abbrev pub invariant-loop-extension : goal.invariant-loop-extension

@@ -1,8 +1,5 @@
-use Rattle.std.proofs.Common.{◌++◌, map, sym, ap, ◌∙◌}
-use Rattle.std.specs.List.{flat_map}
-use Rattle.apollo_types.specs.declared.schema_definition.SchemaDefinition.{SchemaDefinition}
-use Rattle.apollo_meaning.specs.Types.Components.{component}
-use Rattle.apollo_meaning.specs.Schema.Definition.{SourcedSchema, schema_directives_of, roots_of}
+use Rattle.apollo_meaning.proofs.Prelude.{◌++◌, map, sym, ap, ◌∙◌, flat_map, SchemaDefinition, component, SourcedSchema}
+use Rattle.apollo_meaning.specs.Schema.Definition.{schema_directives_of, roots_of}
 use Rattle.apollo_folding.specs.RootTables.{named_root, with_roots, held_faults}
 use Rattle.apollo_folding.proofs.RootLemmas.{schema-push, held-schema_faults}
 use Rattle.apollo_folding.proofs.from_ast.schema_definition.fold.Goals as goal

@@ -1,7 +1,5 @@
-use Rattle.std.proofs.Common.{◌≡◌, ◌++◌, map, take, sym, ap, ◌∙◌, append_assoc, arith}
-use Rattle.std.proofs.lemmas.List.{take_all}
+use Rattle.apollo_meaning.proofs.Prelude.{◌≡◌, ◌++◌, map, take, sym, ap, ◌∙◌, append_assoc, arith, take_all, component_name}
 use Rattle.apollo_types.specs.SchemaRoots.{root_of}
-use Rattle.apollo_meaning.specs.Types.Components.{component_name}
 use Rattle.apollo_folding.specs.RootTables.{named_root, first_named, with_roots, put_root, held_fault, held_faults}
 use Rattle.apollo_meaning.proofs.Faults.KeptLemmas.{map-turn}
 use Rattle.apollo_folding.proofs.RootLemmas.{put-first, root_of-first, held_faults-turn}

@@ -1,5 +1,4 @@
-use Rattle.std.proofs.Common.{◌≡◌, List, ◌++◌, map, take}
-use Rattle.apollo_types.specs.declared.schema_definition.SchemaDefinition.{SchemaDefinition}
+use Rattle.apollo_meaning.proofs.Prelude.{◌≡◌, List, ◌++◌, map, take, SchemaDefinition}
 use Rattle.apollo_folding.specs.RootTables.{NamedRoot, named_root, with_roots, held_faults}
 use Rattle.apollo_folding.proofs.from_ast.schema_definition.fold_roots.Given as goal
 

@@ -1,7 +1,5 @@
-use Rattle.std.proofs.Common.{◌≡◌, [], ◌∷◌, ◌∙◌, None}
+use Rattle.apollo_meaning.proofs.Prelude.{◌≡◌, [], ◌∷◌, ◌∙◌, None, schema_definition_part, schema_definition_of}
 use Rattle.apollo_component.specs.declared.extension.ComponentOrigin.TheVariants.{Definition}
-use Rattle.apollo_meaning.specs.Items.Parts.{schema_definition_part}
-use Rattle.apollo_meaning.specs.Schema.Definition.{schema_definition_of}
 use Rattle.apollo_folding.proofs.from_ast.schema_definition.schema_from_ast.Goals as goal
 
 -- before its components are folded in, the definition is that of no parts

@@ -11,7 +11,7 @@ use Rattle.apollo_folding.specs.Refusals.{RefusedAs}
 use Rattle.apollo_schema.specs.declared.state.State.TheVariants.{Failed}
 use Rattle.apollo_schema.specs.Stands.{Stands, HasStood, StateStands}
 use Rattle.apollo_schema.proofs.Ends.OutcomeLemmas.{past}
-use Rattle.apollo_meaning.proofs.Order.PlaceLemmas.{folding_order-forget}
+use Rattle.apollo_meaning.proofs.Order.MomentLemmas.{folding_order-forget}
 use Rattle.apollo_schema.proofs.schema_builder.SchemaBuilder.add_ast.Goals as goal
 
 pub invariant_of-self-in_default-take_document : goal.invariant_of-self-in_default-take_document

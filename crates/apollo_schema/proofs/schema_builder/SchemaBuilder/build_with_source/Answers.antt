@@ -7,7 +7,7 @@ use Rattle.apollo_meaning.specs.Items.ListItems.{Folding, added_items}
 use Rattle.apollo_schema.specs.BuilderStands.{state_sources}
 use Rattle.apollo_schema.specs.Stands.{HasStood, StateStands}
 use Rattle.apollo_schema.proofs.Ends.OutcomeLemmas.{if_ok, on_ok, if_err}
-use Rattle.apollo_meaning.proofs.Order.PlaceLemmas.{folding_order-forget}
+use Rattle.apollo_meaning.proofs.Order.MomentLemmas.{folding_order-forget}
 use Rattle.apollo_schema.proofs.schema_builder.SchemaBuilder.build_with_source.Goals as goal
 
 pub returns-in-Open-clause-built : goal.returns-in-Open-clause-built

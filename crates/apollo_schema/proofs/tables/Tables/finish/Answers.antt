@@ -11,7 +11,7 @@ use Rattle.apollo_meaning.specs.Completion.ImpliedSchema.{completed}
 use Rattle.apollo_meaning.specs.Steps.Prefixes.{folded}
 use Rattle.apollo_schema.specs.Stands.{Stands}
 use Rattle.apollo_schema.proofs.Ends.OutcomeLemmas.{if_ok, on_ok, if_err, past, past-either}
-use Rattle.apollo_meaning.proofs.Order.PlaceLemmas.{folding_order-forget}
+use Rattle.apollo_meaning.proofs.Order.MomentLemmas.{folding_order-forget}
 use Rattle.apollo_schema.proofs.tables.Tables.finish.Goals as goal
 
 pub returns-in-Ok-clause-built : goal.returns-in-Ok-clause-built

@@ -11,7 +11,7 @@ use Rattle.apollo_schema.specs.MeantSchema.{AreOf, MeansSchema}
 use Rattle.apollo_meaning.specs.Schema.Whole.{whole}
 use Rattle.apollo_meaning.specs.Schema.Definition.{no_schema}
 use Rattle.apollo_schema.specs.Stands.{Completes}
-use Rattle.apollo_meaning.proofs.Order.PlaceLemmas.{folding_order-forget}
+use Rattle.apollo_meaning.proofs.Order.MomentLemmas.{folding_order-forget}
 use Rattle.apollo_schema.proofs.tables.Tables.into_schema.Goals as goal
 
 -- the schema of tables that hold all that a list means is the one that the list means

@@ -1,10 +1,7 @@
-use Rattle.std.proofs.Common.{◌≡◌, ◌++◌, map, sym, ap, ◌∙◌}
-use Rattle.std.specs.List.{flat_map}
+use Rattle.apollo_meaning.proofs.Prelude.{◌≡◌, ◌++◌, map, sym, ap, ◌∙◌, flat_map, collisions, body_faults, EnumBody}
 use Rattle.apollo_types.specs.declared.enum_type.EnumType.{EnumType}
 use Rattle.apollo_meaning.specs.declared.collision.Collection.TheVariants as collections
-use Rattle.apollo_meaning.specs.Faults.Collisions.{collisions}
-use Rattle.apollo_meaning.specs.Faults.TypeFaults.{body_faults, value_entries}
-use Rattle.apollo_meaning.specs.Items.Parts.{EnumBody}
+use Rattle.apollo_meaning.specs.Faults.TypeFaults.{value_entries}
 use Rattle.apollo_meaning.specs.Types.Components.{values_of}
 use Rattle.apollo_folding.specs.Views.{body_seen}
 use Rattle.apollo_folding.proofs.PartNames.{values-joined}

@@ -1,12 +1,6 @@
-use Rattle.std.proofs.Common.{◌≡◌, ◌++◌, map, sym, ap, ◌∙◌, List, append_assoc}
-use Rattle.std.specs.List.{flat_map}
-use Rattle.graphql_nodes.specs.NameView.{NameView}
+use Rattle.apollo_meaning.proofs.Prelude.{◌≡◌, ◌++◌, map, sym, ap, ◌∙◌, List, append_assoc, flat_map, NameView, collisions, body_faults, interface_names, field_names, name_entries, field_entries, InterfaceBody, interfaces_of, fields_of}
 use Rattle.apollo_types.specs.declared.interface_type.InterfaceType.{InterfaceType}
 use Rattle.apollo_meaning.specs.declared.collision.Collection.TheVariants as collections
-use Rattle.apollo_meaning.specs.Faults.Collisions.{collisions}
-use Rattle.apollo_meaning.specs.Faults.TypeFaults.{body_faults, interface_names, field_names, name_entries, field_entries}
-use Rattle.apollo_meaning.specs.Items.Parts.{InterfaceBody}
-use Rattle.apollo_meaning.specs.Types.Components.{interfaces_of, fields_of}
 use Rattle.apollo_folding.specs.Views.{body_seen}
 use Rattle.apollo_folding.proofs.PartNames.{interfaces-joined, fields-joined}
 use Rattle.apollo_folding.proofs.from_ast.interface_type.InterfaceTypeKind.fold.Goals as goal

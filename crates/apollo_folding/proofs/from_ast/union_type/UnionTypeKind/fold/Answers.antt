@@ -1,10 +1,6 @@
-use Rattle.std.proofs.Common.{◌≡◌, ◌++◌, map, sym, ap, ◌∙◌}
-use Rattle.std.specs.List.{flat_map}
+use Rattle.apollo_meaning.proofs.Prelude.{◌≡◌, ◌++◌, map, sym, ap, ◌∙◌, flat_map, collisions, body_faults, name_entries, UnionBody}
 use Rattle.apollo_types.specs.declared.union_type.UnionType.{UnionType}
 use Rattle.apollo_meaning.specs.declared.collision.Collection.TheVariants as collections
-use Rattle.apollo_meaning.specs.Faults.Collisions.{collisions}
-use Rattle.apollo_meaning.specs.Faults.TypeFaults.{body_faults, name_entries}
-use Rattle.apollo_meaning.specs.Items.Parts.{UnionBody}
 use Rattle.apollo_meaning.specs.Types.Components.{members_of}
 use Rattle.apollo_folding.specs.Views.{body_seen}
 use Rattle.apollo_folding.proofs.PartNames.{members-joined}
