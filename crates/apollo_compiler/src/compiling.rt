@@ -5,11 +5,12 @@ ghost use Rattle.apollo_meaning.specs.Order.SpentIds.{SpendsIds};
 ghost use Rattle.apollo_compiler.specs.Compilation.{IsCompiled, IsRebuiltAsItWas};
 ghost use Rattle.apollo_compiler.specs.Lists.{handed_in, schema_list};
 
-use crate::building::build_schema;
+use crate::building::build_prepared;
 use crate::compile_error::CompileError;
 use crate::compile_options::CompileOptions;
 use crate::compiled::Compiled;
 use crate::laws::headline;
+use crate::prepared::Prepared;
 use crate::rebuilding::rebuild;
 use crate::typing::type_documents;
 use apollo_canonical::laws::a_write_out_folds_no_more;
@@ -72,8 +73,9 @@ pub fn compile_with_keys(
 {
     headline();
     a_write_out_folds_no_more();
-    let (schema, schema_faults) = build_schema(alloc, keys, options, schema_documents)?;
-    let rebuilt = rebuild(alloc, keys, &schema)?;
+    let prepared = Prepared::new(alloc, keys)?;
+    let (schema, schema_faults) = build_prepared(alloc, &prepared, options, schema_documents)?;
+    let rebuilt = rebuild(alloc, &prepared, &schema)?;
     let typed = type_documents(
         alloc,
         &schema,

@@ -11,6 +11,7 @@ pub mod compiling;
 pub mod document_building;
 pub mod executable;
 pub mod laws;
+mod prepared;
 mod rebuilding;
 mod typing;
 

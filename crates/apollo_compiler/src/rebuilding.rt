@@ -6,14 +6,14 @@ ghost use Rattle.apollo_meaning.specs.Order.SpentIds.{SpendsIds};
 ghost use Rattle.apollo_schema.specs.MeantSchema.{MeansSchema};
 ghost use Rattle.apollo_schema.specs.SchemaWriteOut.{write_schema};
 
-use crate::building::build_schema;
+use crate::building::build_prepared;
 use crate::compile_error::CompileError;
 use crate::compile_options::CompileOptions;
+use crate::prepared::Prepared;
 use apollo_meaning::build_error::Faults;
 use apollo_schema::schema::Schema;
 use graphql_ast::definition::Definition;
 use graphql_ast::document::Document;
-use graphql_nodes::collections::hash_keys::HashKeys;
 use graphql_nodes::collections::items::Items;
 use std::alloc::{AllocError, Global};
 use std::slice;
@@ -44,7 +44,7 @@ fn written(alloc: Global, schema: &Schema) -> Result<Document, AllocError>
 /// `Memory` is want of memory; `ExtensionIds` comes only where the numbers don't suffice for the extensions of the write-out.
 pub(crate) fn rebuild(
     alloc: Global,
-    keys: HashKeys,
+    prepared: &Prepared,
     schema: &Schema,
 ) -> Result<Rebuilt, CompileError>
     ensures ast { IfOk result (λ rebuilt. rebuilt.ast.items ≡ write_schema schema.now) }
@@ -59,7 +59,7 @@ pub(crate) fn rebuild(
         ignore_builtin_redefinitions: false,
     };
     let document = written(alloc, schema)?;
-    let (again, faults) = build_schema(alloc, keys, options, slice::from_ref(&document))?;
+    let (again, faults) = build_prepared(alloc, prepared, options, slice::from_ref(&document))?;
     let ast_again = again.to_ast(alloc)?;
     Ok(Rebuilt {
         ast: document.definitions.into_vec(),

@@ -1,7 +1,7 @@
 use Rattle.std.proofs.Common.{◌≡◌, take}
 use Rattle.apollo_schema.specs.BuilderStands.{StandsFor, adopts, ignores, sources_of}
 use Rattle.apollo_compiler.specs.Lists.{all_sources, schema_list}
-use Rattle.apollo_compiler.proofs.building.build_schema.Given as goal
+use Rattle.apollo_compiler.proofs.building.build_prepared.Given as goal
 
 abbrev pub invariant-loop-document : goal.invariant-loop-document
 invariant-loop-document l =

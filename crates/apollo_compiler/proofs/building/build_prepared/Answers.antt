@@ -11,7 +11,7 @@ use Rattle.apollo_schema.specs.MeantSchema.{MeansSchema}
 use Rattle.apollo_schema.specs.declared.build_failure.BuildFailure.TheVariants as builds
 use Rattle.apollo_compiler.specs.Lists.{all_sources, handed_in, schema_list}
 use Rattle.apollo_compiler.proofs.ListLemmas.{all_sources-turn, schema_list-append, schema_list-turn}
-use Rattle.apollo_compiler.proofs.building.build_schema.Goals as goal
+use Rattle.apollo_compiler.proofs.building.build_prepared.Goals as goal
 
 pub loop-document-init : goal.loop-document-init
 loop-document-init c = record { stands = c.in_ok-builder.ensures.stands; adopts = c.in_ok-builder.ensures.adopts; ignores = c.in_ok-builder.ensures.ignores; sources = c.in_ok-builder.ensures.sources }
