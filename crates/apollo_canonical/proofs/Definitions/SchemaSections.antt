@@ -1,37 +1,12 @@
 -- The components of a schema definition, whose roots stand in the order of the operation types, and the definition that written parts make again.
-use Rattle.std.proofs.Common.{◌≡◌, Bool, true, false, cond, List, [], ◌∷◌, ◌++◌, None, Option, Some, map, filter, flat_map, option_map, refl, sym, ap, ◌∙◌, length, slice_get, arith}
-use Rattle.std.proofs.lemmas.List.{append-nil, nil_from_length}
-use Rattle.std.proofs.lemmas.List.Elements.{filter-append, All-from_recursion, recursion_from_All}
-use Rattle.std.specs.List.{cons_option, list_any, AllByRecursion, IsDistinct}
-use Rattle.graphql_nodes.specs.declared.operation_type.OperationType.{OperationType}
-use Rattle.graphql_nodes.specs.declared.operation_type.OperationType.TheVariants.{Query, Mutation, Subscription}
+use Rattle.apollo_canonical.proofs.Words.Lists.{◌≡◌, Bool, true, false, cond, List, [], ◌∷◌, ◌++◌, None, Option, Some, map, filter, flat_map, option_map, refl, sym, ap, ◌∙◌, length, slice_get, arith, append-nil, nil_from_length, filter-append, All-from_recursion, recursion_from_All, cons_option, list_any, AllByRecursion, IsDistinct, map-map, All-permutation, length_permutation, unwrap_or, IsPermutation, filter-map}
+use Rattle.apollo_canonical.proofs.Words.Syntax.{OperationType, Query, Mutation, Subscription, DefinitionParts}
+use Rattle.apollo_canonical.proofs.Words.Types.{same_id, same_origin, of_origin, of_extensions, SourcedPart, by_origin, ComponentName, ComponentOrigin, Extension, Definition, ExtensionId, of_root, root_node, schema_components, root_of, SchemaDefinition, PartsByOrigin}
+use Rattle.apollo_canonical.proofs.Words.Meaning.{Root, same_operation, component_name}
+use Rattle.apollo_canonical.proofs.Words.Written.{Sections, as_parts, in_sections, joined, with_origins, node_of, no_components}
 use Rattle.graphql_ast.specs.declared.definition_parts.DefinitionPart.TheVariants as parts
-use Rattle.graphql_ast.specs.declared.definition_parts.DefinitionParts.{DefinitionParts}
-use Rattle.apollo_component.specs.Extensions.{same_id, same_origin}
-use Rattle.apollo_component.specs.WriteOut.{of_origin, of_extensions, SourcedPart, by_origin}
-use Rattle.apollo_component.specs.declared.component.ComponentName.{ComponentName}
-use Rattle.apollo_component.specs.declared.extension.ComponentOrigin.{ComponentOrigin}
-use Rattle.apollo_component.specs.declared.extension.ComponentOrigin.TheVariants.{Extension, Definition}
-use Rattle.apollo_component.specs.declared.extension.ExtensionId.{ExtensionId}
-use Rattle.apollo_types.specs.Components.{of_root, root_node}
-use Rattle.apollo_types.specs.SchemaDefinitionWriteOut.{schema_components}
-use Rattle.apollo_types.specs.SchemaRoots.{root_of}
-use Rattle.apollo_types.specs.declared.schema_definition.SchemaDefinition.{SchemaDefinition}
-use Rattle.apollo_meaning.specs.Items.Parts.{Root}
-use Rattle.apollo_meaning.specs.Schema.Definition.{same_operation}
-use Rattle.apollo_canonical.specs.Sections.{Sections, as_parts, in_sections, joined, with_origins}
-use Rattle.apollo_canonical.specs.TypeSections.{node_of, no_components}
-use Rattle.apollo_canonical.proofs.FirstAppearance.{in_order, in_order-map}
-use Rattle.apollo_canonical.proofs.SectionLemmas.{ids_in, ids_in-append, ids_in-sections, picked, picked-append, of_origin-sections, parts_in, has_some, has_some-picked, written-in_order, definition-alone, each-alone, extension-alone, marks, of-alone, parts-again, shown-joined}
-use Rattle.std.proofs.lemmas.Simd.{map-map}
-use Rattle.std.proofs.lemmas.List.Sorted.{All-permutation, length_permutation}
-use Rattle.std.specs.Option.{unwrap_or}
-use Rattle.std.specs.List.Sorted.{IsPermutation}
-use Rattle.apollo_component.specs.declared.parts_by_origin.PartsByOrigin.{PartsByOrigin}
-use Rattle.apollo_meaning.specs.Types.Components.{component_name}
-use Rattle.apollo_component.proofs.Lists.Each.{filter-map}
-use Rattle.apollo_canonical.proofs.Kept.{each-both}
-use Rattle.apollo_canonical.proofs.Regrouped.{shown}
+use Rattle.apollo_canonical.proofs.Lists.{in_order, in_order-map, each-both, shown}
+use Rattle.apollo_canonical.proofs.Sections.{ids_in, ids_in-append, ids_in-sections, picked, picked-append, of_origin-sections, parts_in, has_some, has_some-picked, written-in_order, definition-alone, each-alone, extension-alone, marks, of-alone, parts-again, shown-joined}
 
 -- the root of an operation type with its origin, if there is one
 abbrev pub entries : OperationType → Option ComponentName → List (ComponentOrigin × Root)

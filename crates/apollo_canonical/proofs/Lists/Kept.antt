@@ -1,15 +1,16 @@
--- Lists: what tests keep, what is found, and groups of elements by keys that differ.
-use Rattle.std.proofs.Common.{◌≡◌, Bool, true, false, cond, ◌&&◌, List, [], ◌∷◌, ◌++◌, None, Option, Some, is_some, map, option_map, filter, find, slice_get, refl, sym, ap, ◌∙◌, arith, not, subst, true≢false, ◌+◌, ◌≤◌, length, flat_map, length-append}
-use Rattle.std.proofs.lemmas.List.{map-append}
-use Rattle.std.proofs.lemmas.List.Elements.{filter-append, filter_passes, recursion_from_All, All-from_recursion, filter_agree}
-use Rattle.std.specs.List.{AllByRecursion, filter_map, list_any, IsDistinct}
-use Rattle.std.specs.Option.{IfSome}
-use Rattle.apollo_component.proofs.Lists.Each.{filter-each, filter-fails, each-weaken, each-filter, flat_map-each}
-use Rattle.apollo_component.proofs.Lists.Ends.{all-kept}
-use Rattle.std.proofs.lemmas.List.Sorted.{All-permutation, list_any-IsPermutation, IsPermutation-refl, IsPermutation-trans, IsPermutation-append_right, IsPermutation-filter_both}
-use Rattle.std.specs.Cmp.{IsEquivalence}
-use Rattle.std.specs.List.Sorted.{IsPermutation}
-use Rattle.apollo_component.specs.FirstOfEach.{first_of_each}
+-- Cases, and lists: what tests keep, what is found, and groups of elements by keys that differ.
+use Rattle.apollo_canonical.proofs.Words.Lists.{◌≡◌, Bool, true, false, cond, ◌&&◌, List, [], ◌∷◌, ◌++◌, None, Option, Some, is_some, map, option_map, filter, find, slice_get, refl, sym, ap, ◌∙◌, arith, not, subst, true≢false, ◌+◌, ◌≤◌, length, flat_map, length-append, map-append, filter-append, filter_passes, recursion_from_All, All-from_recursion, filter_agree}
+use Rattle.apollo_canonical.proofs.Words.Lists.{AllByRecursion, filter_map, list_any, IsDistinct, IfSome, filter-each, filter-fails, each-weaken, each-filter, flat_map-each, all-kept, All-permutation, list_any-IsPermutation, IsPermutation-refl, IsPermutation-trans, IsPermutation-append_right, IsPermutation-filter_both, IsEquivalence, IsPermutation}
+use Rattle.apollo_canonical.proofs.Words.Types.{first_of_each}
+
+-- by cases, with the equation of each
+pub option_cases : {X G : Type 0} (o : Option X) → (o ≡ None → G) → ((x : X) → o ≡ Some x → G) → G
+option_cases None none some = none refl
+option_cases (Some x) none some = some x refl
+
+pub bool_cases : {G : Type 0} (b : Bool) → (b ≡ true → G) → (b ≡ false → G) → G
+bool_cases true holds fails = holds refl
+bool_cases false holds fails = fails refl
 
 pub filter-filter : {X : Type 0} (p q : X → Bool) (xs : List X) → filter p (filter q xs) ≡ filter (λ x. q x && p x) xs
 filter-filter p q [] = refl
@@ -57,6 +58,14 @@ pub filter-flat_map : {X Y : Type 0} (p : Y → Bool) (f : X → List Y) (xs : L
 filter-flat_map p f [] = refl
 filter-flat_map p f (x ∷ xs) = filter-append p (f x) (flat_map f xs) ∙ ap (λ l. filter p (f x) ++ l) (filter-flat_map p f xs)
 
+-- what makes nothing of each makes nothing of all
+pub flat_map-nothing : {X Y : Type 0} (f : X → List Y) (xs : List X) → AllByRecursion (λ x. f x ≡ []) xs → flat_map f xs ≡ []
+flat_map-nothing f [] a = refl
+flat_map-nothing f (x ∷ xs) a = rw (a.0) (flat_map-nothing f xs a.1)
+
+pub flat_map-none : {X Y : Type 0} (f : X → List Y) → ((x : X) → f x ≡ []) → (xs : List X) → flat_map f xs ≡ []
+flat_map-none f none xs = flat_map-nothing f xs (each-of (λ x. f x ≡ []) none xs)
+
 -- a choice that takes all, and one that takes nothing
 pub filter_map-some : {X : Type 0} (xs : List X) → filter_map (λ x. Some x) xs ≡ xs
 filter_map-some [] = refl
@@ -65,6 +74,11 @@ filter_map-some (x ∷ xs) = ap (λ l. x ∷ l) (filter_map-some xs)
 pub filter_map-none : {X Y : Type 0} (xs : List X) → filter_map {Y = Y} (λ x. None) xs ≡ []
 filter_map-none [] = refl
 filter_map-none {X} {Y} (x ∷ xs) = filter_map-none {Y = Y} xs
+
+-- and one that takes nothing of what is made
+pub filter_map-unmade : {X Y Z : Type 0} (which : X → Option Y) (make : Z → X) → ((z : Z) → which (make z) ≡ None) → (zs : List Z) → filter_map which (map make zs) ≡ []
+filter_map-unmade which make none [] = refl
+filter_map-unmade which make none (z ∷ zs) = rw (none z) (filter_map-unmade which make none zs)
 
 -- what a test keeps passes it
 pub passes : {X : Type 0} (p : X → Bool) (xs : List X) → AllByRecursion (λ x. p x ≡ true) (filter p xs)
@@ -95,11 +109,19 @@ pub find-first : {X : Type 0} (q : X → Bool) (xs : List X) → find q xs ≡ s
 find-first q [] = refl
 find-first q (x ∷ xs) = grind (arith, find-first q xs)
 
+pub option_map-twice : {X Y Z : Type 0} (g : Y → Z) (f : X → Y) (o : Option X) → option_map g (option_map f o) ≡ option_map (λ x. g (f x)) o
+option_map-twice g f None = refl
+option_map-twice g f (Some x) = refl
+
 pub is_some-map : {X Y : Type 0} (f : X → Y) (o : Option X) → is_some (option_map f o) ≡ is_some o
 is_some-map f None = refl
 is_some-map f (Some x) = refl
 
--- lists that are empty when joined
+-- lists that are empty when something is made of each element, and when joined
+pub map-empty : {X Y : Type 0} (f : X → Y) (xs : List X) → map f xs ≡ [] → xs ≡ []
+map-empty f [] h = refl
+map-empty f (x ∷ xs) h = absurd (grind (arith, h))
+
 pub both-empty : {X : Type 0} (xs ys : List X) → xs ++ ys ≡ [] → (xs ≡ []) × (ys ≡ [])
 both-empty [] ys h = (refl, h)
 both-empty (x ∷ xs) ys h = absurd (grind (arith, h))

@@ -1,34 +1,16 @@
 -- The list of a schema: the built-in definitions, and after them what is handed in.
-use Rattle.std.proofs.Common.{◌≡◌, ℕ, true, false, cond, List, [], ◌∷◌, None, Some, map, refl, sym, ap, subst, ◌∙◌, Bool, ◌++◌, Option, flat_map, append_assoc}
-use Rattle.std.specs.List.{AllByRecursion, IsDistinct, filter_map}
-use Rattle.std.specs.Option.{option_map_or}
+use Rattle.apollo_canonical.proofs.Words.Lists.{◌≡◌, ℕ, true, false, cond, List, [], ◌∷◌, None, Some, map, refl, sym, ap, subst, ◌∙◌, Bool, ◌++◌, Option, flat_map, append_assoc, AllByRecursion, IsDistinct, filter_map, option_map_or, ◌≢◌, append-nil, map-append, filter_map-append, recursion_from_All, each-append, each-filter, each-weaken}
+use Rattle.apollo_canonical.proofs.Words.Syntax.{is_built_in, NameView, same, same_text, same-true, built_in_definitions, Definition}
+use Rattle.apollo_canonical.proofs.Words.Types.{first_of_each, first_of_each-distinct}
+use Rattle.apollo_canonical.proofs.Words.Meaning.{ListItem, Defined, Extended, added, added_items, defined_part, extended_part, defined_schema, Other, SchemaDefined, Added, added_item, item_of, ignorable_if, named, first, extensions_of, first_schema, schema_extensions}
+use Rattle.apollo_canonical.proofs.Words.Meaning.{TypePart, key_of, SchemaPart, Root, roots_in, adopted, adopted_by, extended_names, orphans_of, with_adopted, implied_schema, schema_for, schema_of_roots, implicit_roots, whole, Schema}
+use Rattle.apollo_canonical.proofs.Words.Written.{IsMeantByList, with_built_ins}
 use Rattle.std.specs.Map.{lookup}
-use Rattle.graphql_nodes.specs.BuiltIn.{is_built_in}
-use Rattle.graphql_nodes.specs.NameView.{NameView}
-use Rattle.graphql_nodes.specs.SameText.{same, same_text}
-use Rattle.graphql_nodes.proofs.Texts.{same-true}
-use Rattle.apollo_built_in.specs.BuiltInTable.{built_in_definitions}
-use Rattle.apollo_component.specs.FirstOfEach.{first_of_each}
-use Rattle.apollo_component.proofs.Tabled.{first_of_each-distinct}
-use Rattle.apollo_meaning.specs.Items.ListItems.{ListItem, Defined, Extended, added, added_items, defined_part, extended_part, defined_schema, Other, SchemaDefined, Added, added_item, item_of, ignorable_if}
-use Rattle.apollo_meaning.specs.Items.Named.{named, first, extensions_of, first_schema, schema_extensions}
-use Rattle.apollo_meaning.specs.Items.Parts.{TypePart, key_of, SchemaPart, Root, roots_in}
-use Rattle.apollo_canonical.proofs.Kept.{found-holds}
-use Rattle.apollo_canonical.proofs.Rebuild.About.{Name, about}
-use Rattle.apollo_canonical.proofs.Rebuild.Tables.{lookup-named}
-use Rattle.apollo_canonical.proofs.Rebuild.TypeFaults.{HaveEachNameOnce, interfaces_in, members_in, fields_in, values_in, input_fields_in}
-use Rattle.std.specs.Prelude.{flat_map, ◌≢◌}
-use Rattle.std.proofs.lemmas.List.{append-nil, map-append}
-use Rattle.std.proofs.lemmas.List.Elements.{filter_map-append, recursion_from_All}
 use Rattle.graphql_ast.specs.Definitions.{location_of}
-use Rattle.graphql_ast.specs.declared.definition.Definition.{Definition}
 use Rattle.graphql_ast.specs.declared.definition.Definition.TheVariants as ast
-use Rattle.apollo_component.proofs.Lists.Each.{each-append, each-filter, each-weaken}
-use Rattle.apollo_meaning.specs.Completion.Adoption.{adopted, adopted_by, extended_names, orphans_of, with_adopted}
-use Rattle.apollo_meaning.specs.Completion.ImpliedSchema.{implied_schema, schema_for, schema_of_roots, implicit_roots}
-use Rattle.apollo_meaning.specs.Schema.Whole.{whole}
-use Rattle.apollo_schema.specs.declared.schema.Schema.{Schema}
-use Rattle.apollo_canonical.specs.WrittenAgain.{IsMeantByList, with_built_ins}
+use Rattle.apollo_canonical.proofs.Lists.{found-holds}
+use Rattle.apollo_canonical.proofs.Items.About.{Name, about, lookup-named}
+use Rattle.apollo_canonical.proofs.Items.TypeFaults.{HaveEachNameOnce, interfaces_in, members_in, fields_in, values_in, input_fields_in}
 
 abbrev pub built_ins : List ListItem
 built_ins = added_items (added false built_in_definitions)
@@ -55,10 +37,6 @@ distinct-keys = subst (IsDistinct same) all-keys (first_of_each-distinct same (m
 -- their names
 abbrev pub built_in_names : List NameView
 built_in_names = map (λ p. p.name) (filter_map defined_part built_ins)
-
-pub all-names : first_of_each same_text built_in_names ≡ built_in_names
-unfolding built_in_definitions
-all-names = refl
 
 -- a type of these is marked built-in and has each name once
 pub record IsBuiltIn (p : TypePart) : Type 0 where

@@ -1,26 +1,10 @@
 -- Components in sections: their identities, what is of one origin, and what parts make again.
-use Rattle.std.proofs.Common.{◌≡◌, Bool, true, false, cond, not, ◌||◌, List, [], ◌∷◌, ◌++◌, Option, map, filter, refl, sym, ap, ◌∙◌, arith}
-use Rattle.std.proofs.lemmas.List.{map-append, append-nil, map-id}
-use Rattle.std.proofs.lemmas.List.Elements.{filter-append, filter_map-append}
-use Rattle.std.proofs.lemmas.Simd.{map-map}
-use Rattle.std.specs.Cmp.{IsEquivalence, on_equiv, nat_eq_equiv}
-use Rattle.std.specs.List.{AllByRecursion, IsDistinct, filter_map, cons_option, flat_map, list_any}
-use Rattle.graphql_ast.specs.DefinitionParts.{directive_in, name_in, field_in, value_in, input_field_in, root_in}
-use Rattle.graphql_ast.specs.declared.definition_parts.DefinitionPart.{DefinitionPart}
+use Rattle.apollo_canonical.proofs.Words.Lists.{◌≡◌, Bool, true, false, cond, not, ◌||◌, List, [], ◌∷◌, ◌++◌, Option, map, filter, refl, sym, ap, ◌∙◌, arith, map-append, append-nil, map-id, filter-append, filter_map-append, map-map, IsEquivalence, on_equiv, nat_eq_equiv, AllByRecursion, IsDistinct, filter_map, cons_option, flat_map, list_any, each-weaken, filter-map}
+use Rattle.apollo_canonical.proofs.Words.Syntax.{directive_in, name_in, field_in, value_in, input_field_in, root_in, DefinitionPart, DefinitionParts}
+use Rattle.apollo_canonical.proofs.Words.Types.{id_of, number_of, same_id, same_origin, first_of_each, SourcedPart, origins_in, identities, of_origin, of_extensions, by_origin, ComponentOrigin, Definition, Extension, ExtensionId, PartsByOrigin}
+use Rattle.apollo_canonical.proofs.Words.Written.{Sections, as_parts, in_sections, with_origins, joined, sections_of}
 use Rattle.graphql_ast.specs.declared.definition_parts.DefinitionPart.TheVariants as parts
-use Rattle.graphql_ast.specs.declared.definition_parts.DefinitionParts.{DefinitionParts}
-use Rattle.apollo_component.specs.Extensions.{id_of, number_of, same_id, same_origin}
-use Rattle.apollo_component.specs.FirstOfEach.{first_of_each}
-use Rattle.apollo_component.specs.WriteOut.{SourcedPart, origins_in, identities, of_origin, of_extensions, by_origin}
-use Rattle.apollo_component.specs.declared.extension.ComponentOrigin.{ComponentOrigin}
-use Rattle.apollo_component.specs.declared.extension.ComponentOrigin.TheVariants.{Definition, Extension}
-use Rattle.apollo_component.specs.declared.extension.ExtensionId.{ExtensionId}
-use Rattle.apollo_component.specs.declared.parts_by_origin.PartsByOrigin.{PartsByOrigin}
-use Rattle.apollo_component.proofs.Lists.Each.{each-weaken, filter-map}
-use Rattle.apollo_canonical.specs.Sections.{Sections, as_parts, in_sections, with_origins, joined, sections_of}
-use Rattle.apollo_canonical.proofs.FirstAppearance.{in_order, is_nothing, in_order-map, first-in_order}
-use Rattle.apollo_canonical.proofs.Kept.{filter_map-none, filter_map-some, map-each}
-use Rattle.apollo_canonical.proofs.Regrouped.{own-group, marked, shown, first-shown_again}
+use Rattle.apollo_canonical.proofs.Lists.{in_order, is_nothing, in_order-map, first-in_order, filter_map-none, filter_map-some, map-each, own-group, marked, shown, first-shown_again}
 
 pub same_id-equiv : IsEquivalence same_id
 same_id-equiv = on_equiv number_of nat_eq_equiv
@@ -50,8 +34,7 @@ module _ (origin : ComponentOrigin) where
   -- what a choice takes of parts of one sort, and of parts of several
   found-in : {A B : Type 0} (part : A → DefinitionPart) (which : DefinitionPart → Option B) (xs : List (ComponentOrigin × A)) → filter_map which (picked (as_parts part xs)) ≡ filter_map (λ a. which (part a)) (picked xs)
   found-in part which [] = refl
-  found-in part which (x ∷ xs) = elim (same_origin origin x.0) as (λ b. filter_map which (map (λ c. c.1) (cond b ((x.0, part x.1) ∷ filter (λ c. same_origin origin c.0) (as_parts part xs)) (filter (λ c. same_origin origin c.0) (as_parts part xs))))
-      ≡ filter_map (λ a. which (part a)) (map (λ c. c.1) (cond b (x ∷ filter (λ c. same_origin origin c.0) xs) (filter (λ c. same_origin origin c.0) xs)))) [ true ↦ ap (cons_option (which (part x.1))) (found-in part which xs) | false ↦ found-in part which xs ]
+  found-in part which (x ∷ xs) = grind (arith, found-in part which xs)
 
   module _ (s : Sections) where
     -- a choice that takes one sort finds that section

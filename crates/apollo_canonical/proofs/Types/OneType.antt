@@ -1,50 +1,20 @@
 -- A type that a list means, and the one that a list with its write-out means: they are equal, since they have the same components, and are written out alike.
-use Rattle.std.proofs.Common.{◌≡◌, ℕ, Bool, true, false, cond, ◌||◌, List, [], ◌∷◌, Option, None, Some, map, find, option_map, refl, sym, ap, subst, ◌∙◌, length, ◌==◌}
-use Rattle.std.proofs.lemmas.List.Sorted.{list_any-IsPermutation}
-use Rattle.std.proofs.lemmas.Simd.{map-map}
-use Rattle.std.specs.List.{AllByRecursion, IsDistinct, flat_map, list_any}
-use Rattle.std.specs.List.Sorted.{IsPermutation}
-use Rattle.graphql_nodes.specs.Comparing.{bare_name, entries_by_text, members_by_text}
-use Rattle.graphql_nodes.specs.NameView.{NameView}
-use Rattle.graphql_nodes.specs.NodeView.{NodeView}
-use Rattle.graphql_nodes.specs.SameText.{by_text, same_text}
-use Rattle.graphql_nodes.specs.Tables.{lookup, values_of}
-use Rattle.graphql_nodes.specs.declared.type_kind.TypeKind.{TypeKind}
+use Rattle.apollo_canonical.proofs.Words.Lists.{◌≡◌, ℕ, Bool, true, false, cond, ◌||◌, List, [], ◌∷◌, Option, None, Some, map, find, option_map, refl, sym, ap, subst, ◌∙◌, length, ◌==◌, list_any-IsPermutation, map-map, AllByRecursion, IsDistinct, flat_map, list_any, IsPermutation, length-map, ◌++◌, map-id, filter, append-nil, map-append, IsEquivalence, on_equiv, each-append, each-filter, each-weaken}
+use Rattle.apollo_canonical.proofs.Words.Syntax.{bare_name, entries_by_text, members_by_text, NameView, NodeView, by_text, same_text, lookup, values_of, TypeKind, bare_directive, bare_field_definition, bare_enum_value_definition, bare_input_value_definition, Directive, SourceSpan}
+use Rattle.apollo_canonical.proofs.Words.Types.{bare_component, same_key, Component, ComponentName, ComponentOrigin, BareType, bare_extended_type, type_kind, type_name, type_description, type_location, write_type, ExtendedType, Scalar, Object, Interface, Union, Enum, InputObject, each-first, name_laws, by_origin, Definition, PartsByOrigin, same_origin, first_of_each, of_origin, entry_laws}
+use Rattle.apollo_canonical.proofs.Words.Meaning.{TypePart, TypeBody, ScalarBody, ObjectBody, InterfaceBody, UnionBody, EnumBody, InputObjectBody, Sourced, body_fields, body_values, body_input_fields, fields_of, field_entry, input_fields_of, input_field_entry, value_entry, component, type_at, type_from, extension_part, component_name, same_component_name, body_interfaces, body_members, distinct_names, distinct_entries}
+use Rattle.apollo_canonical.proofs.Words.Written.{Sections, HasSameComponents, sections_of, node_of, name_of, type_sections, HasEachNameOnce, HasWhatIsWritten, MeaningLaws}
 use Rattle.graphql_nodes.specs.declared.type_kind.TypeKind.TheVariants as kinds
-use Rattle.graphql_ast.specs.Bare.{bare_directive}
-use Rattle.graphql_ast.specs.BareTypeSystem.{bare_field_definition, bare_enum_value_definition, bare_input_value_definition}
-use Rattle.graphql_ast.specs.declared.directive.Directive.{Directive}
 use Rattle.graphql_ast.specs.declared.type_system.EnumValueDefinition.{EnumValueDefinition}
 use Rattle.graphql_ast.specs.declared.type_system.FieldDefinition.{FieldDefinition}
 use Rattle.graphql_ast.specs.declared.type_system.InputValueDefinition.{InputValueDefinition}
-use Rattle.apollo_component.specs.BareComponents.{bare_component}
-use Rattle.apollo_component.specs.FirstOfEach.{same_key}
-use Rattle.apollo_component.specs.declared.component.Component.{Component}
-use Rattle.apollo_component.specs.declared.component.ComponentName.{ComponentName}
-use Rattle.apollo_component.specs.declared.extension.ComponentOrigin.{ComponentOrigin}
-use Rattle.apollo_types.specs.BareTypes.{BareType, bare_extended_type}
-use Rattle.apollo_types.specs.TypeWriteOut.{type_kind, type_name, type_description, type_location, write_type}
-use Rattle.apollo_types.specs.declared.extended_type.ExtendedType.{ExtendedType}
-use Rattle.apollo_types.specs.declared.extended_type.ExtendedType.TheVariants.{Scalar, Object, Interface, Union, Enum, InputObject}
-use Rattle.apollo_meaning.specs.Items.Parts.{TypePart, TypeBody, ScalarBody, ObjectBody, InterfaceBody, UnionBody, EnumBody, InputObjectBody}
-use Rattle.apollo_meaning.specs.Types.Components.{Sourced, body_fields, body_values, body_input_fields, fields_of, field_entry, input_fields_of, input_field_entry, value_entry, component}
 use Rattle.apollo_meaning.specs.Types.Components as components
-use Rattle.apollo_meaning.specs.Types.Meaning.{type_at, type_from, extension_part}
-use Rattle.apollo_component.proofs.FirstOfEachLemmas.{each-first, name_laws}
-use Rattle.apollo_canonical.specs.Sections.{Sections, HasSameComponents, sections_of}
-use Rattle.apollo_canonical.specs.TypeSections.{node_of, name_of, type_sections, HasEachNameOnce, HasWhatIsWritten}
-use Rattle.apollo_canonical.proofs.NamesOnce.{IsNamed, all-named, made-once}
-use Rattle.apollo_canonical.proofs.Kept.{found-permuted}
-use Rattle.std.proofs.lemmas.List.{length-map}
-use Rattle.apollo_component.specs.WriteOut.{by_origin}
-use Rattle.apollo_component.specs.declared.extension.ComponentOrigin.TheVariants.{Definition}
-use Rattle.apollo_component.specs.declared.parts_by_origin.PartsByOrigin.{PartsByOrigin}
-use Rattle.apollo_canonical.specs.MeaningLaws.{MeaningLaws}
-use Rattle.apollo_canonical.proofs.ComponentsKept.{directives-in_order}
-use Rattle.apollo_canonical.proofs.TypeLemmas.{components-again, components-sections, same_parts, type-again}
-use Rattle.apollo_canonical.proofs.Rebuild.Numbers.{directives_alone, numbered-distinct, numbered-written, numbered_parts, paired, paired-self}
-use Rattle.apollo_canonical.proofs.Rebuild.TypeAgain.{sourced_again, type_again, shown_in, shown-made, directives-numbered, has-what-is-written}
-use Rattle.apollo_canonical.proofs.Rebuild.WrittenParts.{written, definition_part, extension_of, part_from}
+use Rattle.apollo_canonical.proofs.Lists.{found-permuted, new_to_these, first_of_each-append, all-first, each-of, map-each, each-map}
+use Rattle.apollo_canonical.proofs.Sections.{directives-in_order, of_origin-sections, parts_in, picked, picked-append, picked-of}
+use Rattle.apollo_canonical.proofs.Items.{HaveEachNameOnce}
+use Rattle.apollo_canonical.proofs.Types.WrittenParts.{written, definition_part, extension_of, part_from}
+use Rattle.apollo_canonical.proofs.Types.NamesOnce.{IsNamed, all-named, made-once, components-again, components-sections, same_parts, type-again}
+use Rattle.apollo_canonical.proofs.Types.TypeAgain.{directives_alone, numbered-distinct, numbered-written, numbered_parts, paired, paired-self, sourced_again, type_again, shown_in, shown-made, directives-numbered, has-what-is-written}
 
 -- what `==` compares of components of each sort
 abbrev directives_in : Sections → List Directive
@@ -83,8 +53,7 @@ bare_of kinds.Enum d n s = BareType.Enum (record { description = d; name = n; di
 bare_of kinds.InputObject d n s = BareType.InputObject (record { description = d; name = n; directives = s.directives; fields = s.input_fields })
 
 pub directives-bare : (cs : List (Component Directive)) → map (bare_component bare_directive) cs ≡ map (λ d. bare_directive d.value) (map (λ x. x.1) (map node_of cs))
-directives-bare [] = refl
-directives-bare (c ∷ cs) = ap (λ l. bare_directive c.node.value ∷ l) (directives-bare cs)
+directives-bare cs = simp map-map
 
 names-bare : (cs : List ComponentName) → members_by_text (λ c. c.name) cs ≡ (λ text. list_any (by_text text) (map (λ x. x.1) (map name_of cs)))
 names-bare cs = λ i text. by text cs i
@@ -156,12 +125,12 @@ equal-types t u named_t named_u kind description name same_directives all once =
 abbrev pub made : TypePart → List (ℕ × TypePart) → ExtendedType
 made head es = type_from head ((Definition, head) ∷ map extension_part es)
 
--- a type that is made so
-pub record IsMade (t : ExtendedType) : Type 0 where
-  pub head : TypePart
-  pub extensions : List (ℕ × TypePart)
+-- what is made so of a part and of extensions whose numbers differ
+pub record IsMadeBy {P D : Type 0} (make : P → List (ℕ × P) → D) (d : D) : Type 0 where
+  pub head : P
+  pub extensions : List (ℕ × P)
   pub apart : IsDistinct ◌==◌ (map (λ e. e.0) extensions)
-  pub is : t ≡ made head extensions
+  pub is : d ≡ make head extensions
 
 -- another type is equal to this one and is written out as it is
 pub record IsAgain (t u : ExtendedType) : Type 0 where
@@ -182,10 +151,10 @@ module _ (head : TypePart) (es : List (ℕ × TypePart)) where
   directives-in_parts : (type_sections (made head es)).directives ≡ (sections_of directive_parts).directives
   directives-in_parts = directives-made head.body ((Definition, head) ∷ map extension_part es) ∙ directives-numbered (λ p. p.location) (λ p. p.directives) head es
 
-pub once : (t : ExtendedType) → IsMade t → HasEachNameOnce (type_sections t)
+pub once : (t : ExtendedType) → IsMadeBy made t → HasEachNameOnce (type_sections t)
 once t m = subst (λ u. HasEachNameOnce (type_sections u)) (sym m.is) (made-once m.head ((Definition, m.head) ∷ map extension_part m.extensions) m.head.body)
 
-module _ (laws : MeaningLaws) (t : ExtendedType) (m : IsMade t) where
+module _ (laws : MeaningLaws) (t : ExtendedType) (m : IsMadeBy made t) where
   named : HasNamedEntries t
   named = subst HasNamedEntries (sym m.is) (named-made m.head.body m.head ((Definition, m.head) ∷ map extension_part m.extensions))
 
@@ -221,3 +190,96 @@ module _ (laws : MeaningLaws) (t : ExtendedType) (m : IsMade t) where
       ∙ ap (λ l. type_from (definition_part t) ((Definition, definition_part t) ∷ l))
       (ap (map extension_part) (paired-self es ∙ ap (paired is) written_parts) ∙ numbered-written (λ (p : TypePart). p.location) (λ s d. part_from (type_kind t) s (type_name t) None d) (λ s d. refl) is (written t).extensions) in
       subst (IsAgain t) (sym made_again) (again is many apart)
+
+-- What is written of a type's definition is the definition that it is made of, where that has each name once.
+
+module _ {A C : Type 0} (view : C → ComponentOrigin × A) (make : ComponentOrigin → A → C) (is : (o : ComponentOrigin) (a : A) → view (make o a) ≡ (o, a)) where
+  -- a component that isn't of the definition
+  abbrev IsLater : C → Type 0
+  IsLater c = same_origin Definition (view c).0 ≡ false
+
+  picked-none : (cs : List C) → AllByRecursion IsLater cs → picked Definition (map view cs) ≡ []
+  picked-none [] a = refl
+  picked-none (c ∷ cs) a = ap (λ b. map (λ x. x.1) (cond b (view c ∷ filter (λ x. same_origin Definition x.0) (map view cs)) (filter (λ x. same_origin Definition x.0) (map view cs)))) a.0 ∙ picked-none cs a.1
+
+  views : (xs : List A) → map view (map (make Definition) xs) ≡ map (λ x. (Definition, x)) xs
+  views xs = map-map view (make Definition) xs ∙ (λ i. map (λ x. is Definition x i) xs)
+
+  pub picked-own : (xs : List A) (later : List C) → AllByRecursion IsLater later → picked Definition (map view (map (make Definition) xs ++ later)) ≡ xs
+  picked-own xs later a =
+      ap (picked Definition) (map-append view (map (make Definition) xs) later) ∙ picked-append Definition (map view (map (make Definition) xs)) (map view later)
+      ∙ (λ i. (ap (picked Definition) (views xs) ∙ picked-of Definition Definition xs) i ++ picked-none later a i) ∙ append-nil xs
+
+  later-extensions : (of : TypePart → List A) (es : List (ℕ × TypePart)) → AllByRecursion IsLater (flat_map (λ s. map (make s.0) (of s.1)) (map extension_part es))
+  later-extensions of [] = tt
+  later-extensions of (e ∷ es) =
+      let origin : ComponentOrigin = (extension_part e).0 in
+      each-append IsLater (map (make origin) (of e.1)) (flat_map (λ s. map (make s.0) (of s.1)) (map extension_part es))
+      (each-map IsLater (make origin) (of e.1) (each-of (λ x. IsLater (make origin x)) (λ x. ap (λ v. same_origin Definition v.0) (is origin x)) (of e.1))) (later-extensions of es)
+
+  -- the first of each are kept, and those of the definition come first
+  kept-own : (same : C → C → Bool) → IsEquivalence same → (of : TypePart → List A) (head : TypePart) (es : List (ℕ × TypePart)) → first_of_each same (map (make Definition) (of head)) ≡ map (make Definition) (of head)
+      → picked Definition (map view (first_of_each same (flat_map (λ s. map (make s.0) (of s.1)) ((Definition, head) ∷ map extension_part es)))) ≡ of head
+  kept-own same laws of head es all =
+      let own : List C = map (make Definition) (of head) in
+      let later : List C = flat_map (λ s. map (make s.0) (of s.1)) (map extension_part es) in
+      let new : (C → Bool) = new_to_these same own in
+      ap (λ l. picked Definition (map view l)) (first_of_each-append same laws own later ∙ ap (λ l. l ++ filter new (first_of_each same later)) all)
+      ∙ picked-own (of head) (filter new (first_of_each same later))
+      (each-weaken (λ c. IsLater c × (new c ≡ true)) IsLater (λ c h. h.0) (filter new (first_of_each same later)) (each-filter IsLater new (first_of_each same later) (each-first IsLater same later (later-extensions of es))))
+
+names-own : (of : TypePart → List NameView) (head : TypePart) (es : List (ℕ × TypePart)) → IsDistinct same_text (of head ++ [])
+    → picked Definition (map name_of (distinct_names (flat_map (λ s. map (component_name s.0) (of s.1)) ((Definition, head) ∷ map extension_part es)))) ≡ of head
+names-own of head es d =
+    kept-own name_of component_name (λ o a. refl) same_component_name (on_equiv (λ c. c.name) name_laws) of head es
+    (all-first same_text (λ c. c.name) (map (component_name Definition) (of head)) (subst (IsDistinct same_text) (append-nil (of head) ∙ sym (map-map (λ (c : ComponentName). c.name) (component_name Definition) (of head) ∙ map-id (of head))) d))
+
+entries-own : {T : Type 0} (name : NodeView T → NameView) (entry : ComponentOrigin → NodeView T → NameView × Component T) → ((o : ComponentOrigin) (n : NodeView T) → node_of (entry o n).1 ≡ (o, n)) → ((o : ComponentOrigin) (n : NodeView T) → (entry o n).0 ≡ name n)
+    → (of : TypePart → List (NodeView T)) (head : TypePart) (es : List (ℕ × TypePart)) → IsDistinct same_text (map name (of head) ++ [])
+    → picked Definition (map node_of (values_of (distinct_entries (flat_map (λ s. map (entry s.0) (of s.1)) ((Definition, head) ∷ map extension_part es))))) ≡ of head
+entries-own {T} name entry is named of head es d =
+    ap (picked Definition) (map-map node_of (λ (e : NameView × Component T). e.1) (distinct_entries (flat_map (λ s. map (entry s.0) (of s.1)) ((Definition, head) ∷ map extension_part es))))
+    ∙ kept-own (λ (e : NameView × Component T). node_of e.1) entry is (λ a b. same_text a.0 b.0) entry_laws of head es
+    (all-first same_text (λ (e : NameView × Component T). e.0) (map (entry Definition) (of head)) (subst (IsDistinct same_text) (append-nil (map name (of head)) ∙ sym (map-map (λ (e : NameView × Component T). e.0) (entry Definition) (of head) ∙ map-each (λ n. (entry Definition n).0) name (of head) (each-of (λ n. (entry Definition n).0 ≡ name n) (named Definition) (of head)))) d))
+
+module _ (name : NameView) (place : Option SourceSpan) (description : Option NameView) (directives : List (NodeView Directive)) (es : List (ℕ × TypePart)) where
+  abbrev part_with : TypeBody → TypePart
+  part_with body = record { name = name; location = place; description = description; directives = directives; body = body; ignorable = false }
+
+  abbrev written_with : TypeBody → TypePart
+  written_with body = definition_part (made (part_with body) es)
+
+  -- what is written of the definition, by sections
+  by_sections : (t : ExtendedType) → definition_part t ≡ part_from (type_kind t) (type_location t) (type_name t) (type_description t) (parts_in Definition (type_sections t))
+  by_sections t = ap (part_from (type_kind t) (type_location t) (type_name t) (type_description t)) (ap (of_origin Definition) (components-sections t) ∙ of_origin-sections Definition (type_sections t))
+
+  own_directives : (body : TypeBody) → picked Definition (map node_of (flat_map (λ s. map (component s.0) s.1.directives) ((Definition, part_with body) ∷ map extension_part es))) ≡ directives
+  own_directives body = picked-own node_of component (λ o a. refl) directives (flat_map (λ s. map (component s.0) s.1.directives) (map extension_part es)) (later-extensions node_of component (λ o a. refl) (λ p. p.directives) es)
+
+  fields-own : (head : TypePart) → HaveEachNameOnce (head ∷ []) → picked Definition (map node_of (values_of (distinct_entries (flat_map (λ s. map (field_entry s.0) (body_fields s.1.body)) ((Definition, head) ∷ map extension_part es))))) ≡ body_fields head.body
+  fields-own head h = entries-own (λ f. f.value.name) field_entry (λ o n. refl) (λ o n. refl) (λ p. body_fields p.body) head es h.fields
+
+  definition-with : (body : TypeBody) → HaveEachNameOnce (part_with body ∷ []) → written_with body ≡ part_with body
+  definition-with ScalarBody h = by_sections (made (part_with ScalarBody) es) ∙ (λ i. record (part_with ScalarBody) { directives = own_directives ScalarBody i })
+  definition-with (ObjectBody interfaces fields) h =
+      let head : TypePart = part_with (ObjectBody interfaces fields) in
+      by_sections (made head es) ∙ (λ i. record head { directives = own_directives head.body i; body = ObjectBody (names-own (λ p. body_interfaces p.body) head es h.interfaces i) (fields-own head h i) })
+  definition-with (InterfaceBody interfaces fields) h =
+      let head : TypePart = part_with (InterfaceBody interfaces fields) in
+      by_sections (made head es) ∙ (λ i. record head { directives = own_directives head.body i; body = InterfaceBody (names-own (λ p. body_interfaces p.body) head es h.interfaces i) (fields-own head h i) })
+  definition-with (UnionBody members) h =
+      let head : TypePart = part_with (UnionBody members) in
+      by_sections (made head es) ∙ (λ i. record head { directives = own_directives head.body i; body = UnionBody (names-own (λ p. body_members p.body) head es h.members i) })
+  definition-with (EnumBody values) h =
+      let head : TypePart = part_with (EnumBody values) in
+      by_sections (made head es) ∙ (λ i. record head { directives = own_directives head.body i; body = EnumBody (entries-own (λ v. v.value.value) value_entry (λ o n. refl) (λ o n. refl) (λ p. body_values p.body) head es h.values i) })
+  definition-with (InputObjectBody fields) h =
+      let head : TypePart = part_with (InputObjectBody fields) in
+      by_sections (made head es) ∙ (λ i. record head { directives = own_directives head.body i; body = InputObjectBody (entries-own (λ f. f.value.name) input_field_entry (λ o n. refl) (λ o n. refl) (λ p. body_input_fields p.body) head es h.input_fields i) })
+
+pub definition-own : (head : TypePart) (es : List (ℕ × TypePart)) → head.ignorable ≡ false → HaveEachNameOnce (head ∷ []) → definition_part (made head es) ≡ head
+definition-own head es plain h =
+    let same : head ≡ part_with head.name head.location head.description head.directives es head.body = (λ i. record head { ignorable = plain i }) in
+    ap (λ p. definition_part (made p es)) same
+    ∙ definition-with head.name head.location head.description head.directives es head.body (subst (λ p. HaveEachNameOnce (p ∷ [])) same h)
+    ∙ sym same

@@ -1,43 +1,59 @@
--- Names that stand once: in each type that a list means, in each that has what such a type is written out as, and in the parts of that.
-use Rattle.std.proofs.Common.{◌≡◌, ℕ, List, [], ◌∷◌, Option, None, Some, is_some, map, refl, sym, ap, subst, ◌∙◌, true≢false, ◌++◌, map-id, flat_map}
-use Rattle.std.proofs.lemmas.List.Sorted.{IsPermutation-map}
-use Rattle.std.proofs.lemmas.Map.Keys.{IsDistinct-IsPermutation}
-use Rattle.std.proofs.lemmas.Simd.{map-map}
-use Rattle.std.specs.List.{AllByRecursion, IsDistinct, flat_map}
-use Rattle.std.specs.List.Sorted.{IsPermutation}
-use Rattle.std.specs.Option.{option_map}
-use Rattle.std.specs.Prelude.{unwrap_or}
-use Rattle.graphql_nodes.specs.NameView.{NameView}
-use Rattle.graphql_nodes.specs.NodeView.{NodeView}
-use Rattle.graphql_nodes.specs.SameText.{same_text}
-use Rattle.graphql_nodes.specs.Tables.{values_of}
-use Rattle.apollo_component.specs.FirstOfEach.{first_of_each, same_key}
-use Rattle.apollo_component.specs.declared.component.Component.{Component}
-use Rattle.apollo_component.specs.declared.component.ComponentName.{ComponentName}
-use Rattle.apollo_component.specs.declared.extension.ComponentOrigin.{ComponentOrigin}
-use Rattle.apollo_component.proofs.Lists.Each.{each-append, each-weaken}
-use Rattle.apollo_component.proofs.FirstOfEachLemmas.{each-first, first_of_each-map, name_laws}
-use Rattle.apollo_component.proofs.Tabled.{first_of_each-distinct}
-use Rattle.apollo_types.specs.declared.extended_type.ExtendedType.{ExtendedType}
-use Rattle.apollo_meaning.specs.Items.ListItems.{ListItem, Folding}
-use Rattle.apollo_meaning.specs.Items.Named.{first}
-use Rattle.apollo_meaning.specs.Items.Parts.{TypePart, TypeBody, ScalarBody, ObjectBody, InterfaceBody, UnionBody, EnumBody, InputObjectBody}
-use Rattle.apollo_meaning.specs.Types.Components.{Sourced, body_fields, body_values, body_input_fields, interfaces_of, members_of, fields_of, field_entry, input_fields_of, input_field_entry, value_entry, distinct_names, distinct_entries}
+-- Types by their sections: their write-out, and the names that stand once in them and in what is written of them.
+use Rattle.apollo_canonical.proofs.Words.Lists.{◌≡◌, List, [], ◌++◌, Option, map, sym, ap, ◌∙◌, append_assoc, subst, append-nil, map-map, ℕ, ◌∷◌, None, Some, is_some, refl, true≢false, map-id, flat_map, IsPermutation-map, IsDistinct-IsPermutation, AllByRecursion, IsDistinct, IsPermutation, option_map, unwrap_or, each-append, each-weaken, flat_map-map, map-append}
+use Rattle.apollo_canonical.proofs.Words.Syntax.{NameView, values_of, SourceSpan, type_extension, DefinitionPart, DefinitionParts, NodeView, same_text}
+use Rattle.apollo_canonical.proofs.Words.Types.{place_of, by_origin, written_type, Component, ComponentName, ExtensionId, of_name, type_kind, type_name, type_location, type_description, type_components, write_type, ExtendedType, Scalar, Object, Interface, Union, Enum, InputObject, first_of_each, same_key, ComponentOrigin, each-first, first_of_each-map, name_laws, first_of_each-distinct}
+use Rattle.apollo_canonical.proofs.Words.Meaning.{ListItem, Folding, first, TypePart, TypeBody, ScalarBody, ObjectBody, InterfaceBody, UnionBody, EnumBody, InputObjectBody, Sourced, body_fields, body_values, body_input_fields, interfaces_of, members_of, fields_of, field_entry, input_fields_of, input_field_entry, value_entry, distinct_names, distinct_entries, parts, type_at, type_from, type_of}
+use Rattle.apollo_canonical.proofs.Words.Written.{HasSameComponents, as_parts, in_sections, node_of, name_of, type_sections, placed, HasWhatIsWritten, Sections, with_origins, joined, sections_of, HasEachNameOnce}
+use Rattle.graphql_ast.specs.declared.definition_parts.DefinitionPart.TheVariants as parts
 use Rattle.apollo_meaning.specs.Types.Components as components
-use Rattle.apollo_meaning.specs.Types.Meaning.{parts, type_at, type_from, type_of}
-use Rattle.apollo_canonical.specs.Sections.{Sections, HasSameComponents, with_origins, joined, sections_of}
-use Rattle.apollo_canonical.specs.TypeSections.{node_of, name_of, type_sections, HasWhatIsWritten, HasEachNameOnce}
-use Rattle.apollo_canonical.proofs.Kept.{each-map, each-of, map-each, map-flat_map}
-use Rattle.apollo_canonical.proofs.TypeLemmas.{components-again, components-sections}
-use Rattle.std.proofs.lemmas.List.Folds.{flat_map-map}
-use Rattle.graphql_ast.specs.declared.definition_parts.DefinitionParts.{DefinitionParts}
-use Rattle.apollo_component.specs.WriteOut.{by_origin}
-use Rattle.apollo_component.specs.declared.extension.ComponentOrigin.TheVariants.{Extension}
-use Rattle.apollo_component.specs.declared.extension.ExtensionId.{ExtensionId}
-use Rattle.apollo_types.specs.declared.extended_type.ExtendedType.TheVariants.{Object, Interface, Union, Enum, InputObject}
-use Rattle.apollo_canonical.proofs.ComponentsKept.{joined-values, written-keeps}
-use Rattle.apollo_canonical.proofs.Rebuild.TypeFaults.{HaveEachNameOnce, interfaces_in, members_in, fields_in, values_in, input_fields_in}
-use Rattle.apollo_canonical.proofs.Rebuild.WrittenParts.{written, definition_part, extension_of}
+use Rattle.apollo_canonical.proofs.Lists.{each-map, each-of, map-each, map-flat_map, flat_map-none}
+use Rattle.apollo_canonical.proofs.Sections.{written-keeps, written-parts-again}
+use Rattle.apollo_canonical.proofs.Items.{HaveEachNameOnce, interfaces_in, members_in, fields_in, values_in, input_fields_in}
+use Rattle.apollo_canonical.proofs.Types.WrittenParts.{written, definition_part, extension_of}
+
+nodes : {T : Type 0} (part : _ → DefinitionPart) (cs : List (Component T)) → map (λ c. (c.origin, part c.node)) cs ≡ as_parts part (map node_of cs)
+nodes part cs = sym (map-map (λ x. (x.0, part x.1)) node_of cs)
+
+names : (cs : List ComponentName) → map of_name cs ≡ as_parts parts.Name (map name_of cs)
+names cs = sym (map-map (λ x. (x.0, parts.Name x.1)) name_of cs)
+
+two : {X : Type 0} {xs ys us vs : List X} → xs ≡ us → ys ≡ vs → xs ++ ys ≡ us ++ (vs ++ [])
+two e f = simp (e, f, append-nil)
+
+three : {X : Type 0} {xs ys zs us vs ws : List X} → xs ≡ us → ys ≡ vs → zs ≡ ws → (xs ++ ys) ++ zs ≡ us ++ (vs ++ (ws ++ []))
+three e f g = simp (e, f, g, append_assoc, append-nil)
+
+-- the components of a type are those of its sections
+pub components-sections : (t : ExtendedType) → type_components t ≡ in_sections (type_sections t)
+components-sections (Scalar n) = nodes parts.Directive n.value.directives.0 ∙ sym (append-nil (as_parts parts.Directive (map node_of n.value.directives.0)))
+components-sections (Object n) = three (nodes parts.Directive n.value.directives.0) (names n.value.implements_interfaces) (nodes parts.Field (values_of n.value.fields))
+components-sections (Interface n) = three (nodes parts.Directive n.value.directives.0) (names n.value.implements_interfaces) (nodes parts.Field (values_of n.value.fields))
+components-sections (Union n) = two (nodes parts.Directive n.value.directives.0) (names n.value.members)
+components-sections (Enum n) = two (nodes parts.Directive n.value.directives.0) (nodes parts.EnumValue (values_of n.value.values))
+components-sections (InputObject n) = two (nodes parts.Directive n.value.directives.0) (nodes parts.InputField (values_of n.value.fields))
+
+-- what is made of extensions by their locations and their parts is the same where these are
+pub same-placed : {X : Type 0} (make : Option SourceSpan × DefinitionParts → X) (es fs : List (ExtensionId × DefinitionParts)) → placed es ≡ placed fs
+    → map (λ e. make (place_of e.0, e.1)) es ≡ map (λ e. make (place_of e.0, e.1)) fs
+same-placed make es fs e = sym (map-map make (λ e. (place_of e.0, e.1)) es) ∙ ap (map make) e ∙ map-map make (λ e. (place_of e.0, e.1)) fs
+
+module _ (t u : ExtendedType) (h : HasWhatIsWritten t u) where
+  pub same_parts : map (λ e. e.1) h.parts.extensions ≡ map (λ e. e.1) (by_origin (in_sections (type_sections t))).extensions
+  same_parts = same-placed (λ w. w.1) h.parts.extensions (by_origin (type_components t)).extensions h.extensions ∙ ap (λ cs. map (λ e. e.1) (by_origin cs).extensions) (components-sections t)
+
+  parts-again : by_origin (type_components u) ≡ h.parts
+  parts-again = ap by_origin (components-sections u ∙ ap in_sections h.sections) ∙ written-parts-again (type_sections t) h.parts same_parts h.distinct
+
+  pub type-again : write_type u ≡ write_type t
+  type-again =
+      (λ i. written_type (h.kind i) (h.description i) (h.name i) (parts-again i) (h.location i))
+      ∙ (λ i. written_type (type_kind t) (type_description t) (type_name t) (record { definition = h.definition i; extensions = h.parts.extensions }) (type_location t))
+      ∙ (λ i. written_type (type_kind t) (type_description t) (type_name t) (record { definition = (by_origin (type_components t)).definition; extensions = [] }) (type_location t) ++ same-placed (λ w. type_extension (type_kind t) (type_name t) w.1 w.0) h.parts.extensions (by_origin (type_components t)).extensions h.extensions i)
+
+  pub components-again : HasSameComponents (type_sections t) (type_sections u)
+  components-again = subst (HasSameComponents (type_sections t)) (sym h.sections) (written-keeps (type_sections t) h.parts (h.definition ∙ ap (λ cs. (by_origin cs).definition) (components-sections t)) same_parts)
+
+-- Names that stand once: in each type that a list means, in each that has what such a type is written out as, and in the parts of that.
 
 -- names of the same components stand once in both
 still-once : {A : Type 0} (name : A → NameView) (xs ys : List (ComponentOrigin × A)) → IsPermutation (map (λ x. x.1) xs) (map (λ x. x.1) ys)
@@ -112,29 +128,19 @@ module _ (t : ExtendedType) where
   -- a sort of which no part has anything
   nothing-in : (of : TypePart → List NameView) → of (definition_part t) ≡ [] → ((e : ExtensionId × DefinitionParts) → of (extension_of t e) ≡ []) → IsDistinct same_text (flat_map of written_parts)
   unfolding IsDistinct
-  nothing-in of first each = subst (IsDistinct same_text) (sym (λ i. first i ++ later (written t).extensions i)) tt
-    where
-      later : (es : List (ExtensionId × DefinitionParts)) → flat_map of (map (extension_of t) es) ≡ []
-      later [] = refl
-      later (e ∷ es) = λ i. each e i ++ later es i
+  nothing-in of first each =
+      subst (IsDistinct same_text) (sym (λ i. first i ++ (flat_map-map of (extension_of t) (written t).extensions ∙ flat_map-none (λ e. of (extension_of t e)) each (written t).extensions) i)) tt
 
   -- and one of which the parts have what the sections have
   once-in : {A : Type 0} (name : A → NameView) (sort : DefinitionParts → List A) (of : TypePart → List NameView) → of (definition_part t) ≡ map name (sort (written t).definition)
       → ((e : ExtensionId × DefinitionParts) → of (extension_of t e) ≡ map name (sort e.1)) → IsDistinct same_text (map (λ x. name x.1) (joined sort (with_origins (written t)))) → IsDistinct same_text (flat_map of written_parts)
   once-in {A} name sort of first each d = subst (IsDistinct same_text) (sym (whole ∙ sym all)) d
     where
-      later : (es : List (ExtensionId × DefinitionParts)) → flat_map of (map (extension_of t) es) ≡ flat_map (λ e. map name (sort e.1)) es
-      later [] = refl
-      later (e ∷ es) = λ i. each e i ++ later es i
-
       whole : flat_map of written_parts ≡ map name (sort (written t).definition) ++ flat_map (λ e. map name (sort e.1)) (written t).extensions
-      whole = (λ i. first i ++ later (written t).extensions i)
+      whole = (λ i. first i ++ (flat_map-map of (extension_of t) (written t).extensions ∙ (λ j. flat_map (λ e. each e j) (written t).extensions)) i)
 
       all : map (λ x. name x.1) (joined sort (with_origins (written t))) ≡ map name (sort (written t).definition) ++ flat_map (λ e. map name (sort e.1)) (written t).extensions
-      all =
-          sym (map-map name (λ (x : ComponentOrigin × A). x.1) (joined sort (with_origins (written t)))) ∙ ap (map name) (joined-values sort (with_origins (written t)))
-          ∙ map-flat_map name (λ (g : ComponentOrigin × DefinitionParts). sort g.1) (with_origins (written t))
-          ∙ ap (λ l. map name (sort (written t).definition) ++ l) (flat_map-map (λ (g : ComponentOrigin × DefinitionParts). map name (sort g.1)) (λ e. (Extension e.0, e.1)) (written t).extensions)
+      all = simp (map-append, map-flat_map, flat_map-map, map-map)
 
   once_written : HasEachNameOnce (type_sections t) → HasEachNameOnce (sections_of (written t))
   once_written once =

@@ -1,32 +1,11 @@
 -- What a type is written out as, and types of a table, read as items of a list, and what that says of one name.
-use Rattle.std.proofs.Common.{◌≡◌, Bool, List, [], ◌∷◌, None, Option, map, refl, ℕ, true, false, cond, not, ◌++◌, Some, drop, filter, flat_map, ap, ◌∙◌}
-use Rattle.graphql_nodes.specs.NameView.{NameView}
-use Rattle.graphql_nodes.specs.declared.source.SourceSpan.{SourceSpan}
-use Rattle.graphql_nodes.specs.declared.type_kind.TypeKind.{TypeKind}
+use Rattle.apollo_canonical.proofs.Words.Lists.{◌≡◌, Bool, List, [], ◌∷◌, None, Option, map, refl, ℕ, true, false, cond, not, ◌++◌, Some, drop, filter, flat_map, ap, ◌∙◌, append-nil, map-append, filter-append, AllByRecursion, IsDistinct, list_any, option_map_or, map-map}
+use Rattle.apollo_canonical.proofs.Words.Syntax.{NameView, SourceSpan, TypeKind, type_definition, type_extension, DefinitionParts, is_built_in, same, same_text, by_text, HasUniqueKeys, keys_of, values_of, lookup, Definition}
+use Rattle.apollo_canonical.proofs.Words.Types.{place_of, by_origin, ExtensionId, PartsByOrigin, type_kind, type_name, type_location, type_description, type_components, write_type, ExtendedType}
+use Rattle.apollo_canonical.proofs.Words.Meaning.{Defined, Extended, item_of, added, added_items, ignorable_if, ListItem, added_item, TypePart, TypeBody, ScalarBody, ObjectBody, InterfaceBody, UnionBody, EnumBody, InputObjectBody, body_kind, part_at, write_held_type}
 use Rattle.graphql_nodes.specs.declared.type_kind.TypeKind.TheVariants as kinds
-use Rattle.graphql_ast.specs.DefinitionParts.{type_definition, type_extension}
-use Rattle.graphql_ast.specs.declared.definition_parts.DefinitionParts.{DefinitionParts}
-use Rattle.apollo_component.specs.Extensions.{place_of}
-use Rattle.apollo_component.specs.WriteOut.{by_origin}
-use Rattle.apollo_component.specs.declared.extension.ExtensionId.{ExtensionId}
-use Rattle.apollo_component.specs.declared.parts_by_origin.PartsByOrigin.{PartsByOrigin}
-use Rattle.apollo_types.specs.TypeWriteOut.{type_kind, type_name, type_location, type_description, type_components, write_type}
-use Rattle.apollo_types.specs.declared.extended_type.ExtendedType.{ExtendedType}
-use Rattle.apollo_meaning.specs.Items.ListItems.{Defined, Extended, item_of, added, added_items, ignorable_if, ListItem, added_item}
-use Rattle.apollo_meaning.specs.Items.Parts.{TypePart, TypeBody, ScalarBody, ObjectBody, InterfaceBody, UnionBody, EnumBody, InputObjectBody, body_kind, part_at}
-use Rattle.std.proofs.lemmas.List.{append-nil, map-append}
-use Rattle.std.proofs.lemmas.List.Elements.{filter-append}
-use Rattle.std.specs.List.{AllByRecursion, IsDistinct, list_any}
-use Rattle.std.specs.Option.{option_map_or}
-use Rattle.graphql_nodes.specs.BuiltIn.{is_built_in}
-use Rattle.graphql_nodes.specs.SameText.{same, same_text, by_text}
-use Rattle.graphql_nodes.specs.Tables.{HasUniqueKeys, keys_of, values_of, lookup}
-use Rattle.graphql_ast.specs.declared.definition.Definition.{Definition}
-use Rattle.apollo_schema.specs.SchemaWriteOut.{write_held_type}
-use Rattle.apollo_canonical.proofs.FirstAppearance.{new_to_these}
-use Rattle.apollo_canonical.proofs.Kept.{each-map, each-of, filter-alike}
-use Rattle.apollo_canonical.proofs.Rebuild.About.{Name, about, is_about}
-use Rattle.apollo_canonical.proofs.Rebuild.Tables.{lookup-absent, defined_names, defined_names-append}
+use Rattle.apollo_canonical.proofs.Lists.{new_to_these, each-map, each-of, filter-alike}
+use Rattle.apollo_canonical.proofs.Items.{Name, about, is_about, lookup-absent, defined_names, defined_names-append}
 
 -- a body of a kind, of these parts
 abbrev pub body_of : TypeKind → DefinitionParts → TypeBody
@@ -67,8 +46,7 @@ module _ (t : ExtendedType) where
 
   pub items-extensions : (b : Bool) (es : List (ExtensionId × DefinitionParts))
       → added_items (added b (map (λ e. type_extension (type_kind t) (type_name t) e.1 (place_of e.0)) es)) ≡ map (λ e. Extended (extension_of e)) es
-  items-extensions b [] = refl
-  items-extensions b (e ∷ es) = (λ i. ignorable_if b (item-extended (type_kind t) (type_name t) e.1 (place_of e.0) i) ∷ items-extensions b es i)
+  items-extensions b es = simp map-map (λ i. map (λ e. ignorable_if b (item-extended (type_kind t) (type_name t) e.1 (place_of e.0) i)) es)
 
   pub items-written : (b : Bool) → added_items (added b (write_type t)) ≡ Defined (record definition_part { ignorable = b }) ∷ map (λ e. Extended (extension_of e)) written.extensions
   items-written b = (λ i. ignorable_if b (item-defined (type_kind t) (type_description t) (type_name t) written.definition (type_location t) i) ∷ items-extensions b written.extensions i)

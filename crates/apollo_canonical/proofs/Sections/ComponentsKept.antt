@@ -1,34 +1,11 @@
 -- The parts that are written out have all components of the sections, and the directives in order.
-use Rattle.std.proofs.Common.{map-id, ◌≡◌, Bool, true, false, ◌||◌, List, [], ◌∷◌, ◌++◌, map, filter, refl, sym, ap, subst, ◌∙◌, true≢false, arith}
-use Rattle.std.proofs.lemmas.Bool.{or_right, not-true}
-use Rattle.std.proofs.lemmas.List.Folds.{flat_map-map}
-use Rattle.std.proofs.lemmas.List.Sorted.{IsPermutation-map}
-use Rattle.std.proofs.lemmas.Simd.{map-map}
-use Rattle.std.specs.Cmp.{IsEquivalence}
-use Rattle.std.specs.List.{AllByRecursion, IsDistinct, cons_option, flat_map, list_any}
-use Rattle.std.specs.List.Sorted.{IsPermutation}
-use Rattle.graphql_ast.specs.declared.definition_parts.DefinitionPart.{DefinitionPart}
+use Rattle.apollo_canonical.proofs.Words.Lists.{map-id, ◌≡◌, Bool, true, false, ◌||◌, List, [], ◌∷◌, ◌++◌, map, filter, refl, sym, ap, subst, ◌∙◌, true≢false, arith, or_right, not-true, flat_map-map, IsPermutation-map, map-map, IsEquivalence, AllByRecursion, IsDistinct, cons_option, flat_map, list_any, IsPermutation, each-weaken, each-filter, flat_map-each, append-nil, flat_map-append}
+use Rattle.apollo_canonical.proofs.Words.Syntax.{DefinitionPart, DefinitionParts, NodeView, Directive}
+use Rattle.apollo_canonical.proofs.Words.Types.{id_of, same_id, same_origin, SourcedPart, origins_in, identities, of_origin, of_extensions, ComponentOrigin, Definition, Extension, ExtensionId, PartsByOrigin, list_any-first_of_each, first_of_each-distinct, first_of_each}
+use Rattle.apollo_canonical.proofs.Words.Written.{Sections, HasSameComponents, as_parts, in_sections, with_origins, joined, sections_of}
 use Rattle.graphql_ast.specs.declared.definition_parts.DefinitionPart.TheVariants as parts
-use Rattle.graphql_ast.specs.declared.definition_parts.DefinitionParts.{DefinitionParts}
-use Rattle.apollo_component.specs.Extensions.{id_of, same_id, same_origin}
-use Rattle.apollo_component.specs.WriteOut.{SourcedPart, origins_in, identities, of_origin, of_extensions}
-use Rattle.apollo_component.specs.declared.extension.ComponentOrigin.{ComponentOrigin}
-use Rattle.apollo_component.specs.declared.extension.ComponentOrigin.TheVariants.{Definition, Extension}
-use Rattle.apollo_component.specs.declared.extension.ExtensionId.{ExtensionId}
-use Rattle.apollo_component.specs.declared.parts_by_origin.PartsByOrigin.{PartsByOrigin}
-use Rattle.apollo_component.proofs.FirstOfEachLemmas.{list_any-first_of_each}
-use Rattle.apollo_component.proofs.Lists.Each.{each-weaken, each-filter, flat_map-each}
-use Rattle.apollo_component.proofs.Tabled.{first_of_each-distinct}
-use Rattle.apollo_canonical.specs.Sections.{Sections, HasSameComponents, as_parts, in_sections, with_origins, joined, sections_of}
-use Rattle.apollo_canonical.proofs.Kept.{each-from_map, each-map, each-of, each-split, map-flat_map, groups, passes}
-use Rattle.apollo_canonical.proofs.SectionLemmas.{same_id-equiv, ids_in, picked, of_origin-sections, ids_in-sections, of-alone, definition-alone, each-alone, extension-alone, shown-joined, marks, has_some, has_some-picked}
-use Rattle.std.proofs.lemmas.List.{append-nil}
-use Rattle.std.proofs.lemmas.List.Concat.{flat_map-append}
-use Rattle.graphql_nodes.specs.NodeView.{NodeView}
-use Rattle.graphql_ast.specs.declared.directive.Directive.{Directive}
-use Rattle.apollo_component.specs.FirstOfEach.{first_of_each}
-use Rattle.apollo_canonical.proofs.FirstAppearance.{new_to_these, first_of_each-append}
-use Rattle.apollo_canonical.proofs.Regrouped.{marked, first-shown}
+use Rattle.apollo_canonical.proofs.Lists.{each-from_map, each-map, each-of, each-split, map-flat_map, groups, passes, new_to_these, first_of_each-append, marked, first-shown, flat_map-nothing}
+use Rattle.apollo_canonical.proofs.Sections.SectionLemmas.{same_id-equiv, ids_in, picked, of_origin-sections, ids_in-sections, of-alone, definition-alone, each-alone, extension-alone, shown-joined, marks, has_some, has_some-picked}
 
 same_origin-equiv : IsEquivalence same_origin
 same_origin-equiv = record { refl = itself; symm = both-ways; congr = alike }
@@ -152,10 +129,6 @@ module _ (s : Sections) (p : PartsByOrigin) (same_definition : p.definition ≡ 
     input_fields = kept (λ d. d.input_fields) s.input_fields (λ o. ap (λ d. d.input_fields) (of_origin-sections o s)) sections-there.4;
     roots = kept (λ d. d.roots) s.roots (λ o. ap (λ d. d.roots) (of_origin-sections o s)) sections-there.5;
   }
-
-flat_map-nothing : {X Y : Type 0} (f : X → List Y) (xs : List X) → AllByRecursion (λ x. f x ≡ []) xs → flat_map f xs ≡ []
-flat_map-nothing f [] a = refl
-flat_map-nothing f (x ∷ xs) a = rw (a.0) (flat_map-nothing f xs a.1)
 
 -- what a filter leaves out may be empty
 flat_map-filter : {X Y : Type 0} (f : X → List Y) (p : X → Bool) → ((x : X) → p x ≡ false → f x ≡ []) → (xs : List X) → flat_map f (filter p xs) ≡ flat_map f xs

@@ -1,25 +1,72 @@
+-- Tables by their keys, where no two keys have one text, and the names of the types of a list, which are the first of each text.
+use Rattle.apollo_canonical.proofs.Words.Lists.{◌≡◌, ℕ, Bool, true, false, cond, List, [], ◌∷◌, ◌++◌, None, Some, filter, find, flat_map, refl, sym, ap, ◌∙◌, is_some, map, option_map, subst, AllByRecursion, IsDistinct, filter_map, list_any, option_map_or, each-weaken, flat_map-each, map-append, filter_map-append, Option, slice_get, true≢false, append-nil, filter-append, cons_option, all-kept}
+use Rattle.apollo_canonical.proofs.Words.Syntax.{NameView, same, same_text, by_text, HasUniqueKeys, keys_of, values_of, lookup, same-is, same-true, same-flip}
+use Rattle.apollo_canonical.proofs.Words.Types.{first_of_each, name_laws, each_after, found-any}
+use Rattle.apollo_canonical.proofs.Words.Meaning.{ListItem, defined_part, named, first, TypePart, key_of, type_names, directive_definitions, directive_part, Defined, Extended, SchemaDefined, SchemaExtended, Other, defined_schema, extended_part, extended_schema, extensions_of, first_schema, schema_extensions}
+use Rattle.apollo_canonical.proofs.Words.Faults.{schema_faults, further_schema, extension_faults, further_definition, type_begun_faults, schema_begun_faults, found_at, found}
+use Rattle.apollo_canonical.proofs.Words.Written.{MeaningLaws}
+use Rattle.apollo_meaning.specs.Faults.OtherFaults.{other_faults}
+use Rattle.apollo_canonical.proofs.Lists.{each-both, each-from_map, find-made, found-passes, is_some-map, both-empty, find-first, each-found}
+
+module _ {V : Type 0} where
+  -- a key that differs from all is not found
+  pub lookup-absent : (n : List ℕ) (k : NameView) (es : List (NameView × V)) → same n k.text ≡ true → AllByRecursion (λ j. same_text k j ≡ false) (keys_of es) → lookup (by_text n) es ≡ None
+  lookup-absent n k [] is a = refl
+  lookup-absent n k (e ∷ es) is a =
+      ap (λ b. cond b (Some e.1) (lookup (by_text n) es)) (ap (λ (m : List ℕ). same m e.0.text) (same-true n k.text is) ∙ a.0) ∙ lookup-absent n k es is a.1
+
+  -- each entry is found under its key
+  pub each-entry : (es : List (NameView × V)) → HasUniqueKeys same_text es → AllByRecursion (λ e. lookup (by_text e.0.text) es ≡ Some e.1) es
+  unfolding IsDistinct
+  each-entry [] d = tt
+  each-entry (e ∷ es) d = (
+    ap (λ b. cond b (Some e.1) (lookup (by_text e.0.text) es)) (same-is e.0.text e.0.text refl),
+    each-both (λ f. same_text e.0 f.0 ≡ false) (λ f. lookup (by_text f.0.text) es ≡ Some f.1) (λ f. lookup (by_text f.0.text) (e ∷ es) ≡ Some f.1)
+        (λ f apart own. ap (λ b. cond b (Some e.1) (lookup (by_text f.0.text) es)) (same-flip e.0.text f.0.text apart) ∙ own)
+        es (each-from_map (λ k. same_text e.0 k ≡ false) (λ e. e.0) es d.0) (each-entry es d.1),
+  )
+
+  -- what the values give, one after another, is what stands under the keys
+  pub values-by_keys : {X : Type 0} (give : V → List X) (es : List (NameView × V)) → HasUniqueKeys same_text es → flat_map give (values_of es) ≡ flat_map (λ k. option_map_or give (lookup (by_text k.text) es) []) (keys_of es)
+  unfolding IsDistinct
+  values-by_keys give [] d = refl
+  values-by_keys give (e ∷ es) d =
+      ap (λ l. give e.1 ++ l) (values-by_keys give es d.1
+      ∙ flat_map-each (λ k. same_text e.0 k ≡ false) (λ k. option_map_or give (lookup (by_text k.text) es) []) (λ k. option_map_or give (lookup (by_text k.text) (e ∷ es)) [])
+      (λ k apart. ap (λ b. option_map_or give (cond b (Some e.1) (lookup (by_text k.text) es)) []) (sym (same-flip e.0.text k.text apart))) (keys_of es) d.0)
+      ∙ ap (λ b. option_map_or give (cond b (Some e.1) (lookup (by_text e.0.text) es)) [] ++ flat_map (λ k. option_map_or give (lookup (by_text k.text) (e ∷ es)) []) (keys_of es)) (sym (same-is e.0.text e.0.text refl))
+
+abbrev pub defined_names : List ListItem → List NameView
+defined_names xs = map (λ p. p.name) (filter_map defined_part xs)
+
+pub defined_names-append : (xs ys : List ListItem) → defined_names (xs ++ ys) ≡ defined_names xs ++ defined_names ys
+defined_names-append xs ys = ap (map (λ p. p.name)) (filter_map-append defined_part xs ys) ∙ map-append (λ p. p.name) (filter_map defined_part xs) (filter_map defined_part ys)
+
+-- what is looked up is what is found
+pub lookup-named : (n : List ℕ) (ps : List TypePart) → lookup (same n) (named ps) ≡ find (λ p. same n (key_of p)) ps
+lookup-named n [] = refl
+lookup-named n (p ∷ ps) = ap (cond (same n (key_of p)) (Some p)) (lookup-named n ps)
+
+find-defined : (k : NameView) (ps : List TypePart) → find (same_text k) (map (λ p. p.name) ps) ≡ option_map (λ d. d.name) (lookup (same k.text) (named ps))
+find-defined k ps = find-made (same_text k) (λ (p : TypePart). p.name) ps ∙ sym (ap (option_map (λ (d : TypePart). d.name)) (lookup-named k.text ps))
+
+-- each name is that of its text's first definition
+pub names-of_first : MeaningLaws → (xs : List ListItem) → AllByRecursion (λ k. option_map (λ d. d.name) (first xs k.text) ≡ Some k) (type_names xs)
+names-of_first laws xs =
+    subst (AllByRecursion (λ k. option_map (λ d. d.name) (first xs k.text) ≡ Some k)) (sym (laws.names xs))
+    (each-weaken (λ k. find (same_text k) (defined_names xs) ≡ Some k) (λ k. option_map (λ d. d.name) (first xs k.text) ≡ Some k) (λ k h. sym (find-defined k (filter_map defined_part xs)) ∙ h)
+    (first_of_each same_text (defined_names xs)) (each-found same_text name_laws (defined_names xs)))
+
+-- a name is among those that are defined where its text has a definition
+pub among-defined : (k : NameView) (xs : List ListItem) → list_any (same_text k) (defined_names xs) ≡ is_some (first xs k.text)
+among-defined k xs = sym (found-any (same_text k) (defined_names xs)) ∙ ap is_some (find-defined k (filter_map defined_part xs)) ∙ is_some-map (λ (d : TypePart). d.name) (first xs k.text)
+
+-- a first definition has the text
+pub first-key : (n : List ℕ) (ps : List TypePart) (d : TypePart) → lookup (same n) (named ps) ≡ Some d → same n (key_of d) ≡ true
+first-key n ps d h = found-passes (λ p. same n (key_of p)) ps d (sym (lookup-named n ps) ∙ h)
+
 -- What a list says of one name, of the schema, and of all else: what a name means, and what is found at an item, hangs on
 -- those items alone.
-use Rattle.std.proofs.Common.{◌≡◌, ℕ, Bool, true, false, cond, List, [], ◌∷◌, ◌++◌, None, Option, Some, filter, slice_get, refl, sym, ap, ◌∙◌, true≢false}
-use Rattle.std.proofs.lemmas.List.{append-nil}
-use Rattle.std.proofs.lemmas.List.Elements.{filter-append}
-use Rattle.std.specs.List.{filter_map, cons_option}
-use Rattle.std.specs.Option.{option_map_or}
-use Rattle.graphql_nodes.specs.SameText.{same}
-use Rattle.graphql_nodes.proofs.Texts.{same-is}
-use Rattle.apollo_component.specs.EachAfter.{each_after}
-use Rattle.apollo_component.proofs.Lists.Ends.{all-kept}
-use Rattle.apollo_meaning.specs.Directives.{directive_definitions, directive_part}
-use Rattle.apollo_meaning.specs.Faults.OtherFaults.{other_faults}
-use Rattle.apollo_meaning.specs.Faults.RootFaults.{schema_faults, further_schema}
-use Rattle.apollo_meaning.specs.Faults.TypeFaults.{extension_faults, further_definition}
-use Rattle.apollo_meaning.specs.Items.ListItems.{ListItem, Defined, Extended, SchemaDefined, SchemaExtended, Other, defined_part, defined_schema, extended_part, extended_schema}
-use Rattle.apollo_meaning.specs.Items.Named.{first, extensions_of, first_schema, schema_extensions}
-use Rattle.apollo_meaning.specs.Items.Parts.{key_of}
-use Rattle.apollo_meaning.specs.Steps.Joining.{type_begun_faults, schema_begun_faults}
-use Rattle.apollo_meaning.specs.Steps.Prefixes.{found_at, found}
-use Rattle.apollo_canonical.proofs.Kept.{both-empty, find-first}
-use Rattle.apollo_canonical.proofs.Rebuild.Tables.{lookup-named}
 
 -- what an item is about
 pub data Topic : Type 0 where

@@ -1,34 +1,16 @@
 -- The schema definition that a list means: written in it, or implied.
-use Rattle.std.proofs.Common.{◌≡◌, ℕ, Bool, true, false, cond, List, [], ◌∷◌, ◌++◌, None, Option, Some, map, find, flat_map, option_map, slice_get, refl, sym, ap, subst, ◌∙◌, ◌==◌}
-use Rattle.std.proofs.lemmas.List.{append-nil}
-use Rattle.std.proofs.lemmas.List.Elements.{filter_map-append}
-use Rattle.std.proofs.lemmas.Simd.{map-map}
-use Rattle.std.specs.List.{AllByRecursion, IsDistinct, filter_map}
-use Rattle.std.specs.Option.{option_map_or, option_or, unwrap_or}
-use Rattle.std.specs.Prelude.{◌≢◌}
-use Rattle.graphql_nodes.specs.NodeView.{NodeView}
-use Rattle.graphql_nodes.specs.declared.operation_type.OperationType.{OperationType}
-use Rattle.graphql_nodes.specs.declared.operation_type.OperationType.TheVariants.{Query, Mutation, Subscription}
+use Rattle.apollo_canonical.proofs.Words.Lists.{◌≡◌, ℕ, Bool, true, false, cond, List, [], ◌∷◌, ◌++◌, None, Some, map, find, flat_map, option_map, slice_get, refl, sym, ap, subst, ◌∙◌, ◌==◌, append-nil, filter_map-append, map-map, AllByRecursion, IsDistinct, filter_map, option_map_or, option_or, unwrap_or, ◌≢◌}
+use Rattle.apollo_canonical.proofs.Words.Syntax.{NodeView, OperationType, Query, Mutation, Subscription}
+use Rattle.apollo_canonical.proofs.Words.Types.{has_own_root, root_of, SchemaDefinition, ComponentName}
+use Rattle.apollo_canonical.proofs.Words.Meaning.{adopted, adopted_by, extended_names, orphans_of, with_adopted, implicit_roots, implied_schema, schema_for, schema_of_roots, ListItem, SchemaDefined, added_items, defined_schema, extended_schema, first_schema}
+use Rattle.apollo_canonical.proofs.Words.Meaning.{schema_extensions, Root, SchemaPart, TypePart, roots_in, folding_order, SourcedSchema, no_schema, roots_of, same_operation, schema_extension_source, schema_from, schema_of, schema_parts, whole, Schema}
+use Rattle.apollo_canonical.proofs.Words.Written.{MeaningLaws, IsMeantByList, with_built_ins}
 use Rattle.apollo_component.specs.declared.extension.ComponentOrigin.TheVariants as origins
-use Rattle.apollo_types.specs.SchemaDefinitionWriteOut.{has_own_root}
-use Rattle.apollo_types.specs.SchemaRoots.{root_of}
-use Rattle.apollo_types.specs.declared.schema_definition.SchemaDefinition.{SchemaDefinition}
-use Rattle.apollo_meaning.specs.Completion.Adoption.{adopted, adopted_by, extended_names, orphans_of, with_adopted}
-use Rattle.apollo_meaning.specs.Completion.ImpliedSchema.{implicit_roots, implied_schema, schema_for, schema_of_roots}
-use Rattle.apollo_meaning.specs.Items.ListItems.{ListItem, SchemaDefined, added_items, defined_schema, extended_schema}
-use Rattle.apollo_meaning.specs.Items.Named.{first_schema, schema_extensions}
-use Rattle.apollo_meaning.specs.Items.Parts.{Root, SchemaPart, TypePart, roots_in}
-use Rattle.apollo_meaning.specs.Order.Places.{folding_order}
-use Rattle.apollo_meaning.specs.Schema.Definition.{SourcedSchema, no_schema, roots_of, same_operation, schema_extension_source, schema_from, schema_of, schema_parts}
-use Rattle.apollo_meaning.specs.Schema.Whole.{whole}
-use Rattle.apollo_schema.specs.declared.schema.Schema.{Schema}
-use Rattle.apollo_canonical.specs.MeaningLaws.{MeaningLaws}
-use Rattle.apollo_canonical.specs.WrittenAgain.{IsMeantByList, with_built_ins}
-use Rattle.apollo_canonical.proofs.Kept.{both-empty}
-use Rattle.apollo_canonical.proofs.Rebuild.Meant.{no-schema_definitions, adopted-split, items, rooted}
-use Rattle.apollo_canonical.proofs.Rebuild.Numbers.{rising-distinct, schema_numbers, schema_numbers-rise}
-use Rattle.apollo_canonical.proofs.Rebuild.OneSchema.{IsMadeSchema, made_schema, root_under, written_parts_of}
-use Rattle.apollo_canonical.proofs.Rebuild.SchemaSaid.{all-none, no-directives, own-root}
+use Rattle.apollo_canonical.proofs.Lists.{both-empty, map-empty, option_cases}
+use Rattle.apollo_canonical.proofs.Items.{no-schema_definitions, adopted-split, items, rooted}
+use Rattle.apollo_canonical.proofs.Types.{rising-distinct, schema_numbers, schema_numbers-rise, IsMadeBy}
+use Rattle.apollo_canonical.proofs.Definitions.OneSchema.{made_schema, written_parts_of}
+use Rattle.apollo_canonical.proofs.Definitions.SchemaSaid.{all-none, no-directives, own-root, operations-named}
 
 -- it names a root
 abbrev pub NamesRoot : SchemaPart → Type 0
@@ -49,7 +31,7 @@ schema_numbers-parts laws start xs s h =
 
 -- a schema definition that isn't written in a list has nothing of its own but implied roots, if the list implies these
 pub record IsMeantSchema (d : SchemaDefinition) (implied : List Root) : Type 0 where
-  pub made : IsMadeSchema d
+  pub made : IsMadeBy made_schema d
   pub description : has_own_root d ≡ false → d.description ≡ None
   pub directives : has_own_root d ≡ false → (written_parts_of d).definition.directives.0 ≡ []
   pub roots : has_own_root d ≡ false → ((op : OperationType) → root_of d op ≡ None) → implied ≡ []
@@ -95,22 +77,16 @@ meant-of_roots rs es implied apart roots = record {
 
 -- a definition without any root, and without extensions that name one
 none-named : (head : SchemaPart) (es : List (ℕ × SchemaPart)) → ((op : OperationType) → root_of (made_schema head es) op ≡ None) → roots_in (map (λ e. e.1) es) ≡ []
-none-named head es none = by es (both-empty (roots_of (origins.Definition, head)) (flat_map roots_of (map schema_extension_source es)) (all-none (flat_map roots_of ((origins.Definition, head) ∷ map schema_extension_source es)) found)).1
+none-named head es none =
+    map-empty (λ (r : Root). r.value.0) (roots_in (map (λ e. e.1) es)) (sym (operations-named es) ∙ ap (map (λ (r : OperationType × ComponentName). r.0)) nothing)
   where
     found : (op : OperationType) → option_map (λ r. r.1) (find (λ r. same_operation op r.0) (flat_map roots_of ((origins.Definition, head) ∷ map schema_extension_source es))) ≡ None
     found Query = none Query
     found Mutation = none Mutation
     found Subscription = none Subscription
 
-    empty : {X Y : Type 0} (f : X → Y) (l : List X) → map f l ≡ [] → l ≡ []
-    empty f [] h = refl
-    empty f (x ∷ l) h = absurd (let g : f x ∷ map f l ≡ [] = h in cc)
-
-    by : (fs : List (ℕ × SchemaPart)) → flat_map roots_of (map schema_extension_source fs) ≡ [] → roots_in (map (λ e. e.1) fs) ≡ []
-    by [] h = refl
-    by (f ∷ fs) h =
-        let two = both-empty (roots_of (schema_extension_source f)) (flat_map roots_of (map schema_extension_source fs)) h in
-        (λ i. empty (root_under (schema_extension_source f).0) f.1.roots two.0 i ++ by fs two.1 i)
+    nothing : flat_map roots_of (map schema_extension_source es) ≡ []
+    nothing = (both-empty (roots_of (origins.Definition, head)) (flat_map roots_of (map schema_extension_source es)) (all-none (flat_map roots_of ((origins.Definition, head) ∷ map schema_extension_source es)) found)).1
 
 module _ (laws : MeaningLaws) (schema : Schema) (list : IsMeantByList schema) where
   open list use {start, adopts, more}
@@ -155,7 +131,10 @@ module _ (laws : MeaningLaws) (schema : Schema) (list : IsMeantByList schema) wh
   extensions-kept s is = filter_map-append extended_schema W (implied_schema adopts W) ∙ ap (λ l. schema_extensions W ++ filter_map extended_schema l) is ∙ append-nil (schema_extensions W)
 
   pub meant-schema : IsMeantSchema (schema_node start xs).value (implicit_roots W)
-  meant-schema = by (first_schema W) refl
+  meant-schema = option_cases (first_schema W)
+      (λ h. implied h adopts (roots_in (schema_extensions W)) (implicit_roots W) refl refl (ap (λ o. option_map_or (λ _. []) o (schema_for adopts (roots_in (schema_extensions W)) (implicit_roots W))) h))
+      (λ s h. is_meant s (first_schema-append W (implied_schema adopts W) ∙ ap (λ o. option_or o (first_schema (implied_schema adopts W))) h)
+      (meant-explicit s (schema_numbers start (folding_order xs)) (implicit_roots W) apart (first-roots s h)))
     where
       is_meant : (s : SchemaPart) → first_schema xs ≡ Some s → IsMeantSchema (made_schema s (schema_numbers start (folding_order xs))) (implicit_roots W) → IsMeantSchema (schema_node start xs).value (implicit_roots W)
       is_meant s h m = subst (λ n. IsMeantSchema n.value (implicit_roots W)) (sym (node-of start xs s h)) m
@@ -179,9 +158,3 @@ module _ (laws : MeaningLaws) (schema : Schema) (list : IsMeantByList schema) wh
       implied none false named (r ∷ rs) named_is implicit_is is =
           is_meant (schema_of_roots (r ∷ rs)) (completed-first (schema_of_roots (r ∷ rs)) none is)
           (meant-explicit (schema_of_roots (r ∷ rs)) (schema_numbers start (folding_order xs)) (implicit_roots W) apart (λ e. let g : r ∷ rs ≡ [] = e in cc))
-
-      by : (o : Option SchemaPart) → first_schema W ≡ o → IsMeantSchema (schema_node start xs).value (implicit_roots W)
-      by (Some s) h =
-          is_meant s (first_schema-append W (implied_schema adopts W) ∙ ap (λ o. option_or o (first_schema (implied_schema adopts W))) h)
-          (meant-explicit s (schema_numbers start (folding_order xs)) (implicit_roots W) apart (first-roots s h))
-      by None h = implied h adopts (roots_in (schema_extensions W)) (implicit_roots W) refl refl (ap (λ o. option_map_or (λ _. []) o (schema_for adopts (roots_in (schema_extensions W)) (implicit_roots W))) h)

@@ -1,40 +1,114 @@
 -- The type that written parts mean again, under any distinct numbers of the extensions, has what is written of the first.
-use Rattle.std.proofs.Common.{◌≡◌, ℕ, Option, List, [], ◌∷◌, ◌++◌, map, length, flat_map, refl, sym, ap, subst, ◌∙◌, ◌==◌}
-use Rattle.std.proofs.lemmas.List.{map-append}
-use Rattle.std.proofs.lemmas.Simd.{map-map}
-use Rattle.std.specs.List.{AllByRecursion, IsDistinct}
-use Rattle.graphql_nodes.specs.NameView.{NameView}
-use Rattle.graphql_nodes.specs.NodeView.{NodeView}
-use Rattle.graphql_nodes.specs.SameText.{same_text}
-use Rattle.graphql_nodes.specs.Tables.{values_of}
-use Rattle.graphql_ast.specs.declared.definition_parts.DefinitionParts.{DefinitionParts}
-use Rattle.graphql_nodes.specs.declared.source.SourceSpan.{SourceSpan}
-use Rattle.graphql_ast.specs.declared.directive.Directive.{Directive}
-use Rattle.apollo_component.specs.WriteOut.{by_origin, of_origin, identities, origins_in}
-use Rattle.apollo_component.specs.Extensions.{extension_id, place_of}
-use Rattle.apollo_component.specs.declared.component.Component.{Component}
-use Rattle.apollo_component.specs.declared.component.ComponentName.{ComponentName}
-use Rattle.apollo_component.specs.declared.extension.ComponentOrigin.{ComponentOrigin}
-use Rattle.apollo_component.specs.declared.extension.ComponentOrigin.TheVariants.{Definition, Extension}
-use Rattle.apollo_component.specs.declared.extension.ExtensionId.{ExtensionId}
-use Rattle.apollo_component.specs.declared.parts_by_origin.PartsByOrigin.{PartsByOrigin}
-use Rattle.apollo_types.specs.TypeWriteOut.{type_kind, type_components}
-use Rattle.apollo_types.specs.declared.extended_type.ExtendedType.{ExtendedType}
-use Rattle.apollo_types.specs.declared.extended_type.ExtendedType.TheVariants.{Scalar, Object, Interface, Union, Enum, InputObject}
-use Rattle.apollo_meaning.specs.Items.Parts.{TypePart}
-use Rattle.apollo_meaning.specs.Types.Components.{Sourced, component, component_name, field_entry, value_entry, input_field_entry, body_interfaces, body_members, body_fields, body_values, body_input_fields, directives_of, distinct_names, distinct_entries}
-use Rattle.apollo_meaning.specs.Types.Meaning.{type_from}
-use Rattle.apollo_canonical.specs.MeaningLaws.{MeaningLaws}
-use Rattle.apollo_canonical.specs.Sections.{in_sections, with_origins, joined, sections_of}
-use Rattle.apollo_canonical.specs.TypeSections.{node_of, name_of, type_sections, HasWhatIsWritten, HasEachNameOnce}
-use Rattle.apollo_canonical.proofs.ComponentsKept.{written-keeps}
-use Rattle.apollo_canonical.proofs.NamesOnce.{IsNamed, all-named, once-kept}
-use Rattle.apollo_canonical.proofs.Kept.{map-each, all-first}
-use Rattle.apollo_canonical.proofs.SectionLemmas.{of_origin-sections, parts_in}
-use Rattle.apollo_canonical.proofs.TypeLemmas.{components-sections, same-placed}
-use Rattle.apollo_canonical.proofs.Rebuild.Numbers.{directives_alone, numbered_parts, renumbered, renumbered-placed, renumbered-distinct}
-use Rattle.apollo_canonical.proofs.Rebuild.WrittenParts.{written, definition_part, extension_of, kind-body}
-use Rattle.apollo_component.proofs.Lists.Each.{each-weaken}
+use Rattle.apollo_canonical.proofs.Words.Lists.{◌≡◌, ℕ, ◌+◌, ◌≤◌, Bool, true, false, cond, ◌==◌, List, [], ◌∷◌, Option, map, filter, length, refl, ap, arith, nat_tests, AllByRecursion, IsDistinct, filter_map, enumerate_from, ◌++◌, flat_map, sym, subst, ◌∙◌, map-map, each-weaken, flat_map-map}
+use Rattle.apollo_canonical.proofs.Words.Syntax.{same, SourceSpan, NodeView, Directive, DefinitionParts, NameView, same_text, values_of}
+use Rattle.apollo_canonical.proofs.Words.Types.{ComponentOrigin, Extension, extension_id, place_of, same_id, ExtensionId, by_origin, of_origin, identities, origins_in, Component, ComponentName, Definition, PartsByOrigin, type_kind, type_components, ExtendedType, Scalar, Object, Interface, Union, Enum, InputObject}
+use Rattle.apollo_canonical.proofs.Words.Meaning.{Folding, OfType, OfSchema, TypePart, SchemaPart, key_of, of_schema, of_type, Sourced, component, component_name, field_entry, value_entry, input_field_entry, body_interfaces, body_members, body_fields, body_values, body_input_fields, directives_of, distinct_names, distinct_entries, type_from}
+use Rattle.apollo_canonical.proofs.Words.Written.{placed, MeaningLaws, in_sections, with_origins, joined, sections_of, node_of, name_of, type_sections, HasWhatIsWritten, HasEachNameOnce}
+use Rattle.apollo_canonical.proofs.Lists.{map-each, all-first, map-flat_map}
+use Rattle.apollo_canonical.proofs.Sections.{written-keeps, of_origin-sections, parts_in}
+use Rattle.apollo_canonical.proofs.Types.WrittenParts.{written, definition_part, extension_of, kind-body}
+use Rattle.apollo_canonical.proofs.Types.NamesOnce.{IsNamed, all-named, once-kept, components-sections, same-placed}
+
+-- numbers that rise from this one
+abbrev pub Rises : {X : Type 0} → ℕ → List (ℕ × X) → Type 0
+Rises m [] = Unit {0}
+Rises m (e ∷ es) = (m ≤ e.0) × Rises (e.0 + 1) es
+
+rises-from : {X : Type 0} (k m : ℕ) (es : List (ℕ × X)) → k ≤ m → Rises m es → Rises k es
+rises-from k m [] le r = tt
+rises-from k m (e ∷ es) le r = (let first : m ≤ e.0 = r.0 in omega (arith, le, first), r.1)
+
+-- the extensions of a name among those that are folded, and of the schema, with their numbers
+abbrev pub numbers_of : List ℕ → ℕ → List Folding → List (ℕ × TypePart)
+numbers_of n start fs = filter (λ e. same n (key_of e.1)) (filter_map of_type (enumerate_from start fs))
+
+abbrev pub schema_numbers : ℕ → List Folding → List (ℕ × SchemaPart)
+schema_numbers start fs = filter_map of_schema (enumerate_from start fs)
+
+pub numbers-rise : (n : List ℕ) (start : ℕ) (fs : List Folding) → Rises start (numbers_of n start fs)
+numbers-rise n start [] = tt
+numbers-rise n start (OfSchema s ∷ fs) = rises-from start (start + 1) (numbers_of n (start + 1) fs) (omega arith) (numbers-rise n (start + 1) fs)
+numbers-rise n start (OfType p ∷ fs) = by (same n (key_of p)) (numbers-rise n (start + 1) fs)
+  where
+    by : (b : Bool) → Rises (start + 1) (numbers_of n (start + 1) fs) → Rises start (cond b ((start, p) ∷ numbers_of n (start + 1) fs) (numbers_of n (start + 1) fs))
+    by true rest = (omega arith, rest)
+    by false rest = rises-from start (start + 1) (numbers_of n (start + 1) fs) (omega arith) rest
+
+pub schema_numbers-rise : (start : ℕ) (fs : List Folding) → Rises start (schema_numbers start fs)
+schema_numbers-rise start [] = tt
+schema_numbers-rise start (OfSchema s ∷ fs) = (omega arith, schema_numbers-rise (start + 1) fs)
+schema_numbers-rise start (OfType p ∷ fs) = rises-from start (start + 1) (schema_numbers (start + 1) fs) (omega arith) (schema_numbers-rise (start + 1) fs)
+
+-- numbers that rise differ
+pub rising-distinct : {X : Type 0} (m : ℕ) (es : List (ℕ × X)) → Rises m es → IsDistinct ◌==◌ (map (λ e. e.0) es)
+unfolding IsDistinct
+rising-distinct m [] r = tt
+rising-distinct {X} m (e ∷ es) r = (apart es r.1, rising-distinct (e.0 + 1) es r.1)
+  where
+    apart : (fs : List (ℕ × X)) → Rises (e.0 + 1) fs → AllByRecursion (λ k. (e.0 == k) ≡ false) (map (λ f. f.0) fs)
+    apart [] r = tt
+    apart (f ∷ fs) r = (let low : e.0 + 1 ≤ f.0 = r.0 in grind (arith, nat_tests, low), apart fs (rises-from (e.0 + 1) (f.0 + 1) fs (let low : e.0 + 1 ≤ f.0 = r.0 in omega (arith, low)) r.1))
+
+-- things with numbers, one after another
+abbrev pub paired : {X : Type 0} → List ℕ → List X → List (ℕ × X)
+paired [] xs = []
+paired (i ∷ is) [] = []
+paired (i ∷ is) (x ∷ xs) = (i, x) ∷ paired is xs
+
+pub paired-self : {X : Type 0} (es : List (ℕ × X)) → es ≡ paired (map (λ e. e.0) es) (map (λ e. e.1) es)
+paired-self [] = refl
+paired-self (e ∷ es) = ap (λ l. e ∷ l) (paired-self es)
+
+-- the parts of extensions, each where it stands, under these numbers
+abbrev pub renumbered : List ℕ → List (ExtensionId × DefinitionParts) → List (ExtensionId × DefinitionParts)
+renumbered [] es = []
+renumbered (i ∷ is) [] = []
+renumbered (i ∷ is) (e ∷ es) = (extension_id i (place_of e.0), e.1) ∷ renumbered is es
+
+pub renumbered-placed : (is : List ℕ) (es : List (ExtensionId × DefinitionParts)) → length is ≡ length es → placed (renumbered is es) ≡ placed es
+renumbered-placed [] [] h = refl
+renumbered-placed [] (e ∷ es) h = absurd (omega (arith, h))
+renumbered-placed (i ∷ is) [] h = absurd (omega (arith, h))
+renumbered-placed (i ∷ is) (e ∷ es) h = ap (λ l. (place_of e.0, e.1) ∷ l) (renumbered-placed is es (omega (arith, h)))
+
+pub renumbered-distinct : (is : List ℕ) (es : List (ExtensionId × DefinitionParts)) → IsDistinct ◌==◌ is → IsDistinct same_id (map (λ e. e.0) (renumbered is es))
+unfolding IsDistinct
+renumbered-distinct [] es d = tt
+renumbered-distinct (i ∷ is) [] d = tt
+renumbered-distinct (i ∷ is) (e ∷ es) d = (apart is es d.0, renumbered-distinct is es d.1)
+  where
+    apart : (js : List ℕ) (fs : List (ExtensionId × DefinitionParts)) → AllByRecursion (λ k. (i == k) ≡ false) js → AllByRecursion (λ k. same_id (extension_id i (place_of e.0)) k ≡ false) (map (λ f. f.0) (renumbered js fs))
+    apart [] fs a = tt
+    apart (j ∷ js) [] a = tt
+    apart (j ∷ js) (f ∷ fs) a = (a.0, apart js fs a.1)
+
+-- the directives of a part alone
+abbrev pub directives_alone : List (NodeView Directive) → DefinitionParts
+directives_alone ds = record { directives = record { 0 = ds }; names = []; fields = []; values = []; input_fields = []; roots = [] }
+
+-- a part of any kind under its number, where it stands
+abbrev pub numbered_parts : {P : Type 0} → (P → Option SourceSpan) → (P → DefinitionParts) → ℕ × P → ExtensionId × DefinitionParts
+numbered_parts place parts e = (extension_id e.0 (place e.1), parts e.1)
+
+pub numbered-distinct : {P : Type 0} (place : P → Option SourceSpan) (parts : P → DefinitionParts) (fs : List (ℕ × P)) → IsDistinct ◌==◌ (map (λ e. e.0) fs)
+    → IsDistinct same_id (map (λ e. e.0) (map (numbered_parts place parts) fs))
+unfolding IsDistinct
+numbered-distinct place parts [] d = tt
+numbered-distinct {P} place parts (f ∷ fs) d = (others fs d.0, numbered-distinct place parts fs d.1)
+  where
+    others : (gs : List (ℕ × P)) → AllByRecursion (λ k. (f.0 == k) ≡ false) (map (λ e. e.0) gs)
+        → AllByRecursion (λ k. same_id (extension_id f.0 (place f.1)) k ≡ false) (map (λ e. e.0) (map (numbered_parts place parts) gs))
+    others [] a = tt
+    others (g ∷ gs) a = (a.0, others gs a.1)
+
+-- written parts under their numbers are parts of a list under theirs
+pub numbered-written : {P : Type 0} (place : P → Option SourceSpan) (part : Option SourceSpan → DefinitionParts → P) → ((s : Option SourceSpan) (d : DefinitionParts) → place (part s d) ≡ s) → (is : List ℕ) (es : List (ExtensionId × DefinitionParts))
+    → map {B = ComponentOrigin × P} (λ e. (Extension (extension_id e.0 (place e.1)), e.1)) (paired is (map (λ e. part (place_of e.0) e.1) es)) ≡ map (λ g. (Extension g.0, part (place_of g.0) g.1)) (renumbered is es)
+numbered-written place part at [] es = refl
+numbered-written place part at (i ∷ is) [] = refl
+numbered-written place part at (i ∷ is) (e ∷ es) = (λ j. (Extension (extension_id i (at (place_of e.0) e.1 j)), part (place_of e.0) e.1) ∷ numbered-written place part at is es j)
+
+-- The type that written parts mean again, under any distinct numbers of the extensions, has what is written of the first.
 
 -- what parts have of one sort, with their origins
 abbrev pub shown_in : {P A : Type 0} → (P → List A) → List (ComponentOrigin × P) → List (ComponentOrigin × A)
@@ -42,17 +116,11 @@ shown_in sort = flat_map (λ s. map (λ x. (s.0, x)) (sort s.1))
 
 pub shown-made : {P A C : Type 0} (view : C → ComponentOrigin × A) (make : ComponentOrigin → A → C) → ((o : ComponentOrigin) (a : A) → view (make o a) ≡ (o, a)) → (sort : P → List A) (ss : List (ComponentOrigin × P))
     → map view (flat_map (λ s. map (make s.0) (sort s.1)) ss) ≡ shown_in sort ss
-shown-made view make is sort [] = refl
-shown-made {P} {A} view make is sort (s ∷ ss) = map-append view (map (make s.0) (sort s.1)) (flat_map (λ s. map (make s.0) (sort s.1)) ss) ∙ (λ i. one (sort s.1) i ++ shown-made view make is sort ss i)
-  where
-    one : (xs : List A) → map view (map (make s.0) xs) ≡ map (λ x. (s.0, x)) xs
-    one [] = refl
-    one (x ∷ xs) = λ i. is s.0 x i ∷ one xs i
+shown-made view make is sort ss = simp (map-flat_map, map-map) (λ i. flat_map (λ s. map (λ a. is s.0 a i) (sort s.1)) ss)
 
 pub shown-joined : {P G A : Type 0} (of : P → List A) (sort : DefinitionParts → List A) (origin : G → ComponentOrigin) (part : G → P) (parts : G → DefinitionParts) → ((g : G) → of (part g) ≡ sort (parts g)) → (gs : List G)
     → shown_in of (map (λ g. (origin g, part g)) gs) ≡ joined sort (map (λ g. (origin g, parts g)) gs)
-shown-joined of sort origin part parts is [] = refl
-shown-joined of sort origin part parts is (g ∷ gs) = λ i. map (λ x. (origin g, x)) (is g i) ++ shown-joined of sort origin part parts is gs i
+shown-joined of sort origin part parts is gs = simp flat_map-map (λ i. flat_map (λ g. map (λ x. (origin g, x)) (is g i)) gs)
 
 -- the directives of a part and of parts with numbers
 pub directives-numbered : {P : Type 0} (place : P → Option SourceSpan) (of : P → List (NodeView Directive)) (head : P) (es : List (ℕ × P))
@@ -126,7 +194,7 @@ module _ (t : ExtendedType) (is : List ℕ) where
   module _ (many : length is ≡ length (written t).extensions) (once : HasEachNameOnce (type_sections t)) where
     same_parts : map (λ e. e.1) parts_again.extensions ≡ map (λ e. e.1) (by_origin (in_sections (type_sections t))).extensions
     same_parts =
-        same-placed parts_again.extensions (written t).extensions (renumbered-placed is (written t).extensions many)
+        same-placed (λ w. w.1) parts_again.extensions (written t).extensions (renumbered-placed is (written t).extensions many)
         ∙ ap (λ cs. map (λ e. e.1) (by_origin cs).extensions) (components-sections t)
 
     -- they have the same components, so each name once

@@ -1,42 +1,13 @@
 -- A schema definition that a list means, and the one that what is written of it means.
-use Rattle.std.proofs.Common.{◌≡◌, ℕ, List, [], ◌∷◌, ◌++◌, None, Option, Some, map, find, flat_map, length, option_map, slice_get, refl, sym, ap, ◌∙◌, ◌==◌}
-use Rattle.std.proofs.lemmas.List.{length-map}
-use Rattle.std.proofs.lemmas.Simd.{map-map}
-use Rattle.std.specs.List.{AllByRecursion, IsDistinct}
-use Rattle.std.specs.List.Sorted.{IsPermutation}
-use Rattle.graphql_nodes.specs.Comparing.{bare_name}
-use Rattle.graphql_nodes.specs.NodeView.{NodeView}
-use Rattle.graphql_nodes.specs.declared.operation_type.OperationType.{OperationType}
-use Rattle.graphql_nodes.specs.declared.operation_type.OperationType.TheVariants.{Query, Mutation, Subscription}
-use Rattle.graphql_ast.specs.Bare.{bare_directive}
-use Rattle.graphql_ast.specs.declared.definition_parts.DefinitionParts.{DefinitionParts}
-use Rattle.graphql_ast.specs.declared.directive.Directive.{Directive}
-use Rattle.apollo_component.specs.BareComponents.{bare_component, bare_component_name}
-use Rattle.apollo_component.specs.Extensions.{place_of}
-use Rattle.apollo_component.specs.WriteOut.{by_origin, identities, of_extensions, of_origin, origins_in}
-use Rattle.apollo_component.specs.declared.component.Component.{Component}
-use Rattle.apollo_component.specs.declared.component.ComponentName.{ComponentName}
-use Rattle.apollo_component.specs.declared.extension.ComponentOrigin.{ComponentOrigin}
-use Rattle.apollo_component.specs.declared.extension.ComponentOrigin.TheVariants.{Definition, Extension}
-use Rattle.apollo_component.specs.declared.extension.ExtensionId.{ExtensionId}
-use Rattle.apollo_component.specs.declared.parts_by_origin.PartsByOrigin.{PartsByOrigin}
-use Rattle.apollo_types.specs.BareTypes.{bare_schema_definition}
-use Rattle.apollo_types.specs.Components.{root_node}
-use Rattle.apollo_types.specs.SchemaDefinitionWriteOut.{schema_components}
-use Rattle.apollo_types.specs.SchemaRoots.{root_of}
-use Rattle.apollo_types.specs.declared.schema_definition.SchemaDefinition.{SchemaDefinition}
-use Rattle.apollo_meaning.specs.Items.Parts.{Root, SchemaPart}
-use Rattle.apollo_meaning.specs.Schema.Definition.{root_in, roots_of, same_operation, schema_definition_of, schema_directives_of, schema_extension_source}
-use Rattle.apollo_meaning.specs.Types.Components.{component, component_name}
-use Rattle.apollo_canonical.specs.Sections.{Sections, in_sections, joined, with_origins}
-use Rattle.apollo_canonical.specs.TypeSections.{no_components, node_of, placed}
-use Rattle.apollo_canonical.proofs.ComponentsKept.{kept, origins-split, roots-there, HasOrigins, directives-in_order}
-use Rattle.apollo_canonical.proofs.FirstAppearance.{in_order}
-use Rattle.apollo_canonical.proofs.Kept.{find-first, find-made, map-flat_map}
-use Rattle.apollo_canonical.proofs.TypeLemmas.{same-placed}
-use Rattle.apollo_canonical.proofs.Rebuild.Numbers.{directives_alone, numbered-distinct, numbered-written, numbered_parts, paired, paired-self, renumbered, renumbered-distinct, renumbered-placed}
-use Rattle.apollo_canonical.proofs.Rebuild.TypeAgain.{directives-numbered, shown-joined, shown-made, shown_in}
-use Rattle.apollo_canonical.proofs.Rebuild.SchemaSections.{IsSchemaRow, entries, is_op, roots-origin, roots_for, schema-components, schema-in_order, schema-row, schema_sections, schema_sorts, alone-permuted, filter-joined, from-values, in_operation_order, none-permuted, schema-parts_again}
+use Rattle.apollo_canonical.proofs.Words.Lists.{◌≡◌, ℕ, List, [], ◌∷◌, ◌++◌, None, Option, Some, map, find, flat_map, length, option_map, slice_get, refl, sym, ap, ◌∙◌, ◌==◌, length-map, map-map, AllByRecursion, IsDistinct, IsPermutation}
+use Rattle.apollo_canonical.proofs.Words.Syntax.{bare_name, NodeView, OperationType, Query, Mutation, Subscription, bare_directive, DefinitionParts, Directive}
+use Rattle.apollo_canonical.proofs.Words.Types.{bare_component, bare_component_name, place_of, by_origin, identities, of_extensions, of_origin, origins_in, Component, ComponentName, ComponentOrigin, Definition, Extension, ExtensionId, PartsByOrigin, bare_schema_definition, root_node, schema_components, root_of, SchemaDefinition}
+use Rattle.apollo_canonical.proofs.Words.Meaning.{Root, SchemaPart, root_in, roots_of, same_operation, schema_definition_of, schema_directives_of, schema_extension_source, component, component_name}
+use Rattle.apollo_canonical.proofs.Words.Written.{Sections, in_sections, joined, with_origins, no_components, node_of, placed}
+use Rattle.apollo_canonical.proofs.Lists.{in_order, find-first, find-made, map-flat_map, option_map-twice}
+use Rattle.apollo_canonical.proofs.Sections.{kept, origins-split, roots-there, HasOrigins, directives-in_order}
+use Rattle.apollo_canonical.proofs.Types.{same-placed, directives_alone, numbered-distinct, numbered-written, numbered_parts, paired, paired-self, renumbered, renumbered-distinct, renumbered-placed, directives-numbered, shown-joined, shown-made, shown_in, IsMadeBy}
+use Rattle.apollo_canonical.proofs.Definitions.SchemaSections.{IsSchemaRow, entries, is_op, roots-origin, roots_for, schema-components, schema-in_order, schema-row, schema_sections, schema_sorts, alone-permuted, filter-joined, from-values, in_operation_order, none-permuted, schema-parts_again}
 
 -- an extension's identity with what is written of it
 abbrev pub extension_written : SchemaDefinition → ExtensionId → ExtensionId × DefinitionParts
@@ -60,12 +31,6 @@ schema_extension_of e = record { location = place_of e.0; description = None; di
 -- the schema definition of a part and of extensions with numbers
 abbrev pub made_schema : SchemaPart → List (ℕ × SchemaPart) → SchemaDefinition
 made_schema head es = schema_definition_of head ((Definition, head) ∷ map schema_extension_source es)
-
-pub record IsMadeSchema (d : SchemaDefinition) : Type 0 where
-  pub head : SchemaPart
-  pub extensions : List (ℕ × SchemaPart)
-  pub apart : IsDistinct ◌==◌ (map (λ e. e.0) extensions)
-  pub is : d ≡ made_schema head extensions
 
 -- the part has what is written of the definition
 pub record IsWrittenHead (d : SchemaDefinition) (head : SchemaPart) : Type 0 where
@@ -98,8 +63,7 @@ equal-again d u a = (λ i. record {
     directives = values u.directives.0 ∙ ap (map (λ n. bare_directive n.value)) a.directives ∙ sym (values d.directives.0)
 
     named : (o : Option ComponentName) → option_map bare_component_name o ≡ option_map bare_name (option_map (λ c. c.name) o)
-    named None = refl
-    named (Some c) = refl
+    named o = sym (option_map-twice bare_name (λ (c : ComponentName). c.name) o)
 
     root : (op : OperationType) → option_map bare_component_name (root_of u op) ≡ option_map bare_component_name (root_of d op)
     root op = named (root_of u op) ∙ ap (option_map bare_name) (a.roots op) ∙ sym (named (root_of d op))
@@ -118,11 +82,7 @@ perm-entries op (Some n) ys p = alone-permuted (root_node (op, n)) ys p
 abbrev named_entry : ComponentOrigin × Root → OperationType × ComponentName
 named_entry x = (x.1.value.0, component_name x.0 x.1.value.1)
 
-option-twice : (o : Option (ComponentOrigin × Root)) → option_map (λ r. r.1) (option_map named_entry o) ≡ option_map (λ x. component_name x.0 x.1.value.1) o
-option-twice None = refl
-option-twice (Some x) = refl
-
-module _ (d : SchemaDefinition) (m : IsMadeSchema d) (head : SchemaPart) (h : IsWrittenHead d head) (es : List (ℕ × SchemaPart)) (apart : IsDistinct ◌==◌ (map (λ e. e.0) es))
+module _ (d : SchemaDefinition) (m : IsMadeBy made_schema d) (head : SchemaPart) (h : IsWrittenHead d head) (es : List (ℕ × SchemaPart)) (apart : IsDistinct ◌==◌ (map (λ e. e.0) es))
     (written : map (λ e. e.1) es ≡ map schema_extension_of (written_parts_of d).extensions) where
   abbrev is : List ℕ
   is = map (λ e. e.0) es
@@ -143,7 +103,7 @@ module _ (d : SchemaDefinition) (m : IsMadeSchema d) (head : SchemaPart) (h : Is
   many = length-map es (λ e. e.0) ∙ sym (length-map es (λ e. e.1)) ∙ ap length written ∙ length-map (written_parts_of d).extensions schema_extension_of
 
   same_exts : map (λ e. e.1) gs ≡ map (λ e. e.1) (written_parts_of d).extensions
-  same_exts = same-placed gs (written_parts_of d).extensions (renumbered-placed is (written_parts_of d).extensions many)
+  same_exts = same-placed (λ w. w.1) gs (written_parts_of d).extensions (renumbered-placed is (written_parts_of d).extensions many)
 
   same_definition : p.definition ≡ of_origin Definition (in_sections s)
   same_definition = ap (of_origin Definition) (schema-components d)
@@ -176,7 +136,7 @@ module _ (d : SchemaDefinition) (m : IsMadeSchema d) (head : SchemaPart) (h : Is
   root-found op =
       ap (λ l. option_map (λ r. r.1) (find (λ r. same_operation op r.0) l)) roots-listed
       ∙ ap (option_map (λ r. r.1)) (find-made (λ r. same_operation op r.0) named_entry (joined (λ d. d.roots) (with_origins p)))
-      ∙ option-twice (find (λ x. is_op op x.1) (joined (λ d. d.roots) (with_origins p)))
+      ∙ option_map-twice (λ r. r.1) named_entry (find (λ x. is_op op x.1) (joined (λ d. d.roots) (with_origins p)))
       ∙ ap (option_map (λ x. component_name x.0 x.1.value.1)) (find-first (λ x. is_op op x.1) (joined (λ d. d.roots) (with_origins p)) ∙ ap (λ l. slice_get l 0) (filter-joined (is_op op) (λ d. d.roots) (with_origins p)))
 
   there : (op : OperationType) → HasOrigins s p same_definition same_parts (entries op (root_of d op))

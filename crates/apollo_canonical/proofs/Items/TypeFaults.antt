@@ -1,28 +1,12 @@
 -- What a type is written out as is without fault: its components differ, and its extensions have its name and kind.
-use Rattle.std.proofs.Common.{◌≡◌, Bool, true, false, cond, ◌||◌, List, [], ◌∷◌, ◌++◌, Some, map, map-id, filter, flat_map, refl, sym, ap, subst, ◌∙◌, append_assoc}
-use Rattle.std.proofs.lemmas.List.{append-nil, map-append}
-use Rattle.std.proofs.lemmas.List.Concat.{flat_map-append}
-use Rattle.std.specs.Cmp.{IsEquivalence}
-use Rattle.std.specs.List.{AllByRecursion, IsDistinct, list_any}
-use Rattle.std.specs.Option.{option_map_or}
-use Rattle.graphql_nodes.specs.NameView.{NameView}
-use Rattle.graphql_nodes.specs.SameText.{same, same_text}
-use Rattle.graphql_nodes.specs.declared.type_kind.TypeKind.{TypeKind}
-use Rattle.graphql_nodes.proofs.Texts.{same-is}
-use Rattle.apollo_component.specs.EachAfter.{each_after}
-use Rattle.apollo_component.proofs.Lists.Each.{each-append, each-weaken}
-use Rattle.apollo_meaning.specs.Faults.Collisions.{Entry, collision, collision_at, collisions}
-use Rattle.apollo_meaning.specs.Faults.TypeFaults.{interface_names, member_names, field_names, value_names, input_field_names, name_entries, body_faults, part_faults, joining_fault, kind_mismatch}
-use Rattle.apollo_meaning.specs.Items.ListItems.{Defined, Extended, extended_part}
-use Rattle.apollo_meaning.specs.Items.Named.{extensions_of, first, of_kind}
-use Rattle.apollo_meaning.specs.Items.Parts.{TypePart, TypeBody, ScalarBody, ObjectBody, InterfaceBody, UnionBody, EnumBody, InputObjectBody, key_of, kind_of, same_kind}
-use Rattle.apollo_meaning.specs.Steps.Prefixes.{found_at}
-use Rattle.apollo_meaning.specs.Types.Components.{body_interfaces, body_members, body_fields, body_values, body_input_fields}
+use Rattle.apollo_canonical.proofs.Words.Lists.{◌≡◌, Bool, true, false, cond, ◌||◌, List, [], ◌∷◌, ◌++◌, Some, map, map-id, filter, flat_map, refl, sym, ap, subst, ◌∙◌, append_assoc, append-nil, map-append, flat_map-append, IsEquivalence, AllByRecursion, IsDistinct, list_any, option_map_or, each-weaken, filter_map-made, map-map}
+use Rattle.apollo_canonical.proofs.Words.Syntax.{NameView, same, same_text, TypeKind, same-is}
+use Rattle.apollo_canonical.proofs.Words.Types.{each_after, name_laws}
+use Rattle.apollo_canonical.proofs.Words.Meaning.{Defined, Extended, extended_part, extensions_of, first, of_kind, TypePart, TypeBody, ScalarBody, ObjectBody, InterfaceBody, UnionBody, EnumBody, InputObjectBody, key_of, kind_of, same_kind, body_interfaces, body_members, body_fields, body_values, body_input_fields}
+use Rattle.apollo_canonical.proofs.Words.Faults.{Entry, collision, collision_at, collisions, interface_names, member_names, field_names, value_names, input_field_names, name_entries, body_faults, part_faults, joining_fault, kind_mismatch, found_at}
 use Rattle.apollo_meaning.specs.declared.collision.Collection.{Collection}
 use Rattle.apollo_meaning.specs.declared.collision.Collection.TheVariants as c
-use Rattle.apollo_component.proofs.Lists.Ends.{filter_map-made}
-use Rattle.apollo_component.proofs.FirstOfEachLemmas.{name_laws}
-use Rattle.apollo_canonical.proofs.Kept.{each-split, filter-all, find-none}
+use Rattle.apollo_canonical.proofs.Lists.{each-split, filter-all, find-none}
 
 -- an element of a list of which no two are the same is the same as none before it
 pub new-after : {X : Type 0} (same : X → X → Bool) → IsEquivalence same → (xs : List X) (y : X) (ys : List X) → IsDistinct same (xs ++ y ∷ ys) → list_any (same y) xs ≡ false
@@ -35,21 +19,30 @@ unfolding IsDistinct
 distinct-front same [] ys d = tt
 distinct-front same (x ∷ xs) ys d = ((each-split (λ k. same x k ≡ false) xs ys d.0).0, distinct-front same xs ys d.1)
 
--- names that differ from those before them, and from one another, collide with none
-module _ (c : Collection) (ty : NameView) (before : List NameView) where
-  after-none : (done es : List Entry) → IsDistinct same_text ((before ++ map (λ e. e.0) done) ++ map (λ e. e.0) es) → each_after (λ done. collision_at c ty (before ++ map (λ e. e.0) done)) done es ≡ []
-  after-none done [] d = refl
-  after-none done (e ∷ es) d =
-      let others : List NameView = before ++ map (λ e. e.0) done in
-      let more : (before ++ map (λ e. e.0) (done ++ e ∷ [])) ++ map (λ e. e.0) es ≡ others ++ e.0 ∷ map (λ e. e.0) es = simp (map-append, append_assoc) in
-      (λ i. option_map_or (λ kept. (e.1, collision c kept ty) ∷ []) (find-none (same_text e.0) others (new-after same_text name_laws others e.0 (map (λ e. e.0) es) d) i) [] ++ after-none (done ++ e ∷ []) es (subst (IsDistinct same_text) (sym more) d) i)
+-- elements each of which adds nothing after those before it add nothing, by themselves and where something is made of each
+pub none-added : {X Y : Type 0} (at : List X → X → List Y) (Q : List X → Type 0) → ((done : List X) (x : X) (rest : List X) → Q (done ++ x ∷ rest) → at done x ≡ []) → (done xs : List X) → Q (done ++ xs) → each_after at done xs ≡ []
+none-added at Q none done [] q = refl
+none-added at Q none done (x ∷ xs) q = (λ i. none done x xs q i ++ none-added at Q none (done ++ x ∷ []) xs (subst Q (sym (append_assoc done (x ∷ []) xs)) q) i)
 
-  collisions-none : (es : List Entry) → IsDistinct same_text (before ++ map (λ e. e.0) es) → collisions c ty before es ≡ []
-  collisions-none es d = after-none [] es (subst (λ l. IsDistinct same_text (l ++ map (λ e. e.0) es)) (sym (append-nil before)) d)
+pub none-made : {X Z Y : Type 0} (at : List Z → Z → List Y) (before : List Z) (make : X → Z) (Q : List X → Type 0) → ((done : List X) (x : X) (rest : List X) → Q (done ++ x ∷ rest) → at (before ++ map make done) (make x) ≡ [])
+    → (done xs : List X) → Q (done ++ xs) → each_after at (before ++ map make done) (map make xs) ≡ []
+none-made at before make Q none done [] q = refl
+none-made at before make Q none done (x ∷ xs) q =
+    let more : (before ++ map make done) ++ make x ∷ [] ≡ before ++ map make (done ++ x ∷ []) = simp (map-append, append_assoc) in
+    (λ i. none done x xs q i ++ each_after at (more i) (map make xs)) ∙ none-made at before make Q none (done ++ x ∷ []) xs (subst Q (sym (append_assoc done (x ∷ []) xs)) q)
+
+-- names that differ from those before them, and from one another, collide with none
+collisions-none : (c : Collection) (ty : NameView) (before : List NameView) (es : List Entry) → IsDistinct same_text (before ++ map (λ e. e.0) es) → collisions c ty before es ≡ []
+collisions-none c ty before = none-added (λ done. collision_at c ty (before ++ map (λ e. e.0) done)) (λ l. IsDistinct same_text (before ++ map (λ e. e.0) l)) none []
+  where
+    none : (done : List Entry) (e : Entry) (rest : List Entry) → IsDistinct same_text (before ++ map (λ e. e.0) (done ++ e ∷ rest)) → collision_at c ty (before ++ map (λ e. e.0) done) e ≡ []
+    none done e rest d =
+        let others : List NameView = before ++ map (λ e. e.0) done in
+        let listed : before ++ map (λ e. e.0) (done ++ e ∷ rest) ≡ others ++ e.0 ∷ map (λ e. e.0) rest = simp (map-append, append_assoc) in
+        ap (λ o. option_map_or (λ kept. (e.1, collision c kept ty) ∷ []) o []) (find-none (same_text e.0) others (new-after same_text name_laws others e.0 (map (λ e. e.0) rest) (subst (IsDistinct same_text) listed d)))
 
 entry-names : {A : Type 0} (name : A → NameView) (entry : A → Entry) → ((a : A) → (entry a).0 ≡ name a) → (xs : List A) → map name xs ≡ map (λ e. e.0) (map entry xs)
-entry-names name entry is [] = refl
-entry-names name entry is (x ∷ xs) = λ i. sym (is x) i ∷ entry-names name entry is xs i
+entry-names name entry is xs = (λ i. map (λ a. sym (is a) i) xs) ∙ sym (map-map (λ (e : Entry). e.0) entry xs)
 
 -- what a part has of a sort, by name
 abbrev pub interfaces_in : TypePart → List NameView
@@ -117,21 +110,19 @@ module _ (own_kind : (k : TypeKind) → same_kind k k ≡ true) (d : TypePart) w
       ap (filter (λ p. same (key_of e) (key_of p))) (filter_map-made extended_part Extended (λ p. refl) done)
       ∙ filter-all (λ p. same (key_of e) (key_of p)) done (each-weaken (Fits d) (λ p. same (key_of e) (key_of p) ≡ true) (λ p fits. same-is (key_of e) (key_of p) (f.0 ∙ sym fits.0)) done fit)
 
-  extension-none : (done : List TypePart) (e : TypePart) (rest : List TypePart) → AllByRecursion (Fits d) done → Fits d e → HaveEachNameOnce ((d ∷ done) ++ e ∷ rest) → found_at (Defined d ∷ map Extended done) (Extended e) ≡ []
-  extension-none done e rest fit f h =
-      ap (λ b. option_map_or (λ x. joining_fault x (x ∷ of_kind (kind_of x) (extensions_of (Defined d ∷ map Extended done) (key_of e))) e) (cond b (Some d) (first (map Extended done) (key_of e))) []) (same-is (key_of e) (key_of d) f.0)
-      ∙ ap (λ l. joining_fault d (d ∷ of_kind (kind_of d) l) e) (extensions-found done fit e f)
-      ∙ ap (λ l. joining_fault d (d ∷ l) e) (fits-of_kind done fit)
-      ∙ ap (λ b. cond b (part_faults (d ∷ done) e) (kind_mismatch d e ∷ [])) (ap (same_kind (kind_of d)) f.1 ∙ own_kind (kind_of d))
-      ∙ parts-none (d ∷ done) e rest h
+  abbrev FitAndDiffer : List TypePart → Type 0
+  FitAndDiffer es = AllByRecursion (Fits d) es × HaveEachNameOnce (d ∷ es)
 
-  extensions-none : (done es : List TypePart) → AllByRecursion (Fits d) done → AllByRecursion (Fits d) es → HaveEachNameOnce ((d ∷ done) ++ es) → each_after found_at (Defined d ∷ map Extended done) (map Extended es) ≡ []
-  extensions-none done [] fit a h = refl
-  extensions-none done (e ∷ es) fit a h =
-      let more : map Extended done ++ Extended e ∷ [] ≡ map Extended (done ++ e ∷ []) = sym (map-append Extended done (e ∷ [])) in
-      (λ i. extension-none done e es fit a.0 h i ++ ap (λ l. each_after found_at (Defined d ∷ l) (map Extended es)) more i)
-      ∙ extensions-none (done ++ e ∷ []) es (each-append (Fits d) done (e ∷ []) fit (a.0, tt)) a.1 (subst HaveEachNameOnce (ap (λ l. d ∷ l) (sym (append_assoc done (e ∷ []) es))) h)
+  extension-none : (done : List TypePart) (e : TypePart) (rest : List TypePart) → FitAndDiffer (done ++ e ∷ rest) → found_at (Defined d ∷ map Extended done) (Extended e) ≡ []
+  extension-none done e rest both =
+      let fit = each-split (Fits d) done (e ∷ rest) both.0 in
+      let f : Fits d e = fit.1.0 in
+      ap (λ b. option_map_or (λ x. joining_fault x (x ∷ of_kind (kind_of x) (extensions_of (Defined d ∷ map Extended done) (key_of e))) e) (cond b (Some d) (first (map Extended done) (key_of e))) []) (same-is (key_of e) (key_of d) f.0)
+      ∙ ap (λ l. joining_fault d (d ∷ of_kind (kind_of d) l) e) (extensions-found done fit.0 e f)
+      ∙ ap (λ l. joining_fault d (d ∷ l) e) (fits-of_kind done fit.0)
+      ∙ ap (λ b. cond b (part_faults (d ∷ done) e) (kind_mismatch d e ∷ [])) (ap (same_kind (kind_of d)) f.1 ∙ own_kind (kind_of d))
+      ∙ parts-none (d ∷ done) e rest both.1
 
   -- a definition and the extensions after it
   pub type-faultless : (es : List TypePart) → AllByRecursion (Fits d) es → HaveEachNameOnce (d ∷ es) → each_after found_at [] (Defined d ∷ map Extended es) ≡ []
-  type-faultless es fit h = (λ i. (append-nil (part_faults [] d) ∙ parts-none [] d es h) i ++ extensions-none [] es tt fit h i)
+  type-faultless es fit h = (λ i. (append-nil (part_faults [] d) ∙ parts-none [] d es h) i ++ none-made found_at (Defined d ∷ []) Extended FitAndDiffer extension-none [] es (fit, h) i)
