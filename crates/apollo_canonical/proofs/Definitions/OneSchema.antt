@@ -144,13 +144,7 @@ module _ (d : SchemaDefinition) (m : IsMadeBy made_schema d) (head : SchemaPart)
       let a = origins-split s p same_definition same_parts (entries Query d.query) (entries Mutation d.mutation ++ (entries Subscription d.subscription ++ [])) (roots-there s p same_definition same_parts) in
       let b = origins-split s p same_definition same_parts (entries Mutation d.mutation) (entries Subscription d.subscription ++ []) a.1 in
       let c = origins-split s p same_definition same_parts (entries Subscription d.subscription) [] b.1 in
-      by op a.0 b.0 c.0
-    where
-      by : (op : OperationType) → HasOrigins s p same_definition same_parts (entries Query d.query) → HasOrigins s p same_definition same_parts (entries Mutation d.mutation) → HasOrigins s p same_definition same_parts (entries Subscription d.subscription)
-          → HasOrigins s p same_definition same_parts (entries op (root_of d op))
-      by Query a b c = a
-      by Mutation a b c = b
-      by Subscription a b c = c
+      elim op as (λ op. HasOrigins s p same_definition same_parts (entries op (root_of d op))) [ Query ↦ a.0 | Mutation ↦ b.0 | Subscription ↦ c.0 ]
 
   root-values : (op : OperationType) → map (λ x. x.1) (joined (roots_for op) (with_origins p)) ≡ map (λ x. x.1) (entries op (root_of d op))
   root-values op =
@@ -159,8 +153,7 @@ module _ (d : SchemaDefinition) (m : IsMadeBy made_schema d) (head : SchemaPart)
 
   root_u : (op : OperationType) → root_of u op ≡ root_in op ((Definition, head) ∷ map schema_extension_source es)
   root_u Query = refl
-  root_u Mutation = refl
-  root_u Subscription = refl
+  root_u op = refl
 
   entries-again : (op : OperationType) → entries op (root_of u op) ≡ joined (roots_for op) (with_origins p)
   entries-again op = ap (entries op) (root_u op ∙ root-found op) ∙ (from-values op (joined (roots_for op) (with_origins p)) (root_of d op) (root-values op)).0

@@ -1,6 +1,6 @@
 -- The schema definition that a list means: written in it, or implied.
 use Rattle.apollo_canonical.proofs.Words.Lists.{◌≡◌, ℕ, Bool, true, false, cond, List, [], ◌∷◌, ◌++◌, None, Some, map, find, flat_map, option_map, slice_get, refl, sym, ap, subst, ◌∙◌, ◌==◌, append-nil, filter_map-append, map-map, AllByRecursion, IsDistinct, filter_map, option_map_or, option_or, unwrap_or, ◌≢◌}
-use Rattle.apollo_canonical.proofs.Words.Syntax.{NodeView, OperationType, Query, Mutation, Subscription}
+use Rattle.apollo_canonical.proofs.Words.Syntax.{NodeView, OperationType, Query}
 use Rattle.apollo_canonical.proofs.Words.Types.{has_own_root, root_of, SchemaDefinition, ComponentName}
 use Rattle.apollo_canonical.proofs.Words.Meaning.{adopted, adopted_by, extended_names, orphans_of, with_adopted, implicit_roots, implied_schema, schema_for, schema_of_roots, ListItem, SchemaDefined, added_items, defined_schema, extended_schema, first_schema}
 use Rattle.apollo_canonical.proofs.Words.Meaning.{schema_extensions, Root, SchemaPart, TypePart, roots_in, folding_order, SourcedSchema, no_schema, roots_of, same_operation, schema_extension_source, schema_from, schema_of, schema_parts, whole, Schema}
@@ -82,8 +82,7 @@ none-named head es none =
   where
     found : (op : OperationType) → option_map (λ r. r.1) (find (λ r. same_operation op r.0) (flat_map roots_of ((origins.Definition, head) ∷ map schema_extension_source es))) ≡ None
     found Query = none Query
-    found Mutation = none Mutation
-    found Subscription = none Subscription
+    found op = none op
 
     nothing : flat_map roots_of (map schema_extension_source es) ≡ []
     nothing = (both-empty (roots_of (origins.Definition, head)) (flat_map roots_of (map schema_extension_source es)) (all-none (flat_map roots_of ((origins.Definition, head) ∷ map schema_extension_source es)) found)).1

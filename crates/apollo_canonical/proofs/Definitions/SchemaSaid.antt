@@ -85,8 +85,7 @@ all-none (x ∷ l) h = absurd (grind (arith, itself x.0, h x.0))
   where
     itself : (op : OperationType) → same_operation op op ≡ true
     itself Query = refl
-    itself Mutation = refl
-    itself Subscription = refl
+    itself op = refl
 
 -- extensions name roots of the operation types of their parts' roots
 pub operations-named : (es : List (ℕ × SchemaPart)) → map (λ r. r.0) (flat_map roots_of (map schema_extension_source es)) ≡ map (λ r. r.value.0) (roots_in (map (λ e. e.1) es))
@@ -217,13 +216,12 @@ left-out d types h =
       description = is-none d.description c.0;
       directives = is-empty d.directives.0 c.1;
       extensions = is-empty (identities (origins_in (schema_components d))) b.1;
-      roots = by q.0 m.0 s.0;
+      roots = λ op. elim op as (λ op. option_map (λ n. n.name.text) (root_of d op) ≡ implied_name types op) [
+        | Query ↦ implied-text _ _ q.0
+        | Mutation ↦ implied-text _ _ m.0
+        | Subscription ↦ implied-text _ _ s.0
+      ];
     }
-  where
-    by : has_implied_root types d Query ≡ true → has_implied_root types d Mutation ≡ true → has_implied_root types d Subscription ≡ true → (op : OperationType) → option_map (λ n. n.name.text) (root_of d op) ≡ implied_name types op
-    by q m s Query = implied-text _ _ q
-    by q m s Mutation = implied-text _ _ m
-    by q m s Subscription = implied-text _ _ s
 
 module _ (types : List (NameView × ExtendedType)) (q m s : Bool) (are : (op : OperationType) → implied_name types op ≡ cond (has_one q m s op) (Some (default_type_text op)) None) where
   -- the implied definition says what one that is left out says

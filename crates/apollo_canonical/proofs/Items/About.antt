@@ -1,4 +1,5 @@
--- Tables by their keys, where no two keys have one text, and the names of the types of a list, which are the first of each text.
+-- What a list says of one name, of the schema and of all else: tables by their keys, the names of the types of a list, and what is
+-- found at an item, which hangs on the items of its topic alone.
 use Rattle.apollo_canonical.proofs.Words.Lists.{◌≡◌, ℕ, Bool, true, false, cond, List, [], ◌∷◌, ◌++◌, None, Some, filter, find, flat_map, refl, sym, ap, ◌∙◌, is_some, map, option_map, subst, AllByRecursion, IsDistinct, filter_map, list_any, option_map_or, each-weaken, flat_map-each, map-append, filter_map-append, Option, slice_get, true≢false, append-nil, filter-append, cons_option, all-kept}
 use Rattle.apollo_canonical.proofs.Words.Syntax.{NameView, same, same_text, by_text, HasUniqueKeys, keys_of, values_of, lookup, same-is, same-true, same-flip}
 use Rattle.apollo_canonical.proofs.Words.Types.{first_of_each, name_laws, each_after, found-any}
@@ -64,9 +65,6 @@ among-defined k xs = sym (found-any (same_text k) (defined_names xs)) ∙ ap is_
 -- a first definition has the text
 pub first-key : (n : List ℕ) (ps : List TypePart) (d : TypePart) → lookup (same n) (named ps) ≡ Some d → same n (key_of d) ≡ true
 first-key n ps d h = found-passes (λ p. same n (key_of p)) ps d (sym (lookup-named n ps) ∙ h)
-
--- What a list says of one name, of the schema, and of all else: what a name means, and what is found at an item, hangs on
--- those items alone.
 
 -- what an item is about
 pub data Topic : Type 0 where
