@@ -1,8 +1,7 @@
-pub mod ComponentsKept
-pub mod FirstAppearance
-pub mod Kept
-pub mod NamesOnce
-pub mod Regrouped
-pub mod SectionLemmas
-pub mod TypeLemmas
-pub mod Rebuild
+mod Words
+mod Lists
+mod Sections
+mod Items
+mod Types
+mod Definitions
+mod Rebuild

@@ -1,12 +1,8 @@
-mod BareTypes
+mod Words
 mod BySubject
-mod Completed
-mod Documents
-mod FaultSubjects
-mod Filters
-mod Found
-mod Rearranging
-mod Regrouped
-mod Reported
 mod Subjects
+mod Regrouped
+mod Rearranging
+mod Reported
+mod Found
 mod Types

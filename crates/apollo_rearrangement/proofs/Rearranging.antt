@@ -1,9 +1,7 @@
--- Rearranged lists: an equivalence that goes on in longer lists.
-use Rattle.std.proofs.Common.{◌≡◌, true, false, List, [], ◌∷◌, ◌++◌, refl, sym, ◌∙◌, arith}
-use Rattle.std.proofs.lemmas.List.Elements.{filter-append}
-use Rattle.std.proofs.lemmas.List.Sorted.{IsPermutation-append, IsPermutation-append_comm, IsPermutation-refl, IsPermutation-sym, IsPermutation-trans}
-use Rattle.apollo_meaning.specs.Items.ListItems.{ListItem}
-use Rattle.apollo_rearrangement.specs.Rearranged.{AreRearranged, Group, is_in}
+-- Rearranged lists: an equivalence that goes on in longer lists, and documents that are added one by one, and as one.
+use Rattle.apollo_rearrangement.proofs.Words.Lists.{◌≡◌, true, false, List, [], ◌∷◌, ◌++◌, refl, sym, ◌∙◌, arith, filter-append, IsPermutation-append, IsPermutation-append_comm, IsPermutation-refl, IsPermutation-sym, IsPermutation-trans, Bool, ap, flat_map, map-append}
+use Rattle.apollo_rearrangement.proofs.Words.Meaning.{ListItem, AreRearranged, Group, is_in, added}
+use Rattle.apollo_rearrangement.specs.Documents.{Documents, added_each, added_joined}
 
 pub rearranged-refl : (xs : List ListItem) → AreRearranged xs xs
 rearranged-refl xs = record { same_definitions = IsPermutation-refl xs; in_order = λ g. refl }
@@ -27,3 +25,9 @@ neighbours-rearranged before after x y apart =
   where
     two : AreRearranged (x ∷ y ∷ []) (y ∷ x ∷ [])
     two = record { same_definitions = IsPermutation-append_comm (x ∷ []) (y ∷ []); in_order = λ g. grind (arith, apart g) }
+
+-- Documents that are added one by one, and as one.
+
+pub one_by_one : (ignores : Bool) (documents : Documents) → added_each ignores documents ≡ added_joined ignores documents
+one_by_one ignores [] = refl
+one_by_one ignores (d ∷ ds) = ap (λ l. added ignores d ++ l) (one_by_one ignores ds) ∙ sym (map-append (λ x. (ignores, x)) d (flat_map (λ document. document) ds))

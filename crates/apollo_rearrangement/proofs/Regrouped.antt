@@ -1,31 +1,13 @@
 -- What is found of one subject, that of its first definition with its extensions and that of each further definition, in
 -- another order.
-use Rattle.std.proofs.Common.{◌≡◌, ℕ, Bool, true, false, cond, List, [], ◌∷◌, ◌++◌, Option, Some, None, filter, slice_get, refl, sym, ap, subst, ◌∙◌, append_assoc}
-use Rattle.std.specs.List.{cons_option, filter_map, flat_map}
-use Rattle.std.specs.List.Sorted.{IsPermutation}
-use Rattle.std.specs.Option.{option_map_or}
+use Rattle.apollo_rearrangement.proofs.Words.Lists.{◌≡◌, ℕ, Bool, true, false, cond, List, [], ◌∷◌, ◌++◌, Option, Some, None, filter, slice_get, refl, sym, ap, subst, ◌∙◌, append_assoc, cons_option, filter_map, flat_map, IsPermutation, option_map_or, append-nil}
+use Rattle.apollo_rearrangement.proofs.Words.Lists.{filter-append, filter_map-append, IsPermutation-refl, IsPermutation-trans, IsPermutation-append_left, IsPermutation-append_right, IsPermutation-append_comm, each_after-push, all-kept, snoc_ind}
+use Rattle.apollo_rearrangement.proofs.Words.Syntax.{same-true, NodeView, same, DirectiveDefinition}
+use Rattle.apollo_rearrangement.proofs.Words.Meaning.{found-push, directive_part, ListItem, Defined, Extended, SchemaDefined, SchemaExtended, Other, defined_schema, extensions_of, first, of_kind, schema_extensions, TypePart, SchemaPart, key_of, kind_of, Family, schemas, types}
+use Rattle.apollo_rearrangement.proofs.Words.Faults.{Fault, further_schema, schema_faults, extension_faults, further_definition, joining_fault, part_faults, joining_faults, schema_begun_faults, schema_joining_faults, type_begun_faults, found, found_at}
 use Rattle.std.proofs.lemmas.Grind.{flat_map-append}
-use Rattle.std.proofs.lemmas.List.{append-nil}
-use Rattle.std.proofs.lemmas.List.Elements.{filter-append, filter_map-append}
-use Rattle.std.proofs.lemmas.List.Sorted.{IsPermutation-refl, IsPermutation-trans, IsPermutation-append_left, IsPermutation-append_right, IsPermutation-append_comm}
-use Rattle.graphql_nodes.proofs.Texts.{same-true}
-use Rattle.graphql_nodes.specs.NodeView.{NodeView}
-use Rattle.graphql_nodes.specs.SameText.{same}
-use Rattle.graphql_ast.specs.declared.type_system.DirectiveDefinition.{DirectiveDefinition}
-use Rattle.apollo_component.proofs.Lists.EachAfter.{each_after-push}
-use Rattle.apollo_component.proofs.Lists.Ends.{all-kept, snoc_ind}
-use Rattle.apollo_meaning.proofs.Items.ItemLemmas.{found-push}
-use Rattle.apollo_meaning.specs.Directives.{directive_part}
-use Rattle.apollo_meaning.specs.Faults.Collisions.{Fault}
-use Rattle.apollo_meaning.specs.Faults.RootFaults.{further_schema, schema_faults}
-use Rattle.apollo_meaning.specs.Faults.TypeFaults.{extension_faults, further_definition, joining_fault, part_faults}
-use Rattle.apollo_meaning.specs.Items.ListItems.{ListItem, Defined, Extended, SchemaDefined, SchemaExtended, Other, defined_schema}
-use Rattle.apollo_meaning.specs.Items.Named.{extensions_of, first, of_kind, schema_extensions}
-use Rattle.apollo_meaning.specs.Items.Parts.{TypePart, SchemaPart, key_of, kind_of}
-use Rattle.apollo_meaning.specs.Order.Places.{Family, schemas, types}
-use Rattle.apollo_meaning.specs.Steps.Joining.{joining_faults, schema_begun_faults, schema_joining_faults, type_begun_faults}
-use Rattle.apollo_meaning.specs.Steps.Prefixes.{found, found_at}
 use Rattle.apollo_rearrangement.proofs.Subjects.{Subject, TheSchema, TypeNamed, of_directive, same_subject, subject, definitions_of, first-is, found_at-own}
+use Rattle.apollo_rearrangement.proofs.BySubject.{bool_cases}
 
 -- how faults are found: at a further definition, at the first one with extensions before it, and at an extension after
 -- a first definition and extensions
@@ -107,16 +89,14 @@ module _ {P : Type 0} (f : Family P) (n : List ℕ) (by_kind : Finding P) (k : S
     where
       more : (xs : List ListItem) (x : ListItem) → Q xs (defined_of xs) (extended_of xs) → Plays x → Q (xs ++ x ∷ []) (defined_of (xs ++ x ∷ [])) (extended_of (xs ++ x ∷ []))
       more xs x so_far (Neither d e a) = rw (taken-none xs x f.defined d, taken-none xs x f.extended e) (other xs x (defined_of xs) (extended_of xs) a so_far)
-      more xs x so_far (Defines p d e a at) = by (has p) refl
-        where
-          by : (b : Bool) → has p ≡ b → Q (xs ++ x ∷ []) (defined_of (xs ++ x ∷ [])) (extended_of (xs ++ x ∷ []))
-          by false own = rw (taken-other xs x f.defined p d own, taken-none xs x f.extended e) (other xs x (defined_of xs) (extended_of xs) (a ∙ own) so_far)
-          by true own = rw (taken-some xs x f.defined p true d own, taken-none xs x f.extended e) (defines xs x (defined_of xs) (extended_of xs) p (a ∙ own) (at xs own) so_far)
-      more xs x so_far (Extends p d e a at) = by (has p) refl
-        where
-          by : (b : Bool) → has p ≡ b → Q (xs ++ x ∷ []) (defined_of (xs ++ x ∷ [])) (extended_of (xs ++ x ∷ []))
-          by false own = rw (taken-none xs x f.defined d, taken-other xs x f.extended p e own) (other xs x (defined_of xs) (extended_of xs) (a ∙ own) so_far)
-          by true own = rw (taken-none xs x f.defined d, taken-some xs x f.extended p true e own) (extends xs x (defined_of xs) (extended_of xs) p (a ∙ own) (at xs own) so_far)
+      more xs x so_far (Defines p d e a at) =
+          bool_cases (has p)
+          (λ own. rw (taken-some xs x f.defined p true d own, taken-none xs x f.extended e) (defines xs x (defined_of xs) (extended_of xs) p (a ∙ own) (at xs own) so_far))
+          (λ own. rw (taken-other xs x f.defined p d own, taken-none xs x f.extended e) (other xs x (defined_of xs) (extended_of xs) (a ∙ own) so_far))
+      more xs x so_far (Extends p d e a at) =
+          bool_cases (has p)
+          (λ own. rw (taken-none xs x f.defined d, taken-some xs x f.extended p true e own) (extends xs x (defined_of xs) (extended_of xs) p (a ∙ own) (at xs own) so_far))
+          (λ own. rw (taken-none xs x f.defined d, taken-other xs x f.extended p e own) (other xs x (defined_of xs) (extended_of xs) (a ∙ own) so_far))
 
   -- what is found at those of the subject is grouped
   regrouped : ((x : ListItem) → Plays x) → (xs : List ListItem) → IsPermutation (found (filter about xs)) (grouped by_kind (defined_of xs) (extended_of xs))
@@ -168,17 +148,14 @@ plays-type n (Extended p) = Extends p refl refl refl (λ xs own.
     ap (λ (m : List ℕ). option_map_or (λ d. extension_faults d (extensions_of xs m) p) (first xs m) []) (sym (same-true n (key_of p) own))
     ∙ ap (λ o. option_map_or (λ d. extension_faults d (extensions_of xs n) p) o []) (first-is xs n)
     ∙ at-joined finding_types (definitions_of xs n) (extensions_of xs n) p)
-plays-type n (SchemaDefined s) = Neither refl refl refl
-plays-type n (SchemaExtended s) = Neither refl refl refl
 plays-type n (Other d) = Neither refl refl (by (directive_part (Other d)))
   where
     by : (o : Option (NodeView DirectiveDefinition)) → same_subject (TypeNamed n) (of_directive o) ≡ false
     by None = refl
     by (Some m) = refl
+plays-type n x = Neither refl refl refl
 
 pub plays-schema : (x : ListItem) → Plays schemas [] finding_schemas TheSchema x
-plays-schema (Defined p) = Neither refl refl refl
-plays-schema (Extended p) = Neither refl refl refl
 plays-schema (SchemaDefined s) = Defines s refl refl refl (λ xs own.
     (λ i. option_map_or (λ d. further_schema d s ∷ []) (slice_get (all-kept (filter_map defined_schema xs) i) 0) (schema_begun_faults s (all-kept (schema_extensions xs) i)))
     ∙ at-first finding_schemas (defined_of schemas [] finding_schemas TheSchema xs) (extended_of schemas [] finding_schemas TheSchema xs) s)
@@ -190,6 +167,7 @@ plays-schema (Other d) = Neither refl refl (by (directive_part (Other d)))
     by : (o : Option (NodeView DirectiveDefinition)) → same_subject TheSchema (of_directive o) ≡ false
     by None = refl
     by (Some m) = refl
+plays-schema x = Neither refl refl refl
 
 -- what is found at the definitions and extensions of a name, by itself
 pub type-regrouped : (n : List ℕ) (xs : List ListItem) → IsPermutation (found (filter (λ x. same_subject (TypeNamed n) (subject x)) xs)) (grouped finding_types (definitions_of xs n) (extensions_of xs n))

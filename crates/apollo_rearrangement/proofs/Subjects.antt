@@ -1,27 +1,12 @@
 -- What a definition is about, and what lists say of a subject, where those of its groups stand in both in the same order.
-use Rattle.std.proofs.Common.{◌≡◌, ℕ, Bool, true, false, List, Option, Some, None, refl, sym, ap, true≢false, ◌&&◌, [], ◌∷◌, filter, slice_get, ◌∙◌, arith}
-use Rattle.std.specs.Option.{option_map_or, option_or}
-use Rattle.graphql_nodes.proofs.Texts.{same-is, same-true}
-use Rattle.graphql_nodes.specs.NodeView.{NodeView}
-use Rattle.graphql_nodes.specs.SameText.{same}
-use Rattle.graphql_ast.specs.declared.type_system.DirectiveDefinition.{DirectiveDefinition}
-use Rattle.apollo_meaning.specs.Directives.{directive_part, has_text, Directives, directive_definitions, directive_of, is_handed_in}
-use Rattle.apollo_meaning.specs.Items.ListItems.{ListItem, Defined, Extended, SchemaDefined, SchemaExtended, Other, defined_part, defined_schema, extended_part, extended_schema}
-use Rattle.apollo_meaning.specs.Items.Parts.{key_of, TypePart}
-use Rattle.apollo_rearrangement.proofs.BySubject.{IsTest, IsOwn}
-use Rattle.apollo_rearrangement.specs.Rearranged.{Group, DefinitionsOf, ExtensionsOf, DirectiveDefinitionsOf, SchemaDefinitions, SchemaExtensions, is_in}
-use Rattle.std.specs.List.{filter_map, find, last_or}
-use Rattle.std.specs.Map.{lookup}
-use Rattle.graphql_ast.specs.declared.definition.Definition.{Definition}
+use Rattle.apollo_rearrangement.proofs.Words.Lists.{◌≡◌, ℕ, Bool, true, false, List, Option, Some, None, refl, sym, ap, true≢false, ◌&&◌, [], ◌∷◌, filter, slice_get, ◌∙◌, arith, option_map_or, option_or, filter_map, find, last_or, lookup}
+use Rattle.apollo_rearrangement.proofs.Words.Syntax.{same-is, same-true, NodeView, same, DirectiveDefinition, Definition}
+use Rattle.apollo_rearrangement.proofs.Words.Meaning.{directive_part, has_text, Directives, directive_definitions, directive_of, is_handed_in, ListItem, Defined, Extended, SchemaDefined, SchemaExtended, Other, defined_part, defined_schema, extended_part}
+use Rattle.apollo_rearrangement.proofs.Words.Meaning.{extended_schema, key_of, TypePart, Group, DefinitionsOf, ExtensionsOf, DirectiveDefinitionsOf, SchemaDefinitions, SchemaExtensions, is_in, extensions_of, first, first_schema, named, schema_extensions}
+use Rattle.apollo_rearrangement.proofs.Words.Faults.{directive_faults, other_faults, further_schema, schema_faults, extension_faults, further_definition, schema_begun_faults, type_begun_faults, found_at}
 use Rattle.graphql_ast.specs.declared.definition.Definition.TheVariants as ast
-use Rattle.apollo_meaning.specs.Faults.OtherFaults.{directive_faults, other_faults}
-use Rattle.apollo_meaning.specs.Faults.RootFaults.{further_schema, schema_faults}
-use Rattle.apollo_meaning.specs.Faults.TypeFaults.{extension_faults, further_definition}
 use Rattle.apollo_meaning.specs.declared.build_error.BuildError.TheVariants as errors
-use Rattle.apollo_meaning.specs.Items.Named.{extensions_of, first, first_schema, named, schema_extensions}
-use Rattle.apollo_meaning.specs.Steps.Joining.{schema_begun_faults, type_begun_faults}
-use Rattle.apollo_meaning.specs.Steps.Prefixes.{found_at}
-use Rattle.apollo_rearrangement.proofs.Filters.{filter-filter_map, filter-wider, filter_map-takes, find-filter}
+use Rattle.apollo_rearrangement.proofs.BySubject.{filter-filter_map, filter-wider, filter_map-takes, find-filter, IsTest, IsOwn}
 
 pub data Subject : Type 0 where
   TypeNamed : List ℕ → Subject

@@ -1,47 +1,20 @@
 -- Every schema's write-out means an equal schema, with the same write-out, and there is one that it means.
-use Rattle.std.proofs.Common.{◌≡◌, ℕ, Bool, true, cond, List, [], ◌++◌, drop, filter, flat_map, option_map, sym, ap, subst, ◌∙◌, false, ◌∷◌, None, Option, Some, map, refl}
-use Rattle.std.proofs.lemmas.List.{append-nil}
-use Rattle.std.proofs.lemmas.List.Elements.{filter_map-append}
-use Rattle.graphql_nodes.specs.BuiltIn.{is_built_in}
-use Rattle.graphql_nodes.specs.NodeView.{NodeView}
-use Rattle.graphql_nodes.specs.SameText.{by_text, same}
-use Rattle.graphql_nodes.specs.Tables.{keys_of, lookup, values_of}
-use Rattle.graphql_ast.specs.BareTypeSystem.{bare_directive_definition}
-use Rattle.apollo_component.proofs.FirstOfEachLemmas.{name_laws}
-use Rattle.apollo_component.proofs.Tabled.{entries_from_lookups}
-use Rattle.apollo_types.specs.BareTypes.{bare_schema_definition}
-use Rattle.apollo_types.specs.SchemaDefinitionWriteOut.{write_schema_definition}
-use Rattle.apollo_types.specs.declared.extended_type.ExtendedType.{ExtendedType}
-use Rattle.apollo_types.specs.declared.schema_definition.SchemaDefinition.{SchemaDefinition}
-use Rattle.apollo_meaning.specs.Completion.ImpliedSchema.{completed, implied_schema}
-use Rattle.apollo_meaning.specs.Directives.{directive_definitions, directive_part, is_handed_in, directive_names, directive_of}
-use Rattle.apollo_meaning.specs.Faults.ListFaults.{faults_in, faults_of}
-use Rattle.apollo_meaning.specs.Items.ListItems.{ListItem, added, added_items}
-use Rattle.apollo_meaning.specs.Order.Places.{folding_order}
-use Rattle.apollo_meaning.specs.Schema.Whole.{whole}
+use Rattle.apollo_canonical.proofs.Words.Lists.{◌≡◌, ℕ, Bool, true, cond, List, [], ◌++◌, drop, filter, flat_map, option_map, sym, ap, subst, ◌∙◌, ◌∷◌, Option, Some, map, refl, append-nil, filter_map-append, map-map, unwrap_or, arith}
+use Rattle.apollo_canonical.proofs.Words.Syntax.{is_built_in, NodeView, by_text, keys_of, lookup, values_of, bare_directive_definition, NameView, same-true}
+use Rattle.apollo_canonical.proofs.Words.Types.{name_laws, entries_from_lookups, bare_schema_definition, write_schema_definition, ExtendedType, SchemaDefinition}
+use Rattle.apollo_canonical.proofs.Words.Meaning.{completed, implied_schema, directive_definitions, directive_part, is_handed_in, directive_names, directive_of, ListItem, added, added_items, folding_order, whole, AreOf, MeansSchema, write_directives, write_held_schema_definition, write_held_type, write_schema, Schema, first, parts, type_from, type_of}
+use Rattle.apollo_canonical.proofs.Words.Faults.{faults_in, faults_of}
+use Rattle.apollo_canonical.proofs.Words.Written.{MeaningLaws, IsMeantByList, with_built_ins, written_again}
 use Rattle.apollo_schema.specs.EqualSchemas.{AreEqualSchemas}
-use Rattle.apollo_schema.specs.MeantSchema.{AreOf, MeansSchema}
-use Rattle.apollo_schema.specs.SchemaWriteOut.{write_directives, write_held_schema_definition, write_held_type, write_schema}
-use Rattle.apollo_schema.specs.declared.schema.Schema.{Schema}
-use Rattle.apollo_canonical.specs.MeaningLaws.{MeaningLaws}
-use Rattle.apollo_canonical.specs.WrittenAgain.{IsMeantByList, with_built_ins, written_again}
-use Rattle.apollo_canonical.proofs.Rebuild.Meant.{built_ins, items-split}
-use Rattle.apollo_canonical.proofs.Rebuild.DirectivesAgain.{directives-again, unique, written_directives, same_keys, same_meaning}
-use Rattle.apollo_canonical.proofs.Rebuild.Faultless.{faults-none}
-use Rattle.apollo_canonical.proofs.Rebuild.WrittenParts.{document_items-append, items-types}
-use Rattle.apollo_canonical.proofs.Rebuild.OneType.{IsAgain}
-use Rattle.apollo_canonical.proofs.Rebuild.SchemaMeant.{schema_node}
-use Rattle.apollo_canonical.proofs.Rebuild.SchemaWritten.{directives-listed, list-directives, written_list}
+use Rattle.apollo_canonical.proofs.Items.{built_ins, items-split, first-about}
+use Rattle.apollo_canonical.proofs.Types.{document_items-append, items-types, IsAgain}
+use Rattle.apollo_canonical.proofs.Definitions.{schema_node}
 use Rattle.apollo_canonical.proofs.Rebuild.TypesAgain.{equal_types, same_written, first-again, names-again, view-nothing}
+use Rattle.apollo_canonical.proofs.Rebuild.DirectivesAgain.{directives-again, unique_directives, written_directives, same_keys, same_meaning}
+use Rattle.apollo_canonical.proofs.Rebuild.WrittenList.{directives-listed, list-directives, written_list, Y, Z, ends, others, quiet, implied-directives, quiet-implied, with-adopted}
 use Rattle.apollo_canonical.proofs.Rebuild.SameSchema.{same-schema}
-use Rattle.apollo_canonical.proofs.Rebuild.WrittenList.{Y, Z, ends, others, quiet, implied-directives, quiet-implied, with-adopted}
-use Rattle.std.proofs.lemmas.Simd.{map-map}
-use Rattle.std.specs.Option.{unwrap_or}
-use Rattle.graphql_nodes.specs.NameView.{NameView}
-use Rattle.graphql_nodes.proofs.Texts.{same-true}
-use Rattle.apollo_meaning.specs.Items.Named.{first}
-use Rattle.apollo_meaning.specs.Types.Meaning.{parts, type_from, type_of}
-use Rattle.apollo_canonical.proofs.Rebuild.About.{first-about}
+use Rattle.apollo_canonical.proofs.Rebuild.Faultless.{faults-none}
+use Rattle.apollo_canonical.proofs.Lists.{option_cases}
 
 -- the items of a list with a schema's write-out
 pub items-listed : (c : Bool) (schema : Schema)
@@ -113,7 +86,7 @@ module _ (laws : MeaningLaws) (schema : Schema) (list : IsMeantByList schema) (c
 
         same_table : rebuilt.directive_definitions ≡ schema.directive_definitions
         same_table =
-            entries_from_lookups name_laws schema.directive_definitions rebuilt.directive_definitions (unique schema list)
+            entries_from_lookups name_laws schema.directive_definitions rebuilt.directive_definitions (unique_directives schema list)
             same_directives.0 (λ k. same_directives.1 k.text)
 
         held : (t u : ExtendedType) → IsAgain t u → write_held_type u ≡ write_held_type t
@@ -135,10 +108,7 @@ module _ {V : Type 0} (g : List ℕ → Option V) where
 
   lookup-valued : (n : List ℕ) (es : List (NameView × V)) → lookup (by_text n) (valued es) ≡ option_map (unwrap_or (g n)) (lookup (by_text n) es)
   lookup-valued n [] = refl
-  lookup-valued n (e ∷ es) = elim (same n e.0.text) as (λ b. same n e.0.text ≡ b → cond b (Some (unwrap_or (g e.0.text) e.1)) (lookup (by_text n) (valued es)) ≡ option_map (unwrap_or (g n)) (cond b (Some e.1) (lookup (by_text n) es))) [
-    | true ↦ λ h. ap (λ (m : List ℕ). Some (unwrap_or (g m) e.1)) (sym (same-true n e.0.text h))
-    | false ↦ λ h. lookup-valued n es
-  ] refl
+  lookup-valued n (e ∷ es) = grind (arith, same-true n e.0.text, lookup-valued n es)
 
 module _ (laws : MeaningLaws) (schema : Schema) (list : IsMeantByList schema) (c : Bool) (again : ℕ) where
   abbrev zs : List ListItem
@@ -148,18 +118,15 @@ module _ (laws : MeaningLaws) (schema : Schema) (list : IsMeantByList schema) (c
   types_meant = type_of again (folding_order zs) zs
 
   meant-each : (n : List ℕ) → lookup (by_text n) (valued types_meant schema.types) ≡ types_meant n
-  meant-each n = lookup-valued types_meant n schema.types ∙ by (lookup (by_text n) schema.types) refl
-    where
-      by : (o : Option ExtendedType) → lookup (by_text n) schema.types ≡ o → option_map (unwrap_or (types_meant n)) (lookup (by_text n) schema.types) ≡ types_meant n
-      by None e =
-          ap (option_map (unwrap_or (types_meant n))) e
-          ∙ sym (ap (option_map (λ d. type_from d (parts again (folding_order zs) n d))) (first-about n zs ∙ ap (λ l. first l n)
-          (view-nothing laws schema list c (others laws schema list c) (ends laws schema list c) (quiet laws schema list c) (quiet-implied (written_items laws schema list c)) n e)))
-      by (Some t) e =
-          let there = first-again laws schema list c (others laws schema list c) (ends laws schema list c) (quiet laws schema list c) (quiet-implied (written_items laws schema list c)) n t e in
-          ap (option_map (unwrap_or (types_meant n))) e
-          ∙ ap (λ o. Some (unwrap_or (option_map (λ d. type_from d (parts again (folding_order zs) n d)) o) t)) there
-          ∙ sym (ap (option_map (λ d. type_from d (parts again (folding_order zs) n d))) there)
+  meant-each n = lookup-valued types_meant n schema.types ∙ option_cases (lookup (by_text n) schema.types)
+      (λ e. ap (option_map (unwrap_or (types_meant n))) e
+      ∙ sym (ap (option_map (λ d. type_from d (parts again (folding_order zs) n d))) (first-about n zs ∙ ap (λ l. first l n)
+      (view-nothing laws schema list c (others laws schema list c) (ends laws schema list c) (quiet laws schema list c) (quiet-implied (written_items laws schema list c)) n e))))
+      (λ t e.
+      let there = first-again laws schema list c (others laws schema list c) (ends laws schema list c) (quiet laws schema list c) (quiet-implied (written_items laws schema list c)) n t e in
+      ap (option_map (unwrap_or (types_meant n))) e
+      ∙ ap (λ o. Some (unwrap_or (option_map (λ d. type_from d (parts again (folding_order zs) n d)) o) t)) there
+      ∙ sym (ap (option_map (λ d. type_from d (parts again (folding_order zs) n d))) there))
 
   abbrev rebuilt : Schema
   rebuilt = record schema { schema_definition = schema_node again zs; types = valued types_meant schema.types }

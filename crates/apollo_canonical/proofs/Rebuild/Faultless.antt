@@ -1,58 +1,80 @@
 -- A list with a write-out is without fault.
-use Rattle.std.proofs.Common.{◌≡◌, ℕ, Bool, true, false, cond, ◌&&◌, List, [], ◌∷◌, ◌++◌, None, Option, Some, map, filter, find, flat_map, refl, sym, ap, subst, ◌∙◌, append_assoc, arith}
-use Rattle.std.proofs.lemmas.List.{append-nil, map-append}
-use Rattle.std.proofs.lemmas.List.Elements.{filter_map-append}
-use Rattle.std.proofs.lemmas.List.Folds.{find-append}
-use Rattle.std.proofs.lemmas.Simd.{map-map}
-use Rattle.std.specs.List.{AllByRecursion, IsDistinct, list_any}
-use Rattle.std.specs.Option.{option_map_or, option_or}
-use Rattle.graphql_nodes.specs.NameView.{NameView}
-use Rattle.graphql_nodes.specs.NodeView.{NodeView}
-use Rattle.graphql_nodes.specs.SameText.{by_text, same, same_text}
-use Rattle.graphql_nodes.specs.Tables.{HasUniqueKeys, keys_of, lookup, values_of}
-use Rattle.graphql_nodes.specs.declared.operation_type.OperationType.TheVariants.{Query, Mutation, Subscription}
-use Rattle.graphql_nodes.proofs.Texts.{same-true}
+use Rattle.apollo_canonical.proofs.Words.Lists.{◌≡◌, List, [], ◌∷◌, ◌++◌, None, Option, Some, slice_get, map, refl, sym, ap, subst, ◌∙◌, append_assoc, append-nil, map-append, flat_map-append, flat_map-map, IsDistinct-IsPermutation, IsEquivalence, IsDistinct, option_map_or, filter_map-made, ℕ, Bool, true, false, cond, ◌&&◌, filter, find, flat_map, arith, filter_map-append, find-append, map-map, AllByRecursion, list_any, option_or}
+use Rattle.apollo_canonical.proofs.Words.Syntax.{operation_text, Query, Mutation, Subscription, NameView, NodeView, by_text, same, same_text, HasUniqueKeys, keys_of, lookup, values_of, same-true, DirectiveDefinition, built_in_definitions}
+use Rattle.apollo_canonical.proofs.Words.Types.{each_after, by_origin, ComponentName, SchemaDefinition, is_written, ExtendedType, name_laws}
+use Rattle.apollo_canonical.proofs.Words.Meaning.{SchemaDefined, SchemaExtended, defined_schema, extended_schema, first_schema, schema_extensions, Root, SchemaPart, roots_in, extended_names, orphans_of, schema_orphans, adopting_schema, implicit_roots, implied_schema, schema_of_roots, Directives, directive_definitions, directive_part, has_text, is_handed_in, Defined, Extended, ListItem, Other, whole, Schema}
+use Rattle.apollo_canonical.proofs.Words.Faults.{root_faults, same_root, schema_faults, schema_begun_faults, schema_joining_faults, found_at, Fault, faults_in, further_schema, schema_orphan, orphan, found, root_fault}
+use Rattle.apollo_canonical.proofs.Words.Written.{joined, with_origins, MeaningLaws, IsMeantByList, with_built_ins}
 use Rattle.graphql_ast.specs.declared.definition.Definition.TheVariants as ast
-use Rattle.graphql_ast.specs.declared.type_system.DirectiveDefinition.{DirectiveDefinition}
-use Rattle.apollo_built_in.specs.BuiltInTable.{built_in_definitions}
-use Rattle.apollo_component.specs.EachAfter.{each_after}
 use Rattle.apollo_component.proofs.Lists.EachAfter.{each_after-append}
-use Rattle.apollo_types.specs.SchemaDefinitionWriteOut.{is_written}
-use Rattle.apollo_types.specs.declared.extended_type.ExtendedType.{ExtendedType}
-use Rattle.apollo_types.specs.declared.schema_definition.SchemaDefinition.{SchemaDefinition}
-use Rattle.apollo_meaning.specs.Completion.Adoption.{extended_names, orphans_of, schema_orphans}
-use Rattle.apollo_meaning.specs.Completion.ImpliedSchema.{adopting_schema, implicit_roots, implied_schema, schema_of_roots}
-use Rattle.apollo_meaning.specs.Directives.{Directives, directive_definitions, directive_part, has_text, is_handed_in}
-use Rattle.apollo_meaning.specs.Faults.Collisions.{Fault}
-use Rattle.apollo_meaning.specs.Faults.ListFaults.{faults_in}
-use Rattle.apollo_meaning.specs.Faults.RootFaults.{further_schema, same_root, schema_orphan}
-use Rattle.apollo_meaning.specs.Faults.TypeFaults.{orphan}
-use Rattle.apollo_meaning.specs.Items.ListItems.{Defined, Extended, ListItem, Other, SchemaDefined, SchemaExtended}
-use Rattle.apollo_meaning.specs.Items.Named.{first_schema, schema_extensions}
-use Rattle.apollo_meaning.specs.Items.Parts.{Root, SchemaPart, roots_in}
-use Rattle.apollo_meaning.specs.Schema.Whole.{whole}
-use Rattle.apollo_meaning.specs.Steps.Joining.{schema_begun_faults}
-use Rattle.apollo_meaning.specs.Steps.Prefixes.{found, found_at}
 use Rattle.apollo_meaning.specs.declared.build_error.BuildError.TheVariants as errors
-use Rattle.apollo_schema.specs.declared.schema.Schema.{Schema}
-use Rattle.apollo_canonical.specs.MeaningLaws.{MeaningLaws}
-use Rattle.apollo_component.proofs.FirstOfEachLemmas.{name_laws}
-use Rattle.apollo_canonical.specs.WrittenAgain.{IsMeantByList, with_built_ins}
-use Rattle.apollo_canonical.proofs.Regrouped.{distinct-filter}
-use Rattle.apollo_canonical.proofs.Rebuild.About.{Name, Others, TheSchema, Topic, about, directives-about, faultless-by_topic}
-use Rattle.apollo_canonical.proofs.Rebuild.Meant.{built_ins}
-use Rattle.apollo_canonical.proofs.Rebuild.DirectivesAgain.{built_in-marked, built_in_directives, find-unmarked, texts, unique, written_directives}
-use Rattle.apollo_canonical.proofs.Rebuild.LeftOut.{roots_where}
-use Rattle.apollo_canonical.proofs.NamesOnce.{once-in_parts, written_parts}
-use Rattle.apollo_canonical.proofs.Rebuild.OneSchema.{schema_extension_of, written_parts_of}
-use Rattle.apollo_canonical.proofs.Rebuild.OneType.{once}
-use Rattle.apollo_canonical.proofs.Rebuild.RootFaults.{begun-none, early-none, schema-faultless, written-distinct}
-use Rattle.apollo_canonical.proofs.Rebuild.SchemaMeant.{first_schema-append, schema_node}
-use Rattle.apollo_canonical.proofs.Rebuild.SchemaWritten.{directive_items, directives-of_items, list-about_others, list-about_schema, schema-listed, written_head}
-use Rattle.apollo_canonical.proofs.Rebuild.TypeFaults.{HaveEachNameOnce, new-after, type-faultless}
+use Rattle.apollo_canonical.proofs.Lists.{find-none, distinct-filter, option_cases, filter_map-unmade, flat_map-none}
+use Rattle.apollo_canonical.proofs.Sections.{joined-values, written-keeps}
+use Rattle.apollo_canonical.proofs.Items.{distinct-front, new-after, Name, Others, TheSchema, Topic, about, directives-about, faultless-by_topic, built_ins, HaveEachNameOnce, type-faultless, none-added, none-made}
+use Rattle.apollo_canonical.proofs.Types.{once-in_parts, written_parts, once, definition_part, extension_of, written}
+use Rattle.apollo_canonical.proofs.Definitions.{schema_extension_of, written_parts_of, entries, root_entries, schema-components, schema_sections, roots_where, first_schema-append, schema_node, implied-distinct}
 use Rattle.apollo_canonical.proofs.Rebuild.TypesAgain.{fits, flag, is-made, view-type}
-use Rattle.apollo_canonical.proofs.Rebuild.WrittenList.{Y, Z, exts-Y, unwritten-Y, written-Y, alone, first-nothing, implicit-again, object_at, orphans-none, others, quiet, with-adopted}
-use Rattle.apollo_canonical.proofs.Rebuild.WrittenParts.{definition_part, extension_of, written}
+use Rattle.apollo_canonical.proofs.Rebuild.DirectivesAgain.{built_in-marked, built_in_directives, find-unmarked, texts, unique_directives, written_directives}
+use Rattle.apollo_canonical.proofs.Rebuild.WrittenList.{directive_items, directives-of_items, list-about_others, list-about_schema, schema-listed, written_head, Y, Z, exts-Y, unwritten-Y, written-Y, alone, first-nothing, implicit-again, object_at, orphans-none, others, quiet, with-adopted}
+
+module _ (root_laws : IsEquivalence same_root) where
+  -- roots that differ from those before them and from one another
+  pub roots-none : (before rs : List Root) → IsDistinct same_root (before ++ rs) → root_faults before rs ≡ []
+  roots-none =
+      none-added root_fault (IsDistinct same_root) (λ done r rest d.
+      ap (λ o. option_map_or (λ (kept : Root). (r.location, errors.DuplicateRootOperation kept.value.1.location (operation_text r.value.0)) ∷ []) o []) (find-none (same_root r) done (new-after same_root root_laws done r rest d)))
+
+  -- a part after others
+  schema-none : (ps : List SchemaPart) (p : SchemaPart) (rest : List SchemaPart) → IsDistinct same_root (roots_in (ps ++ p ∷ rest)) → schema_faults ps p ≡ []
+  schema-none ps p rest d =
+      roots-none (roots_in ps) p.roots (distinct-front same_root (roots_in ps ++ p.roots) (roots_in rest)
+      (subst (IsDistinct same_root) (flat_map-append (λ (s : SchemaPart). s.roots) ps (p ∷ rest) ∙ sym (append_assoc (roots_in ps) p.roots (roots_in rest))) d))
+
+  -- extensions that join a definition
+  pub joining-none : (parts es : List SchemaPart) → IsDistinct same_root (roots_in (parts ++ es)) → schema_joining_faults parts es ≡ []
+  joining-none = none-added schema_faults (λ l. IsDistinct same_root (roots_in l)) schema-none
+
+  pub begun-none : (s : SchemaPart) (es : List SchemaPart) → IsDistinct same_root (roots_in (s ∷ es)) → schema_begun_faults s es ≡ []
+  begun-none s es d = (λ i. schema-none [] s es d i ++ joining-none (s ∷ []) es d i)
+
+  -- extensions after a definition, item by item
+  pub schema-faultless : (s : SchemaPart) (es : List SchemaPart) → IsDistinct same_root (roots_in (s ∷ es)) → each_after found_at [] (SchemaDefined s ∷ map SchemaExtended es) ≡ []
+  schema-faultless s es d = (λ i. (append-nil (schema_faults [] s) ∙ schema-none [] s es d) i ++ none-made found_at (SchemaDefined s ∷ []) SchemaExtended (λ l. IsDistinct same_root (roots_in (s ∷ l))) after [] es d i)
+    where
+      after : (done : List SchemaPart) (e : SchemaPart) (rest : List SchemaPart) → IsDistinct same_root (roots_in (s ∷ done ++ e ∷ rest)) → found_at (SchemaDefined s ∷ map SchemaExtended done) (SchemaExtended e) ≡ []
+      after done e rest d = ap (λ l. schema_faults (s ∷ l) e) (filter_map-made extended_schema SchemaExtended (λ e. refl) done) ∙ schema-none (s ∷ done) e rest d
+
+-- extensions before any definition
+pub early-none : (before es : List SchemaPart) → each_after found_at (map SchemaExtended before) (map SchemaExtended es) ≡ []
+early-none before es = none-made found_at [] SchemaExtended (λ _. Unit {0}) (λ done e rest _. ap (λ o. option_map_or (λ s. schema_faults (s ∷ schema_extensions (map SchemaExtended done)) e) o []) (undefined done)) before es tt
+  where
+    undefined : (l : List SchemaPart) → first_schema (map SchemaExtended l) ≡ None
+    undefined l = ap (λ l. slice_get l 0) (filter_map-unmade defined_schema SchemaExtended (λ s. refl) l)
+
+-- the roots of a schema definition differ
+entries-distinct : (q m s : Option ComponentName) → IsDistinct same_root (map (λ x. x.1) (entries Query q ++ (entries Mutation m ++ (entries Subscription s ++ []))))
+unfolding IsDistinct
+entries-distinct None None None = tt
+entries-distinct None None (Some s) = (tt, tt)
+entries-distinct None (Some m) None = (tt, tt)
+entries-distinct None (Some m) (Some s) = ((refl, tt), (tt, tt))
+entries-distinct (Some q) None None = (tt, tt)
+entries-distinct (Some q) None (Some s) = ((refl, tt), (tt, tt))
+entries-distinct (Some q) (Some m) None = ((refl, tt), (tt, tt))
+entries-distinct (Some q) (Some m) (Some s) = ((refl, (refl, tt)), ((refl, tt), (tt, tt)))
+
+-- so do those of what is written of it
+pub written-distinct : IsEquivalence same_root → (d : SchemaDefinition) → IsDistinct same_root ((written_parts_of d).definition.roots ++ roots_in (map schema_extension_of (written_parts_of d).extensions))
+written-distinct root_laws d =
+    subst (IsDistinct same_root) listed
+    (IsDistinct-IsPermutation same_root root_laws.symm (map (λ x. x.1) (root_entries d)) (map (λ x. x.1) (joined (λ p. p.roots) (with_origins (written_parts_of d))))
+    (written-keeps (schema_sections d) (written_parts_of d) (ap (λ cs. (by_origin cs).definition) (schema-components d)) (ap (λ cs. map (λ e. e.1) (by_origin cs).extensions) (schema-components d))).roots
+    (entries-distinct d.query d.mutation d.subscription))
+  where
+    listed : map (λ x. x.1) (joined (λ p. p.roots) (with_origins (written_parts_of d))) ≡ (written_parts_of d).definition.roots ++ roots_in (map schema_extension_of (written_parts_of d).extensions)
+    listed = simp (joined-values, flat_map-map)
+
+-- A list with a write-out is without fault.
 
 -- handed-in directive definitions whose names differ
 others-built_in : each_after found_at [] (about Others built_ins) ≡ []
@@ -63,24 +85,21 @@ none-named : (k : NameView) (ds : Directives) → list_any (same_text k) (map (�
 none-named k [] h = refl
 none-named k (d ∷ ds) h = grind (arith, h, none-named k ds)
 
-directives-none : (before : List ListItem) → directive_definitions before ≡ built_in_directives → (done es : Directives) → IsDistinct same_text (map (λ d. d.value.name) (done ++ es)) → each_after found_at (before ++ directive_items done) (directive_items es) ≡ []
-directives-none before is done [] d = refl
-directives-none before is done (e ∷ es) d =
-    (λ i. here i ++ ap (λ l. each_after found_at l (directive_items es)) (append_assoc before (directive_items done) (directive_items (e ∷ [])) ∙ ap (λ l. before ++ l) (sym (map-append (λ d. Other (ast.DirectiveDefinition d)) done (e ∷ [])))) i)
-    ∙ directives-none before is (done ++ e ∷ []) es (subst (λ l. IsDistinct same_text (map (λ d. d.value.name) l)) (sym (append_assoc done (e ∷ []) es)) d)
+directives-none : (before : List ListItem) → directive_definitions before ≡ built_in_directives → (ds : Directives) → IsDistinct same_text (map (λ d. d.value.name) ds) → each_after found_at (before ++ []) (directive_items ds) ≡ []
+directives-none before is = none-made found_at before (λ d. Other (ast.DirectiveDefinition d)) (λ l. IsDistinct same_text (map (λ d. d.value.name) l)) none []
   where
-    known : directive_definitions (before ++ directive_items done) ≡ built_in_directives ++ done
-    known = filter_map-append directive_part before (directive_items done) ∙ (λ i. is i ++ directives-of_items done i)
+    known : (done : Directives) → directive_definitions (before ++ directive_items done) ≡ built_in_directives ++ done
+    known done = filter_map-append directive_part before (directive_items done) ∙ (λ i. is i ++ directives-of_items done i)
 
-    absent : list_any (same_text e.value.name) (map (λ d. d.value.name) done) ≡ false
-    absent = new-after same_text name_laws (map (λ d. d.value.name) done) e.value.name (map (λ d. d.value.name) es) (subst (IsDistinct same_text) (map-append (λ (d : NodeView DirectiveDefinition). d.value.name) done (e ∷ es)) d)
+    absent : (done : Directives) (e : NodeView DirectiveDefinition) (rest : Directives) → IsDistinct same_text (map (λ d. d.value.name) (done ++ e ∷ rest)) → list_any (same_text e.value.name) (map (λ d. d.value.name) done) ≡ false
+    absent done e rest d = new-after same_text name_laws (map (λ d. d.value.name) done) e.value.name (map (λ d. d.value.name) rest) (subst (IsDistinct same_text) (map-append (λ (d : NodeView DirectiveDefinition). d.value.name) done (e ∷ rest)) d)
 
-    here : found_at (before ++ directive_items done) (Other (ast.DirectiveDefinition e)) ≡ []
-    here =
+    none : (done : Directives) (e : NodeView DirectiveDefinition) (rest : Directives) → IsDistinct same_text (map (λ d. d.value.name) (done ++ e ∷ rest)) → found_at (before ++ directive_items done) (Other (ast.DirectiveDefinition e)) ≡ []
+    none done e rest d =
         ap (λ o. option_map_or (λ (kept : NodeView DirectiveDefinition). (e.value.name.location, errors.DirectiveDefinitionCollision kept.value.name.location e.value.name) ∷ []) o [])
-        (ap (find (λ x. has_text e.value.name.text x && is_handed_in x)) known
+        (ap (find (λ x. has_text e.value.name.text x && is_handed_in x)) (known done)
         ∙ find-append (λ x. has_text e.value.name.text x && is_handed_in x) built_in_directives done
-        ∙ (λ i. option_or (find-unmarked e.value.name.text built_in_directives built_in-marked i) (none-named e.value.name done absent i)))
+        ∙ (λ i. option_or (find-unmarked e.value.name.text built_in_directives built_in-marked i) (none-named e.value.name done (absent done e rest d) i)))
 
 -- the names of a table's values differ, and so do those of the handed-in ones
 names-distinct : (es : List (NameView × NodeView DirectiveDefinition)) → HasUniqueKeys same_text es → AllByRecursion (λ e. has_text e.0.text e.1 ≡ true) es → IsDistinct same_text (map (λ d. d.value.name) (values_of es))
@@ -99,17 +118,6 @@ distinct-back : (xs ys : List Root) → IsDistinct same_root (xs ++ ys) → IsDi
 unfolding IsDistinct
 distinct-back [] ys d = d
 distinct-back (x ∷ xs) ys d = distinct-back xs ys d.1
-
-implied-distinct : (q m s : Bool) → IsDistinct same_root (roots_where q m s)
-unfolding IsDistinct
-implied-distinct false false false = tt
-implied-distinct false false true = (tt, tt)
-implied-distinct false true false = (tt, tt)
-implied-distinct false true true = ((refl, tt), (tt, tt))
-implied-distinct true false false = (tt, tt)
-implied-distinct true false true = ((refl, tt), (tt, tt))
-implied-distinct true true false = ((refl, tt), (tt, tt))
-implied-distinct true true true = ((refl, (refl, tt)), ((refl, tt), (tt, tt)))
 
 module _ (laws : MeaningLaws) (schema : Schema) (list : IsMeantByList schema) (c : Bool) where
   open list use {start, adopts, more}
@@ -158,26 +166,18 @@ module _ (laws : MeaningLaws) (schema : Schema) (list : IsMeantByList schema) (c
       ap found (list-about_others c node.value node.location types ds (values_of types))
       ∙ each_after-append found_at [] (about Others built_ins) (directive_items ds)
       ∙ (λ i. others-built_in i ++ (ap (λ l. each_after found_at l (directive_items ds)) (sym (append-nil (about Others built_ins)))
-      ∙ directives-none (about Others built_ins) (sym (directives-about built_ins)) [] ds (values-distinct schema.directive_definitions (unique schema list) (texts schema list))) i)
+      ∙ directives-none (about Others built_ins) (sym (directives-about built_ins)) ds (values-distinct schema.directive_definitions (unique_directives schema list) (texts schema list))) i)
 
   found-none : found ys ≡ []
   found-none = faultless-by_topic ys by
     where
-      named : (n : List ℕ) (o : Option ExtendedType) → lookup (by_text n) types ≡ o → found (about (Name n) ys) ≡ []
-      named n None e = ap found (first-nothing laws schema list c n e)
-      named n (Some t) e = type-none n t e
-
       by : (topic : Topic) → found (about topic ys) ≡ []
-      by (Name n) = named n (lookup (by_text n) types) refl
+      by (Name n) = option_cases (lookup (by_text n) types) (λ e. ap found (first-nothing laws schema list c n e)) (type-none n)
       by TheSchema = schema-items-none
       by Others = others-none
 
   orphaned-none : flat_map (orphans_of ys) (extended_names ys) ≡ []
-  orphaned-none = go (extended_names ys)
-    where
-      go : (ns : List (List ℕ)) → flat_map (orphans_of ys) ns ≡ []
-      go [] = refl
-      go (n ∷ ns) = (λ i. orphans-none laws schema list c n i ++ go ns i)
+  orphaned-none = flat_map-none (orphans_of ys) (orphans-none laws schema list c) (extended_names ys)
 
   -- what is found at the end: at an implied definition, and of extensions without any
   end-none : (each_after found_at ys (implied_schema true ys) ≡ []) × (schema_orphans zs ≡ [])

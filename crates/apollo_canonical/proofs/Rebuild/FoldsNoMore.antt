@@ -1,63 +1,142 @@
--- A list folds no more extensions than it has, and a schema's write-out no more than the list that the schema is of.
-use Rattle.std.proofs.Common.{◌≡◌, ℕ, ◌+◌, ◌≤◌, List, [], ◌∷◌, ◌++◌, None, Option, Some, true, map, filter, flat_map, length, refl, ap, length-append, arith, Bool, false, cond, option_map, sym, subst, ◌∙◌}
-use Rattle.std.proofs.lemmas.List.{length-map}
-use Rattle.std.proofs.lemmas.List.Elements.{filter_map-append, recursion_from_All}
+-- A type, and a schema definition, is written out with no more extensions than it was made of: each component comes from one of its
+-- parts. So a schema's write-out folds no more extensions than the list that the schema is of.
+use Rattle.apollo_canonical.proofs.Words.Lists.{◌≡◌, List, [], ◌∷◌, None, Option, Some, map, find, flat_map, option_map, refl, sym, subst, ℕ, ◌≤◌, Bool, true, false, ◌||◌, length, ◌∙◌, true≢false, arith, AllByRecursion, cons_option, list_any, IfSome, each-append}
+use Rattle.apollo_canonical.proofs.Words.Lists.{length-map, ◌+◌, ◌++◌, filter, ap, length-append, cond, filter_map-append, recursion_from_All, All, filter_map, range_with_len, IsDistinct, enumerate_from, option_map_or, unwrap_or, each-weaken, filter_map-numbered}
+use Rattle.apollo_canonical.proofs.Words.Syntax.{NameView, NodeView, same_text, values_of, OperationType, Query, Mutation, Subscription, DefinitionPart, Directive, SourceSpan, DefinitionParts, is_built_in, by_text, keys_of, lookup}
+use Rattle.apollo_canonical.proofs.Words.Types.{same_key, SourcedPart, sourced, identities, of_extensions, of_origin, origins_in, Component, ComponentName, ComponentOrigin, of_directive, of_name, of_root, schema_components, named_roots, type_components, each-first, list_any-first_of_each, extension_id, id_of, same_id, Definition, Extension, ExtensionId, first_of_each-distinct, type_location, ExtendedType, SchemaDefinition, name_laws}
+use Rattle.apollo_canonical.proofs.Words.Meaning.{EnumBody, InputObjectBody, InterfaceBody, ObjectBody, ScalarBody, SchemaPart, TypeBody, TypePart, UnionBody, SourcedSchema, root_in, roots_of, same_operation, schema_definition_of, schema_directives_of, Sourced, body_fields, body_input_fields, body_interfaces, body_members, body_values, component, component_name}
+use Rattle.apollo_canonical.proofs.Words.Meaning.{directives_of, distinct_entries, distinct_names, field_entry, input_field_entry, same_component_name, value_entry, type_at, adopted, adopted_by, extended_names, orphans_of, with_adopted, implied_schema, Added, ListItem, OfSchema, OfType, added_items, extended_part, Defined, Extended, Folding, schema_extensions}
+use Rattle.apollo_canonical.proofs.Words.Meaning.{first, first_schema, Family, Placed, extension_places, first_place, folded_when, folding_order, is_folded, is_met, met_when, once_if_defined, schemas, times_met, types, folds, whole, Directives, is_handed_in, no_schema, schema_from, schema_parts, of_type, parts, type_from, MeansSchema, Schema}
+use Rattle.apollo_canonical.proofs.Words.Written.{MeaningLaws, written_again}
+use Rattle.std.proofs.lemmas.Map.Made.{length-le_from_is_member}
 use Rattle.std.proofs.lemmas.List.Sums.{count_by-le-length, length-filter}
-use Rattle.std.specs.List.{All, filter_map, range_with_len, AllByRecursion, IsDistinct, enumerate_from}
-use Rattle.std.specs.Option.{option_map_or, unwrap_or}
-use Rattle.apollo_component.proofs.Lists.Each.{each-weaken}
-use Rattle.apollo_component.proofs.Lists.Ends.{filter_map-numbered}
-use Rattle.apollo_meaning.specs.Completion.Adoption.{adopted, adopted_by, extended_names, orphans_of, with_adopted}
-use Rattle.apollo_meaning.specs.Completion.ImpliedSchema.{implied_schema}
-use Rattle.apollo_meaning.specs.Items.ListItems.{Added, ListItem, OfSchema, OfType, added_items, extended_part, extended_schema, Defined, Extended, Folding}
-use Rattle.apollo_meaning.specs.Items.Named.{schema_extensions, first, first_schema}
-use Rattle.apollo_meaning.specs.Items.Parts.{SchemaPart, TypePart}
-use Rattle.apollo_meaning.specs.Order.Places.{Family, Placed, extension_places, first_place, folded_when, folding_order, is_folded, is_met, met_when, once_if_defined, schemas, times_met, types}
-use Rattle.apollo_meaning.specs.Schema.Whole.{folds, whole}
-use Rattle.apollo_canonical.specs.MeaningLaws.{MeaningLaws}
-use Rattle.apollo_canonical.proofs.Kept.{grouped-few, each-of, passed, same-once}
-use Rattle.apollo_canonical.proofs.Rebuild.Meant.{by_implied}
-use Rattle.graphql_nodes.specs.BuiltIn.{is_built_in}
-use Rattle.graphql_nodes.specs.NameView.{NameView}
-use Rattle.graphql_nodes.specs.NodeView.{NodeView}
-use Rattle.graphql_nodes.specs.SameText.{by_text, same_text}
-use Rattle.graphql_nodes.specs.Tables.{keys_of, lookup, values_of}
-use Rattle.graphql_nodes.specs.declared.source.SourceSpan.{SourceSpan}
-use Rattle.graphql_ast.specs.declared.definition_parts.DefinitionParts.{DefinitionParts}
-use Rattle.apollo_component.specs.declared.extension.ExtensionId.{ExtensionId}
-use Rattle.apollo_types.specs.TypeWriteOut.{type_location}
-use Rattle.apollo_types.specs.declared.extended_type.ExtendedType.{ExtendedType}
-use Rattle.apollo_types.specs.declared.schema_definition.SchemaDefinition.{SchemaDefinition}
-use Rattle.apollo_meaning.specs.Directives.{Directives, is_handed_in}
 use Rattle.apollo_meaning.specs.Order.SpentIds.{SpendsIds}
-use Rattle.apollo_meaning.specs.Schema.Definition.{no_schema, schema_from, schema_parts}
-use Rattle.apollo_meaning.specs.Types.Meaning.{of_type, parts, type_from}
-use Rattle.apollo_schema.specs.MeantSchema.{MeansSchema}
-use Rattle.apollo_schema.specs.declared.schema.Schema.{Schema}
-use Rattle.apollo_component.proofs.FirstOfEachLemmas.{name_laws}
-use Rattle.apollo_canonical.specs.WrittenAgain.{written_again}
-use Rattle.apollo_canonical.proofs.Rebuild.Canonical.{items-listed}
-use Rattle.apollo_canonical.proofs.Rebuild.Numbers.{numbers_of, schema_numbers}
-use Rattle.apollo_canonical.proofs.Rebuild.OneSchema.{schema_extension_of, written_parts_of}
-use Rattle.apollo_canonical.proofs.Rebuild.SchemaWritten.{list-extended, list-schema_extensions}
-use Rattle.apollo_canonical.proofs.Rebuild.Tables.{each-entry}
+use Rattle.graphql_ast.specs.declared.definition_parts.DefinitionPart.TheVariants as parts
+use Rattle.apollo_canonical.proofs.Lists.{each-map, if-found, grouped-few, each-of, passed, same-once}
+use Rattle.apollo_canonical.proofs.Sections.{each-among, is_among, ids_in, same_id-equiv}
+use Rattle.apollo_canonical.proofs.Types.{made, written, numbers_of, schema_numbers, definition_part, extension_of, extension_items, held_items}
+use Rattle.apollo_canonical.proofs.Definitions.{root_under, made_schema, written_parts_of, schema_extension_of}
+use Rattle.apollo_canonical.proofs.Items.{by_implied, each-entry}
 use Rattle.apollo_canonical.proofs.Rebuild.TypesAgain.{unique}
-use Rattle.apollo_canonical.proofs.Rebuild.OriginsOfParts.{schema-few, type-few}
-use Rattle.apollo_canonical.proofs.Rebuild.WrittenParts.{definition_part, extension_of, written, extension_items, held_items}
+use Rattle.apollo_canonical.proofs.Rebuild.WrittenList.{list-extended, list-schema_extensions}
+use Rattle.apollo_canonical.proofs.Rebuild.Canonical.{items-listed}
+
+module _ (P : ComponentOrigin → Type 0) where
+  -- it holds of the origin of a component
+  abbrev From : SourcedPart → Type 0
+  From c = P c.0
+
+  -- what is made of one sort of the parts
+  each-made : {S A C : Type 0} (origin : C → ComponentOrigin) (make : ComponentOrigin → A → C) → ((o : ComponentOrigin) (a : A) → origin (make o a) ≡ o) → (sort : S → List A) (ps : List (ComponentOrigin × S))
+      → AllByRecursion (λ s. P s.0) ps → AllByRecursion (λ c. P (origin c)) (flat_map (λ s. map (make s.0) (sort s.1)) ps)
+  each-made origin make is sort [] a = tt
+  each-made {S} {A} {C} origin make is sort (s ∷ ps) a =
+      each-append (λ c. P (origin c)) (map (make s.0) (sort s.1)) (flat_map (λ s. map (make s.0) (sort s.1)) ps)
+      (each-map (λ c. P (origin c)) (make s.0) (sort s.1) (each-of (λ x. P (origin (make s.0 x))) (λ x. subst P (sym (is s.0 x)) a.0) (sort s.1))) (each-made origin make is sort ps a.1)
+
+  -- the components of a type
+  module _ (ps : List Sourced) (a : AllByRecursion (λ s. P s.0) ps) where
+    directives : AllByRecursion From (map of_directive (flat_map directives_of ps))
+    directives =
+        each-map From of_directive (flat_map directives_of ps) (each-made (λ (c : Component Directive). c.origin) component (λ o n. refl) (λ (p : TypePart). p.directives) ps a)
+
+    names : (of : TypePart → List NameView) → AllByRecursion From (map of_name (distinct_names (flat_map (λ s. map (component_name s.0) (of s.1)) ps)))
+    names of =
+        let all : List ComponentName = flat_map (λ (s : Sourced). map (component_name s.0) (of s.1)) ps in
+        each-map From of_name (distinct_names all) (each-first (λ (c : ComponentName). P c.origin) same_component_name all (each-made (λ (c : ComponentName). c.origin) component_name (λ o n. refl) of ps a))
+
+    entries : {T : Type 0} (entry : ComponentOrigin → NodeView T → NameView × Component T) → ((o : ComponentOrigin) (n : NodeView T) → (entry o n).1.origin ≡ o) → (part : NodeView T → DefinitionPart)
+        → (of : TypePart → List (NodeView T)) → AllByRecursion From (map (sourced part) (values_of (distinct_entries (flat_map (λ s. map (entry s.0) (of s.1)) ps))))
+    entries {T} entry is part of =
+        let all : List (NameView × Component T) = flat_map (λ (s : Sourced). map (entry s.0) (of s.1)) ps in
+        each-map From (sourced part) (values_of (distinct_entries all))
+        (each-map (λ (c : Component T). P c.origin) (λ (e : NameView × Component T). e.1) (distinct_entries all) (each-first (λ (e : NameView × Component T). P e.1.origin) (same_key same_text) all
+        (each-made (λ (e : NameView × Component T). e.1.origin) entry is of ps a)))
+
+    pub each-of_type : (body : TypeBody) (head : TypePart) → AllByRecursion From (type_components (type_at body head ps))
+    each-of_type ScalarBody head = directives
+    each-of_type (ObjectBody interfaces fields) head =
+        each-append From _ _ (each-append From _ _ directives (names (λ p. body_interfaces p.body))) (entries field_entry (λ o n. refl) parts.Field (λ p. body_fields p.body))
+    each-of_type (InterfaceBody interfaces fields) head =
+        each-append From _ _ (each-append From _ _ directives (names (λ p. body_interfaces p.body))) (entries field_entry (λ o n. refl) parts.Field (λ p. body_fields p.body))
+    each-of_type (UnionBody members) head = each-append From _ _ directives (names (λ p. body_members p.body))
+    each-of_type (EnumBody values) head = each-append From _ _ directives (entries value_entry (λ o n. refl) parts.EnumValue (λ p. body_values p.body))
+    each-of_type (InputObjectBody fields) head = each-append From _ _ directives (entries input_field_entry (λ o n. refl) parts.InputField (λ p. body_input_fields p.body))
+
+  -- and those of the schema's definition
+  module _ (ps : List SourcedSchema) (a : AllByRecursion (λ s. P s.0) ps) where
+    root : (op : OperationType) (rest : List (OperationType × ComponentName)) → AllByRecursion (λ r. P r.1.origin) rest → AllByRecursion (λ r. P r.1.origin) (cons_option (option_map (λ n. (op, n)) (root_in op ps)) rest)
+    root op rest b = by (find (λ r. same_operation op r.0) (flat_map roots_of ps))
+        (if-found (λ (r : OperationType × ComponentName). P r.1.origin) (λ r. same_operation op r.0) (flat_map roots_of ps)
+        (each-made (λ (r : OperationType × ComponentName). r.1.origin) root_under (λ o r. refl) (λ (s : SchemaPart). s.roots) ps a))
+      where
+        by : (o : Option (OperationType × ComponentName)) → IfSome o (λ r. P r.1.origin) → AllByRecursion (λ r. P r.1.origin) (cons_option (option_map (λ n. (op, n)) (option_map (λ r. r.1) o)) rest)
+        by None h = b
+        by (Some r) h = (h, b)
+
+    pub each-of_schema : (head : SchemaPart) → AllByRecursion From (schema_components (schema_definition_of head ps))
+    each-of_schema head =
+        let roots : List (OperationType × ComponentName) = named_roots (schema_definition_of head ps) in
+        let subscriptions : List (OperationType × ComponentName) = cons_option (option_map (λ n. (Subscription, n)) (root_in Subscription ps)) [] in
+        let mutations : List (OperationType × ComponentName) = cons_option (option_map (λ n. (Mutation, n)) (root_in Mutation ps)) subscriptions in
+        each-append From (map of_directive (flat_map schema_directives_of ps)) (map of_root roots)
+        (each-map From of_directive (flat_map schema_directives_of ps) (each-made (λ (c : Component Directive). c.origin) component (λ o n. refl) (λ (s : SchemaPart). s.directives) ps a))
+        (each-map From of_root roots (root Query mutations (root Mutation subscriptions (root Subscription [] tt))))
+
+-- components whose origins are among these identities have no others
+among-there : (ids : List ExtensionId) (e : ExtensionId) (cs : List SourcedPart) → AllByRecursion (λ c. is_among ids c.0 ≡ true) cs → list_any (same_id e) (ids_in cs) ≡ true → list_any (same_id e) ids ≡ true
+among-there ids e [] a h = absurd (true≢false (sym h))
+among-there ids e (c ∷ cs) a h = by c.0 a.0 h (among-there ids e cs a.1)
+  where
+    by : (o : ComponentOrigin) → is_among ids o ≡ true → list_any (same_id e) (cons_option (id_of o) (ids_in cs)) ≡ true → (list_any (same_id e) (ids_in cs) ≡ true → list_any (same_id e) ids ≡ true) → list_any (same_id e) ids ≡ true
+    by Definition own h rest = rest h
+    by (Extension f) own h rest = at (same_id e f) refl h
+      where
+        at : (b : Bool) → same_id e f ≡ b → (b || list_any (same_id e) (ids_in cs)) ≡ true → list_any (same_id e) ids ≡ true
+        at true alike g = (λ i. list_any (λ k. same_id-equiv.congr e f k alike i) ids) ∙ own
+        at false alike g = rest g
+
+-- so they are written with no more extensions than there are of these
+written-among : (ids : List ExtensionId) (cs : List SourcedPart) → AllByRecursion (λ c. is_among ids c.0 ≡ true) cs → length (of_extensions cs) ≤ length ids
+written-among ids cs a =
+    omega (
+      arith,
+      length-map {B = ExtensionId × DefinitionParts} (identities (origins_in cs)) (λ e. (e, of_origin (Extension e) cs)),
+      length-le_from_is_member same_id-equiv (identities (origins_in cs)) ids (first_of_each-distinct same_id (ids_in cs))
+          (λ e h. among-there ids e cs a (sym (list_any-first_of_each same_id same_id-equiv e (ids_in cs)) ∙ h)),
+    )
+
+module _ {P : Type 0} (place : P → Option SourceSpan) where
+  -- extensions with numbers, and their origins
+  abbrev extensions_from : List (ℕ × P) → List (ComponentOrigin × P)
+  extensions_from es = map (λ e. (Extension (extension_id e.0 (place e.1)), e.1)) es
+
+  ids-counted : (es : List (ℕ × P)) → length (ids_in (extensions_from es)) ≡ length es
+  ids-counted [] = refl
+  ids-counted (e ∷ es) = omega (arith, ids-counted es)
+
+  -- components of a definition and of these
+  made-few : (head : P) (es : List (ℕ × P)) (cs : List SourcedPart) → AllByRecursion (λ c. is_among (ids_in ((Definition, head) ∷ extensions_from es)) c.0 ≡ true) cs → length (of_extensions cs) ≤ length es
+  made-few head es cs a = omega (arith, ids-counted es, written-among (ids_in ((Definition, head) ∷ extensions_from es)) cs a)
+
+pub type-few : (head : TypePart) (es : List (ℕ × TypePart)) → length (written (made head es)).extensions ≤ length es
+type-few head es =
+    let ps : List (ComponentOrigin × TypePart) = (Definition, head) ∷ extensions_from (λ (p : TypePart). p.location) es in
+    made-few (λ (p : TypePart). p.location) head es (type_components (made head es)) (each-of_type (λ o. is_among (ids_in ps) o ≡ true) ps (each-among ps) head.body head)
+
+pub schema-few : (head : SchemaPart) (es : List (ℕ × SchemaPart)) → length (written_parts_of (made_schema head es)).extensions ≤ length es
+schema-few head es =
+    let ps : List (ComponentOrigin × SchemaPart) = (Definition, head) ∷ extensions_from (λ (s : SchemaPart). s.location) es in
+    made-few (λ (s : SchemaPart). s.location) head es (schema_components (made_schema head es)) (each-of_schema (λ o. is_among (ids_in ps) o ≡ true) ps (each-among ps) head)
+
+-- A list folds no more extensions than it has, and a schema's write-out no more than the list that the schema is of.
 
 -- how many extensions a list has, of types and of the schema
 abbrev pub extensions_in : List ListItem → ℕ
 extensions_in xs = length (filter_map extended_part xs) + length (schema_extensions xs)
 
 pub extensions_in-append : (xs ys : List ListItem) → extensions_in (xs ++ ys) ≡ extensions_in xs + extensions_in ys
-extensions_in-append xs ys =
-    omega (
-      arith,
-      ap length (filter_map-append extended_part xs ys),
-      length-append (filter_map extended_part xs) (filter_map extended_part ys),
-      ap length (filter_map-append extended_schema xs ys),
-      length-append (filter_map extended_schema xs) (filter_map extended_schema ys),
-    )
+extensions_in-append xs ys = simp (filter_map-append, length-append) (omega arith)
 
 module _ (xs : List ListItem) where
   -- no more are met, at all moments of the list, than there are
@@ -80,20 +159,7 @@ module _ (xs : List ListItem) where
   folded-met : (is : List ℕ) → length (flat_map (folded_when xs) is) ≤ length (flat_map (met_when types xs) is) + length (flat_map (met_when schemas xs) is)
   folded-met [] = omega arith
   folded-met (i ∷ is) =
-      let ts : List (Placed TypePart) = filter (is_folded xs) (met_when types xs i) in
-      let ss : List (Placed SchemaPart) = met_when schemas xs i in
-      omega (
-        arith,
-        folded-met is,
-        length-append (folded_when xs i) (flat_map (folded_when xs) is),
-        length-append (map (λ e. OfType e.1) ts) (map (λ e. OfSchema e.1) ss),
-        length-map ts (λ e. OfType e.1),
-        length-map ss (λ e. OfSchema e.1),
-        length-filter (is_folded xs) (met_when types xs i),
-        count_by-le-length (is_folded xs) (met_when types xs i),
-        length-append (met_when types xs i) (flat_map (met_when types xs) is),
-        length-append ss (flat_map (met_when schemas xs) is),
-      )
+      simp (length-append, length-map) (omega (arith, folded-met is, length-filter (is_folded xs) (met_when types xs i), count_by-le-length (is_folded xs) (met_when types xs i)))
 
   folded-few : MeaningLaws → length (folding_order xs) ≤ extensions_in xs
   folded-few laws = omega (arith, folded-met (range_with_len 0 (length xs)), met-few types (laws.types_met xs), met-few schemas (laws.schemas_met xs))
@@ -158,16 +224,7 @@ module _ (c : Bool) where
   types-few : (start : ℕ) (fs : List Folding) (es : List (NameView × ExtendedType)) → AllByRecursion (λ e. length (written e.1).extensions ≤ length (numbers_of e.0.text start fs)) es
       → length (filter_map extended_part (flat_map (held_items c) (values_of es))) ≤ length (flat_map (λ k. numbers_of k.text start fs) (keys_of es))
   types-few start fs [] a = omega arith
-  types-few start fs (e ∷ es) a =
-      omega (
-        arith,
-        types-few start fs es a.1,
-        a.0,
-        held-counted e.1,
-        ap length (filter_map-append extended_part (held_items c e.1) (flat_map (held_items c) (values_of es))),
-        length-append (filter_map extended_part (held_items c e.1)) (filter_map extended_part (flat_map (held_items c) (values_of es))),
-        length-append (numbers_of e.0.text start fs) (flat_map (λ k. numbers_of k.text start fs) (keys_of es)),
-      )
+  types-few start fs (e ∷ es) a = simp (filter_map-append, length-append, held-counted e.1) (omega (arith, types-few start fs es a.1, a.0))
 
   -- a write-out has the extensions of the types and of the schema definition
   written-counted : (schema : Schema)
@@ -177,13 +234,7 @@ module _ (c : Bool) where
       let place : Option SourceSpan = schema.schema_definition.location in
       let ds : Directives = filter is_handed_in (values_of schema.directive_definitions) in
       let ts : List ExtendedType = values_of schema.types in
-      omega (
-        arith,
-        ap extensions_in (items-listed c schema),
-        ap length (list-extended c d place schema.types ds ts),
-        ap length (list-schema_extensions c d place schema.types ds ts),
-        length-map (written_parts_of d).extensions schema_extension_of,
-      )
+      rw (items-listed c schema, list-extended c d place schema.types ds ts, list-schema_extensions c d place schema.types ds ts, length-map (written_parts_of d).extensions schema_extension_of) refl
 
 module _ (laws : MeaningLaws) (start : ℕ) (adopts : Bool) (xs : List Added) (schema : Schema) (means : MeansSchema start adopts xs schema) where
   abbrev items : List ListItem

@@ -1,44 +1,14 @@
 -- The schema definition that a list with a write-out means is the one that was written out.
-use Rattle.std.proofs.Common.{◌≡◌, ℕ, Bool, true, false, cond, List, [], ◌∷◌, ◌++◌, None, Option, Some, map, find, flat_map, option_map, refl, sym, ap, subst, ◌∙◌, ◌==◌, true≢false, arith}
-use Rattle.std.proofs.lemmas.List.{append-nil}
-use Rattle.std.proofs.lemmas.List.Elements.{filter_map-append}
-use Rattle.std.specs.List.{IsDistinct, filter_map}
-use Rattle.std.specs.Option.{option_or}
-use Rattle.graphql_nodes.specs.NameView.{NameView}
-use Rattle.graphql_nodes.specs.NodeView.{NodeView}
-use Rattle.graphql_nodes.specs.OperationTexts.{default_type_text}
-use Rattle.graphql_nodes.specs.SameText.{by_text}
-use Rattle.graphql_nodes.specs.Tables.{lookup}
-use Rattle.graphql_nodes.specs.declared.operation_type.OperationType.{OperationType}
-use Rattle.graphql_nodes.specs.declared.operation_type.OperationType.TheVariants.{Query, Mutation, Subscription}
-use Rattle.apollo_component.specs.declared.component.ComponentName.{ComponentName}
-use Rattle.apollo_types.specs.BareTypes.{BareType, bare_extended_type, bare_schema_definition}
-use Rattle.apollo_types.specs.SchemaDefinitionWriteOut.{has_own_root, implied_name, is_implied, is_some_object, is_written, write_schema_definition}
-use Rattle.apollo_types.specs.SchemaRoots.{root_of}
-use Rattle.apollo_types.specs.TypeKinds.{is_object}
-use Rattle.apollo_types.specs.declared.extended_type.ExtendedType.{ExtendedType}
-use Rattle.apollo_types.specs.declared.extended_type.ExtendedType.TheVariants.{Scalar}
-use Rattle.apollo_types.specs.declared.schema_definition.SchemaDefinition.{SchemaDefinition}
-use Rattle.apollo_meaning.specs.Completion.ImpliedSchema.{adopting_schema, implicit_roots, schema_of_roots}
-use Rattle.apollo_meaning.specs.Items.ListItems.{ListItem, SchemaDefined, extended_schema}
-use Rattle.apollo_meaning.specs.Items.Named.{first_schema, schema_extensions}
-use Rattle.apollo_meaning.specs.Items.Parts.{Root, SchemaPart, roots_in}
-use Rattle.apollo_meaning.specs.Order.Places.{folding_order}
-use Rattle.apollo_meaning.specs.Schema.Definition.{roots_of, same_operation, schema_extension_source}
-use Rattle.apollo_meaning.specs.Types.Meaning.{AreTypesOf}
-use Rattle.apollo_schema.specs.declared.schema.Schema.{Schema}
-use Rattle.apollo_canonical.specs.MeaningLaws.{MeaningLaws}
-use Rattle.apollo_canonical.specs.WrittenAgain.{IsMeantByList}
-use Rattle.apollo_canonical.proofs.Kept.{both-empty}
-use Rattle.apollo_canonical.proofs.Rebuild.LeftOut.{has_one, implied-unwritten, left-out, left-out-equal, left-out-written}
-use Rattle.apollo_canonical.proofs.Rebuild.Numbers.{rising-distinct, schema_numbers, schema_numbers-rise}
-use Rattle.apollo_canonical.proofs.Rebuild.OneSchema.{IsSchemaAgain, IsWrittenHead, equal-again, extension_written, made_schema, schema-again, schema_extension_of, written_parts_of}
-use Rattle.apollo_canonical.proofs.Rebuild.SchemaMeant.{IsMeantSchema, first_schema-append, meant-schema, node-of, schema_node, schema_numbers-parts}
-use Rattle.apollo_canonical.proofs.Rebuild.SchemaSaid.{SameImplied, no-own, written-alike}
-use Rattle.apollo_canonical.proofs.Rebuild.SchemaWritten.{written_head}
+use Rattle.apollo_canonical.proofs.Words.Lists.{◌≡◌, ℕ, Bool, true, false, cond, List, [], ◌∷◌, ◌++◌, None, Option, Some, map, find, flat_map, option_map, refl, sym, ap, subst, ◌∙◌, ◌==◌, true≢false, arith, append-nil, filter_map-append, IsDistinct, filter_map, option_or}
+use Rattle.apollo_canonical.proofs.Words.Syntax.{NameView, NodeView, default_type_text, by_text, lookup, OperationType, Query, Mutation, Subscription, SourceSpan}
+use Rattle.apollo_canonical.proofs.Words.Types.{ComponentName, BareType, bare_extended_type, bare_schema_definition, has_own_root, implied_name, is_implied, is_some_object, is_written, write_schema_definition, root_of, is_object, ExtendedType, Scalar, SchemaDefinition}
+use Rattle.apollo_canonical.proofs.Words.Meaning.{adopting_schema, implicit_roots, schema_of_roots, ListItem, SchemaDefined, extended_schema, first_schema, schema_extensions, Root, SchemaPart, roots_in, folding_order, roots_of, same_operation, schema_extension_source, AreTypesOf, Schema}
+use Rattle.apollo_canonical.proofs.Words.Written.{MeaningLaws, IsMeantByList}
+use Rattle.apollo_canonical.proofs.Lists.{map-empty, bool_cases}
+use Rattle.apollo_canonical.proofs.Types.{rising-distinct, schema_numbers, schema_numbers-rise}
+use Rattle.apollo_canonical.proofs.Definitions.{has_one, implied-unwritten, left-out, left-out-equal, left-out-written, IsSchemaAgain, IsWrittenHead, equal-again, extension_written, made_schema, schema-again, schema_extension_of, written_parts_of, IsMeantSchema, first_schema-append, meant-schema, node-of, schema_node, schema_numbers-parts, SameImplied, no-own, written-alike, operations-named}
 use Rattle.apollo_canonical.proofs.Rebuild.TypesAgain.{same-seen}
-use Rattle.apollo_canonical.proofs.Rebuild.WrittenList.{W, Y, Z, exts-Y, unwritten-Y, written-Y, ends, implicit-again, implicit-listed, implied_here, node, object_at, others, quiet, quiet-implied}
-use Rattle.graphql_nodes.specs.declared.source.SourceSpan.{SourceSpan}
+use Rattle.apollo_canonical.proofs.Rebuild.WrittenList.{written_head, W, Y, Z, exts-Y, unwritten-Y, written-Y, ends, implicit-again, implicit-listed, implied_here, node, object_at, others, quiet, quiet-implied}
 
 -- an object type is one by what `==` compares
 is_bare_object : BareType → Bool
@@ -58,14 +28,11 @@ implied-cond types op = refl
 no-roots : (es : List (ℕ × SchemaPart)) → roots_in (map (λ e. e.1) es) ≡ [] → (op : OperationType) → root_of (made_schema (schema_of_roots []) es) op ≡ None
 no-roots es h op = by op
   where
-    none : (fs : List (ℕ × SchemaPart)) → roots_in (map (λ e. e.1) fs) ≡ [] → flat_map roots_of (map schema_extension_source fs) ≡ []
-    none [] h = refl
-    none (f ∷ fs) h =
-        let two = both-empty f.1.roots (roots_in (map (λ e. e.1) fs)) h in
-        (λ i. roots_of ((schema_extension_source f).0, record f.1 { roots = two.0 i }) ++ none fs two.1 i)
+    none : flat_map roots_of (map schema_extension_source es) ≡ []
+    none = map-empty (λ (r : OperationType × ComponentName). r.0) (flat_map roots_of (map schema_extension_source es)) (operations-named es ∙ ap (map (λ (r : Root). r.value.0)) h)
 
     found : (op : OperationType) → option_map (λ r. r.1) (find (λ r. same_operation op r.0) (flat_map roots_of (map schema_extension_source es))) ≡ None
-    found op = ap (λ l. option_map (λ r. r.1) (find (λ r. same_operation op r.0) l)) (none es h)
+    found op = ap (λ l. option_map (λ r. r.1) (find (λ r. same_operation op r.0) l)) none
 
     by : (op : OperationType) → root_of (made_schema (schema_of_roots []) es) op ≡ None
     by Query = found Query
@@ -144,7 +111,7 @@ module _ (laws : MeaningLaws) (schema : Schema) (list : IsMeantByList schema) (c
         let no_exts : (written_parts_of d).extensions ≡ [] = ap (map (extension_written d)) l.extensions in
         let is : end_items ≡ SchemaDefined (schema_of_roots (implied_here laws schema list c)) ∷ [] = ends-are ∙ (λ i. adopting_schema (roots_in ((exts-ys ∙ ap (map schema_extension_of) no_exts) i)) ((implicit-again laws schema list c) i)) in
         let here = at-end (schema_of_roots (implied_here laws schema list c)) is in
-        let none : schema_numbers again (folding_order zs) ≡ [] = empty (schema_numbers again (folding_order zs)) (schema_numbers-parts laws again zs (schema_of_roots (implied_here laws schema list c)) here.0 ∙ here.1 ∙ ap (map schema_extension_of) no_exts) in
+        let none : schema_numbers again (folding_order zs) ≡ [] = map-empty (λ (f : ℕ × SchemaPart). f.1) (schema_numbers again (folding_order zs)) (schema_numbers-parts laws again zs (schema_of_roots (implied_here laws schema list c)) here.0 ∙ here.1 ∙ ap (map schema_extension_of) no_exts) in
         subst Same (sym (node-of again zs (schema_of_roots (implied_here laws schema list c)) here.0 ∙ ap of_extensions none)) (
           left-out-equal types (object_at types Query) (object_at types Mutation) (object_at types Subscription) (implied-cond types) d l,
           implied-unwritten types_again (object_at types Query) (object_at types Mutation) (object_at types Subscription) (λ op. same_implied op ∙ implied-cond types op) None
@@ -153,10 +120,6 @@ module _ (laws : MeaningLaws) (schema : Schema) (list : IsMeantByList schema) (c
       where
         of_extensions : List (ℕ × SchemaPart) → NodeView SchemaDefinition
         of_extensions fs = record { value = made_schema (schema_of_roots (implied_here laws schema list c)) fs; location = None }
-
-        empty : (fs : List (ℕ × SchemaPart)) → map (λ e. e.1) fs ≡ [] → fs ≡ []
-        empty [] h = refl
-        empty (x ∷ fs) h = absurd (let g : x.1 ∷ map (λ e. e.1) fs ≡ [] = h in cc)
 
     -- where there are extensions alone
     where-extended : is_implied types d ≡ false → Same (schema_node again zs)
@@ -191,12 +154,4 @@ module _ (laws : MeaningLaws) (schema : Schema) (list : IsMeantByList schema) (c
 
   -- the schema definition is equal and written out alike
   pub same-schema : Same (schema_node again zs)
-  same-schema = by (is_written types d) refl
-    where
-      unwritten : (b : Bool) → is_implied types d ≡ b → is_written types d ≡ false → Same (schema_node again zs)
-      unwritten true f e = where-left-out e f
-      unwritten false f e = where-extended e f
-
-      by : (b : Bool) → is_written types d ≡ b → Same (schema_node again zs)
-      by true e = where-written e
-      by false e = unwritten (is_implied types d) refl e
+  same-schema = bool_cases (is_written types d) where-written (λ e. bool_cases (is_implied types d) (where-left-out e) (where-extended e))

@@ -1,73 +1,36 @@
 -- The types of a list with a write-out are the types that were written out.
-use Rattle.std.proofs.Common.{◌≡◌, ℕ, Bool, true, false, cond, List, [], ◌∷◌, ◌++◌, None, Option, Some, is_some, map, filter, flat_map, option_map, refl, sym, ap, subst, ◌∙◌, ◌==◌}
-use Rattle.std.proofs.lemmas.List.{append-nil}
-use Rattle.std.proofs.lemmas.List.Elements.{filter-append}
-use Rattle.std.proofs.lemmas.Simd.{map-map}
-use Rattle.std.specs.List.{AllByRecursion, IsDistinct, filter_map, list_any}
-use Rattle.std.specs.Option.{option_map_or, option_or, unwrap_or}
-use Rattle.graphql_nodes.specs.BuiltIn.{is_built_in}
-use Rattle.graphql_nodes.specs.Comparing.{entries_by_text}
-use Rattle.graphql_nodes.specs.NameView.{NameView}
-use Rattle.graphql_nodes.specs.SameText.{same, same_text, by_text}
-use Rattle.graphql_nodes.specs.Tables.{HasUniqueKeys, keys_of, values_of, lookup}
-use Rattle.graphql_ast.specs.declared.definition_parts.DefinitionParts.{DefinitionParts}
-use Rattle.apollo_component.specs.FirstOfEach.{first_of_each}
-use Rattle.apollo_component.specs.declared.extension.ExtensionId.{ExtensionId}
-use Rattle.apollo_component.proofs.Lists.Each.{each-weaken}
-use Rattle.apollo_types.specs.BareTypes.{bare_extended_type}
-use Rattle.apollo_types.specs.TypeWriteOut.{type_location, type_name}
-use Rattle.apollo_types.specs.declared.extended_type.ExtendedType.{ExtendedType}
-use Rattle.apollo_meaning.specs.Items.ListItems.{ListItem, Defined, Extended, defined_part, extended_part}
-use Rattle.apollo_meaning.specs.Items.Named.{first, extensions_of, of_kind}
-use Rattle.apollo_meaning.specs.Items.Parts.{TypePart, kind_of}
-use Rattle.apollo_meaning.specs.Order.Places.{folding_order}
-use Rattle.apollo_meaning.specs.Schema.Whole.{whole}
-use Rattle.apollo_meaning.specs.Types.Components.{Sourced}
-use Rattle.apollo_meaning.specs.Types.Meaning.{AreTypesOf, extension_part, type_names, type_from, parts}
-use Rattle.apollo_schema.specs.declared.schema.Schema.{Schema}
-use Rattle.apollo_canonical.specs.MeaningLaws.{MeaningLaws}
-use Rattle.apollo_component.proofs.FirstOfEachLemmas.{name_laws}
-use Rattle.apollo_component.proofs.Tabled.{first_of_each-distinct}
-use Rattle.apollo_canonical.specs.WrittenAgain.{IsMeantByList, with_built_ins}
-use Rattle.apollo_canonical.proofs.FirstAppearance.{first_of_each-again, new_to_these}
-use Rattle.apollo_canonical.proofs.Kept.{each-both, each-from_map, filter-all, passes}
-use Rattle.apollo_canonical.proofs.Rebuild.About.{Name, about, is_about, first-about, extensions-about}
-use Rattle.apollo_canonical.proofs.Rebuild.Meant.{built_ins, built_in_names, about-built_ins, first-built_in, first-unmarked, handed, later_items, whole-split}
-use Rattle.apollo_canonical.proofs.Rebuild.Numbers.{numbers_of, numbers-rise, rising-distinct}
-use Rattle.apollo_canonical.proofs.Rebuild.OneType.{IsMade, IsAgain, made, rebuilt}
-use Rattle.apollo_canonical.proofs.Rebuild.OwnDefinition.{definition-own}
-use Rattle.apollo_canonical.proofs.Rebuild.Tables.{each-entry, values-by_keys, defined_names, defined_names-append, names-of_first, among-defined, first-key}
-use Rattle.apollo_canonical.proofs.Rebuild.TypeFaults.{Fits, fits-of_kind}
-use Rattle.apollo_canonical.proofs.Rebuild.WrittenParts.{written, definition_part, extension_of, kind-body, held_items, extension_items, about-types, defines-types}
+use Rattle.apollo_canonical.proofs.Words.Lists.{◌≡◌, ℕ, Bool, true, false, cond, List, [], ◌∷◌, ◌++◌, None, Option, Some, is_some, map, filter, flat_map, option_map, refl, sym, ap, subst, ◌∙◌, append-nil, filter-append, map-map, AllByRecursion, IsDistinct, filter_map, list_any, option_map_or, option_or, unwrap_or, each-weaken}
+use Rattle.apollo_canonical.proofs.Words.Syntax.{is_built_in, entries_by_text, NameView, same, same_text, by_text, HasUniqueKeys, keys_of, values_of, lookup, DefinitionParts}
+use Rattle.apollo_canonical.proofs.Words.Types.{first_of_each, ExtensionId, bare_extended_type, type_location, type_name, ExtendedType, name_laws, first_of_each-distinct}
+use Rattle.apollo_canonical.proofs.Words.Meaning.{ListItem, Defined, Extended, defined_part, extended_part, first, extensions_of, of_kind, TypePart, kind_of, folding_order, whole, Sourced, AreTypesOf, extension_part, type_names, type_from, parts, Schema}
+use Rattle.apollo_canonical.proofs.Words.Written.{MeaningLaws, IsMeantByList, with_built_ins}
+use Rattle.apollo_canonical.proofs.Lists.{first_of_each-again, new_to_these, each-both, each-from_map, filter-all, passes, option_cases}
+use Rattle.apollo_canonical.proofs.Items.{Name, about, is_about, first-about, extensions-about, built_ins, built_in_names, about-built_ins, first-built_in, first-unmarked, handed, later_items, whole-split, each-entry, values-by_keys, defined_names, defined_names-append, names-of_first, among-defined, first-key, Fits, fits-of_kind}
+use Rattle.apollo_canonical.proofs.Types.{numbers_of, numbers-rise, rising-distinct, IsAgain, made, rebuilt, definition-own, written, definition_part, extension_of, kind-body, held_items, extension_items, about-types, defines-types, IsMadeBy}
 
 -- a type of a list is made of its name's first definition
 pub record IsMeant (xs : List ListItem) (n : List ℕ) (t : ExtendedType) : Type 0 where
-  pub head : TypePart
-  pub first_one : first xs n ≡ Some head
-  pub extensions : List (ℕ × TypePart)
-  pub apart : IsDistinct ◌==◌ (map (λ e. e.0) extensions)
-  pub is : t ≡ made head extensions
+  pub made_of : IsMadeBy made t
+  pub first_one : first xs n ≡ Some made_of.head
 
 module _ (start : ℕ) (xs : List ListItem) (types : List (NameView × ExtendedType)) (are : AreTypesOf start (folding_order xs) xs types) where
   pub meant : (n : List ℕ) (t : ExtendedType) → lookup (by_text n) types ≡ Some t → IsMeant xs n t
-  meant n t h = by (first xs n) refl (sym (are.each n) ∙ h)
-    where
-      by : (o : Option TypePart) → first xs n ≡ o → option_map (λ d. type_from d (parts start (folding_order xs) n d)) (first xs n) ≡ Some t → IsMeant xs n t
-      by None e g = absurd (let f : None ≡ Some t = sym (ap (option_map (λ d. type_from d (parts start (folding_order xs) n d))) e) ∙ g in cc)
-      by (Some d) e g = record {
-        head = d;
+  meant n t h =
+      let g : option_map (λ d. type_from d (parts start (folding_order xs) n d)) (first xs n) ≡ Some t = sym (are.each n) ∙ h in
+      option_cases (first xs n) (λ e. absurd (let f : None ≡ Some t = sym (ap (option_map (λ d. type_from d (parts start (folding_order xs) n d))) e) ∙ g in cc))
+      (λ d e. record {
+        made_of = record {
+          head = d;
+          extensions = numbers_of n start (folding_order xs);
+          apart = rising-distinct start (numbers_of n start (folding_order xs)) (numbers-rise n start (folding_order xs));
+          is = ap (λ o. unwrap_or o t) (sym g ∙ ap (option_map (λ d. type_from d (parts start (folding_order xs) n d))) e);
+        };
         first_one = e;
-        extensions = numbers_of n start (folding_order xs);
-        apart = rising-distinct start (numbers_of n start (folding_order xs)) (numbers-rise n start (folding_order xs));
-        is = ap (λ o. unwrap_or o t) (sym g ∙ ap (option_map (λ d. type_from d (parts start (folding_order xs) n d))) e);
-      }
+      })
 
   pub unmeant : (n : List ℕ) → lookup (by_text n) types ≡ None → first xs n ≡ None
-  unmeant n h = by (first xs n) (sym (are.each n) ∙ h)
-    where
-      by : (o : Option TypePart) → option_map (λ d. type_from d (parts start (folding_order xs) n d)) o ≡ None → o ≡ None
-      by None g = refl
-      by (Some d) g = absurd (let f : Some (type_from d (parts start (folding_order xs) n d)) ≡ None = g in cc)
+  unmeant n h = option_cases (first xs n) (λ e. e) (λ d e.
+      absurd (let f : Some (type_from d (parts start (folding_order xs) n d)) ≡ None = sym (ap (option_map (λ d. type_from d (parts start (folding_order xs) n d))) e) ∙ sym (are.each n) ∙ h in cc))
 
 module _ (laws : MeaningLaws) (start : ℕ) (xs : List ListItem) (types : List (NameView × ExtendedType)) (are : AreTypesOf start (folding_order xs) xs types) where
   pub unique : HasUniqueKeys same_text types
@@ -83,7 +46,7 @@ module _ (laws : MeaningLaws) (start : ℕ) (xs : List ListItem) (types : List (
       one : (e : NameView × ExtendedType) → option_map (λ d. d.name) (first xs e.0.text) ≡ Some e.0 → lookup (by_text e.0.text) types ≡ Some e.1 → type_name e.1 ≡ e.0
       one e name found =
           let m : IsMeant xs e.0.text e.1 = meant start xs types are e.0.text e.1 found in
-          ap type_name m.is ∙ laws.name m.head _ ∙ ap (λ o. unwrap_or o e.0) (sym (ap (option_map (λ (d : TypePart). d.name)) m.first_one) ∙ name)
+          ap type_name m.made_of.is ∙ laws.name m.made_of.head _ ∙ ap (λ o. unwrap_or o e.0) (sym (ap (option_map (λ (d : TypePart). d.name)) m.first_one) ∙ name)
 
 -- items that say nothing of types
 abbrev pub IsQuiet : ListItem → Type 0
@@ -127,21 +90,21 @@ module _ (laws : MeaningLaws) (schema : Schema) (list : IsMeantByList schema) wh
     abbrev m : IsMeant xs n t
     m = meant start xs types are n t found
 
-    pub is-made : IsMade t
-    is-made = record { head = m.head; extensions = m.extensions; apart = m.apart; is = m.is }
+    pub is-made : IsMadeBy made t
+    is-made = m.made_of
 
-    location : type_location t ≡ m.head.location
-    location = ap type_location m.is ∙ laws.location m.head _
+    location : type_location t ≡ m.made_of.head.location
+    location = ap type_location m.made_of.is ∙ laws.location m.made_of.head _
 
     pub key : same n (type_name t).text ≡ true
-    key = ap (λ (k : NameView). same n k.text) (ap type_name m.is ∙ laws.name m.head _) ∙ first-key n (filter_map defined_part xs) m.head m.first_one
+    key = ap (λ (k : NameView). same n k.text) (ap type_name m.made_of.is ∙ laws.name m.made_of.head _) ∙ first-key n (filter_map defined_part xs) m.made_of.head m.first_one
 
-    -- its place is marked built-in where its name is that of a built-in type
+    -- its location is marked built-in where its name is that of a built-in type
     marked-where : (o : Option TypePart) → first built_ins n ≡ o → is_built_in (type_location t) ≡ is_some o
     marked-where (Some b) e =
-        let head_is : m.head ≡ b = ap (λ o. unwrap_or o b) (sym m.first_one ∙ first-split n ∙ ap (λ o. option_or o (first (later_items adopts more) n)) e) in
+        let head_is : m.made_of.head ≡ b = ap (λ o. unwrap_or o b) (sym m.first_one ∙ first-split n ∙ ap (λ o. option_or o (first (later_items adopts more) n)) e) in
         ap is_built_in (location ∙ ap (λ (p : TypePart). p.location) head_is) ∙ (first-built_in n b e).marked
-    marked-where None e = ap is_built_in location ∙ first-unmarked adopts more (handed schema list) n m.head (sym (first-split n ∙ ap (λ o. option_or o (first (later_items adopts more) n)) e) ∙ m.first_one)
+    marked-where None e = ap is_built_in location ∙ first-unmarked adopts more (handed schema list) n m.made_of.head (sym (first-split n ∙ ap (λ o. option_or o (first (later_items adopts more) n)) e) ∙ m.first_one)
 
     -- the built-in definition, or else what is written of the type, is the type's definition with its extensions
     pub written-view : (c : Bool) → (b : Bool) × (about (Name n) built_ins ++ held_items c t ≡ Defined (record (definition_part t) { ignorable = b }) ∷ extension_items c t)
@@ -150,8 +113,8 @@ module _ (laws : MeaningLaws) (schema : Schema) (list : IsMeantByList schema) wh
         by : (o : Option TypePart) → first built_ins n ≡ o → (b : Bool) × (about (Name n) built_ins ++ held_items c t ≡ Defined (record (definition_part t) { ignorable = b }) ∷ extension_items c t)
         by None e = (c, (λ i. (about-built_ins n ∙ ap (λ o. option_map_or (λ d. Defined d ∷ []) o []) e) i ++ cond (marked-where None e i) (extension_items c t) (Defined (record (definition_part t) { ignorable = c }) ∷ extension_items c t)))
         by (Some b) e =
-            let head_is : m.head ≡ b = ap (λ o. unwrap_or o b) (sym m.first_one ∙ first-split n ∙ ap (λ o. option_or o (first (later_items adopts more) n)) e) in
-            let own : definition_part t ≡ b = ap definition_part (m.is ∙ ap (λ p. made p m.extensions) head_is) ∙ definition-own b m.extensions (first-built_in n b e).plain (first-built_in n b e).once in (
+            let head_is : m.made_of.head ≡ b = ap (λ o. unwrap_or o b) (sym m.first_one ∙ first-split n ∙ ap (λ o. option_or o (first (later_items adopts more) n)) e) in
+            let own : definition_part t ≡ b = ap definition_part (m.made_of.is ∙ ap (λ p. made p m.made_of.extensions) head_is) ∙ definition-own b m.made_of.extensions (first-built_in n b e).plain (first-built_in n b e).once in (
               false,
               (λ i. (about-built_ins n ∙ ap (λ o. option_map_or (λ d. Defined d ∷ []) o []) e) i ++ cond (marked-where (Some b) e i) (extension_items c t) (Defined (record (definition_part t) { ignorable = c }) ∷ extension_items c t))
                   ∙ ap (λ p. Defined p ∷ extension_items c t) (sym own),
@@ -245,11 +208,8 @@ module _ (laws : MeaningLaws) (schema : Schema) (list : IsMeantByList schema) wh
 
       -- what sees the same of equal types sees the same under each name
       pub same-seen : {R : Type 0} (see : Option ExtendedType → R) → ((t u : ExtendedType) → IsAgain t u → see (Some u) ≡ see (Some t)) → (n : List ℕ) → see (lookup (by_text n) types_again) ≡ see (lookup (by_text n) types)
-      same-seen see alike n = by (lookup (by_text n) types) refl
-        where
-          by : (o : Option ExtendedType) → lookup (by_text n) types ≡ o → see (lookup (by_text n) types_again) ≡ see (lookup (by_text n) types)
-          by None e = ap see (none-there n e ∙ sym e)
-          by (Some t) e = ap see (type-there n t e).1 ∙ alike t (type-there n t e).0 (type-there n t e).2 ∙ sym (ap see e)
+      same-seen see alike n = option_cases (lookup (by_text n) types) (λ e. ap see (none-there n e ∙ sym e))
+          (λ t e. ap see (type-there n t e).1 ∙ alike t (type-there n t e).0 (type-there n t e).2 ∙ sym (ap see e))
 
       pub equal_types : entries_by_text bare_extended_type types_again ≡ entries_by_text bare_extended_type types
       equal_types = λ i n. same-seen (option_map bare_extended_type) (λ t u a. ap Some a.equal) n i

@@ -1,45 +1,149 @@
--- The list with a write-out, and what it is completed with.
-use Rattle.std.proofs.Common.{◌≡◌, cond, map, ℕ, Bool, true, false, List, [], ◌∷◌, ◌++◌, None, Option, Some, flat_map, refl, sym, ap, ◌∙◌}
-use Rattle.std.proofs.lemmas.List.{append-nil}
-use Rattle.std.specs.List.{AllByRecursion}
-use Rattle.std.specs.Option.{option_map_or, option_or}
-use Rattle.graphql_nodes.specs.NameView.{NameView}
-use Rattle.graphql_nodes.specs.NodeView.{NodeView}
-use Rattle.graphql_nodes.specs.OperationTexts.{default_type_text}
-use Rattle.graphql_nodes.specs.SameText.{by_text}
-use Rattle.graphql_nodes.specs.Tables.{lookup, values_of}
-use Rattle.graphql_nodes.specs.declared.operation_type.OperationType.{OperationType}
-use Rattle.graphql_nodes.specs.declared.operation_type.OperationType.TheVariants.{Query, Mutation, Subscription}
+-- The list with a write-out, item by item, and what it is completed with.
+use Rattle.apollo_canonical.proofs.Words.Lists.{◌≡◌, Bool, true, false, cond, List, [], ◌∷◌, ◌++◌, None, Option, Some, map, filter, flat_map, slice_get, refl, sym, ap, subst, ◌∙◌, append-nil, filter-append, filter_map-append, AllByRecursion, filter_map, each-append, each-weaken, filter-fails, ℕ, option_map_or, option_or, or-none, map-map, filter_map-made}
+use Rattle.apollo_canonical.proofs.Words.Syntax.{is_built_in, NameView, SourceSpan, schema_definition, schema_extension, DefinitionParts, built_in_definitions, NodeView, default_type_text, by_text, lookup, values_of, OperationType, Query, Mutation, Subscription}
+use Rattle.apollo_canonical.proofs.Words.Types.{place_of, ExtensionId, is_written, write_schema_definition, type_location, ExtendedType, SchemaDefinition, is_some_object, is_object, type_kind, Scalar}
+use Rattle.apollo_canonical.proofs.Words.Meaning.{Directives, directive_definitions, is_handed_in, Defined, Extended, ListItem, Other, SchemaDefined, SchemaExtended, defined_schema, extended_part, extended_schema, first_schema, schema_extensions, SchemaPart, write_directives, adopted, adopted_by}
+use Rattle.apollo_canonical.proofs.Words.Meaning.{extended_names, orphans_of, with_adopted, implicit_roots, implied_schema, is_object_name, adopting_schema, schema_for, extensions_of, first, Root, TypePart, kind_of, same_kind, roots_in, folding_order, whole, AreTypesOf, Schema, directive_part}
+use Rattle.apollo_canonical.proofs.Words.Written.{MeaningLaws, IsMeantByList, with_built_ins}
 use Rattle.graphql_nodes.specs.declared.type_kind.TypeKind.TheVariants as kinds
-use Rattle.apollo_component.proofs.Lists.Each.{each-append}
-use Rattle.apollo_component.proofs.Lists.Ends.{or-none}
-use Rattle.apollo_types.specs.SchemaDefinitionWriteOut.{is_some_object, is_written}
-use Rattle.apollo_types.specs.TypeKinds.{is_object}
-use Rattle.apollo_types.specs.TypeWriteOut.{type_kind}
-use Rattle.apollo_types.specs.declared.extended_type.ExtendedType.{ExtendedType}
-use Rattle.apollo_types.specs.declared.extended_type.ExtendedType.TheVariants.{Scalar}
-use Rattle.apollo_types.specs.declared.schema_definition.SchemaDefinition.{SchemaDefinition}
-use Rattle.apollo_meaning.specs.Completion.Adoption.{adopted, adopted_by, extended_names, orphans_of, with_adopted}
-use Rattle.apollo_meaning.specs.Completion.ImpliedSchema.{implicit_roots, implied_schema, is_object_name, adopting_schema, schema_for}
-use Rattle.apollo_meaning.specs.Directives.{directive_definitions}
-use Rattle.apollo_meaning.specs.Items.ListItems.{ListItem}
-use Rattle.apollo_meaning.specs.Items.Named.{extensions_of, first, first_schema, schema_extensions}
-use Rattle.apollo_meaning.specs.Items.Parts.{Root, TypePart, kind_of, same_kind, roots_in}
-use Rattle.apollo_meaning.specs.Order.Places.{folding_order}
-use Rattle.apollo_meaning.specs.Schema.Whole.{whole}
-use Rattle.apollo_meaning.specs.Types.Meaning.{AreTypesOf}
-use Rattle.apollo_schema.specs.declared.schema.Schema.{Schema}
-use Rattle.apollo_canonical.specs.MeaningLaws.{MeaningLaws}
-use Rattle.apollo_canonical.specs.WrittenAgain.{IsMeantByList, with_built_ins}
-use Rattle.apollo_canonical.proofs.Rebuild.About.{Name, about, extensions-about, first-about}
+use Rattle.graphql_ast.specs.declared.definition.Definition.TheVariants as ast
+use Rattle.apollo_canonical.proofs.Lists.{each-map, each-of, filter-all, option_cases, filter_map-unmade, flat_map-none}
+use Rattle.apollo_canonical.proofs.Items.{Others, TheSchema, Topic, about, directives-about, first_schema-about, is_about, schema_extensions-about, built_ins, no-extensions, Name, extensions-about, first-about, by_implied, items}
+use Rattle.apollo_canonical.proofs.Types.{written, definition_part, extension_of, document_items, document_items-append, extension_items, held_items, kind-body}
+use Rattle.apollo_canonical.proofs.Definitions.{schema_extension_of, written_parts_of, roots_where, schema_node}
+use Rattle.apollo_canonical.proofs.Rebuild.TypesAgain.{IsQuiet, extends-quiet, again_items, first-again, meant, unmeant, view-nothing}
 use Rattle.apollo_canonical.proofs.Rebuild.DirectivesAgain.{written_directives}
-use Rattle.apollo_canonical.proofs.Rebuild.LeftOut.{roots_where}
-use Rattle.apollo_canonical.proofs.Rebuild.Meant.{by_implied, items}
-use Rattle.apollo_canonical.proofs.Rebuild.SchemaMeant.{schema_node}
-use Rattle.apollo_canonical.proofs.Rebuild.SchemaWritten.{directive_items, directives-quiet, schema-quiet, schema_items, written_list, list-first_schema, list-schema_extensions, written_head}
-use Rattle.apollo_canonical.proofs.Rebuild.TypesAgain.{IsQuiet, again_items, first-again, meant, unmeant, view-nothing}
-use Rattle.apollo_canonical.proofs.Rebuild.OneSchema.{schema_extension_of, written_parts_of}
-use Rattle.apollo_canonical.proofs.Rebuild.WrittenParts.{kind-body, written}
+
+no-schema-built_in : about TheSchema built_ins ≡ []
+unfolding built_in_definitions
+no-schema-built_in = refl
+
+-- an item that is about the schema, and one that is about neither it nor types
+abbrev IsOfSchema : ListItem → Type 0
+IsOfSchema x = (is_about TheSchema x ≡ true) × (is_about Others x ≡ false) × IsQuiet x
+
+abbrev IsElse : ListItem → Type 0
+IsElse x = (is_about TheSchema x ≡ false) × (is_about Others x ≡ true) × IsQuiet x
+
+-- types are about neither the schema nor directives
+module _ (c : Bool) where
+  abbrev IsOfType : ListItem → Type 0
+  IsOfType x = (is_about TheSchema x ≡ false) × (is_about Others x ≡ false)
+
+  each-type : (ts : List ExtendedType) → AllByRecursion IsOfType (flat_map (held_items c) ts)
+  each-type [] = tt
+  each-type (t ∷ ts) = each-append IsOfType (held_items c t) (flat_map (held_items c) ts) (held (is_built_in (type_location t))) (each-type ts)
+    where
+      extensions : AllByRecursion IsOfType (extension_items c t)
+      extensions = each-map IsOfType (λ e. Extended (extension_of t e)) (written t).extensions (each-of (λ e. (false ≡ false) × (false ≡ false)) (λ e. (refl, refl)) (written t).extensions)
+
+      held : (b : Bool) → AllByRecursion IsOfType (cond b (extension_items c t) (Defined (record (definition_part t) { ignorable = c }) ∷ extension_items c t))
+      held true = extensions
+      held false = ((refl, refl), extensions)
+
+-- the definition's part
+abbrev pub written_head : SchemaDefinition → Option SourceSpan → SchemaPart
+written_head d place = record { location = place; description = d.description; directives = (written_parts_of d).definition.directives.0; roots = (written_parts_of d).definition.roots }
+
+module _ (c : Bool) (d : SchemaDefinition) (place : Option SourceSpan) (types : List (NameView × ExtendedType)) where
+  abbrev pub schema_items : List ListItem
+  schema_items = document_items c (write_schema_definition d place types)
+
+  abbrev pub head_items : List ListItem
+  head_items = cond (is_written types d) (SchemaDefined (written_head d place) ∷ []) []
+
+  abbrev pub schema_extension_items : List (ExtensionId × DefinitionParts) → List ListItem
+  schema_extension_items es = map (λ e. SchemaExtended (schema_extension_of e)) es
+
+  pub schema-listed : schema_items ≡ head_items ++ schema_extension_items (written_parts_of d).extensions
+  schema-listed =
+      document_items-append c (cond (is_written types d) (schema_definition d.description (written_parts_of d).definition place ∷ []) []) (map (λ e. schema_extension e.1 (place_of e.0)) (written_parts_of d).extensions)
+      ∙ (λ i. head (is_written types d) i ++ later (written_parts_of d).extensions i)
+    where
+      head : (b : Bool) → document_items c (cond b (schema_definition d.description (written_parts_of d).definition place ∷ []) []) ≡ cond b (SchemaDefined (written_head d place) ∷ []) []
+      head true = refl
+      head false = refl
+
+      later : (es : List (ExtensionId × DefinitionParts)) → document_items c (map (λ e. schema_extension e.1 (place_of e.0)) es) ≡ schema_extension_items es
+      later es = simp map-map
+
+  -- they are all about the schema
+  each-schema : AllByRecursion IsOfSchema schema_items
+  each-schema = subst (AllByRecursion IsOfSchema) (sym schema-listed) (by (is_written types d))
+    where
+      exts : (es : List (ExtensionId × DefinitionParts)) → AllByRecursion IsOfSchema (schema_extension_items es)
+      exts [] = tt
+      exts (e ∷ es) = ((refl, refl, tt), exts es)
+
+      by : (b : Bool) → AllByRecursion IsOfSchema (cond b (SchemaDefined (written_head d place) ∷ []) [] ++ schema_extension_items (written_parts_of d).extensions)
+      by true = ((refl, refl, tt), exts (written_parts_of d).extensions)
+      by false = exts (written_parts_of d).extensions
+
+  pub schema-quiet : AllByRecursion IsQuiet schema_items
+  schema-quiet = each-weaken IsOfSchema IsQuiet (λ x h. h.2) schema_items each-schema
+
+-- directive definitions that are handed in
+abbrev pub directive_items : Directives → List ListItem
+directive_items ds = map (λ d. Other (ast.DirectiveDefinition d)) ds
+
+pub directives-listed : (c : Bool) (ds : Directives) → document_items c (write_directives ds) ≡ directive_items (filter is_handed_in ds)
+directives-listed c ds = simp map-map
+
+each-directive : (ds : Directives) → AllByRecursion IsElse (directive_items ds)
+each-directive ds = each-map IsElse (λ d. Other (ast.DirectiveDefinition d)) ds (each-of (λ d. IsElse (Other (ast.DirectiveDefinition d))) (λ d. (refl, refl, tt)) ds)
+
+pub directives-quiet : (ds : Directives) → AllByRecursion IsQuiet (directive_items ds)
+directives-quiet ds = each-weaken IsElse IsQuiet (λ x h. h.2) (directive_items ds) (each-directive ds)
+
+pub directives-of_items : (ds : Directives) → directive_definitions (directive_items ds) ≡ ds
+directives-of_items ds = filter_map-made directive_part (λ d. Other (ast.DirectiveDefinition d)) (λ d. refl) ds
+
+-- the whole written list
+module _ (c : Bool) (d : SchemaDefinition) (place : Option SourceSpan) (types : List (NameView × ExtendedType)) (ds : Directives) (ts : List ExtendedType) where
+  abbrev pub written_list : List ListItem
+  written_list = built_ins ++ ((schema_items c d place types ++ directive_items ds) ++ flat_map (held_items c) ts)
+
+  -- what is about the schema, and what about directives, of the three parts after the built-in definitions
+  about-parts : (topic : Topic) (ss os : List ListItem) → about topic (schema_items c d place types) ≡ ss → about topic (directive_items ds) ≡ os → about topic (flat_map (held_items c) ts) ≡ [] → about topic written_list ≡ about topic built_ins ++ (ss ++ os)
+  about-parts topic ss os s o t = simp (filter-append (is_about topic), s, o, t, append-nil)
+
+  pub list-about_schema : about TheSchema written_list ≡ schema_items c d place types
+  list-about_schema =
+      about-parts TheSchema (schema_items c d place types) [] (filter-all (is_about TheSchema) (schema_items c d place types) (each-weaken IsOfSchema (λ x. is_about TheSchema x ≡ true) (λ x h. h.0) (schema_items c d place types) (each-schema c d place types)))
+      (filter-fails IsElse (is_about TheSchema) (λ x h. h.0) (directive_items ds) (each-directive ds)) (filter-fails (IsOfType c) (is_about TheSchema) (λ x h. h.0) (flat_map (held_items c) ts) (each-type c ts))
+      ∙ (λ i. no-schema-built_in i ++ append-nil (schema_items c d place types) i)
+
+  pub list-about_others : about Others written_list ≡ about Others built_ins ++ directive_items ds
+  list-about_others =
+      about-parts Others [] (directive_items ds) (filter-fails IsOfSchema (is_about Others) (λ x h. h.1) (schema_items c d place types) (each-schema c d place types))
+      (filter-all (is_about Others) (directive_items ds) (each-weaken IsElse (λ x. is_about Others x ≡ true) (λ x h. h.1) (directive_items ds) (each-directive ds))) (filter-fails (IsOfType c) (is_about Others) (λ x h. h.1) (flat_map (held_items c) ts) (each-type c ts))
+
+  exts-all : (es : List (ExtensionId × DefinitionParts)) → filter_map extended_schema (schema_extension_items c d place types es) ≡ map schema_extension_of es
+  exts-all es = ap (filter_map extended_schema) (sym (map-map SchemaExtended schema_extension_of es)) ∙ filter_map-made extended_schema SchemaExtended (λ s. refl) (map schema_extension_of es)
+
+  pub list-first_schema : first_schema written_list ≡ cond (is_written types d) (Some (written_head d place)) None
+  list-first_schema = first_schema-about written_list ∙ ap first_schema (list-about_schema ∙ schema-listed c d place types) ∙ by (is_written types d)
+    where
+      by : (b : Bool) → first_schema (cond b (SchemaDefined (written_head d place) ∷ []) [] ++ schema_extension_items c d place types (written_parts_of d).extensions) ≡ cond b (Some (written_head d place)) None
+      by true = refl
+      by false = ap (λ l. slice_get l 0) (filter_map-unmade defined_schema (λ e. SchemaExtended (schema_extension_of e)) (λ e. refl) (written_parts_of d).extensions)
+
+  pub list-schema_extensions : schema_extensions written_list ≡ map schema_extension_of (written_parts_of d).extensions
+  list-schema_extensions = schema_extensions-about written_list ∙ ap schema_extensions (list-about_schema ∙ schema-listed c d place types) ∙ by (is_written types d)
+    where
+      by : (b : Bool) → schema_extensions (cond b (SchemaDefined (written_head d place) ∷ []) [] ++ schema_extension_items c d place types (written_parts_of d).extensions) ≡ map schema_extension_of (written_parts_of d).extensions
+      by true = exts-all (written_parts_of d).extensions
+      by false = exts-all (written_parts_of d).extensions
+
+  pub list-directives : directive_definitions written_list ≡ directive_definitions built_ins ++ ds
+  list-directives = directives-about written_list ∙ ap directive_definitions list-about_others ∙ simp (filter_map-append, ← directives-about built_ins, directives-of_items)
+
+  -- types alone have extensions of types
+  pub list-extended : filter_map extended_part written_list ≡ filter_map extended_part (flat_map (held_items c) ts)
+  list-extended =
+      simp (filter_map-append, no-extensions, extends-quiet (schema_items c d place types) (schema-quiet c d place types), extends-quiet (directive_items ds) (directives-quiet ds))
+
+-- The list with a write-out, and what it is completed with.
 
 -- an object type is one by its kind
 object-kind : (t : ExtendedType) → is_object t ≡ same_kind kinds.Object (type_kind t)
@@ -97,18 +201,12 @@ module _ (laws : MeaningLaws) (schema : Schema) (list : IsMeantByList schema) (c
   first-nothing n none = ap (about (Name n)) (sym alone) ∙ view-nothing laws schema list c others [] quiet tt n none
 
   pub orphans-none : (n : List ℕ) → orphans_of Y n ≡ []
-  orphans-none n = by (lookup (by_text n) types) refl
-    where
-      by : (o : Option ExtendedType) → lookup (by_text n) types ≡ o → orphans_of Y n ≡ []
-      by None e = no-orphans (first Y n) (extensions_of Y n) (extensions-about n Y ∙ ap (λ l. extensions_of l n) (first-nothing n e))
-      by (Some t) e = ap (λ o. option_map_or (λ _. []) o (extensions_of Y n)) (ap (λ l. first l n) (sym alone) ∙ first-again laws schema list c others [] quiet tt n t e)
+  orphans-none n =
+      option_cases (lookup (by_text n) types) (λ e. no-orphans (first Y n) (extensions_of Y n) (extensions-about n Y ∙ ap (λ l. extensions_of l n) (first-nothing n e)))
+      (λ t e. ap (λ o. option_map_or (λ _. []) o (extensions_of Y n)) (ap (λ l. first l n) (sym alone) ∙ first-again laws schema list c others [] quiet tt n t e))
 
   adopted-none : adopted Y ≡ []
-  adopted-none = go (extended_names Y)
-    where
-      go : (ns : List (List ℕ)) → flat_map (λ n. adopted_by (orphans_of Y n)) ns ≡ []
-      go [] = refl
-      go (n ∷ ns) = (λ i. adopted_by (orphans-none n i) ++ go ns i)
+  adopted-none = flat_map-none (λ n. adopted_by (orphans_of Y n)) (λ n. ap adopted_by (orphans-none n)) (extended_names Y)
 
   pub with-adopted : with_adopted true Y ≡ Y
   with-adopted = ap (λ l. Y ++ l) adopted-none ∙ append-nil Y
@@ -121,26 +219,21 @@ module _ (laws : MeaningLaws) (schema : Schema) (list : IsMeantByList schema) (c
 
   -- whether a type of the name is an object type, in the list and in the written one
   object-listed : (n : List ℕ) → is_object_name W n ≡ is_some_object (lookup (by_text n) types)
-  object-listed n = by (lookup (by_text n) types) refl
+  object-listed n = option_cases (lookup (by_text n) types)
+      (λ e. ap (λ o. option_map_or (λ p. same_kind kinds.Object (kind_of p)) o false) (sym same_first ∙ unmeant start xs types are n e) ∙ sym (ap is_some_object e))
+      (λ t e.
+      let m = meant start xs types are n t e in
+      ap (λ o. option_map_or (λ p. same_kind kinds.Object (kind_of p)) o false) (sym same_first ∙ m.first_one)
+      ∙ ap (same_kind kinds.Object) (sym (ap type_kind m.made_of.is ∙ laws.kind m.made_of.head _)) ∙ sym (object-kind t) ∙ sym (ap is_some_object e))
     where
       same_first : first xs n ≡ first W n
       same_first = laws.joined W (implied_schema adopts W) n ∙ ap (λ o. option_or (first W n) o) (by_implied (λ l. first l n ≡ None) refl (λ s. refl) adopts W) ∙ or-none (first W n)
 
-      by : (o : Option ExtendedType) → lookup (by_text n) types ≡ o → is_object_name W n ≡ is_some_object (lookup (by_text n) types)
-      by None e = ap (λ o. option_map_or (λ p. same_kind kinds.Object (kind_of p)) o false) (sym same_first ∙ unmeant start xs types are n e) ∙ sym (ap is_some_object e)
-      by (Some t) e =
-          let m = meant start xs types are n t e in
-          ap (λ o. option_map_or (λ p. same_kind kinds.Object (kind_of p)) o false) (sym same_first ∙ m.first_one)
-          ∙ ap (same_kind kinds.Object) (sym (ap type_kind m.is ∙ laws.kind m.head _)) ∙ sym (object-kind t) ∙ sym (ap is_some_object e)
-
   object-again : (n : List ℕ) → is_object_name Y n ≡ is_some_object (lookup (by_text n) types)
-  object-again n = by (lookup (by_text n) types) refl
-    where
-      by : (o : Option ExtendedType) → lookup (by_text n) types ≡ o → is_object_name Y n ≡ is_some_object (lookup (by_text n) types)
-      by None e = ap (λ o. option_map_or (λ p. same_kind kinds.Object (kind_of p)) o false) (first-about n Y ∙ ap (λ l. first l n) (first-nothing n e)) ∙ sym (ap is_some_object e)
-      by (Some t) e =
-          ap (λ o. option_map_or (λ p. same_kind kinds.Object (kind_of p)) o false) (ap (λ l. first l n) (sym alone) ∙ first-again laws schema list c others [] quiet tt n t e)
-          ∙ ap (same_kind kinds.Object) (kind-body (type_kind t) (written t).definition) ∙ sym (object-kind t) ∙ sym (ap is_some_object e)
+  object-again n = option_cases (lookup (by_text n) types)
+      (λ e. ap (λ o. option_map_or (λ p. same_kind kinds.Object (kind_of p)) o false) (first-about n Y ∙ ap (λ l. first l n) (first-nothing n e)) ∙ sym (ap is_some_object e))
+      (λ t e. ap (λ o. option_map_or (λ p. same_kind kinds.Object (kind_of p)) o false) (ap (λ l. first l n) (sym alone) ∙ first-again laws schema list c others [] quiet tt n t e)
+      ∙ ap (same_kind kinds.Object) (kind-body (type_kind t) (written t).definition) ∙ sym (object-kind t) ∙ sym (ap is_some_object e))
 
   abbrev pub implied_here : List Root
   implied_here = roots_where (object_at types Query) (object_at types Mutation) (object_at types Subscription)

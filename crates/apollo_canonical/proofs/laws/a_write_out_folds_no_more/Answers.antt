@@ -1,4 +1,4 @@
-use Rattle.apollo_canonical.proofs.Rebuild.FoldsNoMore.{folds-no_more, spends-no_more}
+use Rattle.apollo_canonical.proofs.Rebuild.{folds-no_more, spends-no_more}
 use Rattle.apollo_canonical.proofs.laws.a_write_out_folds_no_more.Goals as goal
 
 pub returns-clause-folds : goal.returns-clause-folds

@@ -1,4 +1,4 @@
-use Rattle.apollo_canonical.proofs.Rebuild.Canonical.{equal, faultless, same-written, rebuilds}
+use Rattle.apollo_canonical.proofs.Rebuild.{equal, faultless, same-written, rebuilds}
 use Rattle.apollo_canonical.proofs.laws.canonical.Goals as goal
 
 pub returns-clause-faults : goal.returns-clause-faults

@@ -2,7 +2,7 @@ use Rattle.std.proofs.Common.{true, false, sym, subst, ◌∙◌}
 use Rattle.apollo_meaning.specs.Items.ListItems.{added}
 use Rattle.apollo_schema.specs.MeantSchema.{MeansSchema}
 use Rattle.apollo_canonical.specs.WrittenAgain.{with_built_ins}
-use Rattle.apollo_canonical.proofs.Rebuild.Canonical.{equal, rebuilds}
+use Rattle.apollo_canonical.proofs.Rebuild.{equal, rebuilds}
 use Rattle.apollo_canonical.proofs.laws.equal_write_outs_have_equal_schemas.Goals as goal
 
 pub returns : goal.returns

@@ -1,4 +1,4 @@
-use Rattle.apollo_canonical.proofs.TypeLemmas.{type-again, components-again}
+use Rattle.apollo_canonical.proofs.Types.{type-again, components-again}
 use Rattle.apollo_canonical.proofs.laws.written_types_are_written_again.Goals as goal
 
 pub returns-clause-same : goal.returns-clause-same

@@ -1,5 +1,5 @@
 use Rattle.apollo_meaning.specs.Order.Places.{folding_order}
-use Rattle.apollo_canonical.proofs.NamesOnce.{meant-once, once-again}
+use Rattle.apollo_canonical.proofs.Types.{meant-once, once-again}
 use Rattle.apollo_canonical.proofs.laws.written_types_have_each_name_once.Goals as goal
 
 pub returns-clause-meant : goal.returns-clause-meant

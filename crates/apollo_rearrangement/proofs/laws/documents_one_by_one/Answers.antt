@@ -1,4 +1,4 @@
-use Rattle.apollo_rearrangement.proofs.Documents.{one_by_one}
+use Rattle.apollo_rearrangement.proofs.Rearranging.{one_by_one}
 use Rattle.apollo_rearrangement.proofs.laws.documents_one_by_one.Goals as goal
 
 pub returns : goal.returns

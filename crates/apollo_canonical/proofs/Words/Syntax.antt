@@ -1,0 +1,22 @@
+-- Words of names, nodes and syntax trees, and of the built-in definitions.
+pub use Rattle.graphql_nodes.specs.BuiltIn.{is_built_in}
+pub use Rattle.graphql_nodes.specs.Comparing.{bare_name, entries_by_text, members_by_text}
+pub use Rattle.graphql_nodes.specs.NameView.{NameView}
+pub use Rattle.graphql_nodes.specs.NodeView.{NodeView}
+pub use Rattle.graphql_nodes.specs.OperationTexts.{default_type_text, operation_text}
+pub use Rattle.graphql_nodes.specs.SameText.{by_text, same, same_text}
+pub use Rattle.graphql_nodes.specs.Tables.{HasUniqueKeys, keys_of, lookup, values_of}
+pub use Rattle.graphql_nodes.specs.declared.operation_type.OperationType.{OperationType}
+pub use Rattle.graphql_nodes.specs.declared.operation_type.OperationType.TheVariants.{Mutation, Query, Subscription}
+pub use Rattle.graphql_nodes.specs.declared.source.SourceSpan.{SourceSpan}
+pub use Rattle.graphql_nodes.specs.declared.type_kind.TypeKind.{TypeKind}
+pub use Rattle.graphql_nodes.proofs.Texts.{same-flip, same-is, same-true}
+pub use Rattle.graphql_ast.specs.Bare.{bare_directive}
+pub use Rattle.graphql_ast.specs.BareTypeSystem.{bare_directive_definition, bare_enum_value_definition, bare_field_definition, bare_input_value_definition}
+pub use Rattle.graphql_ast.specs.DefinitionParts.{directive_in, field_in, input_field_in, name_in, root_in, schema_definition, schema_extension, type_definition, type_extension, value_in}
+pub use Rattle.graphql_ast.specs.declared.definition.Definition.{Definition}
+pub use Rattle.graphql_ast.specs.declared.definition_parts.DefinitionPart.{DefinitionPart}
+pub use Rattle.graphql_ast.specs.declared.definition_parts.DefinitionParts.{DefinitionParts}
+pub use Rattle.graphql_ast.specs.declared.directive.Directive.{Directive}
+pub use Rattle.graphql_ast.specs.declared.type_system.DirectiveDefinition.{DirectiveDefinition}
+unfoldable pub use Rattle.apollo_built_in.specs.BuiltInTable.{built_in_definitions}
