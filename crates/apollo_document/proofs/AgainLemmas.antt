@@ -26,7 +26,7 @@ use Rattle.apollo_elaboration.specs.declared.selection_path.ExecutableDefinition
 use Rattle.apollo_elaboration.specs.declared.selection_path.ExecutableDefinitionName.TheVariants as name
 use Rattle.apollo_elaboration.specs.declared.selection_path.SelectionPath.{SelectionPath}
 use Rattle.apollo_document.specs.AddedDefinitions.{DocumentItem, document_list, operations, fragments}
-use Rattle.apollo_document.specs.KeptDefinitions.{root_type_of, is_rooted, first_if_anonymous, named, kept_anonymous, kept_named, is_on_type, under_name, kept_fragments}
+use Rattle.apollo_document.specs.KeptDefinitions.{root_type_of, is_rooted, first_if_anonymous, operation_under_name, kept_anonymous, kept_named, is_on_type, fragment_under_name, kept_fragments}
 use Rattle.apollo_document.specs.DocumentFaults.{ambiguous_if, rooted_faults, faults_in_operation, on_type_faults, document_faults}
 use Rattle.apollo_document.specs.TypedDefinitions.{stripped_operation, stripped_fragment, IsOperationOf, IsFragmentOf}
 use Rattle.apollo_document.specs.Documents.{IsUnderName, IsDocumentOf}
@@ -102,20 +102,20 @@ distinct_table {A} {B} R erase (k ∷ ks) (e ∷ es) h g = (others ks es h.1 g.0
     others (l ∷ ls) (f ∷ fs) z a = ((λ i. same_text (h.0.0 i) (z.0.0 i)) ∙ a.0, others ls fs z.1 a.1)
 
 -- kept definitions have the names that they are kept under
-has_its_name : (os : List Op) → AllByRecursion (λ x. x.1.value.name ≡ Some x.0) (filter_map named os)
+has_its_name : (os : List Op) → AllByRecursion (λ x. x.1.value.name ≡ Some x.0) (filter_map operation_under_name os)
 has_its_name [] = tt
 has_its_name (n ∷ os) = by n.value.name refl (has_its_name os)
   where
-    by : (o : Option NameView) → n.value.name ≡ o → AllByRecursion (λ x. x.1.value.name ≡ Some x.0) (filter_map named os) → AllByRecursion (λ (x : NameView × Op). x.1.value.name ≡ Some x.0) (cons_option (option_map (λ (name : NameView). (name, n)) o) (filter_map named os))
+    by : (o : Option NameView) → n.value.name ≡ o → AllByRecursion (λ x. x.1.value.name ≡ Some x.0) (filter_map operation_under_name os) → AllByRecursion (λ (x : NameView × Op). x.1.value.name ≡ Some x.0) (cons_option (option_map (λ (name : NameView). (name, n)) o) (filter_map operation_under_name os))
     by None h rest = rest
     by (Some m) h rest = (h, rest)
 
-is_its_fragment : (s : Option Schema) (ns : List Frag) → AllByRecursion (λ x. (x.1.value.name ≡ x.0) × (is_on_type s x.1 ≡ true)) (map under_name (filter (is_on_type s) ns))
+is_its_fragment : (s : Option Schema) (ns : List Frag) → AllByRecursion (λ x. (x.1.value.name ≡ x.0) × (is_on_type s x.1 ≡ true)) (map fragment_under_name (filter (is_on_type s) ns))
 is_its_fragment s [] = tt
 is_its_fragment s (n ∷ ns) = by (is_on_type s n) refl (is_its_fragment s ns)
   where
-    by : (b : Bool) → is_on_type s n ≡ b → AllByRecursion (λ x. (x.1.value.name ≡ x.0) × (is_on_type s x.1 ≡ true)) (map under_name (filter (is_on_type s) ns))
-        → AllByRecursion (λ (x : NameView × Frag). (x.1.value.name ≡ x.0) × (is_on_type s x.1 ≡ true)) (map under_name (cond b (n ∷ filter (is_on_type s) ns) (filter (is_on_type s) ns)))
+    by : (b : Bool) → is_on_type s n ≡ b → AllByRecursion (λ x. (x.1.value.name ≡ x.0) × (is_on_type s x.1 ≡ true)) (map fragment_under_name (filter (is_on_type s) ns))
+        → AllByRecursion (λ (x : NameView × Frag). (x.1.value.name ≡ x.0) × (is_on_type s x.1 ≡ true)) (map fragment_under_name (cond b (n ∷ filter (is_on_type s) ns) (filter (is_on_type s) ns)))
     by true h rest = ((refl, h), rest)
     by false h rest = rest
 
@@ -159,9 +159,9 @@ flat-entries : {A B C : Type 0} (f : A → B) (l : List C) (es : List (NameView 
 flat-entries f l [] = refl
 flat-entries f l (e ∷ es) = ap (λ m. l ++ m) (flat-entries f l es)
 
-place-erased : (o : Option (NodeView Operation)) → option_map (λ (n : Op). n.location) (option_map erase_operation o) ≡ option_map (λ (n : NodeView Operation). n.location) o
-place-erased None = refl
-place-erased (Some n) = refl
+location-erased : (o : Option (NodeView Operation)) → option_map (λ (n : Op). n.location) (option_map erase_operation o) ≡ option_map (λ (n : NodeView Operation). n.location) o
+location-erased None = refl
+location-erased (Some n) = refl
 
 -- what the law of typed sets says
 pub record TypedSetsLaw : Type 0 where
@@ -248,10 +248,10 @@ module _ (sets : TypedSetsLaw) where
       → AllKept s b (option_map erase_operation document.operations.anonymous) (entries_by erase_operation document.operations.named) (entries_by erase_fragment document.fragments)
   kept_again s xs b document h = all_kept s b (option_map erase_operation document.operations.anonymous) (entries_by erase_operation document.operations.named) (entries_by erase_fragment document.fragments)
       (sound_option s (kept_anonymous s xs) document.operations.anonymous h.anonymous (λ n e. has_no_name (find (is_rooted s) (operations xs)) n e))
-      (sound_table s (kept_named s xs) document.operations.named h.named (each-first (λ (x : NameView × Op). x.1.value.name ≡ Some x.0) (same_key same_text) (filter_map named (filter (is_rooted s) (operations xs))) (has_its_name (filter (is_rooted s) (operations xs)))))
-      (distinct_table (IsOperationOf s) erase_operation (kept_named s xs) document.operations.named h.named (first_of_each-distinct (same_key same_text) (filter_map named (filter (is_rooted s) (operations xs)))))
-      (sound_fragments s (kept_fragments s xs) document.fragments h.fragments (each-first (λ (x : NameView × Frag). (x.1.value.name ≡ x.0) × (is_on_type s x.1 ≡ true)) (same_key same_text) (map under_name (filter (is_on_type s) (fragments xs))) (is_its_fragment s (fragments xs))))
-      (distinct_table (IsFragmentOf s) erase_fragment (kept_fragments s xs) document.fragments h.fragments (first_of_each-distinct (same_key same_text) (map under_name (filter (is_on_type s) (fragments xs)))))
+      (sound_table s (kept_named s xs) document.operations.named h.named (each-first (λ (x : NameView × Op). x.1.value.name ≡ Some x.0) (same_key same_text) (filter_map operation_under_name (filter (is_rooted s) (operations xs))) (has_its_name (filter (is_rooted s) (operations xs)))))
+      (distinct_table (IsOperationOf s) erase_operation (kept_named s xs) document.operations.named h.named (first_of_each-distinct (same_key same_text) (filter_map operation_under_name (filter (is_rooted s) (operations xs)))))
+      (sound_fragments s (kept_fragments s xs) document.fragments h.fragments (each-first (λ (x : NameView × Frag). (x.1.value.name ≡ x.0) × (is_on_type s x.1 ≡ true)) (same_key same_text) (map fragment_under_name (filter (is_on_type s) (fragments xs))) (is_its_fragment s (fragments xs))))
+      (distinct_table (IsFragmentOf s) erase_fragment (kept_fragments s xs) document.fragments h.fragments (first_of_each-distinct (same_key same_text) (map fragment_under_name (filter (is_on_type s) (fragments xs)))))
 
   self_document : (s : Option Schema) (xs : List DocumentItem) (b : Bool) (document : ExecutableDocument) → IsDocumentOf s xs document → IsDocumentOf s (written_of b document) document
   self_document s xs b document h =
@@ -272,4 +272,4 @@ module _ (sets : TypedSetsLaw) where
   faults_again s xs b document h =
       ap (document_faults s) (is_written b document) ∙ (kept_again s xs b document h).faults
       ∙ flat-entries erase_operation (ambiguous_if (option_map (λ n. n.location) (option_map erase_operation document.operations.anonymous))) document.operations.named
-      ∙ ap (λ p. flat_map (λ x. ambiguous_if p) document.operations.named) (place-erased document.operations.anonymous)
+      ∙ ap (λ p. flat_map (λ x. ambiguous_if p) document.operations.named) (location-erased document.operations.anonymous)

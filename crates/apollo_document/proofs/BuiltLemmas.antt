@@ -26,7 +26,7 @@ use Rattle.apollo_elaboration.specs.Stripped.{stripped}
 use Rattle.apollo_elaboration.specs.TypedSelections.{IsTypedSet}
 use Rattle.apollo_elaboration.specs.Elaborated.{elaborated}
 use Rattle.apollo_document.specs.AddedDefinitions.{DocumentItem, operations}
-use Rattle.apollo_document.specs.KeptDefinitions.{root_type_of, is_rooted, is_anonymous, first_if_anonymous, named, kept_anonymous, kept_named, kept_fragments}
+use Rattle.apollo_document.specs.KeptDefinitions.{root_type_of, is_rooted, is_anonymous, first_if_anonymous, operation_under_name, kept_anonymous, kept_named, kept_fragments}
 use Rattle.apollo_document.specs.TypedDefinitions.{stripped_operation, stripped_fragment, IsOperationOf, IsFragmentOf}
 use Rattle.apollo_document.specs.Documents.{IsUnderName, IsDocumentOf}
 use Rattle.apollo_document.specs.Stands.{operation_from, root_or_none, typed_operation, fragment_on_type, typed_fragment, entries_by, Stands}
@@ -55,16 +55,16 @@ rooted_first s (o ∷ os) n h = by (is_rooted s o) refl h (rooted_first s os n)
     by true e h rest = same (is_anonymous o) e h
     by false e h rest = rest h
 
-rooted_named : (s : Option Schema) (os : List Op) → AllByRecursion (λ x. is_rooted s x.1 ≡ true) (filter_map named (filter (is_rooted s) os))
+rooted_named : (s : Option Schema) (os : List Op) → AllByRecursion (λ x. is_rooted s x.1 ≡ true) (filter_map operation_under_name (filter (is_rooted s) os))
 rooted_named s [] = tt
 rooted_named s (o ∷ os) = by (is_rooted s o) refl (rooted_named s os)
   where
-    put : (x : Option NameView) → is_rooted s o ≡ true → AllByRecursion (λ x. is_rooted s x.1 ≡ true) (filter_map named (filter (is_rooted s) os))
-        → AllByRecursion (λ (x : NameView × Op). is_rooted s x.1 ≡ true) (cons_option (option_map (λ (name : NameView). (name, o)) x) (filter_map named (filter (is_rooted s) os)))
+    put : (x : Option NameView) → is_rooted s o ≡ true → AllByRecursion (λ x. is_rooted s x.1 ≡ true) (filter_map operation_under_name (filter (is_rooted s) os))
+        → AllByRecursion (λ (x : NameView × Op). is_rooted s x.1 ≡ true) (cons_option (option_map (λ (name : NameView). (name, o)) x) (filter_map operation_under_name (filter (is_rooted s) os)))
     put None e rest = rest
     put (Some m) e rest = (e, rest)
 
-    by : (b : Bool) → is_rooted s o ≡ b → AllByRecursion (λ x. is_rooted s x.1 ≡ true) (filter_map named (filter (is_rooted s) os)) → AllByRecursion (λ (x : NameView × Op). is_rooted s x.1 ≡ true) (filter_map named (cond b (o ∷ filter (is_rooted s) os) (filter (is_rooted s) os)))
+    by : (b : Bool) → is_rooted s o ≡ b → AllByRecursion (λ x. is_rooted s x.1 ≡ true) (filter_map operation_under_name (filter (is_rooted s) os)) → AllByRecursion (λ (x : NameView × Op). is_rooted s x.1 ≡ true) (filter_map operation_under_name (cond b (o ∷ filter (is_rooted s) os) (filter (is_rooted s) os)))
     by true e rest = put o.value.name e rest
     by false e rest = rest
 
@@ -118,7 +118,7 @@ module _ (sets : ElaboratedSetsLaw) where
         anonymous = subst (λ o. AllZip (IsOperationOf s) (listed (kept_anonymous s xs)) (listed o)) (sym (ap (λ m. m.anonymous) ops ∙ stands.anonymous))
             (built_option (IsOperationOf s) (typed_operation s) (kept_anonymous s xs) (λ n e. built_operation s n (rooted_first s os n e)));
         named = subst (λ es. AllZip (IsUnderName (IsOperationOf s)) (kept_named s xs) es) (sym (ap (λ m. m.named) ops ∙ stands.named))
-            (built_table (IsOperationOf s) (typed_operation s) (λ n. is_rooted s n ≡ true) (built_operation s) (kept_named s xs) (each-first (λ (x : NameView × Op). is_rooted s x.1 ≡ true) (same_key same_text) (filter_map named (filter (is_rooted s) os)) (rooted_named s os)));
+            (built_table (IsOperationOf s) (typed_operation s) (λ n. is_rooted s n ≡ true) (built_operation s) (kept_named s xs) (each-first (λ (x : NameView × Op). is_rooted s x.1 ≡ true) (same_key same_text) (filter_map operation_under_name (filter (is_rooted s) os)) (rooted_named s os)));
         fragments = subst (λ es. AllZip (IsUnderName (IsFragmentOf s)) (kept_fragments s xs) es) (sym (frags ∙ stands.fragments))
             (built_table (IsFragmentOf s) (typed_fragment s) (λ n. Unit {0}) (λ n _. built_fragment s n) (kept_fragments s xs) (any_table (kept_fragments s xs)));
       }

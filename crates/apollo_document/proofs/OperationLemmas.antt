@@ -11,7 +11,7 @@ use Rattle.graphql_nodes.specs.SameText.{same_text}
 use Rattle.graphql_nodes.specs.Tables.{lookup_key}
 use Rattle.graphql_ast.specs.declared.operation.OperationDefinition.{OperationDefinition}
 use Rattle.apollo_component.specs.FirstOfEach.{first_of_each, same_key}
-use Rattle.apollo_document.specs.KeptDefinitions.{is_anonymous, if_anonymous, first_if_anonymous, named, after_first}
+use Rattle.apollo_document.specs.KeptDefinitions.{is_anonymous, if_anonymous, first_if_anonymous, operation_under_name, after_first}
 use Rattle.apollo_document.specs.Stands.{put_unless_taken}
 use Rattle.apollo_document.proofs.ListLemmas.{first-put, after-push}
 
@@ -23,7 +23,7 @@ abbrev pub anonymous_of : (Op → Bool) → List Op → Option Op
 anonymous_of p os = first_if_anonymous (find p os)
 
 abbrev pub named_of : (Op → Bool) → List Op → List (NameView × Op)
-named_of p os = first_of_each (same_key same_text) (filter_map named (filter p os))
+named_of p os = first_of_each (same_key same_text) (filter_map operation_under_name (filter p os))
 
 abbrev pub repeated_of : (Op → Bool) → List Op → Bool
 repeated_of p os = is_some (anonymous_of p os) && list_any is_anonymous (after_first p os)
@@ -47,14 +47,14 @@ has_none : (n : Op) → n.value.name ≡ None → is_anonymous n ≡ true
 has_none n h = ap (λ (o : Option NameView). not (is_some o)) h
 
 -- those that are named and rooted, with one more
-named-push : (p : Op → Bool) (os : List Op) (n : Op) → filter_map named (filter p (os ++ n ∷ [])) ≡ filter_map named (filter p os) ++ filter_map named (cond (p n) (n ∷ []) [])
-named-push p os n = ap (filter_map named) (filter-append p os (n ∷ [])) ∙ filter_map-append named (filter p os) (cond (p n) (n ∷ []) [])
+named-push : (p : Op → Bool) (os : List Op) (n : Op) → filter_map operation_under_name (filter p (os ++ n ∷ [])) ≡ filter_map operation_under_name (filter p os) ++ filter_map operation_under_name (cond (p n) (n ∷ []) [])
+named-push p os n = ap (filter_map operation_under_name) (filter-append p os (n ∷ [])) ∙ filter_map-append operation_under_name (filter p os) (cond (p n) (n ∷ []) [])
 
-named-one : (b : Bool) (n : Op) (m : NameView) → n.value.name ≡ Some m → filter_map named (cond b (n ∷ []) []) ≡ cond b ((m, n) ∷ []) []
+named-one : (b : Bool) (n : Op) (m : NameView) → n.value.name ≡ Some m → filter_map operation_under_name (cond b (n ∷ []) []) ≡ cond b ((m, n) ∷ []) []
 named-one true n m h = ap (λ (o : Option NameView). cons_option (option_map (λ (name : NameView). (name, n)) o) []) h
 named-one false n m h = refl
 
-pub named-none : (b : Bool) (n : Op) → n.value.name ≡ None → filter_map named (cond b (n ∷ []) []) ≡ []
+pub named-none : (b : Bool) (n : Op) → n.value.name ≡ None → filter_map operation_under_name (cond b (n ∷ []) []) ≡ []
 named-none true n h = ap (λ (o : Option NameView). cons_option (option_map (λ (name : NameView). (name, n)) o) []) h
 named-none false n h = refl
 
@@ -63,7 +63,7 @@ find-push p os n = ap first_if_anonymous (find-append p os (n ∷ []))
 
 -- a named operation
 pub named-kept : (p : Op → Bool) (os : List Op) (n : Op) (m : NameView) → n.value.name ≡ Some m → named_of p (os ++ n ∷ []) ≡ put_unless_taken m (lookup_key (same_text m) (named_of p os)) (cond (p n) (Some n) None) (named_of p os)
-named-kept p os n m h = ap (first_of_each (same_key same_text)) (named-push p os n ∙ ap (λ l. filter_map named (filter p os) ++ l) (named-one (p n) n m h)) ∙ first-put (filter_map named (filter p os)) m n (p n)
+named-kept p os n m h = ap (first_of_each (same_key same_text)) (named-push p os n ∙ ap (λ l. filter_map operation_under_name (filter p os) ++ l) (named-one (p n) n m h)) ∙ first-put (filter_map operation_under_name (filter p os)) m n (p n)
 
 pub named-anonymous : (p : Op → Bool) (os : List Op) (n : Op) (m : NameView) → n.value.name ≡ Some m → anonymous_of p (os ++ n ∷ []) ≡ anonymous_of p os
 named-anonymous p os n m h = find-push p os n ∙ by (find p os) (p n)
@@ -85,7 +85,7 @@ named-repeated p os n m h = (λ i. is_some (named-anonymous p os n m h i) && lis
 
 -- an anonymous operation
 pub anonymous-named : (p : Op → Bool) (os : List Op) (n : Op) → n.value.name ≡ None → named_of p (os ++ n ∷ []) ≡ named_of p os
-anonymous-named p os n h = ap (first_of_each (same_key same_text)) (named-push p os n ∙ ap (λ l. filter_map named (filter p os) ++ l) (named-none (p n) n h) ∙ append-nil (filter_map named (filter p os)))
+anonymous-named p os n h = ap (first_of_each (same_key same_text)) (named-push p os n ∙ ap (λ l. filter_map operation_under_name (filter p os) ++ l) (named-none (p n) n h) ∙ append-nil (filter_map operation_under_name (filter p os)))
 
 -- after a kept anonymous one
 pub further-anonymous : (p : Op → Bool) (os : List Op) (n a : Op) → anonymous_of p os ≡ Some a → anonymous_of p (os ++ n ∷ []) ≡ anonymous_of p os
@@ -120,7 +120,7 @@ later-anonymous p os n e es k = find-push p os n ∙ by (find p os) refl
   where
     by : (o : Option Op) → find p os ≡ o → first_if_anonymous (option_or o (cond (p n) (Some n) None)) ≡ first_if_anonymous o
     by (Some x) q = refl
-    by None q = let none : [] ≡ e ∷ es = sym (ap (λ (l : List Op). first_of_each (same_key same_text) (filter_map named l)) (rooted_there p os q)) ∙ k in cc
+    by None q = let none : [] ≡ e ∷ es = sym (ap (λ (l : List Op). first_of_each (same_key same_text) (filter_map operation_under_name l)) (rooted_there p os q)) ∙ k in cc
 
 pub without-repeated : (p : Op → Bool) (os : List Op) → anonymous_of p os ≡ None → repeated_of p os ≡ false
 without-repeated p os k = ap (λ (o : Option Op). is_some o && list_any is_anonymous (after_first p os)) k
@@ -130,11 +130,11 @@ none_rooted : (p : Op → Bool) (os : List Op) → anonymous_of p os ≡ None �
 none_rooted p [] a k = refl
 none_rooted p (o ∷ os) a k = by (p o) a k (none_rooted p os)
   where
-    named_there : (x : Option NameView) → o.value.name ≡ x → if_anonymous o ≡ None → first_of_each (same_key same_text) (cons_option (option_map (λ (name : NameView). (name, o)) x) (filter_map named (filter p os))) ≡ [] → Some o ≡ None
+    named_there : (x : Option NameView) → o.value.name ≡ x → if_anonymous o ≡ None → first_of_each (same_key same_text) (cons_option (option_map (λ (name : NameView). (name, o)) x) (filter_map operation_under_name (filter p os))) ≡ [] → Some o ≡ None
     named_there None h a k = let kept : Some o ≡ None = sym (ap (λ (c : Bool). cond c (Some o) None) (has_none o h)) ∙ a in kept
     named_there (Some m) h a k = cc
 
-    by : (b : Bool) → first_if_anonymous (cond b (Some o) (find p os)) ≡ None → first_of_each (same_key same_text) (filter_map named (cond b (o ∷ filter p os) (filter p os))) ≡ []
+    by : (b : Bool) → first_if_anonymous (cond b (Some o) (find p os)) ≡ None → first_of_each (same_key same_text) (filter_map operation_under_name (cond b (o ∷ filter p os) (filter p os))) ≡ []
         → (anonymous_of p os ≡ None → named_of p os ≡ [] → find p os ≡ None) → cond b (Some o) (find p os) ≡ None
     by true a k rest = named_there o.value.name refl a k
     by false a k rest = rest a k

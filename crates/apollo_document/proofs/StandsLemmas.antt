@@ -22,8 +22,8 @@ use Rattle.apollo_elaboration.specs.Typable.{has_type, is_bare}
 use Rattle.apollo_elaboration.specs.declared.build_error.BuildError.TheVariants as e
 use Rattle.apollo_elaboration.specs.declared.selection_path.ExecutableDefinitionName.TheVariants.{AnonymousOperation, NamedOperation}
 use Rattle.apollo_document.specs.AddedDefinitions.{DocumentItem, operation_of, fragment_of, operation_in, fragment_in, operations, fragments}
-use Rattle.apollo_document.specs.KeptDefinitions.{root_type_of, is_rooted, kept_anonymous, kept_named, is_on_type, under_name, kept_fragments, is_repeated}
-use Rattle.apollo_document.specs.DocumentFaults.{ambiguous, ambiguous_if, unless_taken, faults_in_operation, after_anonymous, unless_named, anonymous_faults, anonymous_place, fragment_faults, type_system_faults, operation_faults, definition_faults, faults_at, document_faults}
+use Rattle.apollo_document.specs.KeptDefinitions.{root_type_of, is_rooted, kept_anonymous, kept_named, is_on_type, fragment_under_name, kept_fragments, is_repeated}
+use Rattle.apollo_document.specs.DocumentFaults.{ambiguous, ambiguous_if, unless_taken, faults_in_operation, after_anonymous, unless_named, anonymous_faults, anonymous_location, fragment_faults, type_system_faults, operation_faults, definition_faults, faults_at, document_faults}
 use Rattle.apollo_document.specs.Stands.{operation_from, typed_operation, typed_fragment, entries_by, put_unless_taken, Stands}
 use Rattle.apollo_document.specs.declared.tables.Tables.{Tables}
 use Rattle.apollo_document.proofs.ListLemmas.{first-put, entries-put, entries-key}
@@ -44,7 +44,7 @@ module _ (s : Option Schema) (xs : List DocumentItem) (x : DocumentItem) where
   same_operations h = operations-push xs x ∙ ap (λ o. operations xs ++ cons_option o []) h ∙ append-nil (operations xs)
 
   pub same_fragments : fragment_in x ≡ None → kept_fragments s (xs ++ x ∷ []) ≡ kept_fragments s xs
-  same_fragments h = ap (λ l. first_of_each (same_key same_text) (map under_name (filter (is_on_type s) l))) (fragments-push xs x ∙ ap (λ o. fragments xs ++ cons_option o []) h ∙ append-nil (fragments xs))
+  same_fragments h = ap (λ l. first_of_each (same_key same_text) (map fragment_under_name (filter (is_on_type s) l))) (fragments-push xs x ∙ ap (λ o. fragments xs ++ cons_option o []) h ∙ append-nil (fragments xs))
 
 unmapped : {A B : Type 0} (f : A → B) (o : Option A) → option_map f o ≡ None → o ≡ None
 unmapped f None h = refl
@@ -69,9 +69,9 @@ built_operation s n = by (root_type_of s n.value.operation_type) refl
         ∙ (λ i. option_map (typed_operation s) (cond (is_some (sym h i)) (Some n) None))
 
 -- where the anonymous operation stands
-place_of_kept : (s : Option Schema) (o : Option (NodeView OperationDefinition)) → option_map (λ (n : NodeView Operation). n.location) (option_map (typed_operation s) o) ≡ option_map (λ n. n.location) o
-place_of_kept s (Some n) = refl
-place_of_kept s None = refl
+location_of_kept : (s : Option Schema) (o : Option (NodeView OperationDefinition)) → option_map (λ (n : NodeView Operation). n.location) (option_map (typed_operation s) o) ≡ option_map (λ n. n.location) o
+location_of_kept s (Some n) = refl
+location_of_kept s None = refl
 
 pub stands-named : (s : Option Schema) (xs : List DocumentItem) (b : Bool) (n : NodeView OperationDefinition) (m : NameView) (old new : Tables) → n.value.name ≡ Some m → Stands s xs old
     → new.operations.anonymous ≡ old.operations.anonymous
@@ -85,14 +85,14 @@ stands-named s xs b n m old new h was anonymous named fragments repeated faults 
     let os = operations xs in
     let more : operations (xs ++ x ∷ []) ≡ os ++ n ∷ [] = operations-push xs x in
     let key : lookup_key (same_text m) old.operations.named ≡ lookup_key (same_text m) (kept_named s xs) = ap (lookup_key (same_text m)) was.named ∙ entries-key (typed_operation s) (same_text m) (kept_named s xs) in
-    let place : option_map (λ o. o.location) old.operations.anonymous ≡ anonymous_place s xs = ap (option_map (λ o. o.location)) was.anonymous ∙ place_of_kept s (kept_anonymous s xs) in
+    let location : option_map (λ o. o.location) old.operations.anonymous ≡ anonymous_location s xs = ap (option_map (λ o. o.location)) was.anonymous ∙ location_of_kept s (kept_anonymous s xs) in
     record {
       anonymous = anonymous ∙ was.anonymous ∙ ap (option_map (typed_operation s)) (sym (named-anonymous p os n m h) ∙ ap (λ l. anonymous_of (is_rooted s) l) (sym more));
       named = named ∙ (λ i. put_unless_taken m (key i) (built_operation s n i) (was.named i)) ∙ entries-put (typed_operation s) m (lookup_key (same_text m) (kept_named s xs)) (cond (p n) (Some n) None) (kept_named s xs)
           ∙ ap (entries_by (typed_operation s)) (sym (named-kept p os n m h) ∙ ap (λ l. named_of (is_rooted s) l) (sym more));
       fragments = fragments ∙ was.fragments ∙ ap (entries_by (typed_fragment s)) (sym (same_fragments s xs x refl));
       repeated = repeated ∙ was.repeated ∙ sym (named-repeated p os n m h) ∙ ap (λ l. repeated_of p l) (sym more);
-      faults = faults ∙ append_assoc old.faults _ _ ∙ (λ i. was.faults i ++ (ambiguous_if (place i) ++ unless_taken e.OperationNameCollision m (key i) (faults_in_operation s (NamedOperation n.value.operation_type m) n)))
+      faults = faults ∙ append_assoc old.faults _ _ ∙ (λ i. was.faults i ++ (ambiguous_if (location i) ++ unless_taken e.OperationNameCollision m (key i) (faults_in_operation s (NamedOperation n.value.operation_type m) n)))
           ∙ ap (λ (o : Option NameView). document_faults s xs ++ operation_faults s xs n o) (sym h) ∙ sym (faults-push s xs x);
     }
 
@@ -107,13 +107,13 @@ stands-further s xs b n a old new h was there kept fragments repeated faults = b
     by (Some k) is =
         let x : DocumentItem = (b, d.OperationDefinition n) in
         let more : operations (xs ++ x ∷ []) ≡ operations xs ++ n ∷ [] = operations-push xs x in
-        let place : Some a.location ≡ anonymous_place s xs = ap (option_map (λ o. o.location)) (sym there ∙ was.anonymous) ∙ place_of_kept s (kept_anonymous s xs) in
+        let location : Some a.location ≡ anonymous_location s xs = ap (option_map (λ o. o.location)) (sym there ∙ was.anonymous) ∙ location_of_kept s (kept_anonymous s xs) in
         record {
           anonymous = ap (λ o. o.anonymous) kept ∙ was.anonymous ∙ ap (option_map (typed_operation s)) (sym (further-anonymous (is_rooted s) (operations xs) n k is) ∙ ap (λ l. anonymous_of (is_rooted s) l) (sym more));
           named = ap (λ o. o.named) kept ∙ was.named ∙ ap (entries_by (typed_operation s)) (sym (anonymous-named (is_rooted s) (operations xs) n h) ∙ ap (λ l. named_of (is_rooted s) l) (sym more));
           fragments = fragments ∙ was.fragments ∙ ap (entries_by (typed_fragment s)) (sym (same_fragments s xs x refl));
           repeated = repeated ∙ sym (further-repeated (is_rooted s) (operations xs) n k h is) ∙ ap (λ l. repeated_of (is_rooted s) l) (sym more);
-          faults = faults ∙ (λ i. was.faults i ++ anonymous_faults s (place i) (was.repeated i) (kept_named s xs) n) ∙ ap (λ (o : Option NameView). document_faults s xs ++ operation_faults s xs n o) (sym h) ∙ sym (faults-push s xs x);
+          faults = faults ∙ (λ i. was.faults i ++ anonymous_faults s (location i) (was.repeated i) (kept_named s xs) n) ∙ ap (λ (o : Option NameView). document_faults s xs ++ operation_faults s xs n o) (sym h) ∙ sym (faults-push s xs x);
         }
 
 pub stands-later : (s : Option Schema) (xs : List DocumentItem) (b : Bool) (n : NodeView OperationDefinition) (old new : Tables) → n.value.name ≡ None → Stands s xs old
@@ -169,13 +169,13 @@ pub kept_fragments-push : (s : Option Schema) (xs : List DocumentItem) (b : Bool
     → kept_fragments s (xs ++ (b, d.FragmentDefinition n) ∷ []) ≡ put_unless_taken n.value.name (lookup_key (same_text n.value.name) (kept_fragments s xs)) (cond (is_on_type s n) (Some n) None) (kept_fragments s xs)
 kept_fragments-push s xs b n =
     ap (first_of_each (same_key same_text)) (
-    ap (λ l. map under_name (filter (is_on_type s) l)) (fragments-push xs (b, d.FragmentDefinition n))
-    ∙ ap (map under_name) (filter-append (is_on_type s) (fragments xs) (n ∷ []))
-    ∙ map-append under_name (filter (is_on_type s) (fragments xs)) (cond (is_on_type s n) (n ∷ []) [])
-    ∙ ap (λ l. map under_name (filter (is_on_type s) (fragments xs)) ++ l) (by (is_on_type s n)))
-    ∙ first-put (map under_name (filter (is_on_type s) (fragments xs))) n.value.name n (is_on_type s n)
+    ap (λ l. map fragment_under_name (filter (is_on_type s) l)) (fragments-push xs (b, d.FragmentDefinition n))
+    ∙ ap (map fragment_under_name) (filter-append (is_on_type s) (fragments xs) (n ∷ []))
+    ∙ map-append fragment_under_name (filter (is_on_type s) (fragments xs)) (cond (is_on_type s n) (n ∷ []) [])
+    ∙ ap (λ l. map fragment_under_name (filter (is_on_type s) (fragments xs)) ++ l) (by (is_on_type s n)))
+    ∙ first-put (map fragment_under_name (filter (is_on_type s) (fragments xs))) n.value.name n (is_on_type s n)
   where
-    by : (c : Bool) → map under_name (cond c (n ∷ []) []) ≡ cond c ((n.value.name, n) ∷ []) []
+    by : (c : Bool) → map fragment_under_name (cond c (n ∷ []) []) ≡ cond c ((n.value.name, n) ∷ []) []
     by true = refl
     by false = refl
 
@@ -204,14 +204,14 @@ stands-fragment s xs b n old new was kept fragments repeated faults =
       faults = faults ∙ (λ i. was.faults i ++ fragment_faults s (key i) n) ∙ sym (faults-push s xs x);
     }
 
--- a definition, by what it is
-pub as_operation : (x : Definition) (n : NodeView OperationDefinition) → operation_of x ≡ Some n → d.OperationDefinition n ≡ x
-as_operation (d.OperationDefinition m) n h = ap (λ (o : Option (NodeView OperationDefinition)). d.OperationDefinition (unwrap_or o m)) (sym h)
-as_operation x n h = cc
+-- a definition that is no operation, and one that is no fragment
+pub no_operation : (x : Definition) → ((n : NodeView OperationDefinition) → x ≡ d.OperationDefinition n → ⊥) → operation_of x ≡ None
+no_operation (d.OperationDefinition n) other = absurd (other n refl)
+no_operation x other = refl
 
-pub as_fragment : (x : Definition) (n : NodeView FragmentDefinition) → fragment_of x ≡ Some n → d.FragmentDefinition n ≡ x
-as_fragment (d.FragmentDefinition m) n h = ap (λ (o : Option (NodeView FragmentDefinition)). d.FragmentDefinition (unwrap_or o m)) (sym h)
-as_fragment x n h = cc
+pub no_fragment : (x : Definition) → ((n : NodeView FragmentDefinition) → x ≡ d.FragmentDefinition n → ⊥) → fragment_of x ≡ None
+no_fragment (d.FragmentDefinition n) other = absurd (other n refl)
+no_fragment x other = refl
 
 other_faults : (s : Option Schema) (xs : List DocumentItem) (b : Bool) (x : Definition) → operation_of x ≡ None → fragment_of x ≡ None → definition_faults s xs b x ≡ type_system_faults b x
 other_faults s xs b (d.OperationDefinition n) h g = cc

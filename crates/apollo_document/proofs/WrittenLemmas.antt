@@ -89,19 +89,19 @@ keeps-push s b zs a done x sound fresh k =
           ∙ ap (λ o. put_unless_taken x.0 o (Some x.1) done) (no_key x.0 x.1 done fresh),
     )
 
-abbrev pub place : Option Op → Option (Option SourceSpan)
-place a = option_map (λ n. n.location) a
+abbrev pub kept_location : Option Op → Option (Option SourceSpan)
+kept_location a = option_map (λ n. n.location) a
 
 named_fault : (s : Option Schema) (b : Bool) (zs : List DocumentItem) (a : Option Op) (done : List (NameView × Op)) (x : NameView × Op) → IsSoundOperation s x → list_any (same_key same_text x) done ≡ false
-    → Keeps s zs a done → faults_at s zs (operation_item b x) ≡ ambiguous_if (place a)
+    → Keeps s zs a done → faults_at s zs (operation_item b x) ≡ ambiguous_if (kept_location a)
 named_fault s b zs a done x sound fresh k =
     ap (operation_faults s zs x.1) sound.0
-    ∙ (λ i. named_faults s (place (k.0 i)) (lookup_key (same_text x.0) (k.1 i)) x.0 x.1)
-    ∙ (λ i. ambiguous_if (place a) ++ unless_taken e.OperationNameCollision x.0 (no_key x.0 x.1 done fresh i) (sound.1.1 i))
-    ∙ append-nil (ambiguous_if (place a))
+    ∙ (λ i. named_faults s (kept_location (k.0 i)) (lookup_key (same_text x.0) (k.1 i)) x.0 x.1)
+    ∙ (λ i. ambiguous_if (kept_location a) ++ unless_taken e.OperationNameCollision x.0 (no_key x.0 x.1 done fresh i) (sound.1.1 i))
+    ∙ append-nil (ambiguous_if (kept_location a))
 
 pub all_named : (s : Option Schema) (b : Bool) (zs : List DocumentItem) (a : Option Op) (done rest : List (NameView × Op)) → AllByRecursion (IsSoundOperation s) rest → IsDistinct (same_key same_text) rest → Fresh done rest → Keeps s zs a done
-    → Keeps s (zs ++ map (operation_item b) rest) a (done ++ rest) × (each_after (faults_at s) zs (map (operation_item b) rest) ≡ flat_map (λ x. ambiguous_if (place a)) rest)
+    → Keeps s (zs ++ map (operation_item b) rest) a (done ++ rest) × (each_after (faults_at s) zs (map (operation_item b) rest) ≡ flat_map (λ x. ambiguous_if (kept_location a)) rest)
 unfolding IsDistinct
 all_named s b zs a done [] sound apart fresh k = (
   subst (λ l. Keeps s l a (done ++ [])) (sym (append-nil zs)) (subst (λ l. Keeps s zs a l) (sym (append-nil done)) k),
@@ -179,7 +179,7 @@ pub record AllKept (s : Option Schema) (b : Bool) (a : Option Op) (ns : List (Na
   pub anonymous : kept_anonymous s (written b a ns fs) ≡ a
   pub named : kept_named s (written b a ns fs) ≡ ns
   pub fragments : kept_fragments s (written b a ns fs) ≡ fs
-  pub faults : document_faults s (written b a ns fs) ≡ flat_map (λ x. ambiguous_if (place a)) ns
+  pub faults : document_faults s (written b a ns fs) ≡ flat_map (λ x. ambiguous_if (kept_location a)) ns
 
 no_fragments : (s : Option Schema) (b : Bool) (a : Option Op) → kept_fragments s (anonymous_items b a) ≡ []
 no_fragments s b None = refl
@@ -200,5 +200,5 @@ all_kept s b a ns fs sound names apart_names fragments apart =
       faults = each_after-append (faults_at s) [] head (map (fragment_item b) fs)
           ∙ (λ i. each_after-append (faults_at s) [] (anonymous_items b a) (map (operation_item b) ns) i ++ then_fragments.1 i)
           ∙ (λ i. (first.1 i ++ then_named.1 i) ++ [])
-          ∙ append-nil (flat_map (λ x. ambiguous_if (place a)) ns);
+          ∙ append-nil (flat_map (λ x. ambiguous_if (kept_location a)) ns);
     }

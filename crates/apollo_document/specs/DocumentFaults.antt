@@ -26,11 +26,11 @@ use Rattle.apollo_document.specs.KeptDefinitions.{root_type_of, kept_anonymous, 
 
 -- an anonymous operation at this location isn't the only one
 abbrev pub ambiguous : Option SourceSpan → Fault
-ambiguous place = (place, e.AmbiguousAnonymousOperation)
+ambiguous location = (location, e.AmbiguousAnonymousOperation)
 
 abbrev pub ambiguous_if : Option (Option SourceSpan) → List Fault
 ambiguous_if None = []
-ambiguous_if (Some place) = ambiguous place ∷ []
+ambiguous_if (Some location) = ambiguous location ∷ []
 
 -- a name that is taken by a kept definition is at fault; else what is wrong with the definition is
 abbrev pub unless_taken : (NameView → BuildError) → NameView → Option NameView → List Fault → List Fault
@@ -55,25 +55,25 @@ named_faults s anonymous taken name n = ambiguous_if anonymous ++ faults_of_name
 
 -- an anonymous operation after a kept one is at fault, and so is that, once
 abbrev pub after_anonymous : Bool → Option SourceSpan → Option SourceSpan → List Fault
-after_anonymous false kept place = ambiguous kept ∷ ambiguous place ∷ []
-after_anonymous true kept place = ambiguous place ∷ []
+after_anonymous false kept location = ambiguous kept ∷ ambiguous location ∷ []
+after_anonymous true kept location = ambiguous location ∷ []
 
 -- one after a kept named one is at fault; else what is wrong with it is
 abbrev pub unless_named : {A : Type 0} → List A → Option SourceSpan → List Fault → List Fault
-unless_named [] place wrong = wrong
-unless_named (x ∷ xs) place wrong = ambiguous place ∷ []
+unless_named [] location wrong = wrong
+unless_named (x ∷ xs) location wrong = ambiguous location ∷ []
 
 abbrev pub anonymous_faults : {A : Type 0} → Option Schema → Option (Option SourceSpan) → Bool → List A → NodeView OperationDefinition → List Fault
 anonymous_faults s (Some kept) repeated others n = after_anonymous repeated kept n.location
 anonymous_faults s None repeated others n = unless_named others n.location (faults_in_operation s (AnonymousOperation n.value.operation_type) n)
 
 -- where the operation that is kept as the anonymous one stands
-abbrev pub anonymous_place : Option Schema → List DocumentItem → Option (Option SourceSpan)
-anonymous_place s before = option_map (λ n. n.location) (kept_anonymous s before)
+abbrev pub anonymous_location : Option Schema → List DocumentItem → Option (Option SourceSpan)
+anonymous_location s before = option_map (λ n. n.location) (kept_anonymous s before)
 
 abbrev pub operation_faults : Option Schema → List DocumentItem → NodeView OperationDefinition → Option NameView → List Fault
-operation_faults s before n (Some name) = named_faults s (anonymous_place s before) (lookup_key (same_text name) (kept_named s before)) name n
-operation_faults s before n None = anonymous_faults s (anonymous_place s before) (is_repeated s before) (kept_named s before) n
+operation_faults s before n (Some name) = named_faults s (anonymous_location s before) (lookup_key (same_text name) (kept_named s before)) name n
+operation_faults s before n None = anonymous_faults s (anonymous_location s before) (is_repeated s before) (kept_named s before) n
 
 -- a fragment whose condition is no type is at fault; else its selections are
 abbrev pub on_type_faults : Option Schema → NodeView FragmentDefinition → Bool → List Fault

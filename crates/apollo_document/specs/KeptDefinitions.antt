@@ -40,23 +40,23 @@ abbrev pub kept_anonymous : Option Schema → List DocumentItem → Option (Node
 kept_anonymous s xs = first_if_anonymous (find (is_rooted s) (operations xs))
 
 -- an operation under its name, if it has one
-abbrev pub named : NodeView OperationDefinition → Option (NameView × NodeView OperationDefinition)
-named n = option_map (λ (name : NameView). (name, n)) n.value.name
+abbrev pub operation_under_name : NodeView OperationDefinition → Option (NameView × NodeView OperationDefinition)
+operation_under_name n = option_map (λ (name : NameView). (name, n)) n.value.name
 
 -- the named operations: the first rooted one of each name
 abbrev pub kept_named : Option Schema → List DocumentItem → List (NameView × NodeView OperationDefinition)
-kept_named s xs = first_of_each (same_key same_text) (filter_map named (filter (is_rooted s) (operations xs)))
+kept_named s xs = first_of_each (same_key same_text) (filter_map operation_under_name (filter (is_rooted s) (operations xs)))
 
 -- a fragment has a type if its condition is one
 abbrev pub is_on_type : Option Schema → NodeView FragmentDefinition → Bool
 is_on_type s n = has_type s n.value.type_condition
 
-abbrev pub under_name : NodeView FragmentDefinition → NameView × NodeView FragmentDefinition
-under_name n = (n.value.name, n)
+abbrev pub fragment_under_name : NodeView FragmentDefinition → NameView × NodeView FragmentDefinition
+fragment_under_name n = (n.value.name, n)
 
 -- the fragments: the first of each name whose condition is a type
 abbrev pub kept_fragments : Option Schema → List DocumentItem → List (NameView × NodeView FragmentDefinition)
-kept_fragments s xs = first_of_each (same_key same_text) (map under_name (filter (is_on_type s) (fragments xs)))
+kept_fragments s xs = first_of_each (same_key same_text) (map fragment_under_name (filter (is_on_type s) (fragments xs)))
 
 -- what stands after the first that passes
 abbrev pub after_first : {A : Type 0} → (A → Bool) → List A → List A

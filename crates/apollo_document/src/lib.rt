@@ -2,7 +2,6 @@
 //! sections 2.2 to 2.8.
 #![tactic(auto)]
 
-mod definitions;
 pub mod document_builder;
 mod fragments;
 pub mod laws;

@@ -61,12 +61,12 @@ fn operation_over(
 
 /// Notes that an anonymous operation at this location isn't the only one. The error is want of memory.
 pub(crate) fn note_ambiguous(
-    place: Option<SourceSpan>,
+    location: Option<SourceSpan>,
     faults: &mut Items<Fault>,
 ) -> Result<(), AllocError>
-    ensures { OnOk result (faults.new ≡ faults.old ++ ambiguous place ∷ []) }
+    ensures { OnOk result (faults.new ≡ faults.old ++ ambiguous location ∷ []) }
 {
-    faults.push((place, BuildError::AmbiguousAnonymousOperation))
+    faults.push((location, BuildError::AmbiguousAnonymousOperation))
 }
 
 /// Notes the anonymous operation, if there is one: another operation comes after it.
@@ -152,14 +152,14 @@ pub(crate) fn put_named(
 pub(crate) fn note_further_anonymous(
     kept: Option<SourceSpan>,
     multiple_anonymous: bool,
-    place: Option<SourceSpan>,
+    location: Option<SourceSpan>,
     faults: &mut Items<Fault>,
 ) -> Result<(), AllocError>
-    ensures { OnOk result (faults.new ≡ faults.old ++ after_anonymous multiple_anonymous kept place) }
+    ensures { OnOk result (faults.new ≡ faults.old ++ after_anonymous multiple_anonymous kept location) }
 {
     if !multiple_anonymous {
         note_ambiguous(kept, faults)?;
     }
-    note_ambiguous(place, faults)?;
+    note_ambiguous(location, faults)?;
     Ok(())
 }

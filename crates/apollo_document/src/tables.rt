@@ -9,7 +9,6 @@ ghost use Rattle.apollo_document.specs.Stands.{Stands, StandsWith};
 ghost use Rattle.apollo_document.specs.Takes.{TakesDefinition};
 ghost use Rattle.graphql_ast.specs.declared.definition.Definition.TheVariants as definitions;
 
-use crate::definitions::{as_fragment, as_operation};
 use crate::fragments::put_fragment;
 use crate::operations::{
     build_operation, note_ambiguous, note_further_anonymous, note_kept, put_named,
@@ -192,16 +191,11 @@ impl Tables {
         ensures stands { OnOk result (TakesDefinition (option_copied schema.entry) (type_system_definitions_are_errors, definition.now) self.old self.new) }
         ensures sources { self.new.sources ≡ self.old.sources }
     {
-        if let Some(node) = as_operation(definition) {
-            self.take_operation(schema, node)?;
-            return Ok(());
+        match definition {
+            Definition::OperationDefinition(node) => self.take_operation(schema, node),
+            Definition::FragmentDefinition(node) => self.take_fragment(schema, node),
+            _ => self.note_type_system(definition, type_system_definitions_are_errors),
         }
-        if let Some(node) = as_fragment(definition) {
-            self.take_fragment(schema, node)?;
-            return Ok(());
-        }
-        self.note_type_system(definition, type_system_definitions_are_errors)?;
-        Ok(())
     }
 
     /// Takes definitions in order.

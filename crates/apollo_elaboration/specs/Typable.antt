@@ -23,7 +23,7 @@ use Rattle.apollo_elaboration.specs.declared.selection_path.SelectionPath.{Selec
 abbrev pub Fault : Type 0
 Fault = Option SourceSpan × BuildError
 
--- what is wrong with a selection, by the location of its node and by its path: nothing, where it falls silently
+-- what is wrong with a selection, by the location of its node and by its path: nothing, where it is left out without a fault
 abbrev pub Wrong : Type 0
 Wrong = Option SourceSpan → SelectionPath → List Fault
 

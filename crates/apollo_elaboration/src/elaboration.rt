@@ -21,7 +21,7 @@ use std::alloc::{AllocError, Global};
 ///
 /// A field is typable if the schema's [`type_field`](Schema::type_field) gives a definition for its name in the type, and it
 /// has no selections or isn't of a scalar or enum type; its selections are from the type that the definition names, inside all
-/// lists. Where the schema lacks the type itself, its fields fall without a fault. An inline fragment is typable if its
+/// lists. Where the schema lacks the type itself, its fields are left out without a fault. An inline fragment is typable if its
 /// condition is the name of a type; its selections are from that, or without a condition from the same type. A spread always
 /// is. Without a schema every selection is typable, and each field has a definition of its name, whose type is `UNKNOWN`.
 ///

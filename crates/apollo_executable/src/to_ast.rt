@@ -2,7 +2,7 @@
 //!
 //! The definitions of fields and the types of sets are left out, but the condition of a named fragment is the type of its
 //! set. All else stays, with every location.
-ghost use Rattle.std.specs.Prelude.{◌≡◌, IfOk};
+ghost use Rattle.std.specs.Prelude.{◌≡◌, ◌≢◌, [], IfOk, OnErr};
 ghost use Rattle.graphql_ast.specs.declared.definition.Definition.TheVariants as definitions;
 ghost use Rattle.apollo_executable.specs.Erasure.{erased, erased_field, erased_inline_fragment, erased_spread, erased_set, erased_operation, erased_fragment, erased_document};
 
@@ -20,11 +20,12 @@ use graphql_nodes::source::SourceSpan;
 use std::alloc::{AllocError, Global};
 
 impl SelectionSet {
-    /// The selections as syntax, in order. The error is want of memory.
+    /// The selections as syntax, in order. The error is want of memory, which a set without selections doesn't meet.
     #[cycle(to_ast)]
     #[tactic(auto, using(crate::proofs::Erasing::set_erases))]
     pub fn to_ast(&self, alloc: Global) -> Result<Vec<ast::Selection>, AllocError>
-        ensures { IfOk result (λ written. written.items ≡ erased_set self.now) }
+        ensures written { IfOk result (λ written. written.items ≡ erased_set self.now) }
+        ensures memory { OnErr result (self.now.selections ≢ []) }
     {
         let mut written = Vec::new(alloc);
         written.reserve_exact(self.selections.len())?;

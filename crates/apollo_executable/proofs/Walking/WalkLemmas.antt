@@ -1,5 +1,5 @@
 -- What the parts of a walk say of what is left of it.
-use Rattle.std.proofs.Common.{◌≡◌, ◌≤◌, ◌+◌, ℕ, true, false, List, [], ◌∷◌, ◌++◌, map, reverse, Result, Ok, Err, OnOk, OnErr, is_ok, length, arith, refl, sym, ap, subst, ◌∙◌}
+use Rattle.std.proofs.Common.{◌≡◌, ◌≤◌, ◌+◌, ℕ, true, false, List, [], ◌∷◌, ◌++◌, map, reverse, Result, Ok, Err, OnOk, is_ok, length, arith, refl, sym, ap, subst, ◌∙◌}
 use Rattle.std.proofs.lemmas.List.{reverse-append, map-append}
 use Rattle.std.specs.Prelude.{nat_eq}
 use Rattle.std.specs.Borrow.{Bor}
@@ -28,10 +28,6 @@ waiting-empty = refl
 pub OnOk-both : {T E : Type 0} (A B C : Type 0) (r : Result T E) → OnOk r A → OnOk r B → (A → B → C) → OnOk r C
 OnOk-both A B C (Ok x) a b f = f a b
 OnOk-both A B C (Err e) a b f = tt
-
-pub OnErr-any : {T E : Type 0} (A : Type 0) (r : Result T E) → A → OnErr r A
-OnErr-any A (Ok x) a = tt
-OnErr-any A (Err e) a = a
 
 pub OnOk-when : {T E : Type 0} (A : Type 0) (r : Result T E) → is_ok r ≡ true → OnOk r A → A
 OnOk-when A (Ok x) is a = a

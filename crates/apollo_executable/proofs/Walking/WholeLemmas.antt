@@ -1,5 +1,5 @@
 -- What a whole walk over a set gives.
-use Rattle.std.proofs.Common.{◌≡◌, ◌≤◌, ◌↔◌, Bool, ℕ, List, [], true, Some, refl, ap, subst, ◌∙◌, arith}
+use Rattle.std.proofs.Common.{◌≡◌, ◌≤◌, ◌↔◌, Bool, ℕ, List, [], ◌++◌, true, Some, refl, sym, ap, subst, ◌∙◌, arith, append-nil}
 use Rattle.graphql_nodes.specs.NodeView.{NodeView}
 use Rattle.apollo_walks.specs.Selections.{Fragments, Names, none, no_names, fragment_of}
 use Rattle.apollo_walks.specs.WalkOrder.{Order, of_none}
@@ -31,6 +31,11 @@ module _ (deep : Bool) (document : ExecutableDocument) (set : SelectionSet) wher
       → AreWalked deep document set (walk_over deep document set).fields
   unfolding walk_over
   walked whole = whole
+
+  -- what was given when nothing is left to come is all
+  pub walked-all : (given coming all : List (NodeView Field)) → given ++ coming ≡ all → coming ≡ [] → AreWalked deep document set all → AreWalked deep document set given
+  walked-all given coming all parts over given_all =
+      subst (λ (l : List (NodeView Field)). AreWalked deep document set l) (sym parts ∙ ap (λ (l : List (NodeView Field)). given ++ l) over ∙ append-nil given) given_all
 
   -- no selection, no field
   pub walked-none : (fields : List (NodeView Field)) → AreWalked deep document set fields → set.selections ≡ [] → fields ≡ []

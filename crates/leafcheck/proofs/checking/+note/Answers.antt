@@ -2,10 +2,11 @@ use Rattle.std.proofs.Common.{◌∙◌, ap, sym, true, List, [], ◌∷◌, ◌
 use Rattle.std.proofs.lemmas.Iterator.{YieldsList-from_slice}
 use Rattle.std.proofs.lemmas.Iterator.Consumers.{YieldsList-turn}
 use Rattle.std.proofs.lemmas.List.{map-append}
+use Rattle.std.proofs.lemmas.Result.{MatchResult-from_err}
 use Rattle.std.specs.Borrow.{Bor}
 use Rattle.apollo_executable.specs.declared.selection.Selection.{Selection}
 use Rattle.leafcheck.specs.LeafFaults.{faults_in}
-use Rattle.leafcheck.proofs.NotingLemmas.{OnErr-any, faults-more, faults-at}
+use Rattle.leafcheck.proofs.NotingLemmas.{faults-more, faults-at}
 use Rattle.leafcheck.proofs.checking.+note.Goals as goal
 
 pub note_set-loop-selection-preserved : goal.note_set-loop-selection-preserved
@@ -24,4 +25,5 @@ note_set-returns-in_err-note_selection-clause-memory t c =
     let given = c.loop-selection.yielded in
     let selection = c.in-Some.selection in
     let turn = YieldsList-turn (YieldsList-from_slice selections c.into_iter-selection-iterator.ensures.into_iter_gives.0) given _ c.loop-selection.yielded_by _ _ selection c.in-Some.is c.next.ensures.steps in
-    OnErr-any _ c.from_residual.result (faults-at (c.fields_by_kind_of_selection.ensures.joined true) c.args.schema.now selections (length given) selection.now turn c.in_err-note_selection.ensures.memory)
+    let some = faults-at (c.fields_by_kind_of_selection.ensures.joined true) c.args.schema.now selections (length given) selection.now turn c.in_err-note_selection.ensures.memory in
+    MatchResult-from_err c.from_residual.result _ _ c.from_residual.ensures.0 (λ _. some)

@@ -1,13 +1,13 @@
-use Rattle.std.proofs.Common.{rules, ◌≡◌, Some, true, false, Result, Ok, Err, OnErr, Bor, refl, sym, ap, subst, ◌∙◌, true≢false}
+use Rattle.std.proofs.Common.{rules, ◌≡◌, Some, true, false, Result, Ok, Err, Bor, refl, sym, ap, subst, ◌∙◌, true≢false}
+use Rattle.std.proofs.lemmas.Result.{MatchResult-from_err}
 use Rattle.std.specs.declared.alloc.AllocError.{AllocError}
 use Rattle.graphql_nodes.specs.NodeView.{NodeView}
 use Rattle.apollo_executable.specs.Walks.Introspection.{IsMetaName}
-use Rattle.apollo_executable.specs.Walks.Nesting.{opens_lists}
 use Rattle.apollo_executable.specs.Walks.NextItem.{GivesFirst}
 use Rattle.apollo_executable.specs.declared.selection.Field.{Field}
 use Rattle.apollo_executable.specs.declared.selection.SelectionSet.{SelectionSet}
 use Rattle.apollo_executable.proofs.Walking.IntrospectionLemmas.{AreMeta, meta-introspection, introspection-meta}
-use Rattle.apollo_executable.proofs.Walking.WalkLemmas.{OnErr-any}
+use Rattle.apollo_executable.proofs.Walking.NestingLemmas.{refused-opens}
 use Rattle.apollo_executable.proofs.operation.Operation.is_introspection.Goals as goal
 
 pub returns-then-not-is_meta_name-clause-answer : goal.returns-then-not-is_meta_name-clause-answer
@@ -34,8 +34,8 @@ returns-clause-answer c =
 
 pub returns-in_err-field-clause-memory : goal.returns-in_err-field-clause-memory
 returns-in_err-field-clause-memory c =
-    let given : c.in-Some.field ≡ Err c.in_err-field.field-0.0 = search rules in
-    let steps = c.in-Some.ensures.steps in
-    let wants = subst (λ (r : Result (Bor (NodeView Field)) AllocError). OnErr r (opens_lists false c.next.new.self.start.selections ≡ true)) given steps.wants in
-    let start = steps.start ∙ c.loop-field.invariant.2 ∙ c.root_fields-walk.ensures.start_is in
-    OnErr-any _ c.from_residual.result (subst (λ (s : SelectionSet). opens_lists false s.selections ≡ true) start wants)
+    let set = c.args.self.now.selection_set in
+    let refused : c.in-Some.field ≡ Err c.in_err-field.field-0.0 = search rules in
+    let start = c.loop-field.invariant.2 ∙ c.root_fields-walk.ensures.start_is in
+    let opens = refused-opens false set c.loop-field.walk c.next.new.self c.in-Some.field c.in_err-field.field-0.0 c.in-Some.ensures.steps refused start in
+    MatchResult-from_err c.from_residual.result _ _ c.from_residual.ensures.0 (λ _. opens)
