@@ -1,12 +1,11 @@
 -- What follows for a build of the built-in definitions alone.
-use Rattle.std.proofs.Common.{◌≡◌, ◌≢◌, ℕ, ◌+◌, ◌^◌, ◌≤◌, false, List, [], Result, Ok, Err, refl, ap, subst, ◌∙◌, IfErr, arith}
+use Rattle.apollo_meaning.proofs.Prelude.{◌≡◌, ℕ, ◌+◌, ◌^◌, ◌≤◌, false, List, [], Result, refl, ap, subst, ◌∙◌, IfErr, arith, ListItem, Added, added, added_items, ◌≢◌, Ok, Err}
 use Rattle.apollo_schema.specs.declared.schema.Schema.{Schema}
 use Rattle.apollo_schema.specs.declared.build_failure.BuildFailure.{BuildFailure}
 use Rattle.apollo_schema.specs.declared.build_failure.BuildFailure.TheVariants as failures
 use Rattle.apollo_schema.specs.declared.schema_builder.SchemaBuilder.{SchemaBuilder}
 use Rattle.apollo_schema.specs.declared.state.State.{State}
 use Rattle.apollo_schema.specs.declared.state.State.TheVariants.{Open, Failed}
-use Rattle.apollo_meaning.specs.Items.ListItems.{ListItem, Added, added, added_items}
 use Rattle.apollo_built_in.specs.BuiltInTable.{built_in_definitions}
 use Rattle.apollo_meaning.specs.Faults.ListFaults.{faults_of}
 use Rattle.apollo_schema.specs.BuildAnswers.{IfFaults}

@@ -1,5 +1,5 @@
 -- What the proofs of clones cite.
-use Rattle.std.proofs.Common.{◌≡◌, Option, None, Some, ap, refl}
+use Rattle.apollo_meaning.proofs.Prelude.{◌≡◌, Option, None, Some, ap, refl}
 
 -- an option is a clone of another, where a clone of what it holds is the same
 abbrev pub IsOptionClone : {T : Type 0} → Option T → Option T → Type 0

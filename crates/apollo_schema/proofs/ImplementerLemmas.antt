@@ -1,25 +1,11 @@
 -- What `implementers_map` makes of types, one after another.
-use Rattle.std.proofs.Common.{◌≡◌, ℕ, Bool, true, false, cond, not, ◌||◌, ◌&&◌, List, [], ◌∷◌, ◌++◌, Some, None, map, filter, refl, sym, ap, ◌∙◌, append_assoc}
+use Rattle.apollo_meaning.proofs.Prelude.{◌≡◌, ℕ, Bool, true, false, cond, not, ◌||◌, ◌&&◌, List, [], ◌∷◌, ◌++◌, Some, None, map, filter, refl, sym, ap, ◌∙◌, append_assoc, list_any, flat_map, lookup, keys_of, set_value, append-nil, map-append, filter-append, list_any-append, flat_map-append, insert_entry, NameView, same_text, same-true, same-flip, first_of_each, ComponentName, first_of_each-push_old, list_any-first_of_each, name_laws, is_object, ExtendedType, Scalar, Object, Interface, Union, Enum, InputObject}
 use Rattle.std.specs.Prelude.{unwrap_or}
-use Rattle.std.specs.List.{list_any, flat_map}
-use Rattle.std.specs.Map.{lookup, keys_of, set_value}
 use Rattle.std.proofs.lemmas.Bool.{or_parts}
-use Rattle.std.proofs.lemmas.List.{append-nil, map-append}
-use Rattle.std.proofs.lemmas.List.Elements.{filter-append}
-use Rattle.std.proofs.lemmas.List.Folds.{list_any-append}
-use Rattle.std.proofs.lemmas.Grind.{flat_map-append}
-use Rattle.indexmap.specs.IndexMap.{insert_entry}
 use Rattle.indexmap.specs.IndexSet.{insert_key}
-use Rattle.graphql_nodes.specs.NameView.{NameView}
-use Rattle.graphql_nodes.specs.SameText.{same_text}
-use Rattle.graphql_nodes.proofs.Texts.{same-true, same-flip, same-refl}
-use Rattle.apollo_component.specs.FirstOfEach.{first_of_each}
-use Rattle.apollo_component.specs.declared.component.ComponentName.{ComponentName}
-use Rattle.apollo_component.proofs.FirstOfEachLemmas.{first_of_each-push_old, list_any-first_of_each, name_laws}
+use Rattle.graphql_nodes.proofs.Texts.{same-refl}
 use Rattle.apollo_component.proofs.Tabled.{tabled, first_of_each-distinct, first_of_each-insert, tabled-insert, lookup-tabled, insert_entry-found}
-use Rattle.apollo_types.specs.TypeKinds.{is_object, is_interface}
-use Rattle.apollo_types.specs.declared.extended_type.ExtendedType.{ExtendedType}
-use Rattle.apollo_types.specs.declared.extended_type.ExtendedType.TheVariants.{Scalar, Object, Interface, Union, Enum, InputObject}
+use Rattle.apollo_types.specs.TypeKinds.{is_interface}
 use Rattle.apollo_schema.specs.Lookups.{Types, declared_interfaces, is_listed, declares}
 use Rattle.apollo_schema.specs.Implementers.{names_declared, implementers_of, implementers_map}
 use Rattle.apollo_schema.specs.Noted.{no_implementers, with_name, noted, noted_under}

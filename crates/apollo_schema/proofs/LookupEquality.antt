@@ -1,9 +1,8 @@
 -- Equality of what lookups answer.
-use Rattle.std.proofs.Common.{refl, ap, Some}
-use Rattle.graphql_nodes.proofs.Comparisons.{Compares, At, of_part, and_then, pairs, names}
+use Rattle.apollo_meaning.proofs.Prelude.{refl, ap, Some, Compares, same_text}
+use Rattle.graphql_nodes.proofs.Comparisons.{At, of_part, and_then, pairs, names}
 use Rattle.graphql_nodes.proofs.TableEquality.{sets_of_names, tables_of_names}
 use Rattle.graphql_nodes.specs.Comparing.{entries_by_text}
-use Rattle.graphql_nodes.specs.SameText.{same_text}
 use Rattle.graphql_nodes.specs.Tables.{table_eq}
 use Rattle.apollo_types.proofs.TypeEquality.{extended_types}
 use Rattle.apollo_schema.specs.EqualLookups.{bare_implementers, bare_field_lookup_error}

@@ -1,15 +1,9 @@
 -- A list of definitions means one schema, but for its source files.
-use Rattle.std.proofs.Common.{◌≡◌, ℕ, Bool, List, map, sym, subst, ◌∙◌}
-use Rattle.std.specs.List.{IsDistinct, filter_map}
-use Rattle.graphql_nodes.specs.NodeView.{NodeView}
-use Rattle.graphql_nodes.specs.SameText.{same_text}
-use Rattle.graphql_ast.specs.declared.type_system.DirectiveDefinition.{DirectiveDefinition}
-use Rattle.apollo_component.proofs.FirstOfEachLemmas.{first_of_each-map, name_laws}
+use Rattle.apollo_meaning.proofs.Prelude.{◌≡◌, ℕ, Bool, List, map, sym, subst, ◌∙◌, filter_map, NodeView, same_text, DirectiveDefinition, name_laws, Directives, directive_definitions, Added, ListItem, defined_part, whole, type_names}
+use Rattle.std.specs.List.{IsDistinct}
+use Rattle.apollo_component.proofs.FirstOfEachLemmas.{first_of_each-map}
 use Rattle.apollo_component.proofs.Tabled.{entries_from_lookups, first_of_each-distinct}
-use Rattle.apollo_meaning.specs.Directives.{Directives, directive_definitions, directive_names}
-use Rattle.apollo_meaning.specs.Items.ListItems.{Added, ListItem, defined_part}
-use Rattle.apollo_meaning.specs.Schema.Whole.{whole}
-use Rattle.apollo_meaning.specs.Types.Meaning.{type_names}
+use Rattle.apollo_meaning.specs.Directives.{directive_names}
 use Rattle.apollo_meaning.proofs.Types.NameLemmas.{type_names-first}
 use Rattle.apollo_schema.specs.MeantSchema.{MeansSchema}
 use Rattle.apollo_schema.specs.declared.schema.Schema.{Schema}

@@ -1,10 +1,8 @@
 -- Equality of schemas.
-use Rattle.std.proofs.Common.{refl}
-use Rattle.graphql_nodes.specs.NodeView.{NodeView}
-use Rattle.graphql_nodes.proofs.Comparisons.{Compares, of_part, and_then, made}
+use Rattle.apollo_meaning.proofs.Prelude.{refl, NodeView, Compares, DirectiveDefinition}
+use Rattle.graphql_nodes.proofs.Comparisons.{of_part, and_then, made}
 use Rattle.graphql_nodes.proofs.TableEquality.{tables_of_names}
 use Rattle.graphql_ast.proofs.TypeSystemEquality.{directive_definitions}
-use Rattle.graphql_ast.specs.declared.type_system.DirectiveDefinition.{DirectiveDefinition}
 use Rattle.apollo_types.proofs.TypeEquality.{extended_types, schema_definitions}
 use Rattle.apollo_schema.specs.EqualSchemas.{bare_schema}
 use Rattle.apollo_schema.specs.declared.schema.Schema.{Schema}

@@ -1,21 +1,10 @@
 -- A type is a subtype of an interface where it is among the interface's implementers.
-use Rattle.std.proofs.Common.{◌≡◌, Bool, true, false, cond, ◌||◌, ◌&&◌, List, [], ◌∷◌, Option, Some, None, is_some, filter, refl, sym, ap, ◌∙◌, true≢false}
+use Rattle.apollo_meaning.proofs.Prelude.{◌≡◌, Bool, true, false, cond, ◌||◌, ◌&&◌, List, [], ◌∷◌, Option, Some, None, is_some, filter, refl, sym, ap, ◌∙◌, true≢false, list_any, flat_map, lookup, keys_of, option_map_or, list_any-append, NameView, same_text, same-true, first_of_each, is_some-lookup, list_any-first_of_each, name_laws, is_object, ExtendedType, Scalar, Object, Interface, Union, Enum, InputObject}
 use Rattle.std.proofs.lemmas.Bool.{or_parts}
-use Rattle.std.specs.List.{list_any, flat_map}
-use Rattle.std.specs.Map.{lookup, keys_of}
-use Rattle.std.specs.Option.{option_map_or}
-use Rattle.std.proofs.lemmas.List.Folds.{list_any-append}
 use Rattle.std.proofs.lemmas.Map.Entries.{lookup-filter-values, option_filter}
 use Rattle.graphql_nodes.specs.KeySets.{has_key}
-use Rattle.graphql_nodes.specs.NameView.{NameView}
-use Rattle.graphql_nodes.specs.SameText.{same_text}
 use Rattle.graphql_nodes.specs.Tables.{HasUniqueKeys}
-use Rattle.graphql_nodes.proofs.Texts.{same-true}
-use Rattle.apollo_component.specs.FirstOfEach.{first_of_each}
-use Rattle.apollo_component.proofs.FirstOfEachLemmas.{is_some-lookup, list_any-first_of_each, name_laws}
-use Rattle.apollo_types.specs.TypeKinds.{is_object, is_interface}
-use Rattle.apollo_types.specs.declared.extended_type.ExtendedType.{ExtendedType}
-use Rattle.apollo_types.specs.declared.extended_type.ExtendedType.TheVariants.{Scalar, Object, Interface, Union, Enum, InputObject}
+use Rattle.apollo_types.specs.TypeKinds.{is_interface}
 use Rattle.apollo_schema.specs.Lookups.{Types, type_at, interface_node, declares, declared_interfaces, is_subtype, is_subtype_of}
 use Rattle.apollo_schema.specs.Implementers.{names_declared, implementers_of, is_among, is_implementer}
 use Rattle.apollo_component.proofs.Tabled.{lookup-tabled}

@@ -1,5 +1,5 @@
 -- Schemas that are equal: GraphQL specification of October 2021, section 3. Their definitions are equal, and they have
--- equal types and directive definitions under each name, in any order. Places, origins and sources are left out.
+-- equal types and directive definitions under each name, in any order. Locations, origins and sources are left out.
 use Rattle.std.specs.Prelude.{◌≡◌, ℕ, List, Option}
 use Rattle.graphql_nodes.specs.Comparing.{entries_by_text}
 use Rattle.graphql_ast.specs.BareTypeSystem.{bare_directive_definition}

@@ -1,55 +1,24 @@
 -- What the tables of a list end it with is what the list ends with.
-use Rattle.std.proofs.Common.{◌≡◌, ℕ, ◌+◌, ◌^◌, ◌≤◌, Bool, false, cond, List, [], ◌∷◌, ◌++◌, length, map, Option, Some, None, is_some, true, refl, sym, ap, subst, ◌∙◌, append_assoc, true≢false}
-use Rattle.std.specs.List.{flat_map}
-use Rattle.std.specs.Map.{lookup, values_of}
-use Rattle.std.specs.Option.{option_map, option_map_or, option_or}
-use Rattle.std.proofs.lemmas.List.{append-nil}
+use Rattle.apollo_meaning.proofs.Prelude.{◌≡◌, ℕ, ◌+◌, ◌^◌, ◌≤◌, Bool, false, cond, List, [], ◌∷◌, ◌++◌, length, map, Option, Some, None, is_some, true, refl, sym, ap, subst, ◌∙◌, append_assoc, true≢false, flat_map, lookup, option_map, option_map_or, option_or, append-nil, NameView, NodeView, OperationType, Query, Mutation, Subscription, Definition, next_number, source_at, SchemaDefinition, TypePart, SchemaPart, TypeBody, schema_extension_part, kind_of, same_kind, roots_in, ListItem, SchemaDefined, extended_parts, first, first_schema, schema_extensions, Sourced, type_at, type_from, parts, AreTypesOf, orphan, schema_orphan, further_schema, extended_names, orphans_of, schema_orphans, schema_for, implied_schema, schema_begun, schema_begun_faults, by_text, schema_of, directive_definitions, AreDirectivesOf, folded, found_at, found}
+use Rattle.std.specs.Map.{values_of}
 use Rattle.std.proofs.lemmas.List.Folds.{flat_map-map}
-use Rattle.graphql_nodes.specs.NameView.{NameView}
-use Rattle.graphql_nodes.specs.NodeView.{NodeView}
 use Rattle.graphql_nodes.specs.OperationTexts.{default_type_text}
-use Rattle.graphql_nodes.specs.declared.operation_type.OperationType.{OperationType}
-use Rattle.graphql_nodes.specs.declared.operation_type.OperationType.TheVariants.{Query, Mutation, Subscription}
 use Rattle.graphql_nodes.specs.declared.type_kind.TypeKind.TheVariants as kinds
-use Rattle.graphql_ast.specs.declared.definition.Definition.{Definition}
-use Rattle.apollo_component.specs.Extensions.{next_number, source_at}
 use Rattle.apollo_types.specs.SchemaDefinitionWriteOut.{is_some_object}
-use Rattle.apollo_types.specs.declared.schema_definition.SchemaDefinition.{SchemaDefinition}
 use Rattle.apollo_schema.specs.declared.tables.Tables.{Tables}
-use Rattle.apollo_meaning.specs.Items.Parts.{TypePart, SchemaPart, TypeBody, ScalarBody, ObjectBody, InterfaceBody, UnionBody, EnumBody, InputObjectBody, schema_extension_part, kind_of, body_kind, same_kind, roots_in}
-use Rattle.apollo_meaning.specs.Items.ListItems.{ListItem, SchemaDefined, extended_parts}
-use Rattle.apollo_meaning.specs.Items.Named.{first, first_schema, schema_extensions}
-use Rattle.apollo_meaning.specs.Types.Components.{Sourced}
-use Rattle.apollo_meaning.specs.Types.Meaning.{type_at, type_from, parts, AreTypesOf}
-use Rattle.apollo_meaning.specs.Faults.TypeFaults.{orphan}
-use Rattle.apollo_meaning.specs.Faults.RootFaults.{schema_orphan, further_schema}
-use Rattle.apollo_meaning.specs.Completion.Adoption.{extended_names, orphans_of, schema_orphans}
-use Rattle.apollo_meaning.specs.Completion.ImpliedSchema.{is_object_name, default_root, implicit_root, implicit_roots, schema_for, implied_schema}
+use Rattle.apollo_meaning.specs.Items.Parts.{body_kind}
+use Rattle.apollo_meaning.specs.Completion.ImpliedSchema.{is_object_name, default_root, implicit_root, implicit_roots}
 use Rattle.apollo_folding.specs.HeldRoots.{held_root, held_roots}
-use Rattle.apollo_meaning.specs.Steps.Joining.{schema_begun, schema_begun_faults}
-use Rattle.graphql_nodes.specs.SameText.{by_text}
-use Rattle.apollo_meaning.specs.Schema.Definition.{schema_of}
-use Rattle.apollo_meaning.specs.Directives.{directive_definitions, AreDirectivesOf}
-use Rattle.apollo_meaning.specs.Steps.Prefixes.{folded, found_at, found}
 use Rattle.apollo_schema.specs.Stands.{Stands, Ends}
 use Rattle.apollo_meaning.proofs.Items.ItemLemmas.{first_schema-push_definition}
 use Rattle.apollo_meaning.proofs.Completion.OrphanLemmas.{held-orphans}
 use Rattle.apollo_schema.proofs.Stands.SchemaStandsLemmas.{schema_known, schema_unknown, Stands-schema_new, schema_new-spent}
 
-pub none-of : {X : Type 0} (o : Option X) → is_some o ≡ false → o ≡ None
-none-of None h = refl
-none-of (Some x) h = absurd (true≢false h)
-
 is_object-from : (d : TypePart) (ps : List Sourced) → is_some_object (Some (type_from d ps)) ≡ same_kind kinds.Object (kind_of d)
 is_object-from d ps = by d.body
   where
     by : (b : TypeBody) → is_some_object (Some (type_at b d ps)) ≡ same_kind kinds.Object (body_kind b)
-    by ScalarBody = refl
-    by (ObjectBody interfaces fields) = refl
-    by (InterfaceBody interfaces fields) = refl
-    by (UnionBody members) = refl
-    by (EnumBody values) = refl
-    by (InputObjectBody fields) = refl
+    by b = grind arith
 
 module _ {start : ℕ} {xs : List ListItem} {t : Tables} (was : Stands start xs t) where
   held-object : (n : List ℕ) → is_some_object (lookup (by_text n) t.types) ≡ is_object_name xs n

@@ -1,26 +1,11 @@
 -- The names under which something waits are those that are extended and not defined.
-use Rattle.std.proofs.Common.{◌≡◌, ℕ, ◌==◌, false, cond, List, [], ◌∷◌, ◌++◌, All, length, map, Option, Some, None, filter, refl, sym, ap, subst, ◌∙◌, arith}
-use Rattle.std.specs.List.{filter_map, flat_map, AllByRecursion}
-use Rattle.std.specs.Option.{option_or, option_map, option_map_or}
-use Rattle.std.specs.Map.{lookup, keys_of}
-use Rattle.std.proofs.lemmas.Bool.Decides.{nat_tests}
-use Rattle.std.proofs.lemmas.List.Elements.{filter-append, filter_map-append, All-from_recursion}
-use Rattle.graphql_nodes.specs.NameView.{NameView}
-use Rattle.graphql_ast.specs.declared.definition.Definition.{Definition}
+use Rattle.apollo_meaning.proofs.Prelude.{◌≡◌, ℕ, ◌==◌, false, cond, List, [], ◌∷◌, ◌++◌, All, length, map, Option, Some, None, filter, refl, sym, ap, subst, ◌∙◌, arith, filter_map, flat_map, AllByRecursion, option_or, option_map, option_map_or, lookup, keys_of, nat_tests, filter-append, filter_map-append, NameView, Definition, snoc_ind, TypePart, key_of, ListItem, Defined, Extended, SchemaDefined, SchemaExtended, Other, item_of, extended_part, items_held, same, by_text, first, extensions_of, type_from, parts, extended_names, orphans_of, folded, waited_at, waited, same-true, same-is, each-weaken, flat_map-each}
+use Rattle.std.proofs.lemmas.List.Elements.{All-from_recursion}
 use Rattle.apollo_schema.specs.declared.tables.Tables.{Tables}
-use Rattle.apollo_component.proofs.Lists.Ends.{snoc_ind}
-use Rattle.apollo_meaning.specs.Items.Parts.{TypePart, key_of}
-use Rattle.apollo_meaning.specs.Items.ListItems.{ListItem, Defined, Extended, SchemaDefined, SchemaExtended, Other, item_of, extended_part, items_held}
-use Rattle.graphql_nodes.specs.SameText.{same, by_text}
-use Rattle.apollo_meaning.specs.Items.Named.{first, extensions_of}
-use Rattle.apollo_meaning.specs.Types.Meaning.{type_from, parts}
-use Rattle.apollo_meaning.specs.Completion.Adoption.{extended_names, orphans_of}
-use Rattle.apollo_meaning.specs.Steps.Prefixes.{folded, waited_at, waited}
 use Rattle.apollo_schema.specs.Stands.{Stands}
 use Rattle.apollo_meaning.specs.Completion.OrphanNames.{first_name, orphan_names}
 use Rattle.apollo_schema.specs.NamesLeft.{name_if_any, names_held, IsExtendedUnder}
-use Rattle.graphql_nodes.proofs.Texts.{same-true, same-is}
-use Rattle.apollo_component.proofs.Lists.Each.{each-append, each-weaken, flat_map-each}
+use Rattle.apollo_component.proofs.Lists.Each.{each-append}
 use Rattle.apollo_meaning.proofs.Items.ItemLemmas.{first-push_definition, first-push_undefined, extensions_of-push_extension, waited-push}
 use Rattle.apollo_meaning.proofs.Completion.OrphanLemmas.{orphans-waited, held-waited}
 use Rattle.apollo_meaning.proofs.Types.TypeLemmas.{Own, Own-named}

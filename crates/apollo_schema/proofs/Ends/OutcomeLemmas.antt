@@ -1,11 +1,9 @@
 -- What follows from how a build ended.
-use Rattle.std.proofs.Common.{◌≡◌, ℕ, ◌+◌, ◌≤◌, Result, Ok, Err, List, ap, IfOk, IfErr, OnOk, arith}
+use Rattle.apollo_meaning.proofs.Prelude.{◌≡◌, ℕ, ◌+◌, ◌≤◌, Result, List, ap, IfErr, arith, next_number, source_at, Fault, Ok, Err, IfOk, OnOk}
 use Rattle.apollo_component.specs.declared.extension.ExtensionSource.{ExtensionSource}
-use Rattle.apollo_component.specs.Extensions.{next_number, source_at}
 use Rattle.apollo_schema.specs.declared.schema.Schema.{Schema}
 use Rattle.apollo_schema.specs.declared.build_failure.BuildFailure.{BuildFailure}
 use Rattle.apollo_schema.specs.declared.build_failure.BuildFailure.TheVariants as failures
-use Rattle.apollo_meaning.specs.Faults.Collisions.{Fault}
 use Rattle.apollo_schema.specs.BuildAnswers.{IfFaults, HasBuilt, WasRefused}
 
 -- what holds of an answer holds in a weaker form

@@ -1,16 +1,8 @@
 -- What is found at one more item.
-use Rattle.std.proofs.Common.{◌≡◌, ℕ, ◌+◌, Bool, true, false, cond, List, [], ◌∷◌, ◌++◌, map, Some, None, filter, refl, sym, ap, ◌∙◌}
-use Rattle.std.specs.List.{enumerate_from, filter_map}
-use Rattle.std.specs.Option.{option_map_or}
-use Rattle.apollo_meaning.specs.Items.Parts.{TypePart, kind_of, key_of}
-use Rattle.apollo_meaning.specs.Items.ListItems.{ListItem, Defined, Extended, Folding, OfType, OfSchema}
-use Rattle.graphql_nodes.specs.SameText.{same}
-use Rattle.apollo_meaning.specs.Items.Named.{first, extensions_of, of_kind}
-use Rattle.apollo_meaning.specs.Types.Components.{Sourced}
-use Rattle.apollo_meaning.specs.Types.Meaning.{extension_part, of_type, sourced, parts}
-use Rattle.apollo_meaning.specs.Faults.TypeFaults.{part_faults, extension_faults, further_definition}
-use Rattle.apollo_meaning.specs.Steps.Joining.{joining_faults, type_begun_faults}
-use Rattle.apollo_meaning.specs.Steps.Prefixes.{found_at, folded}
+use Rattle.apollo_meaning.proofs.Prelude.{◌≡◌, ℕ, ◌+◌, Bool, true, false, cond, List, [], ◌∷◌, ◌++◌, map, Some, None, filter, refl, sym, ap, ◌∙◌, filter_map, option_map_or, TypePart, kind_of, key_of, ListItem, Defined, Extended, Folding, OfType, OfSchema, same, first, extensions_of, of_kind, Sourced, extension_part, sourced, parts, part_faults, extension_faults, further_definition, joining_faults, found_at, folded}
+use Rattle.std.specs.List.{enumerate_from}
+use Rattle.apollo_meaning.specs.Types.Meaning.{of_type}
+use Rattle.apollo_meaning.specs.Steps.Joining.{type_begun_faults}
 use Rattle.apollo_meaning.proofs.Types.TypeLemmas.{type_foldings}
 use Rattle.apollo_folding.proofs.JoiningLemmas.{joining-one}
 use Rattle.apollo_meaning.proofs.Items.PartLemmas.{of_name}

@@ -1,16 +1,12 @@
 -- What a definition does that neither defines nor extends a type, and what the settings leave.
-use Rattle.std.proofs.Common.{◌≡◌, ◌⊎◌, inl, inr, false, List, [], ◌∷◌, refl, sym, ap, ◌∙◌, arith, Bor}
-use Rattle.graphql_nodes.specs.NodeView.{NodeView}
+use Rattle.apollo_meaning.proofs.Prelude.{◌≡◌, false, List, [], ◌∷◌, refl, sym, ap, ◌∙◌, arith, NodeView, Directives, directive_definitions, other_faults, Definition, Other, item_of, items_of, added, added_items, ◌⊎◌, inl, inr, Bor}
 use Rattle.graphql_ast.specs.Definitions.{location_of}
 use Rattle.graphql_ast.specs.DefinitionTexts.{definition_text}
 use Rattle.graphql_ast.specs.declared.operation.OperationDefinition.{OperationDefinition}
 use Rattle.graphql_ast.specs.declared.operation.FragmentDefinition.{FragmentDefinition}
 use Rattle.apollo_meaning.specs.declared.build_error.BuildError.TheVariants as errors
-use Rattle.apollo_meaning.specs.Directives.{Directives, directive_definitions}
-use Rattle.apollo_meaning.specs.Faults.OtherFaults.{other_faults}
-use Rattle.graphql_ast.specs.declared.definition.Definition.{Definition}
 use Rattle.graphql_ast.specs.declared.definition.Definition.TheVariants as ast
-use Rattle.apollo_meaning.specs.Items.ListItems.{Other, item_of, items_of, ignorable_if, added, added_items}
+use Rattle.apollo_meaning.specs.Items.ListItems.{ignorable_if}
 use Rattle.apollo_folding.specs.declared.views.ItemView.{ItemView}
 use Rattle.apollo_folding.specs.declared.views.ItemView.TheVariants as items
 use Rattle.apollo_folding.specs.Views.{item_seen}

@@ -1,30 +1,18 @@
 -- Tables that stand for a list stand for it with one more definition or extension of the schema, once the code has taken
 -- it.
-use Rattle.std.proofs.Common.{◌≡◌, ℕ, ◌+◌, ◌^◌, ◌≤◌, List, [], ◌∷◌, ◌++◌, length, map, Option, Some, None, refl, sym, ap, ◌∙◌, arith}
-use Rattle.std.specs.Option.{option_map, option_map_or, option_or, unwrap_or}
-use Rattle.std.specs.Map.{keys_of}
-use Rattle.std.proofs.lemmas.List.{append-nil, map-append}
-use Rattle.graphql_nodes.specs.NodeView.{NodeView}
+use Rattle.apollo_meaning.proofs.Prelude.{◌≡◌, ℕ, ◌+◌, ◌^◌, ◌≤◌, List, [], ◌∷◌, ◌++◌, length, map, Option, Some, None, refl, sym, ap, ◌∙◌, arith, option_map, option_map_or, option_or, unwrap_or, keys_of, append-nil, map-append, NodeView, next_number, source_at, SchemaDefinition, filter_map-push_none, SchemaPart, schema_extension_part, ListItem, SchemaDefined, SchemaExtended, first_schema, schema_extensions, SourcedSchema, schema_from, schema_faults, further_schema, directive_definitions, AreDirectivesOf, schema_numbered, schema_begun, schema_begun_faults, schemas_folded_at, folded}
+use Rattle.std.proofs.lemmas.List.{length-map}
 use Rattle.graphql_nodes.specs.declared.source.SourceSpan.{SourceSpan}
 use Rattle.graphql_ast.specs.declared.type_system.SchemaExtension.{SchemaExtension}
-use Rattle.apollo_component.specs.Extensions.{next_number, source_at}
 use Rattle.apollo_component.specs.declared.extension.ComponentOrigin.TheVariants as origins
-use Rattle.apollo_types.specs.declared.schema_definition.SchemaDefinition.{SchemaDefinition}
-use Rattle.apollo_component.proofs.Lists.Ends.{filter_map-push_none}
 use Rattle.apollo_meaning.specs.declared.build_error.BuildError.TheVariants as errors
 use Rattle.apollo_schema.specs.declared.tables.Tables.{Tables}
-use Rattle.apollo_meaning.specs.Items.Parts.{SchemaPart, schema_extension_part}
-use Rattle.apollo_meaning.specs.Items.ListItems.{ListItem, SchemaDefined, SchemaExtended}
-use Rattle.apollo_meaning.specs.Items.Named.{first_schema, schema_extensions}
-use Rattle.apollo_meaning.specs.Schema.Definition.{SourcedSchema, schema_from, schema_parts}
-use Rattle.apollo_meaning.specs.Faults.RootFaults.{schema_faults, further_schema}
-use Rattle.apollo_meaning.specs.Directives.{directive_part, directive_definitions, AreDirectivesOf}
-use Rattle.apollo_meaning.specs.Steps.Joining.{schema_numbered, schema_begun, schema_begun_faults}
-use Rattle.apollo_meaning.specs.Steps.Prefixes.{schemas_folded_at, folded}
+use Rattle.apollo_meaning.specs.Schema.Definition.{schema_parts}
+use Rattle.apollo_meaning.specs.Directives.{directive_part}
 use Rattle.apollo_schema.specs.Stands.{Stands}
 use Rattle.apollo_meaning.proofs.Items.ItemLemmas.{first_schema-push_definition, first_schema-push_undefined, schema_extensions-push_extension, schema_extensions-push_unextended}
 use Rattle.apollo_meaning.proofs.Schema.SchemaLemmas.{schema_of-same, schema_of-more, schema-unfolded, schema_sourced-parts}
-use Rattle.apollo_schema.proofs.Stands.StandsLemmas.{counted, length-map, at, same_types, same_waiting, same_names, same_directives, more_faults}
+use Rattle.apollo_schema.proofs.Stands.StandsLemmas.{counted, at, same_types, same_waiting, same_names, same_directives, more_faults}
 
 module _ {start : ℕ} {xs : List ListItem} {t : Tables} (was : Stands start xs t) where
   -- the schema has a definition exactly if the list has one
@@ -90,7 +78,7 @@ module _ {start : ℕ} {xs : List ListItem} {t : Tables} (was : Stands start xs 
       let waiting : map schema_extension_part t.schema_extensions ≡ schema_extensions xs = was.orphans ∙ ap (λ o. option_map_or (λ _. []) o (schema_extensions xs)) none in
       let folding : schemas_folded_at xs x ≡ schema_extensions xs = ap (λ o. option_map_or (λ _. []) o (schema_extensions xs)) none in
       let first : first_schema (xs ++ x ∷ []) ≡ Some s = first_schema-push_definition xs s ∙ ap (λ o. option_or o (Some s)) none in
-      let count : length t.schema_extensions ≡ length (schemas_folded_at xs x) = sym (length-map schema_extension_part t.schema_extensions) ∙ ap length (waiting ∙ sym folding) in
+      let count : length t.schema_extensions ≡ length (schemas_folded_at xs x) = sym (length-map t.schema_extensions schema_extension_part) ∙ ap length (waiting ∙ sym folding) in
       record {
         definition = definition
             ∙ (λ i. Some (schema_from s ((origins.Definition, s) ∷ schema_numbered (at was i) ((waiting ∙ sym folding) i))))
@@ -166,7 +154,7 @@ module _ {start : ℕ} {xs : List ListItem} {t : Tables} (was : Stands start xs 
       let x = SchemaDefined s in
       let folding : schemas_folded_at xs x ≡ map schema_extension_part t.schema_extensions =
       ap (λ o. option_map_or (λ _. []) o (schema_extensions xs)) none ∙ sym (was.orphans ∙ ap (λ o. option_map_or (λ _. []) o (schema_extensions xs)) none) in
-      omega (arith, full, length-map schema_extension_part t.schema_extensions, counted start xs x [] (map schema_extension_part t.schema_extensions) (next_number t.ids) (at was) refl folding)
+      omega (arith, full, length-map t.schema_extensions schema_extension_part, counted start xs x [] (map schema_extension_part t.schema_extensions) (next_number t.ids) (at was) refl folding)
 
   pub schema_late-spent : (e : SchemaPart) (held : NodeView SchemaDefinition) → t.schema_definition ≡ Some held
       → 2 ^ 64 ≤ next_number t.ids + 1 → 2 ^ 64 ≤ start + length (folded (xs ++ SchemaExtended e ∷ []))

@@ -1,35 +1,13 @@
 -- Tables that stand for a list stand for it with one more item, once the code has taken the item.
-use Rattle.std.proofs.Common.{◌≡◌, ℕ, suc, ◌+◌, ◌^◌, ◌≤◌, Bool, true, false, cond, List, [], ◌∷◌, ◌++◌, length, map, Option, Some, None, is_some, refl, sym, ap, subst, ◌∙◌, arith, length-append}
-use Rattle.std.specs.List.{filter_map}
-use Rattle.std.specs.Option.{option_map, option_map_or, unwrap_or}
-use Rattle.std.specs.Map.{lookup, keys_of, set_value}
-use Rattle.std.proofs.lemmas.List.{append-nil, map-append}
-use Rattle.std.proofs.lemmas.List.Elements.{filter_map-append}
-use Rattle.std.proofs.lemmas.Map.{keys-set_value}
-use Rattle.indexmap.specs.IndexMap.{insert_entry}
-use Rattle.graphql_nodes.specs.SameText.{same_text, same, by_text}
-use Rattle.graphql_ast.specs.declared.definition.Definition.{Definition}
-use Rattle.apollo_component.specs.Extensions.{next_number, source_at}
+use Rattle.apollo_meaning.proofs.Prelude.{◌≡◌, ℕ, ◌+◌, ◌^◌, ◌≤◌, Bool, true, false, cond, List, [], ◌∷◌, ◌++◌, length, map, Option, Some, None, is_some, refl, sym, ap, subst, ◌∙◌, arith, length-append, filter_map, option_map, option_map_or, unwrap_or, lookup, keys_of, set_value, append-nil, map-append, filter_map-append, keys-set_value, insert_entry, same_text, same, by_text, Definition, next_number, source_at, ExtendedType, TypePart, SchemaPart, schema_extension_part, kind_of, key_of, ListItem, Defined, Extended, Other, OfType, OfSchema, defined_part, extended_part, defined_schema, extended_schema, items_held, first, extensions_of, of_kind, Sourced, type_from, extension_part, numbered, parts, AreTypesOf, type_kind, directive_definitions, AreDirectivesOf, Fault, part_faults, further_definition, other_faults, schema_of, schema_orphans, orphans_of, joining_faults, types_folded_at, schemas_folded_at, folded_at, folded, found_at, found, waited_at, waited, same-true, same-is}
+use Rattle.std.proofs.lemmas.List.{length-map}
 use Rattle.apollo_component.specs.declared.extension.ComponentOrigin.TheVariants as origins
-use Rattle.apollo_types.specs.declared.extended_type.ExtendedType.{ExtendedType}
 use Rattle.apollo_schema.specs.declared.tables.Tables.{Tables}
-use Rattle.apollo_meaning.specs.Items.Parts.{TypePart, SchemaPart, schema_extension_part, kind_of, key_of}
-use Rattle.apollo_meaning.specs.Items.ListItems.{ListItem, Defined, Extended, Other, OfType, OfSchema, defined_part, extended_part, defined_schema, extended_schema, items_held}
-use Rattle.apollo_meaning.specs.Items.Named.{first, extensions_of, of_kind}
-use Rattle.apollo_meaning.specs.Types.Components.{Sourced}
-use Rattle.apollo_meaning.specs.Types.Meaning.{type_from, extension_part, numbered, parts, type_of, AreTypesOf}
-use Rattle.apollo_types.specs.TypeWriteOut.{type_kind}
-use Rattle.apollo_meaning.specs.Directives.{directive_part, directive_definitions, AreDirectivesOf}
-use Rattle.apollo_meaning.specs.Faults.Collisions.{Fault}
-use Rattle.apollo_meaning.specs.Faults.TypeFaults.{part_faults, further_definition}
-use Rattle.apollo_meaning.specs.Faults.OtherFaults.{other_faults}
-use Rattle.apollo_meaning.specs.Schema.Definition.{schema_of}
-use Rattle.apollo_meaning.specs.Completion.Adoption.{schema_orphans, orphans_of}
-use Rattle.apollo_meaning.specs.Steps.Joining.{joining_faults}
-use Rattle.apollo_meaning.specs.Steps.Prefixes.{types_folded_at, schemas_folded_at, folded_at, folded, found_at, found, waited_at, waited}
+use Rattle.apollo_meaning.specs.Types.Meaning.{type_of}
+use Rattle.apollo_meaning.specs.Directives.{directive_part}
 use Rattle.apollo_schema.specs.Stands.{Stands}
-use Rattle.graphql_nodes.proofs.Texts.{same-true, same-is}
 use Rattle.apollo_component.proofs.Lists.Ends.{filter_map-made}
+use Rattle.apollo_folding.proofs.KeptNames.{none-of}
 use Rattle.apollo_folding.proofs.NameTables.{lookup-put, keys-put, lookup-write}
 use Rattle.apollo_meaning.proofs.Items.ItemLemmas.{first-push_undefined, first_schema-push_undefined, schema_extensions-push_unextended, folded-push, found-push, waited-push}
 use Rattle.apollo_meaning.proofs.Schema.SchemaLemmas.{schema_of-same}
@@ -39,10 +17,6 @@ use Rattle.apollo_meaning.proofs.Order.FoldingLemmas.{type_kind-from}
 use Rattle.apollo_meaning.proofs.Types.TypeLemmas.{Own, Apart, Own-named, Own-of_kind, Apart-own, types_folded_at-new, types_folded_at-again, types_folded_at-early, types_folded_at-late, type_of-same, type_of-more, type_of-new}
 use Rattle.apollo_schema.proofs.Stands.WaitingLemmas.{orphans_of-undefined, type_names-new, type_names-again, type_names-undefined, first-again, first-other, first-own, orphans_of-new, orphans_of-again, orphans_of-late, orphans_of-early, orphans_of-neither}
 
-pub length-map : {A B : Type 0} (f : A → B) (xs : List A) → length (map f xs) ≡ length xs
-length-map f [] = refl
-length-map f (x ∷ xs) = ap (λ n. suc n) (length-map f xs)
-
 -- a list with an item that folds these folds that many more
 pub counted : (start : ℕ) (xs : List ListItem) (x : ListItem) (ps : List TypePart) (ss : List SchemaPart) (before : ℕ)
     → before ≡ start + length (folded xs) → types_folded_at xs x ≡ ps → schemas_folded_at xs x ≡ ss
@@ -50,7 +24,7 @@ pub counted : (start : ℕ) (xs : List ListItem) (x : ListItem) (ps : List TypeP
 counted start xs x ps ss before was types schemas =
     let here : length (folded_at xs x) ≡ length ps + length ss =
     length-append (map OfType (types_folded_at xs x)) (map OfSchema (schemas_folded_at xs x))
-    ∙ (λ i. length-map OfType (types_folded_at xs x) i + length-map OfSchema (schemas_folded_at xs x) i)
+    ∙ (λ i. length-map (types_folded_at xs x) OfType i + length-map (schemas_folded_at xs x) OfSchema i)
     ∙ (λ i. length (types i) + length (schemas i)) in
     let all : length (folded (xs ++ x ∷ [])) ≡ length (folded xs) + length (folded_at xs x) = ap length (folded-push xs x) ∙ length-append (folded xs) (folded_at xs x) in
     omega (arith, here, all, was)
@@ -77,11 +51,7 @@ module _ {start : ℕ} {xs : List ListItem} {t : Tables} (was : Stands start xs 
   known n = ap is_some (was.types.each n) ∙ is_some-map (λ d. type_from d (parts start (folded xs) n d)) (first xs n)
 
   undefined : (n : List ℕ) → is_some (lookup (by_text n) t.types) ≡ false → first xs n ≡ None
-  undefined n h = by (first xs n) refl
-    where
-      by : (o : Option TypePart) → first xs n ≡ o → first xs n ≡ None
-      by None e = e
-      by (Some d) e = let g = sym h ∙ known n ∙ ap is_some e in cc
+  undefined n h = none-of (first xs n) (sym (known n) ∙ h)
 
   defined : (n : List ℕ) → is_some (lookup (by_text n) t.types) ≡ true → (d : TypePart) × (first xs n ≡ Some d)
   defined n h = by (first xs n) refl

@@ -1,19 +1,6 @@
 -- The names and the waiting extensions of a list with one more item.
-use Rattle.std.proofs.Common.{◌≡◌, ℕ, Bool, true, false, cond, List, [], ◌∷◌, ◌++◌, map, Some, None, is_some, refl, sym, ap, ◌∙◌}
-use Rattle.std.specs.Option.{option_or}
-use Rattle.std.specs.Cmp.{IsEquivalence, on_equiv}
-use Rattle.std.specs.Cmp.Lexicographic.{nat_list_eq_equiv}
-use Rattle.std.proofs.lemmas.List.{append-nil, map-append}
-use Rattle.apollo_component.specs.FirstOfEach.{first_of_each, same_key}
-use Rattle.apollo_component.proofs.FirstOfEachLemmas.{is_some-lookup, first_of_each-push_new, first_of_each-push_old}
-use Rattle.apollo_meaning.specs.Items.Parts.{TypePart, key_of}
-use Rattle.apollo_meaning.specs.Items.ListItems.{ListItem, Defined, Extended, defined_part, extended_part}
-use Rattle.graphql_nodes.specs.SameText.{same}
-use Rattle.apollo_meaning.specs.Items.Named.{definitions, first, extensions_of}
-use Rattle.apollo_meaning.specs.Types.Meaning.{type_names}
-use Rattle.apollo_meaning.specs.Completion.Adoption.{orphans_of}
-use Rattle.graphql_nodes.proofs.Texts.{same-true, same-is}
-use Rattle.apollo_component.proofs.Lists.Ends.{or-none}
+use Rattle.apollo_meaning.proofs.Prelude.{◌≡◌, ℕ, Bool, true, false, cond, List, [], ◌∷◌, ◌++◌, map, Some, None, is_some, refl, sym, ap, ◌∙◌, option_or, IsEquivalence, on_equiv, nat_list_eq_equiv, append-nil, map-append, first_of_each, same_key, is_some-lookup, first_of_each-push_new, first_of_each-push_old, TypePart, key_of, ListItem, Defined, Extended, defined_part, extended_part, same, first, extensions_of, type_names, orphans_of, same-true, same-is, or-none}
+use Rattle.apollo_meaning.specs.Items.Named.{definitions}
 use Rattle.apollo_meaning.proofs.Items.ItemLemmas.{definitions-push_definition, definitions-push_undefined, first-push_definition, first-push_undefined, extensions_of-push_extension, extensions_of-push_unextended}
 
 by_key : IsEquivalence (same_key {V = TypePart} same)

@@ -1,8 +1,6 @@
-use Rattle.std.proofs.Common.{◌≡◌, ◌⊎◌, inl, inr, ℕ, List, refl}
-use Rattle.std.proofs.Math.Logic.{∥∥₁_map}
+use Rattle.apollo_meaning.proofs.Prelude.{◌≡◌, ℕ, List, refl, ∥∥₁_map, Added, added_items, ◌⊎◌, inl, inr}
 use Rattle.apollo_schema.specs.declared.state.State.{State}
 use Rattle.apollo_schema.specs.declared.state.State.TheVariants.{Open, Failed}
-use Rattle.apollo_meaning.specs.Items.ListItems.{Added, added_items}
 use Rattle.apollo_schema.specs.Stands.{HasStood, StateStands, StateFailed}
 use Rattle.apollo_schema.proofs.laws.every_builder_stands_for_a_list_or_has_failed.Goals as goal
 

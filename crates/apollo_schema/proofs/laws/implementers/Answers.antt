@@ -1,4 +1,4 @@
-use Rattle.std.proofs.Common.{sym, ◌∙◌}
+use Rattle.apollo_meaning.proofs.Prelude.{sym, ◌∙◌}
 use Rattle.apollo_schema.proofs.SubtypeLemmas.{subtype-implementer}
 use Rattle.apollo_schema.proofs.laws.implementers.Goals as goal
 

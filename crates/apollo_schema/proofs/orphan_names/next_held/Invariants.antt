@@ -1,4 +1,4 @@
-use Rattle.std.proofs.Common.{◌≡◌, length}
+use Rattle.apollo_meaning.proofs.Prelude.{◌≡◌, length}
 use Rattle.apollo_schema.specs.NamesLeft.{names_held}
 use Rattle.apollo_schema.proofs.orphan_names.next_held.Given as goal
 

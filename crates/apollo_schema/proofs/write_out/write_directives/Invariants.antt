@@ -1,4 +1,4 @@
-use Rattle.std.proofs.Common.{◌≡◌, ◌++◌, map}
+use Rattle.apollo_meaning.proofs.Prelude.{◌≡◌, ◌++◌, map}
 use Rattle.apollo_schema.specs.SchemaWriteOut.{write_directives}
 use Rattle.apollo_schema.proofs.write_out.write_directives.Given as goal
 

@@ -1,7 +1,5 @@
-use Rattle.std.proofs.Common.{[], ◌∷◌, map, sym, ap, ◌∙◌}
+use Rattle.apollo_meaning.proofs.Prelude.{[], ◌∷◌, map, sym, ap, ◌∙◌, map-append, is_object}
 use Rattle.std.specs.Map.Iter.{deref_pair}
-use Rattle.std.proofs.lemmas.List.{map-append}
-use Rattle.apollo_types.specs.TypeKinds.{is_object}
 use Rattle.apollo_schema.specs.Implementers.{implementers_map}
 use Rattle.apollo_schema.specs.Lookups.{declared_interfaces}
 use Rattle.apollo_schema.specs.Noted.{noted_under}

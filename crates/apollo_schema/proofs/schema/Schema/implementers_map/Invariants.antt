@@ -1,4 +1,4 @@
-use Rattle.std.proofs.Common.{◌≡◌, map}
+use Rattle.apollo_meaning.proofs.Prelude.{◌≡◌, map}
 use Rattle.std.specs.Map.Iter.{deref_pair}
 use Rattle.apollo_schema.specs.Implementers.{implementers_map}
 use Rattle.apollo_schema.proofs.schema.Schema.implementers_map.Given as goal

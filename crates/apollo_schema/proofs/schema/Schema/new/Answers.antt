@@ -1,8 +1,7 @@
-use Rattle.std.proofs.Common.{◌≡◌, false, Result, subst, IfErr}
+use Rattle.apollo_meaning.proofs.Prelude.{◌≡◌, false, Result, subst, IfErr, added}
 use Rattle.apollo_schema.specs.declared.schema.Schema.{Schema}
 use Rattle.apollo_schema.specs.declared.build_failure.BuildFailure.{BuildFailure}
 use Rattle.apollo_schema.specs.declared.build_failure.BuildFailure.TheVariants as failures
-use Rattle.apollo_meaning.specs.Items.ListItems.{added}
 use Rattle.apollo_built_in.specs.BuiltInTable.{built_in_definitions}
 use Rattle.apollo_schema.specs.MeantSchema.{MeansSchema}
 use Rattle.apollo_schema.proofs.BuiltInLemmas.{only-memory}

@@ -1,5 +1,4 @@
-use Rattle.std.proofs.Common.{◌≡◌, ◌++◌, map}
-use Rattle.std.specs.List.{flat_map}
+use Rattle.apollo_meaning.proofs.Prelude.{◌≡◌, ◌++◌, map, flat_map}
 use Rattle.graphql_nodes.specs.Tables.{values_of}
 use Rattle.apollo_schema.specs.SchemaWriteOut.{write_directives, write_held_schema_definition, write_held_type}
 use Rattle.apollo_schema.proofs.schema.Schema.to_ast.Given as goal

@@ -1,7 +1,4 @@
-use Rattle.std.proofs.Common.{◌≡◌, Some, sym, ap, ◌∙◌}
-use Rattle.std.specs.Map.{lookup, set_value}
-use Rattle.std.specs.Option.{option_copied_mut}
-use Rattle.graphql_nodes.specs.SameText.{same_text}
+use Rattle.apollo_meaning.proofs.Prelude.{◌≡◌, Some, sym, ap, ◌∙◌, lookup, set_value, option_copied_mut, same_text}
 use Rattle.apollo_schema.proofs.ImplementerLemmas.{noted-found}
 use Rattle.apollo_schema.proofs.schema.implementers_map.note.Goals as goal
 

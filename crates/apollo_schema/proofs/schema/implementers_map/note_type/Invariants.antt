@@ -1,5 +1,4 @@
-use Rattle.std.proofs.Common.{◌≡◌, take}
-use Rattle.apollo_types.specs.TypeKinds.{is_object}
+use Rattle.apollo_meaning.proofs.Prelude.{◌≡◌, take, is_object}
 use Rattle.apollo_schema.specs.Noted.{noted_under}
 use Rattle.apollo_schema.proofs.schema.implementers_map.note_type.Given as goal
 

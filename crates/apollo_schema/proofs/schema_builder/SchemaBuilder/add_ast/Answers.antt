@@ -1,12 +1,6 @@
-use Rattle.std.proofs.Common.{◌≡◌, ℕ, ◌+◌, ◌^◌, ◌≤◌, List, ◌++◌, length, sym, ap, subst, ◌∙◌}
-use Rattle.std.proofs.lemmas.List.{map-append}
-use Rattle.std.proofs.Math.Logic.{∥∥₁_map}
-use Rattle.apollo_component.specs.Extensions.{source_at}
+use Rattle.apollo_meaning.proofs.Prelude.{◌≡◌, ℕ, ◌+◌, ◌^◌, ◌≤◌, List, ◌++◌, length, sym, ap, subst, ◌∙◌, map-append, ∥∥₁_map, source_at, ListItem, Folding, added, added_item, added_items, folding_order, folded}
 use Rattle.apollo_folding.specs.declared.builder_error.BuilderError.{BuilderError}
 use Rattle.apollo_folding.specs.declared.builder_error.BuilderError.TheVariants.{ExtensionIds}
-use Rattle.apollo_meaning.specs.Items.ListItems.{ListItem, Folding, added, added_item, added_items}
-use Rattle.apollo_meaning.specs.Order.Places.{folding_order}
-use Rattle.apollo_meaning.specs.Steps.Prefixes.{folded}
 use Rattle.apollo_folding.specs.Refusals.{RefusedAs}
 use Rattle.apollo_schema.specs.declared.state.State.TheVariants.{Failed}
 use Rattle.apollo_schema.specs.Stands.{Stands, HasStood, StateStands}

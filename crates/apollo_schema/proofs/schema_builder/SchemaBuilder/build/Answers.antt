@@ -1,5 +1,4 @@
-use Rattle.std.proofs.Common.{ap, arith}
-use Rattle.apollo_component.specs.Extensions.{next_number}
+use Rattle.apollo_meaning.proofs.Prelude.{ap, arith, next_number}
 use Rattle.apollo_schema.proofs.schema_builder.SchemaBuilder.build.Goals as goal
 
 -- the source that is left has a number

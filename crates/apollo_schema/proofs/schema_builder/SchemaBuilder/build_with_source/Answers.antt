@@ -1,9 +1,7 @@
-use Rattle.std.proofs.Common.{◌+◌, List, length, sym, ap, subst, ◌∙◌}
+use Rattle.apollo_meaning.proofs.Prelude.{◌+◌, List, length, sym, ap, subst, ◌∙◌, source_at, Folding, added_items}
 use Rattle.std.proofs.Math.Logic.{∥∥₁_elim}
 use Rattle.std.proofs.Math.Bridge.{le_prop}
-use Rattle.apollo_component.specs.Extensions.{source_at}
 use Rattle.apollo_schema.specs.declared.state.State.{State}
-use Rattle.apollo_meaning.specs.Items.ListItems.{Folding, added_items}
 use Rattle.apollo_schema.specs.BuilderStands.{state_sources}
 use Rattle.apollo_schema.specs.Stands.{HasStood, StateStands}
 use Rattle.apollo_schema.proofs.Ends.OutcomeLemmas.{if_ok, on_ok, if_err}

@@ -1,11 +1,8 @@
-use Rattle.std.proofs.Common.{◌≡◌, false, is_some, All, ap, sym, subst}
+use Rattle.apollo_meaning.proofs.Prelude.{◌≡◌, false, is_some, All, ap, sym, subst, ∥∥₁_map, NameView, added_items, by_text}
 use mathlib.Core.Bool.{Bool-set}
-use Rattle.std.proofs.Math.Logic.{∥∥₁_map, ∥∥₁_elim}
+use Rattle.std.proofs.Math.Logic.{∥∥₁_elim}
 use Rattle.graphql_nodes.specs.Tables.{lookup}
-use Rattle.graphql_nodes.specs.NameView.{NameView}
 use Rattle.apollo_schema.specs.declared.state.State.{State}
-use Rattle.apollo_meaning.specs.Items.ListItems.{added_items}
-use Rattle.graphql_nodes.specs.SameText.{by_text}
 use Rattle.apollo_schema.specs.Stands.{HasStood, StateStands}
 use Rattle.apollo_schema.specs.NamesLeft.{names_left, IsExtendedUnder}
 use Rattle.apollo_schema.specs.BuilderHolds.{state_types, state_waiting}

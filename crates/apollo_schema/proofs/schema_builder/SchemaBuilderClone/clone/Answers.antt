@@ -1,4 +1,4 @@
-use Rattle.std.proofs.Common.{◌≡◌, refl}
+use Rattle.apollo_meaning.proofs.Prelude.{◌≡◌, refl}
 use Rattle.std.proofs.Math.Logic.{∥∥₁_prop}
 use mathlib.Core.HLevel.{is_prop→PathP}
 use Rattle.apollo_schema.specs.declared.schema_builder.SchemaBuilder.{SchemaBuilder}

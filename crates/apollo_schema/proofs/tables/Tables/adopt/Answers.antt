@@ -1,8 +1,4 @@
-use Rattle.std.proofs.Common.{◌≡◌, ◌+◌, ◌^◌, ◌≤◌, false, List, ◌++◌, length, sym, ap, subst, ◌∙◌}
-use Rattle.std.proofs.lemmas.Result.{err_from_is_err_and}
-use Rattle.apollo_meaning.specs.Items.ListItems.{ListItem, added, added_items, items_of}
-use Rattle.apollo_meaning.specs.Completion.Adoption.{adopted, with_adopted}
-use Rattle.apollo_meaning.specs.Steps.Prefixes.{folded}
+use Rattle.apollo_meaning.proofs.Prelude.{◌≡◌, ◌+◌, ◌^◌, ◌≤◌, false, List, ◌++◌, length, sym, ap, subst, ◌∙◌, err_from_is_err_and, ListItem, added, added_items, items_of, adopted, with_adopted, folded}
 use Rattle.apollo_schema.specs.Stands.{Stands}
 use Rattle.apollo_meaning.proofs.Completion.OrphanLemmas.{held-adopted}
 use Rattle.apollo_folding.proofs.RefusalLemmas.{RefusedAs-weaker}

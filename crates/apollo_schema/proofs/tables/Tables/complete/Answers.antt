@@ -1,7 +1,4 @@
-use Rattle.std.proofs.Common.{sym, ◌∙◌, arith}
-use Rattle.std.proofs.lemmas.Result.{err_from_is_err_and}
-use Rattle.apollo_meaning.specs.Completion.Adoption.{with_adopted}
-use Rattle.apollo_meaning.specs.Completion.ImpliedSchema.{implied_schema}
+use Rattle.apollo_meaning.proofs.Prelude.{sym, ◌∙◌, arith, err_from_is_err_and, with_adopted, implied_schema}
 use Rattle.apollo_meaning.proofs.Completion.CompletionLemmas.{faults-completed}
 use Rattle.apollo_folding.proofs.RefusalLemmas.{RefusedAs-weaker}
 use Rattle.apollo_meaning.proofs.Items.ItemLemmas.{length-folded-front}

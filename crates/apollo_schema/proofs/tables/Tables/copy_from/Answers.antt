@@ -1,4 +1,4 @@
-use Rattle.std.proofs.Common.{rules, ◌≡◌}
+use Rattle.apollo_meaning.proofs.Prelude.{rules, ◌≡◌}
 use Rattle.std.proofs.lemmas.List.Elements.{same_from_all_zip}
 use Rattle.apollo_schema.proofs.CloneLemmas.{same_option}
 use Rattle.apollo_schema.proofs.tables.Tables.copy_from.Goals as goal

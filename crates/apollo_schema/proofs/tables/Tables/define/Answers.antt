@@ -1,9 +1,5 @@
-use Rattle.std.proofs.Common.{is_some, refl, sym, ap, ◌∙◌}
-use Rattle.std.specs.List.{filter_map}
+use Rattle.apollo_meaning.proofs.Prelude.{is_some, refl, sym, ap, ◌∙◌, filter_map, err_from_is_err_and, TypePart, extended_part, extended_parts, items_of}
 use Rattle.std.specs.Option.{option_copied}
-use Rattle.std.proofs.lemmas.Result.{err_from_is_err_and}
-use Rattle.apollo_meaning.specs.Items.Parts.{TypePart}
-use Rattle.apollo_meaning.specs.Items.ListItems.{extended_part, extended_parts, items_of}
 use Rattle.apollo_folding.specs.Views.{part_seen}
 use Rattle.apollo_schema.proofs.Stands.StandsLemmas.{Stands-again, Stands-new, new-spent}
 use Rattle.apollo_folding.proofs.RefusalLemmas.{RefusedAs-weaker}

@@ -1,11 +1,6 @@
-use Rattle.std.proofs.Common.{◌+◌, [], Some, ◌∷◌, ◌++◌, length, map, refl, sym, subst, ◌∙◌}
-use Rattle.std.proofs.lemmas.Result.{err_from_is_err_and}
-use Rattle.apollo_component.specs.Extensions.{next_number, source_at}
+use Rattle.apollo_meaning.proofs.Prelude.{◌+◌, [], Some, ◌∷◌, ◌++◌, length, map, refl, sym, subst, ◌∙◌, err_from_is_err_and, next_number, source_at, SchemaDefined, schema_definition_part, schema_extension_part, schema_begun, schema_begun_faults}
 use Rattle.apollo_meaning.specs.declared.build_error.BuildError.TheVariants as errors
 use Rattle.apollo_schema.specs.declared.tables.Tables.{Tables}
-use Rattle.apollo_meaning.specs.Items.ListItems.{SchemaDefined}
-use Rattle.apollo_meaning.specs.Items.Parts.{schema_definition_part, schema_extension_part}
-use Rattle.apollo_meaning.specs.Steps.Joining.{schema_begun, schema_begun_faults}
 use Rattle.apollo_schema.specs.Stands.{Stands}
 use Rattle.apollo_folding.proofs.RefusalLemmas.{RefusedAs-weaker}
 use Rattle.apollo_schema.proofs.Stands.SchemaStandsLemmas.{Stands-schema_again, Stands-schema_new, schema_new-spent}

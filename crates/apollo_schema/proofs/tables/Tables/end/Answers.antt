@@ -1,15 +1,6 @@
-use Rattle.std.proofs.Common.{◌≡◌, ◌+◌, [], ◌∷◌, ◌++◌, length, map, Option, Some, refl, sym, ap, subst, ◌∙◌}
-use Rattle.std.specs.Option.{option_map_or}
-use Rattle.std.proofs.lemmas.Result.{err_from_is_err_and}
-use Rattle.graphql_nodes.specs.NodeView.{NodeView}
+use Rattle.apollo_meaning.proofs.Prelude.{◌≡◌, ◌+◌, [], ◌∷◌, ◌++◌, length, map, Option, Some, refl, sym, ap, subst, ◌∙◌, option_map_or, err_from_is_err_and, NodeView, next_number, source_at, SchemaDefined, schema_definition_part, schema_extension_part, schema_orphan, schema_begun, schema_begun_faults, implied_schema}
 use Rattle.graphql_ast.specs.declared.type_system.SchemaDefinition.{SchemaDefinition}
-use Rattle.apollo_component.specs.Extensions.{next_number, source_at}
 use Rattle.apollo_schema.specs.declared.tables.Tables.{Tables}
-use Rattle.apollo_meaning.specs.Items.ListItems.{SchemaDefined}
-use Rattle.apollo_meaning.specs.Items.Parts.{schema_definition_part, schema_extension_part}
-use Rattle.apollo_meaning.specs.Faults.RootFaults.{schema_orphan}
-use Rattle.apollo_meaning.specs.Steps.Joining.{schema_begun, schema_begun_faults}
-use Rattle.apollo_meaning.specs.Completion.ImpliedSchema.{implied_schema}
 use Rattle.apollo_schema.specs.Stands.{Ends}
 use Rattle.apollo_folding.proofs.RefusalLemmas.{RefusedAs-weaker}
 use Rattle.apollo_schema.proofs.Ends.EndLemmas.{Ends-none, Ends-some, implied-absent, implied-spent}

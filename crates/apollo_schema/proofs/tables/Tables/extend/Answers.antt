@@ -1,10 +1,4 @@
-use Rattle.std.proofs.Common.{◌≡◌, false, cond, [], ◌∷◌, ◌++◌, Some, is_some, refl, sym, ap, ◌∙◌}
-use Rattle.std.specs.Map.{lookup}
-use Rattle.std.specs.Option.{option_copied_mut}
-use Rattle.std.proofs.lemmas.Result.{err_from_is_err_and}
-use Rattle.graphql_nodes.specs.SameText.{same, by_text}
-use Rattle.apollo_meaning.specs.Items.Parts.{key_of}
-use Rattle.apollo_meaning.specs.Items.ListItems.{items_held}
+use Rattle.apollo_meaning.proofs.Prelude.{◌≡◌, false, cond, [], ◌∷◌, ◌++◌, Some, is_some, refl, sym, ap, ◌∙◌, lookup, option_copied_mut, err_from_is_err_and, same, by_text, key_of, items_held}
 use Rattle.apollo_folding.specs.Views.{part_seen}
 use Rattle.apollo_schema.proofs.Stands.StandsLemmas.{Stands-early, Stands-late, late-spent}
 use Rattle.apollo_folding.proofs.RefusalLemmas.{RefusedAs-weaker}

@@ -1,6 +1,4 @@
-use Rattle.std.proofs.Common.{refl, rules}
-use Rattle.std.proofs.lemmas.Result.{err_from_is_err_and}
-use Rattle.apollo_meaning.specs.Items.Parts.{schema_extension_part}
+use Rattle.apollo_meaning.proofs.Prelude.{refl, rules, err_from_is_err_and, schema_extension_part}
 use Rattle.apollo_folding.proofs.RefusalLemmas.{RefusedAs-weaker}
 use Rattle.apollo_schema.proofs.Stands.SchemaStandsLemmas.{Stands-schema_early, Stands-schema_late, schema_late-spent}
 use Rattle.apollo_schema.proofs.tables.Tables.extend_schema.Goals as goal

@@ -1,14 +1,9 @@
-use Rattle.std.proofs.Common.{◌≡◌, ℕ, ◌+◌, ◌^◌, ◌≤◌, List, length, sym, ap, subst, ◌∙◌}
-use Rattle.apollo_component.specs.Extensions.{source_at}
+use Rattle.apollo_meaning.proofs.Prelude.{◌≡◌, ℕ, ◌+◌, ◌^◌, ◌≤◌, List, length, sym, ap, subst, ◌∙◌, source_at, ListItem, Folding, added_items, whole, completed, folded}
 use Rattle.apollo_schema.specs.declared.build_failure.BuildFailure.TheVariants as failures
 use Rattle.apollo_folding.specs.declared.builder_error.BuilderError.{BuilderError}
 use Rattle.apollo_folding.specs.declared.builder_error.BuilderError.TheVariants as refusals
-use Rattle.apollo_meaning.specs.Items.ListItems.{ListItem, Folding, added_items}
-use Rattle.apollo_meaning.specs.Schema.Whole.{whole}
 use Rattle.apollo_folding.specs.Refusals.{RefusedAs}
 use Rattle.apollo_schema.specs.BuildAnswers.{failure_of}
-use Rattle.apollo_meaning.specs.Completion.ImpliedSchema.{completed}
-use Rattle.apollo_meaning.specs.Steps.Prefixes.{folded}
 use Rattle.apollo_schema.specs.Stands.{Stands}
 use Rattle.apollo_schema.proofs.Ends.OutcomeLemmas.{if_ok, on_ok, if_err, past, past-either}
 use Rattle.apollo_meaning.proofs.Order.MomentLemmas.{folding_order-forget}

@@ -1,8 +1,7 @@
-use Rattle.std.proofs.Common.{map, sym, ap, ◌∙◌}
-use Rattle.apollo_meaning.specs.Items.Parts.{schema_extension_part, roots_in}
-use Rattle.apollo_meaning.specs.Completion.ImpliedSchema.{schema_for}
+use Rattle.apollo_meaning.proofs.Prelude.{map, sym, ap, ◌∙◌, schema_extension_part, roots_in, schema_for}
 use Rattle.apollo_folding.specs.HeldRoots.{held_roots}
-use Rattle.apollo_schema.proofs.Ends.EndLemmas.{implied-standing, implied-held, none-of}
+use Rattle.apollo_folding.proofs.KeptNames.{none-of}
+use Rattle.apollo_schema.proofs.Ends.EndLemmas.{implied-standing, implied-held}
 use Rattle.apollo_schema.proofs.tables.Tables.implied_schema.Goals as goal
 
 pub returns-then-is_some : goal.returns-then-is_some

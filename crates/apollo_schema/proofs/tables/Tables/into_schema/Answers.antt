@@ -1,14 +1,9 @@
-use Rattle.std.proofs.Common.{◌≡◌, ℕ, ◌==◌, Bool, true, List, [], ◌∷◌, length, refl, sym, ap, subst, ◌∙◌, arith, true≢false}
-use Rattle.std.specs.Option.{unwrap_or}
-use Rattle.std.proofs.lemmas.Bool.Decides.{nat_tests}
+use Rattle.apollo_meaning.proofs.Prelude.{◌≡◌, ℕ, ◌==◌, Bool, true, List, length, sym, ap, subst, ◌∙◌, true≢false, unwrap_or, Folding, Added, added_items, AreTypesOf, directive_definitions, AreDirectivesOf, folded, whole}
+use Rattle.std.proofs.lemmas.Bool.{eqb-true}
+use Rattle.std.proofs.lemmas.List.{nil_from_length}
 use Rattle.apollo_schema.specs.declared.schema.Schema.{Schema}
 use Rattle.apollo_schema.specs.declared.tables.Tables.{Tables}
-use Rattle.apollo_meaning.specs.Items.ListItems.{Folding, Added, added_items}
-use Rattle.apollo_meaning.specs.Types.Meaning.{AreTypesOf}
-use Rattle.apollo_meaning.specs.Directives.{directive_definitions, AreDirectivesOf}
-use Rattle.apollo_meaning.specs.Steps.Prefixes.{folded}
 use Rattle.apollo_schema.specs.MeantSchema.{AreOf, MeansSchema}
-use Rattle.apollo_meaning.specs.Schema.Whole.{whole}
 use Rattle.apollo_meaning.specs.Schema.Definition.{no_schema}
 use Rattle.apollo_schema.specs.Stands.{Completes}
 use Rattle.apollo_meaning.proofs.Order.MomentLemmas.{folding_order-forget}
@@ -26,10 +21,6 @@ means start adopts xs t all schema definition types directives =
       directives = subst (AreDirectivesOf (directive_definitions (whole adopts xs))) (sym directives) all.directives;
     })
 
-none-empty : {X : Type 0} (l : List X) → (length l == 0) ≡ true → l ≡ []
-none-empty [] h = refl
-none-empty (x ∷ l) h = absurd (grind (arith, nat_tests, h))
-
 pub returns-then-is_empty-clause-built : goal.returns-then-is_empty-clause-built
 returns-then-is_empty-clause-built c =
     let e = c.in-Ok-from_parts.ensures in
@@ -38,7 +29,7 @@ returns-then-is_empty-clause-built c =
 
 pub returns-then-is_empty-clause-faultless : goal.returns-then-is_empty-clause-faultless
 returns-then-is_empty-clause-faultless c = λ start adopts xs all.
-    sym all.faults ∙ none-empty c.args.self.faults (sym c.is_empty.ensures ∙ c.if-is_empty.true)
+    sym all.faults ∙ nil_from_length c.args.self.faults (eqb-true (length c.args.self.faults) 0 (sym c.is_empty.ensures ∙ c.if-is_empty.true))
 
 pub returns-clause-faults : goal.returns-clause-faults
 returns-clause-faults c =

@@ -1,7 +1,4 @@
-use Rattle.std.proofs.Common.{◌≡◌, None, All, sym, subst, ◌∙◌}
-use Rattle.std.specs.Map.{lookup}
-use Rattle.graphql_nodes.specs.NameView.{NameView}
-use Rattle.graphql_nodes.specs.SameText.{by_text}
+use Rattle.apollo_meaning.proofs.Prelude.{◌≡◌, None, All, sym, subst, ◌∙◌, lookup, NameView, by_text}
 use Rattle.apollo_schema.specs.NamesLeft.{IsExtendedUnder}
 use Rattle.apollo_schema.proofs.Ends.OrphanNameLemmas.{names_held-Stands, orphan_names-untyped, orphan_names-extended}
 use Rattle.apollo_schema.proofs.tables.Tables.orphan_names.Goals as goal

@@ -1,9 +1,4 @@
-use Rattle.std.proofs.Common.{◌≡◌, ℕ, ◌+◌, ◌<◌, Bool, get_or, take, drop, List, [], ◌∷◌, ◌++◌, length, map, sym, ap, subst, ◌∙◌, append_assoc, arith}
-use Rattle.std.proofs.lemmas.List.{map-append, take_more, take-append-drop, take_all}
-use Rattle.std.proofs.lemmas.Result.{err_from_is_err_and}
-use Rattle.graphql_ast.specs.declared.definition.Definition.{Definition}
-use Rattle.apollo_meaning.specs.Items.ListItems.{ListItem, added, added_item, added_items}
-use Rattle.apollo_meaning.specs.Steps.Prefixes.{folded}
+use Rattle.apollo_meaning.proofs.Prelude.{◌≡◌, ℕ, ◌+◌, ◌<◌, Bool, get_or, take, drop, List, [], ◌∷◌, ◌++◌, length, map, sym, ap, subst, ◌∙◌, append_assoc, arith, map-append, take_more, take-append-drop, take_all, err_from_is_err_and, Definition, ListItem, added, added_item, added_items, folded}
 use Rattle.apollo_schema.specs.Stands.{Stands}
 use Rattle.apollo_meaning.proofs.Items.ItemLemmas.{length-folded-front}
 use Rattle.apollo_folding.proofs.RefusalLemmas.{RefusedAs-weaker}

@@ -1,5 +1,4 @@
-use Rattle.std.proofs.Common.{◌≡◌, ℕ, List, ◌++◌, take}
-use Rattle.apollo_meaning.specs.Items.ListItems.{ListItem, added, added_items}
+use Rattle.apollo_meaning.proofs.Prelude.{◌≡◌, ℕ, List, ◌++◌, take, ListItem, added, added_items}
 use Rattle.apollo_schema.specs.Stands.{Stands}
 use Rattle.apollo_schema.proofs.tables.Tables.take.Given as goal
 

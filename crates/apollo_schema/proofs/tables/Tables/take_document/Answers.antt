@@ -1,8 +1,4 @@
-use Rattle.std.proofs.Common.{◌≡◌, ◌+◌, ◌^◌, ◌≤◌, List, ◌++◌, length, subst}
-use Rattle.std.proofs.lemmas.Result.{err_from_is_err_and}
-use Rattle.graphql_ast.specs.declared.definition.Definition.{Definition}
-use Rattle.apollo_meaning.specs.Items.ListItems.{added, added_items}
-use Rattle.apollo_meaning.specs.Steps.Prefixes.{folded}
+use Rattle.apollo_meaning.proofs.Prelude.{◌≡◌, ◌+◌, ◌^◌, ◌≤◌, List, ◌++◌, length, subst, err_from_is_err_and, Definition, added, added_items, folded}
 use Rattle.apollo_schema.specs.Stands.{Stands}
 use Rattle.apollo_folding.proofs.RefusalLemmas.{RefusedAs-weaker}
 use Rattle.apollo_schema.proofs.tables.Tables.take_document.Goals as goal

@@ -1,9 +1,6 @@
-use Rattle.std.proofs.Common.{◌≡◌, [], ◌∷◌, ◌++◌, List, refl, sym, ap, subst, ◌∙◌}
-use Rattle.std.proofs.lemmas.List.{append-nil}
-use Rattle.graphql_ast.specs.declared.definition.Definition.{Definition}
+use Rattle.apollo_meaning.proofs.Prelude.{◌≡◌, [], ◌∷◌, ◌++◌, List, refl, sym, ap, subst, ◌∙◌, append-nil, Definition, directive_definitions, AreDirectivesOf, ListItem, Other, added_item}
 use Rattle.graphql_ast.specs.declared.definition.Definition.TheVariants as ast
-use Rattle.apollo_meaning.specs.Directives.{directive_definitions, AreDirectivesOf}
-use Rattle.apollo_meaning.specs.Items.ListItems.{ListItem, Other, added_item, ignorable_if}
+use Rattle.apollo_meaning.specs.Items.ListItems.{ignorable_if}
 use Rattle.apollo_folding.specs.Views.{item_seen}
 use Rattle.apollo_schema.specs.declared.tables.Tables.{Tables}
 use Rattle.apollo_schema.specs.Stands.{Stands}

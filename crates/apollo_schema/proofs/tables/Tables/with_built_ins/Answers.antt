@@ -1,7 +1,4 @@
-use Rattle.std.proofs.Common.{false, List, [], ◌∙◌, subst}
-use Rattle.graphql_ast.specs.declared.definition.Definition.{Definition}
-use Rattle.apollo_component.specs.Extensions.{next_number}
-use Rattle.apollo_meaning.specs.Items.ListItems.{added, added_items}
+use Rattle.apollo_meaning.proofs.Prelude.{false, List, [], ◌∙◌, subst, Definition, next_number, added, added_items}
 use Rattle.apollo_schema.specs.Stands.{Stands}
 use Rattle.apollo_schema.proofs.tables.Tables.with_built_ins.Goals as goal
 

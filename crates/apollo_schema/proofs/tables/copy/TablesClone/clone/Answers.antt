@@ -1,5 +1,4 @@
-use Rattle.std.proofs.Common.{◌≡◌, ap, ◌∙◌}
-use Rattle.apollo_component.specs.Extensions.{source_at}
+use Rattle.apollo_meaning.proofs.Prelude.{◌≡◌, ap, ◌∙◌, source_at}
 use Rattle.apollo_schema.proofs.tables.copy.TablesClone.clone.Goals as goal
 
 pub returns : goal.returns
