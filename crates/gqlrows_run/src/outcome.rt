@@ -27,7 +27,8 @@ impl Drop for Outcome {
 /// Runs the program in memory, with these words and this input, as [`run`] over bytes at hand.
 ///
 /// With status 0 or 1 the output is exactly the answer, and there is nothing on standard error. With 2 or 3 there is no output,
-/// and there is a cause. With 4 there was an answer, and no memory for the output. So want of memory is a status too.
+/// and there is a cause; but with 3 the output of `walk` may be a beginning of its answer. With 4 there was an answer, and no
+/// memory for all of the output, which is a beginning of it. So want of memory is a status too.
 pub fn outcome_of(alloc: Global, words: &[&str], input: &str) -> Outcome
     ensures { IsOutcome (map (λ word. word.now) words.now) input.now result.status result.output.items result.errors.items }
 {

@@ -4,7 +4,9 @@ use Rattle.std.proofs.lemmas.Bool.{eqb-true, true≢false}
 use Rattle.std.proofs.lemmas.List.{append-nil, nil_from_length}
 use Rattle.std.specs.List.{flat_map}
 use Rattle.graphql_nodes.specs.declared.source.SourceSpan.{SourceSpan}
+use Rattle.apollo_elaboration.specs.Typable.{Fault as DocumentFault}
 use Rattle.apollo_executable.specs.Erasure.{erased_definitions}
+use Rattle.apollo_executable.specs.declared.document.ExecutableDocument.{ExecutableDocument}
 use Rattle.leafcheck.specs.LeafFaults.{leaf_faults}
 use Rattle.apollo_coordinate.specs.CoordinateText.{IsCoordinateText, Says}
 use Rattle.apollo_coordinate.specs.declared.coordinates.SchemaCoordinate.{SchemaCoordinate}
@@ -20,7 +22,7 @@ use Rattle.gqltool_run.specs.CoordCommand.{IsFindingLine, coordinate_line, found
 use Rattle.gqltool_run.specs.FaultLines.{AreFaultLines}
 use Rattle.gqltool_run.specs.LeafCommand.{leaf_line}
 use Rattle.gqltool_run.specs.SchemaOptions.{AreSchemaWords}
-use Rattle.gqltool_run.specs.WalkCommand.{AreWalksText}
+use Rattle.gqltool_run.specs.WalkCommand.{AreLines, AreWalksText, any_fault}
 use Rattle.gqltool_run.specs.Tasks.{AreNoCommand, Ask, AskNoCoordinate}
 use Rattle.gqltool_run.proofs.FaultLineLemmas.{both-true, no-lines, not-false}
 
@@ -42,6 +44,12 @@ no_fault_lines text fs gs lines more none_first none_then tells tells_more =
     let second : more ≡ [] = no-lines gs more none_then tells_more in
     (λ i. text ++ (first i ++ second i)) ∙ append-nil text
 
+pub faultless_walks : (document : ExecutableDocument) (fs : List Fault) (gs : List DocumentFault) (text : List ℕ) → AreLines document fs gs text → any_fault fs gs ≡ false → AreWalksText document text
+faultless_walks document fs gs text says none =
+    let empty = both-true (length fs == 0) (length gs == 0) none in
+    let print : text ≡ says.walks = says.prints ∙ no_fault_lines says.walks fs gs says.schema_lines says.lines empty.0 empty.1 says.schema_tells says.tells in
+    subst (AreWalksText document) (sym print) says.walk
+
 -- an answer without faults is such as its command prints
 pub faultless_print : (task : Task) (input text : List ℕ) (has_faults : Bool) → IsAnswerOf task input text has_faults → has_faults ≡ false → IsPrintOf task text
 faultless_print (tasks.Schema options) input text has_faults is none =
@@ -52,10 +60,7 @@ faultless_print (tasks.Coord c) input text has_faults is none =
 faultless_print tasks.Doc input text has_faults is none =
     let empty = both-true (length is.schema_faults == 0) (length is.faults == 0) (sym is.any ∙ none) in
     (erased_definitions is.document, is.prints ∙ no_fault_lines (definitions_text (erased_definitions is.document)) is.schema_faults is.faults is.schema_lines is.lines empty.0 empty.1 is.schema_tells is.tells)
-faultless_print tasks.Walk input text has_faults is none =
-    let empty = both-true (length is.schema_faults == 0) (length is.faults == 0) (sym is.any ∙ none) in
-    let print : text ≡ is.walks = is.prints ∙ no_fault_lines is.walks is.schema_faults is.faults is.schema_lines is.lines empty.0 empty.1 is.schema_tells is.tells in
-    (is.document, subst (AreWalksText is.document) (sym print) is.walk)
+faultless_print tasks.Walk input text has_faults is none = (is.document, faultless_walks is.document is.schema_faults is.faults text is.says (sym is.any ∙ none))
 faultless_print tasks.Leaf input text has_faults is none =
     let leaves = leaf_faults is.schema is.document in
     let apart = both-true (length leaves == 0) ((length is.schema_faults == 0) && (length is.faults == 0)) (sym is.any ∙ none) in

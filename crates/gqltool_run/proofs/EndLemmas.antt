@@ -1,6 +1,7 @@
 -- Why there is no answer to words and an input, and how a run ends with an answer and without one.
-use Rattle.std.proofs.Common.{◌≡◌, ◌⊎◌, ℕ, Bool, false, List, All, Option, Some, None, Result, Ok, Err, IfSome, inl, inr, refl, ap, subst, ◌∙◌}
+use Rattle.std.proofs.Common.{◌≡◌, ◌⊎◌, ℕ, Bool, false, List, All, Option, Some, None, Result, Ok, Err, IfSome, inl, inr, refl, sym, ap, subst, ◌∙◌}
 use Rattle.std.proofs.lemmas.Option.{IfSome_then}
+use Rattle.std.proofs.KnownBytes.{Appends-trans}
 use Rattle.std.specs.Io.KnownBytes.{Appends}
 use Rattle.bench_notation.specs.Line.{IsLine, lines_of}
 use Rattle.gqltool_run.specs.declared.failure.Failure.{Failure}
@@ -11,10 +12,13 @@ use Rattle.gqltool_run.specs.declared.status.Status.{Status}
 use Rattle.gqltool_run.specs.declared.status.Status.TheVariants as s
 use Rattle.gqltool_run.specs.declared.task.Task.{Task}
 use Rattle.gqltool_run.specs.declared.task.Task.TheVariants as tasks
-use Rattle.gqltool_run.specs.Commands.{AppendAnswer, IsAnswerTo, IsCauseOf, IsPrintTo}
+use Rattle.gqltool_run.specs.Commands.{AppendAnswer, AppendBeginning, IsAnswerTo, IsCauseOf, IsPrintTo}
 use Rattle.gqltool_run.specs.Inputs.{IsInputCause}
-use Rattle.gqltool_run.specs.Runs.{IsCauseOver, IsCauseTo, IsWritten, MayEnd}
+use Rattle.gqltool_run.specs.Pieces.{GoesOut, IsBegun}
+use Rattle.gqltool_run.specs.Runs.{IsCauseOver, IsCauseTo, IsSentOut, IsWritten, MayEnd}
 use Rattle.gqltool_run.specs.Status.{Writes, failure_of_input, status_of}
+use Rattle.gqltool_run.specs.Tasks.{Ask}
+use Rattle.gqltool_run.proofs.PieceLemmas.{goes-further}
 
 -- what was read is the input, and so is the text that is handed on
 pub handed_on : (held : Option (List ℕ)) (read text : List ℕ) → text ≡ read → IfSome held (λ input. read ≡ input) → IfSome held (λ input. text ≡ input)
@@ -80,6 +84,20 @@ answer_appended : (words : List (List ℕ)) (held old new : Option (List ℕ)) (
 answer_appended words None old new text has_faults read means wrote = tt
 answer_appended words (Some input) old new text has_faults read means wrote = (read, (text, (means, wrote)))
 
+-- where a beginning of a text went out, the end of what is left of it is that of the whole text
+pub sent_out : (text left : List ℕ) (old middle new : Option (List ℕ)) (has_faults any : Bool) (status : Status) → GoesOut text old middle left → has_faults ≡ any → IsWritten left has_faults middle new status → IsSentOut text any old new status
+sent_out text left old middle new has_faults any s.Done goes same written = (sym same ∙ written.0, subst (Appends old new) (sym goes.1.1) (Appends-trans old middle new goes.0 left goes.1.0 written.1))
+sent_out text left old middle new has_faults any s.Faults goes same written = (sym same ∙ written.0, subst (Appends old new) (sym goes.1.1) (Appends-trans old middle new goes.0 left goes.1.0 written.1))
+sent_out text left old middle new has_faults any s.Refused goes same written = absurd written
+sent_out text left old middle new has_faults any s.Exhausted goes same written = absurd written
+sent_out text left old middle new has_faults any s.NotWritten goes same written = (written.0, goes-further text old middle new left written.0 goes written.1)
+
+-- of an answer a beginning is appended
+pub beginning_appended : (words : List (List ℕ)) (held old new : Option (List ℕ)) (text : List ℕ) (has_faults : Bool) → IfSome held (λ input. IsAnswerTo words input text has_faults) → IsBegun text old new → IfSome held (AppendBeginning words old new)
+beginning_appended words held old new text has_faults means begun =
+    IfSome_then held {P = λ input. IsAnswerTo words input text has_faults} {Q = AppendBeginning words old new} means
+    (λ input is. (begun.1.0, ((begun.0, (has_faults, subst (λ (t : List ℕ). IsAnswerTo words input t has_faults) begun.1.1.1 is)), begun.1.1.0)))
+
 -- with an answer it ends as writing that went
 pub with_answer : (words : List (List ℕ)) (held : Option (List ℕ)) (may_fail : Type 0) (old new : Option (List ℕ)) (text : List ℕ) (has_faults : Bool) (status : Status) → IsWritten text has_faults old new status
     → IfSome held (λ input. All IsLine (lines_of input)) → IfSome held (λ input. IsAnswerTo words input text has_faults) → (has_faults ≡ false → IsPrintTo words text)
@@ -92,8 +110,17 @@ with_answer words held may_fail old new text has_faults s.Faults written read me
     subst (λ (h : Bool). IfSome held (λ input. All IsLine (lines_of input) × AppendAnswer words h old new input)) written.0 (answer_appended words held old new text has_faults read means written.1)
 with_answer words held may_fail old new text has_faults s.Refused written read means prints = absurd written
 with_answer words held may_fail old new text has_faults s.Exhausted written read means prints = absurd written
-with_answer words held may_fail old new text has_faults s.NotWritten written read means prints =
-    IfSome_then held {P = λ input. IsAnswerTo words input text has_faults} {Q = λ input. (t : List ℕ) × ((h : Bool) × IsAnswerTo words input t h)} means (λ input is. (text, (has_faults, is)))
+with_answer words held may_fail old new text has_faults s.NotWritten written read means prints = beginning_appended words held old new text has_faults means written
+
+-- and so it does where the answer went out while it was made, but that memory may be wanting
+pub with_sent_answer : (words : List (List ℕ)) (task : Task) (held : Option (List ℕ)) (may_fail : Type 0) (old new : Option (List ℕ)) (text : List ℕ) (has_faults : Bool) (status : Status) → IsSentOut text has_faults old new status → Ask words task
+    → IfSome held (λ input. All IsLine (lines_of input)) → IfSome held (λ input. IsAnswerTo words input text has_faults) → (has_faults ≡ false → IsPrintTo words text)
+    → MayEnd words held may_fail old new status
+with_sent_answer words task held may_fail old new text has_faults s.Done sent asked read means prints = with_answer words held may_fail old new text has_faults s.Done sent read means prints
+with_sent_answer words task held may_fail old new text has_faults s.Faults sent asked read means prints = with_answer words held may_fail old new text has_faults s.Faults sent read means prints
+with_sent_answer words task held may_fail old new text has_faults s.Refused sent asked read means prints = absurd sent
+with_sent_answer words task held may_fail old new text has_faults s.Exhausted sent asked read means prints = (failures.Memory, (refl, inr (task, (asked, tt))))
+with_sent_answer words task held may_fail old new text has_faults s.NotWritten sent asked read means prints = with_answer words held may_fail old new text has_faults s.NotWritten sent read means prints
 
 -- where words are no command there is no answer, and a run is refused
 pub no_error : {A B : Type 0} {value : A} {error : B} → ◌≡◌ {A = Result A B} (Ok value) (Err error) → ⊥

@@ -2,4 +2,8 @@ pub mod AnswerLemmas
 pub mod CauseLemmas
 pub mod EndLemmas
 pub mod FaultLineLemmas
+pub mod FaultTextLemmas
+pub mod PieceLemmas
+pub mod PreparedLemmas
+pub mod WalkLineLemmas
 pub mod WalkTextLemmas

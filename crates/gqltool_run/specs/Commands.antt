@@ -51,13 +51,17 @@ IsAnswerTo words input text has_faults = (task : Task) × (Ask words task × IsA
 abbrev pub IsPrintTo : List (List ℕ) → List ℕ → Type 0
 IsPrintTo words text = (task : Task) × (Ask words task × IsPrintOf task text)
 
--- there is an answer to these words and this input
-abbrev pub HaveAnswer : List (List ℕ) → List ℕ → Type 0
-HaveAnswer words input = (text : List ℕ) × ((has_faults : Bool) × IsAnswerTo words input text has_faults)
+-- the text is a beginning of the answer to these words and this input
+abbrev pub IsBeginning : List (List ℕ) → List ℕ → List ℕ → Type 0
+IsBeginning words input text = (rest : List ℕ) × ((has_faults : Bool) × IsAnswerTo words input (text ++ rest) has_faults)
 
 -- the answer to these words and this input is appended
 abbrev pub AppendAnswer : List (List ℕ) → Bool → Option (List ℕ) → Option (List ℕ) → List ℕ → Type 0
 AppendAnswer words has_faults old new input = (text : List ℕ) × (IsAnswerTo words input text has_faults × Appends old new text)
+
+-- a beginning of the answer to these words and this input is appended
+abbrev pub AppendBeginning : List (List ℕ) → Option (List ℕ) → Option (List ℕ) → List ℕ → Type 0
+AppendBeginning words old new input = (text : List ℕ) × (IsBeginning words input text × Appends old new text)
 
 -- what these words answer where nothing is at fault is appended
 abbrev pub AppendPrint : List (List ℕ) → Option (List ℕ) → Option (List ℕ) → Type 0

@@ -6,6 +6,8 @@ pub mod DocumentBuilding
 pub mod FaultLines
 pub mod Inputs
 pub mod LeafCommand
+pub mod Pieces
+pub mod Prepared
 pub mod Runs
 pub mod SchemaCommand
 pub mod SchemaOptions

@@ -7,10 +7,11 @@ use Rattle.gqltool_run.specs.declared.failure.Failure.TheVariants as failures
 use Rattle.gqltool_run.specs.declared.status.Status.{Status}
 use Rattle.gqltool_run.specs.declared.status.Status.TheVariants as s
 use Rattle.gqltool_run.specs.declared.task.Task.{Task}
-use Rattle.gqltool_run.specs.Commands.{AppendAnswer, AppendPrint, HaveAnswer, IsCauseOf}
+use Rattle.gqltool_run.specs.Commands.{AppendAnswer, AppendBeginning, AppendPrint, IsCauseOf}
 use Rattle.gqltool_run.specs.Inputs.{CannotBeRead}
+use Rattle.gqltool_run.specs.Pieces.{IsBegun}
 use Rattle.gqltool_run.specs.Status.{Writes, status_of}
-use Rattle.gqltool_run.specs.Tasks.{AreNoCommand, Ask, AskNoCoordinate, IsRefusalOf}
+use Rattle.gqltool_run.specs.Tasks.{AreNoCommand, AreWalkWords, Ask, AskNoCoordinate, IsRefusalOf}
 
 -- In all of this an input holds `held`, if its bytes are known, and may fail for `may_fail`.
 
@@ -28,26 +29,35 @@ IsCauseTo words held may_fail failure = IsRefusalOf words failure ⊎ ((task : T
 abbrev pub HaveCause : List (List ℕ) → Option (List ℕ) → Type 0 → Status → Type 0
 HaveCause words held may_fail status = (failure : Failure) × ((status_of failure ≡ status) × IsCauseTo words held may_fail failure)
 
--- a run that has an answer ends so: the text is appended, and whether there are faults decides; or not all could be written
+-- a run that has its whole answer ends so: the text is appended, and whether there are faults decides; or not all could be written,
+-- and a beginning is
 abbrev pub IsWritten : List ℕ → Bool → Option (List ℕ) → Option (List ℕ) → Status → Type 0
 IsWritten text has_faults old new s.Done = (has_faults ≡ false) × Appends old new text
 IsWritten text has_faults old new s.Faults = (has_faults ≡ true) × Appends old new text
-IsWritten text has_faults old new s.NotWritten = Unit {0}
+IsWritten text has_faults old new s.NotWritten = IsBegun text old new
 IsWritten text has_faults old new _ = ⊥
 
--- a run on these words and an input may end so: what it writes is their answer, or there is a cause for which it writes none
+-- a run whose answer goes out while it is made ends so: memory may be wanting too, where a beginning is written
+abbrev pub IsSentOut : List ℕ → Bool → Option (List ℕ) → Option (List ℕ) → Status → Type 0
+IsSentOut text has_faults old new s.Exhausted = IsBegun text old new
+IsSentOut text has_faults old new status = IsWritten text has_faults old new status
+
+-- a run on these words and an input may end so: what it writes is their answer, or a beginning of it, or there is a cause for
+-- which it has none
 abbrev pub MayEnd : List (List ℕ) → Option (List ℕ) → Type 0 → Option (List ℕ) → Option (List ℕ) → Status → Type 0
 MayEnd words held may_fail old new s.Done = IfSome held (λ input. All IsLine (lines_of input) × AppendAnswer words false old new input) × AppendPrint words old new
 MayEnd words held may_fail old new s.Faults = IfSome held (λ input. All IsLine (lines_of input) × AppendAnswer words true old new input)
 MayEnd words held may_fail old new s.Refused = HaveCause words held may_fail s.Refused
 MayEnd words held may_fail old new s.Exhausted = HaveCause words held may_fail s.Exhausted
-MayEnd words held may_fail old new s.NotWritten = IfSome held (HaveAnswer words)
+MayEnd words held may_fail old new s.NotWritten = IfSome held (AppendBeginning words old new)
 
 -- a run on these words and an input that ended so, with its reader and its writers before it and after it
 pub record IsRun {R O E : Type 0} (words : List (List ℕ)) (held : Option (List ℕ)) (may_fail : Type 0) (contents : O → Option (List ℕ)) (reader reader_after : R) (output output_after : O) (errors errors_after : E) (status : Status) : Type 0 where
   pub ends : MayEnd words held may_fail (contents output) (contents output_after) status
   pub refused : status ≡ s.Refused → output_after ≡ output
-  pub exhausted : status ≡ s.Exhausted → output_after ≡ output
+  pub exhausted : status ≡ s.Exhausted → ¬ AreWalkWords words → output_after ≡ output
+  -- the answer of `walk` goes out while it is made, so where memory is wanting a beginning of it may be written
+  pub begun : status ≡ s.Exhausted → (output_after ≡ output) ⊎ IfSome held (AppendBeginning words (contents output) (contents output_after))
   pub quiet : Writes status → errors_after ≡ errors
   -- words that are no command are refused before anything is read, and so is a text of no coordinate, but for want of memory
   pub usage : AreNoCommand words → (status ≡ s.Refused) × (reader_after ≡ reader)

@@ -19,10 +19,6 @@ use Rattle.bench_notation.specs.HeaderWords.{name_word}
 use Rattle.gqltool_run.specs.DocumentBuilding.{IsBuiltDocument}
 use Rattle.gqltool_run.specs.FaultLines.{AreFaultLines}
 
--- a text of which P holds is added
-abbrev pub IsAdded : (List ℕ → Type 0) → List ℕ → List ℕ → Type 0
-IsAdded P old new = (said : List ℕ) × ((new ≡ old ++ said) × P said)
-
 -- the line of an operation, and that of what stands under this name among the fragments
 abbrev pub operation_line : Operation → List ℕ
 operation_line operation = codes "walk operation " ++ (operation_text operation.operation_type ++ (codes " " ++ (name_word operation.name ++ codes "\n")))
@@ -71,6 +67,20 @@ AreWalksText document text =
     (operations : List ℕ) × (AreSetsText document (map operation_set (all_operations document.operations)) operations
     × ((fragments : List ℕ) × (AreSetsText document (map fragment_set document.fragments) fragments × (text ≡ operations ++ fragments))))
 
+-- the text is that of the walks over a document, and then of the faults of its schema and its own
+pub record AreLines (document : ExecutableDocument) (schema_faults : List Fault) (faults : List DocumentFault) (text : List ℕ) : Type 0 where
+  pub walks : List ℕ
+  pub walk : AreWalksText document walks
+  pub schema_lines : List ℕ
+  pub schema_tells : AreFaultLines schema_faults schema_lines
+  pub lines : List ℕ
+  pub tells : AreFaultLines faults lines
+  pub prints : text ≡ walks ++ (schema_lines ++ lines)
+
+-- whether there is a fault
+abbrev pub any_fault : List Fault → List DocumentFault → Bool
+any_fault schema_faults faults = not ((length schema_faults == 0) && (length faults == 0))
+
 -- the text is that of the walks over the typed document that the input means, and then of its schema's faults and its own
 pub record IsWalkAnswer (input text : List ℕ) (has_faults : Bool) : Type 0 where
   pub schema : Schema
@@ -78,11 +88,5 @@ pub record IsWalkAnswer (input text : List ℕ) (has_faults : Bool) : Type 0 whe
   pub schema_faults : List Fault
   pub faults : List DocumentFault
   pub means : IsBuiltDocument input schema document schema_faults faults
-  pub walks : List ℕ
-  pub walk : AreWalksText document walks
-  pub schema_lines : List ℕ
-  pub lines : List ℕ
-  pub prints : text ≡ walks ++ (schema_lines ++ lines)
-  pub schema_tells : AreFaultLines schema_faults schema_lines
-  pub tells : AreFaultLines faults lines
-  pub any : has_faults ≡ not ((length schema_faults == 0) && (length faults == 0))
+  pub says : AreLines document schema_faults faults text
+  pub any : has_faults ≡ any_fault schema_faults faults

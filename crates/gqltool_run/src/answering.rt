@@ -1,19 +1,22 @@
 //! The answer to the words of the command line and an input.
 ghost use Rattle.std.specs.Prelude.{◌≡◌, All, Err, IfErr, IfOk, IfSome, IsErr, OnOk, false, string_bytes};
 ghost use Rattle.bench_notation.specs.Line.{IsLine, lines_of, texts_of};
-ghost use Rattle.gqltool_run.specs.Commands.{IsAnswerOf, IsAnswerTo, IsCauseOf, IsPrintTo};
+ghost use Rattle.gqltool_run.specs.Commands.{IsAnswerTo, IsCauseOf, IsPrintTo};
+ghost use Rattle.gqltool_run.specs.Prepared.{IsReadyOf, IsReadyTo};
 ghost use Rattle.gqltool_run.specs.Runs.{IsCauseTo};
 ghost use Rattle.gqltool_run.specs.Tasks.{AreNoCommand, AskNoCoordinate};
 
 use crate::answer::Answer;
 use crate::coord_command::coord_answer;
 use crate::doc_command::doc_answer;
+use crate::document_building::compile_documents;
 use crate::failure::Failure;
 use crate::input::Input;
 use crate::leaf_command::leaf_answer;
+use crate::prepared::Prepared;
 use crate::schema_command::schema_answer;
 use crate::task::{Task, read_task};
-use crate::walk_command::walk_answer;
+use crate::walk_command::whole_walk_answer;
 use apollo_coordinate::laws::coordinates;
 use graphql_nodes::collections::hash_keys::HashKeys;
 use std::alloc::Global;
@@ -40,26 +43,68 @@ pub fn answer_to<R: Input>(
     ensures usage { AreNoCommand (texts_of words.now) → (result ≡ Err Failure.Usage) × (reader.new ≡ reader.old) }
     ensures no_coordinate { AskNoCoordinate (texts_of words.now) → IsErr result × (reader.new ≡ reader.old) }
 {
+    match prepare(alloc, keys, words, reader) {
+        Ok(Prepared::Answer(answer)) => Ok(answer),
+        Ok(Prepared::Walks(compiled)) => whole_walk_answer(alloc, compiled),
+        Err(failure) => Err(failure),
+    }
+}
+
+/// What is ready to be said to these words and all that there is to read: after it nothing is refused any more.
+///
+/// The errors are those of [`answer_to`].
+pub(crate) fn prepare<R: Input>(
+    alloc: Global,
+    keys: HashKeys,
+    words: &[&str],
+    reader: &mut R,
+) -> Result<Prepared, Failure>
+    ensures read { OnOk result (IfSome (R.holds reader.old) (λ input. All IsLine (lines_of input))) }
+    ensures ready { IfOk result (IsReadyTo (texts_of words.now) (R.holds reader.old)) }
+    ensures causes { IfErr result (IsCauseTo (texts_of words.now) (R.holds reader.old) (R.may_fail reader.old)) }
+    ensures usage { AreNoCommand (texts_of words.now) → (result ≡ Err Failure.Usage) × (reader.new ≡ reader.old) }
+    ensures no_coordinate { AskNoCoordinate (texts_of words.now) → IsErr result × (reader.new ≡ reader.old) }
+{
     coordinates();
     let task = read_task(alloc, words)?;
     let input = reader.read_all(alloc)?;
-    answer_task(alloc, keys, &task, input.as_str())
+    prepare_task(alloc, keys, &task, input.as_str())
 }
 
-/// The answer to what was asked and an input.
+/// What is ready to be said to what was asked and an input.
 ///
 /// The errors are those of [`build_input`](crate::building::build_input), and of `doc`, `walk` and `leaf` those of
-/// [`compile_documents`](crate::document_building::compile_documents).
-fn answer_task(alloc: Global, keys: HashKeys, task: &Task, input: &str) -> Result<Answer, Failure>
+/// [`compile_documents`].
+fn prepare_task(
+    alloc: Global,
+    keys: HashKeys,
+    task: &Task,
+    input: &str,
+) -> Result<Prepared, Failure>
     ensures read { OnOk result (All IsLine (lines_of input.now)) }
-    ensures means { IfOk result (λ answer. IsAnswerOf task.now input.now (string_bytes answer.text) answer.has_faults) }
+    ensures ready { IfOk result (IsReadyOf task.now input.now) }
     ensures causes { IfErr result (IsCauseOf task.now input.now) }
 {
     match task {
-        Task::Schema(options) => schema_answer(alloc, keys, *options, input),
-        Task::Coord(coordinate) => coord_answer(alloc, keys, coordinate, input),
-        Task::Doc => doc_answer(alloc, keys, input),
-        Task::Walk => walk_answer(alloc, keys, input),
-        Task::Leaf => leaf_answer(alloc, keys, input),
+        Task::Schema(options) => match schema_answer(alloc, keys, *options, input) {
+            Ok(answer) => Ok(Prepared::Answer(answer)),
+            Err(failure) => Err(failure),
+        },
+        Task::Coord(coordinate) => match coord_answer(alloc, keys, coordinate, input) {
+            Ok(answer) => Ok(Prepared::Answer(answer)),
+            Err(failure) => Err(failure),
+        },
+        Task::Doc => match doc_answer(alloc, keys, input) {
+            Ok(answer) => Ok(Prepared::Answer(answer)),
+            Err(failure) => Err(failure),
+        },
+        Task::Walk => match compile_documents(alloc, keys, input) {
+            Ok(compiled) => Ok(Prepared::Walks(compiled)),
+            Err(failure) => Err(failure),
+        },
+        Task::Leaf => match leaf_answer(alloc, keys, input) {
+            Ok(answer) => Ok(Prepared::Answer(answer)),
+            Err(failure) => Err(failure),
+        },
     }
 }

@@ -1,7 +1,9 @@
 //! Faults as text.
-ghost use Rattle.std.specs.Prelude.{◌≡◌, ℕ, List, ◌++◌, OnOk, string_bytes};
+ghost use Rattle.std.specs.Prelude.{◌≡◌, ℕ, List, ◌++◌, OnErr, OnOk, string_bytes};
 ghost use Rattle.gqltool_run.specs.FaultLines.{AreFaultLines, fault_line, place_text};
+ghost use Rattle.gqltool_run.specs.Pieces.{IsCutShort, IsSaid};
 
+use crate::outlet::{CutShort, Outlet};
 use graphql_nodes::source::SourceSpan;
 use std::alloc::{AllocError, Global};
 use std::fmt::Display;
@@ -16,6 +18,23 @@ pub fn push_faults<E: Display>(
 {
     for fault in faults {
         push_fault(alloc, text, fault.0, &fault.1)?;
+    }
+    Ok(())
+}
+
+/// Adds the same lines, and lets the text out where it has grown long. The error is want of memory, or the outlet's.
+pub(crate) fn say_faults<O: Outlet, E: Display>(
+    alloc: Global,
+    text: &mut String,
+    outlet: &mut O,
+    faults: &[(Option<SourceSpan>, E)],
+) -> Result<(), CutShort>
+    ensures said { OnOk result (IsSaid (AreFaultLines faults.now) (O.sent outlet.old) (O.sent outlet.new) (string_bytes text.old) (string_bytes text.new)) }
+    ensures begun { OnErr result (IsCutShort (AreFaultLines faults.now) (O.sent outlet.old) (O.sent outlet.new) (string_bytes text.old)) }
+{
+    for fault in faults {
+        push_fault(alloc, text, fault.0, &fault.1)?;
+        outlet.let_out(text)?;
     }
     Ok(())
 }

@@ -1,30 +1,40 @@
 //! The run of the program.
-ghost use Rattle.std.specs.Prelude.{◌≡◌, OnOk, string_bytes};
+ghost use Rattle.std.specs.Prelude.{◌≡◌, ℕ, List, OnErr, OnOk, string_bytes};
 ghost use Rattle.std.specs.Io.KnownBytes.{Appends};
 ghost use Rattle.bench_notation.specs.Line.{texts_of};
-ghost use Rattle.gqltool_run.specs.Runs.{IsRun, IsWritten};
+ghost use Rattle.gqltool_run.specs.Pieces.{IsBegun};
+ghost use Rattle.gqltool_run.specs.Prepared.{AreLinesOf, has_fault};
+ghost use Rattle.gqltool_run.specs.Runs.{IsRun, IsSentOut, IsWritten};
 ghost use Rattle.gqltool_run.specs.Status.{Writes, status_of};
 
 use crate::answer::Answer;
-use crate::answering::answer_to;
+use crate::answering::prepare;
 use crate::failure::Failure;
 use crate::input::Input;
+use crate::leaving::leave;
+use crate::outlet::CutShort;
+use crate::prepared::Prepared;
 use crate::status::Status;
+use crate::walk_command::walk_answer;
+use crate::writing::write_text;
+use apollo_compiler::compiled::Compiled;
 use graphql_nodes::collections::hash_keys::HashKeys;
 use std::alloc::Global;
 use std::io::{self, Write};
 
 /// Runs the program on the words that follow its name, and answers how that ended.
 ///
-/// `Done` and `Faults`: exactly the answer of [`answer_to`] stands on `output`, behind what was there, and nothing was written
-/// on `errors`. The output is written only once all of it is there.
+/// `Done` and `Faults`: exactly the answer of [`answer_to`](crate::answering::answer_to) stands on `output`, behind what was there, and nothing was written
+/// on `errors`. The output is written only once all of it is there; but that of `walk`, which may be long, goes out piece by
+/// piece while it is made, once nothing can be refused any more.
 ///
-/// `Refused` and `Exhausted`: nothing was written on `output`, for an error that `answer_to` has. The message of that error is
-/// written on `errors`, as one line, or as more where the text of `coord` has line feeds. Words that are no command, and `coord`
-/// with a text of no coordinate, are refused before anything is read.
+/// `Refused` and `Exhausted`: nothing was written on `output`, for an error that `answer_to` has. Where memory is wanting while
+/// the answer of `walk` is made, a beginning of it may be written. The message of the error is written on `errors`, as one line,
+/// or as more where the text of `coord` has line feeds. Words that are no command, and `coord` with a text of no coordinate, are
+/// refused before anything is read.
 ///
-/// `NotWritten`: there was an answer, and not all of it was written. Nothing is said of what went out. `cannot write output` is
-/// written on `errors`.
+/// `NotWritten`: there was an answer, and not all of it was written: what went out is a beginning of it. `cannot write output`
+/// is written on `errors`.
 ///
 /// That something cannot be said on `errors` changes nothing, and but for `Done` and `Faults` no clause says what stands there.
 /// Tables hash by fixed keys: for an input from strangers, take [`run_with_keys`].
@@ -54,8 +64,9 @@ pub fn run_with_keys<R: Input, O: Write, E: Write>(
 ) -> Status
     ensures { IsRun (texts_of words.now) (R.holds reader.old) (R.may_fail reader.old) O.contents reader.old reader.new output.old output.new errors.old errors.new result }
 {
-    match answer_to(alloc, keys, words, reader) {
-        Ok(answer) => end_with_answer(&answer, output, errors),
+    match prepare(alloc, keys, words, reader) {
+        Ok(Prepared::Answer(answer)) => end_with_answer(&answer, output, errors),
+        Ok(Prepared::Walks(compiled)) => end_with_walks(alloc, compiled, output, errors),
         Err(failure) => end_without_answer(failure, errors),
     }
 }
@@ -76,17 +87,43 @@ fn end_with_answer<O: Write, E: Write>(answer: &Answer, output: &mut O, errors: 
     match write_out(output, answer.text.as_str()) {
         Ok(()) if answer.has_faults => Status::Faults,
         Ok(()) => Status::Done,
-        Err(_) => {
-            let _ = writeln!(errors, "cannot write output");
-            Status::NotWritten
-        }
+        Err(_) => end_unwritten(errors),
     }
 }
 
-/// Writes all of a text, and has it written through. The error is the writer's, after which some of it may be written.
-pub fn write_out<O: Write>(output: &mut O, text: &str) -> io::Result<()>
-    ensures { OnOk result (Appends (O.contents output.old) (O.contents output.new) text.now) }
+/// Says the answer of `walk` on what the input is compiled to, piece by piece, and ends as that went.
+fn end_with_walks<O: Write, E: Write>(
+    alloc: Global,
+    compiled: Compiled,
+    output: &mut O,
+    errors: &mut E,
+) -> Status
+    ensures sent { (text : List ℕ) × (AreLinesOf compiled text × IsSentOut text (has_fault compiled) (O.contents output.old) (O.contents output.new) result) }
+    ensures quiet { Writes result → errors.new ≡ errors.old }
 {
-    output.write_all(text.as_bytes())?;
+    match walk_answer(alloc, &compiled, output) {
+        Ok(last) => {
+            leave(compiled);
+            end_with_answer(&last, output, errors)
+        }
+        Err(CutShort::Memory) => end_without_answer(Failure::Memory, errors),
+        Err(CutShort::NotWritten) => end_unwritten(errors),
+    }
+}
+
+/// Says that the output can't be written, and ends so.
+fn end_unwritten<E: Write>(errors: &mut E) -> Status
+    ensures { result ≡ Status.NotWritten }
+{
+    let _ = writeln!(errors, "cannot write output");
+    Status::NotWritten
+}
+
+/// Writes all of a text, and has it written through. The error is the writer's, after which a beginning of the text is written.
+pub fn write_out<O: Write>(output: &mut O, text: &str) -> io::Result<()>
+    ensures written { OnOk result (Appends (O.contents output.old) (O.contents output.new) text.now) }
+    ensures begun { OnErr result (IsBegun text.now (O.contents output.old) (O.contents output.new)) }
+{
+    write_text(output, text)?;
     output.flush()
 }

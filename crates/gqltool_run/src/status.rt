@@ -9,7 +9,8 @@ pub enum Status {
     Faults,
     /// The words or the input are refused. No output is written.
     Refused,
-    /// Memory or extension identities were wanting; in `gqlbench` also the clock, or random keys. No output is written.
+    /// Memory or extension identities were wanting; in `gqlbench` also the clock, or random keys. No output is written, but of
+    /// `gqltool walk` there may be a beginning.
     Exhausted,
     /// Not all of the output could be written.
     NotWritten,

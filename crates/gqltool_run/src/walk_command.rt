@@ -1,83 +1,145 @@
 //! The command `walk`.
-ghost use Rattle.std.specs.Prelude.{◌≡◌, ◌++◌, All, false, map, true, IfOk, IfErr, OnOk, codes, string_bytes};
+ghost use Rattle.std.specs.Prelude.{◌≡◌, ◌++◌, ℕ, Bool, List, [], false, map, true, IfErr, IfOk, OnErr, OnOk, codes, string_bytes};
 ghost use Rattle.bench_notation.specs.HeaderWords.{name_word};
-ghost use Rattle.bench_notation.specs.Line.{IsLine, lines_of};
 ghost use Rattle.apollo_executable.specs.Operations.{all_operations};
-ghost use Rattle.gqltool_run.specs.DocumentBuilding.{IsDocumentCause};
-ghost use Rattle.gqltool_run.specs.WalkCommand.{AreSetsText, AreWalksText, IsAdded, IsSetText, IsWalkAnswer, IsWalkText, fragment_set, operation_line, operation_set, turns_line};
+ghost use Rattle.apollo_executable.specs.Walks.WalkView.{TakesAllTurns};
+ghost use Rattle.apollo_executable.specs.declared.document.ExecutableDocument.{ExecutableDocument};
+ghost use Rattle.apollo_executable.specs.declared.selection.SelectionSet.{SelectionSet};
+ghost use Rattle.gqltool_run.specs.Pieces.{GoesOut, IsBegun, IsCutShort, IsSaid};
+ghost use Rattle.gqltool_run.specs.Prepared.{AreLinesOf, has_fault};
+ghost use Rattle.gqltool_run.specs.WalkCommand.{AreSetsText, AreWalksText, IsSetText, IsWalkText, fragment_set, operation_line, operation_set, turns_line};
 
 use crate::answer::Answer;
-use crate::document_building::{compile_documents, has_faults};
+use crate::document_building::has_faults;
 use crate::failure::Failure;
-use crate::fault_printing::push_faults;
+use crate::fault_printing::say_faults;
 use crate::leaving::leave;
+use crate::outlet::{CutShort, Kept, Outlet};
 use crate::output_line::push_line;
+use apollo_compiler::compiled::Compiled;
 use apollo_executable::document::ExecutableDocument;
 use apollo_executable::operation::Operation;
-use apollo_executable::selection::SelectionSet;
-use graphql_nodes::collections::hash_keys::HashKeys;
+use apollo_executable::selection::{Field, SelectionSet};
+use apollo_walks::laws::{walks_reach_each_field_once, walks_take_few_turns};
+use graphql_nodes::node::Node;
 use std::alloc::{AllocError, Global};
 
-/// The answer of `walk` to an input: for each operation and then each fragment of the typed document the lines of its walks,
-/// then a line for each fault of the schema, and then one for each fault of the document.
+/// The answer of `walk` on what an input is compiled to: for each operation and then each fragment of the typed document the
+/// lines of its walks, then a line for each fault of the schema, and then one for each fault of the document.
 ///
-/// The errors are those of [`compile_documents`]. What was built is left to the end of the process, but after an error.
-pub fn walk_answer(alloc: Global, keys: HashKeys, input: &str) -> Result<Answer, Failure>
-    ensures read { OnOk result (All IsLine (lines_of input.now)) }
-    ensures means { IfOk result (λ answer. IsWalkAnswer input.now (string_bytes answer.text) answer.has_faults) }
-    ensures causes { IfErr result (IsDocumentCause input.now) }
+/// Its text goes out while it is made, and what is still held of it is answered. The error is want of memory, or the outlet's:
+/// then a beginning of the text went out.
+pub(crate) fn walk_answer<O: Outlet>(
+    alloc: Global,
+    compiled: &Compiled,
+    outlet: &mut O,
+) -> Result<Answer, CutShort>
+    ensures said { IfOk result (λ answer. IsSaid (AreLinesOf compiled.now) (O.sent outlet.old) (O.sent outlet.new) [] (string_bytes answer.text)) }
+    ensures faults { IfOk result (λ answer. answer.has_faults ≡ has_fault compiled.now) }
+    ensures begun { OnErr result (IsCutShort (AreLinesOf compiled.now) (O.sent outlet.old) (O.sent outlet.new) []) }
 {
-    let compiled = compile_documents(alloc, keys, input)?;
     let mut text = String::new(alloc);
-    push_walks(alloc, &mut text, &compiled.document)?;
-    push_faults(alloc, &mut text, compiled.schema_faults.as_slice())?;
-    push_faults(alloc, &mut text, compiled.document_faults.as_slice())?;
-    let answer = Answer {
+    push_walks(alloc, &mut text, outlet, &compiled.document)?;
+    say_faults(alloc, &mut text, outlet, compiled.schema_faults.as_slice())?;
+    say_faults(
+        alloc,
+        &mut text,
+        outlet,
+        compiled.document_faults.as_slice(),
+    )?;
+    Ok(Answer {
         text,
-        has_faults: has_faults(&compiled),
-    };
-    leave(compiled);
-    Ok(answer)
+        has_faults: has_faults(compiled),
+    })
+}
+
+/// The same answer with its whole text. The error is want of memory. What the input was compiled to is left to the end of the
+/// process, but after the error.
+pub(crate) fn whole_walk_answer(alloc: Global, compiled: Compiled) -> Result<Answer, Failure>
+    ensures text { IfOk result (λ answer. AreLinesOf compiled (string_bytes answer.text)) }
+    ensures faults { IfOk result (λ answer. answer.has_faults ≡ has_fault compiled) }
+    ensures memory { IfErr result (λ failure. failure ≡ Failure.Memory) }
+{
+    match walk_answer(alloc, &compiled, &mut Kept) {
+        Ok(answer) => {
+            leave(compiled);
+            Ok(answer)
+        }
+        // Nothing goes out, so memory is all that can be wanting.
+        Err(_) => Err(Failure::Memory),
+    }
+}
+
+/// Each walk over a set takes some number of turns, and the walks over each set have lines.
+fn walks_have_texts()
+    ensures turns { (deep : Bool) (document : ExecutableDocument) (set : SelectionSet) → (turns : ℕ) × TakesAllTurns deep document set turns }
+    ensures texts { (document : ExecutableDocument) (set : SelectionSet) → (text : List ℕ) × IsSetText document set text }
+{
+    walks_reach_each_field_once::<Node<Field>>();
+    walks_take_few_turns::<Node<Field>>();
+}
+
+/// Adds a line, and lets the text out where it has grown long.
+fn say_line<O: Outlet>(
+    text: &mut String,
+    outlet: &mut O,
+    first: &str,
+    second: &str,
+) -> Result<(), CutShort>
+    ensures held { OnOk result (GoesOut (string_bytes text.old ++ (first.now ++ (second.now ++ codes "\n"))) (O.sent outlet.old) (O.sent outlet.new) (string_bytes text.new)) }
+    ensures begun { OnErr result (IsBegun (string_bytes text.old ++ (first.now ++ (second.now ++ codes "\n"))) (O.sent outlet.old) (O.sent outlet.new)) }
+{
+    push_line(text, first, second)?;
+    outlet.let_out(text)
 }
 
 /// Adds the walks of all operations and fragments.
-fn push_walks(
+fn push_walks<O: Outlet>(
     alloc: Global,
     text: &mut String,
+    outlet: &mut O,
     document: &ExecutableDocument,
-) -> Result<(), AllocError>
-    ensures { OnOk result (IsAdded (AreWalksText document.now) (string_bytes text.old) (string_bytes text.new)) }
+) -> Result<(), CutShort>
+    ensures said { OnOk result (IsSaid (AreWalksText document.now) (O.sent outlet.old) (O.sent outlet.new) (string_bytes text.old) (string_bytes text.new)) }
+    ensures begun { OnErr result (IsCutShort (AreWalksText document.now) (O.sent outlet.old) (O.sent outlet.new) (string_bytes text.old)) }
 {
-    push_operations(alloc, text, document)?;
-    push_fragments(alloc, text, document)
+    walks_have_texts();
+    push_operations(alloc, text, outlet, document)?;
+    push_fragments(alloc, text, outlet, document)
 }
 
 /// Adds the walks of all operations, each below its line.
-fn push_operations(
+fn push_operations<O: Outlet>(
     alloc: Global,
     text: &mut String,
+    outlet: &mut O,
     document: &ExecutableDocument,
-) -> Result<(), AllocError>
-    ensures { OnOk result (IsAdded (AreSetsText document.now (map operation_set (all_operations document.now.operations))) (string_bytes text.old) (string_bytes text.new)) }
+) -> Result<(), CutShort>
+    ensures said { OnOk result (IsSaid (AreSetsText document.now (map operation_set (all_operations document.now.operations))) (O.sent outlet.old) (O.sent outlet.new) (string_bytes text.old) (string_bytes text.new)) }
+    ensures begun { OnErr result (IsCutShort (AreSetsText document.now (map operation_set (all_operations document.now.operations))) (O.sent outlet.old) (O.sent outlet.new) (string_bytes text.old)) }
 {
+    walks_have_texts();
     for operation in document.operations.iter() {
         push_operation_line(text, operation)?;
-        push_set(alloc, text, document, &operation.selection_set)?;
+        push_set(alloc, text, outlet, document, &operation.selection_set)?;
     }
     Ok(())
 }
 
 /// Adds the walks of all fragments, each below its line.
-fn push_fragments(
+fn push_fragments<O: Outlet>(
     alloc: Global,
     text: &mut String,
+    outlet: &mut O,
     document: &ExecutableDocument,
-) -> Result<(), AllocError>
-    ensures { OnOk result (IsAdded (AreSetsText document.now (map fragment_set document.now.fragments)) (string_bytes text.old) (string_bytes text.new)) }
+) -> Result<(), CutShort>
+    ensures said { OnOk result (IsSaid (AreSetsText document.now (map fragment_set document.now.fragments)) (O.sent outlet.old) (O.sent outlet.new) (string_bytes text.old) (string_bytes text.new)) }
+    ensures begun { OnErr result (IsCutShort (AreSetsText document.now (map fragment_set document.now.fragments)) (O.sent outlet.old) (O.sent outlet.new) (string_bytes text.old)) }
 {
+    walks_have_texts();
     for (name, fragment) in document.fragments.iter() {
         push_line(text, "walk fragment ", name.as_str())?;
-        push_set(alloc, text, document, &fragment.selection_set)?;
+        push_set(alloc, text, outlet, document, &fragment.selection_set)?;
     }
     Ok(())
 }
@@ -102,55 +164,70 @@ fn name_word(operation: &Operation) -> &str
 }
 
 /// Adds the lines of the walk over root fields of a set, and those of the walk over all of its fields.
-fn push_set(
+fn push_set<O: Outlet>(
     alloc: Global,
     text: &mut String,
+    outlet: &mut O,
     document: &ExecutableDocument,
     set: &SelectionSet,
-) -> Result<(), AllocError>
-    ensures { OnOk result (IsAdded (IsSetText document.now set.now) (string_bytes text.old) (string_bytes text.new)) }
+) -> Result<(), CutShort>
+    ensures said { OnOk result (IsSaid (IsSetText document.now set.now) (O.sent outlet.old) (O.sent outlet.new) (string_bytes text.old) (string_bytes text.new)) }
+    ensures begun { OnErr result (IsCutShort (IsSetText document.now set.now) (O.sent outlet.old) (O.sent outlet.new) (string_bytes text.old)) }
 {
-    push_root_walk(alloc, text, document, set)?;
-    push_whole_walk(alloc, text, document, set)
+    walks_have_texts();
+    push_root_walk(alloc, text, outlet, document, set)?;
+    push_whole_walk(alloc, text, outlet, document, set)
 }
 
 /// Adds the lines of the walk over root fields of a set.
-fn push_root_walk(
+fn push_root_walk<O: Outlet>(
     alloc: Global,
     text: &mut String,
+    outlet: &mut O,
     document: &ExecutableDocument,
     set: &SelectionSet,
-) -> Result<(), AllocError>
-    ensures { OnOk result (IsAdded (IsWalkText false (codes "root ") (codes "root-turns ") document.now set.now) (string_bytes text.old) (string_bytes text.new)) }
+) -> Result<(), CutShort>
+    ensures said { OnOk result (IsSaid (IsWalkText false (codes "root ") (codes "root-turns ") document.now set.now) (O.sent outlet.old) (O.sent outlet.new) (string_bytes text.old) (string_bytes text.new)) }
+    ensures begun { OnErr result (IsCutShort (IsWalkText false (codes "root ") (codes "root-turns ") document.now set.now) (O.sent outlet.old) (O.sent outlet.new) (string_bytes text.old)) }
 {
+    walks_have_texts();
     let mut walk = set.root_fields(alloc, document);
     while let Some(field) = walk.next() {
-        push_line(text, "root ", field?.response_key().as_str())?;
+        say_line(text, outlet, "root ", field?.response_key().as_str())?;
     }
-    push_turns(alloc, text, "root-turns ", walk.turns())
+    say_turns(alloc, text, outlet, "root-turns ", walk.turns())
 }
 
 /// Adds the lines of the walk over all fields of a set.
-fn push_whole_walk(
+fn push_whole_walk<O: Outlet>(
     alloc: Global,
     text: &mut String,
+    outlet: &mut O,
     document: &ExecutableDocument,
     set: &SelectionSet,
-) -> Result<(), AllocError>
-    ensures { OnOk result (IsAdded (IsWalkText true (codes "all ") (codes "all-turns ") document.now set.now) (string_bytes text.old) (string_bytes text.new)) }
+) -> Result<(), CutShort>
+    ensures said { OnOk result (IsSaid (IsWalkText true (codes "all ") (codes "all-turns ") document.now set.now) (O.sent outlet.old) (O.sent outlet.new) (string_bytes text.old) (string_bytes text.new)) }
+    ensures begun { OnErr result (IsCutShort (IsWalkText true (codes "all ") (codes "all-turns ") document.now set.now) (O.sent outlet.old) (O.sent outlet.new) (string_bytes text.old)) }
 {
+    walks_have_texts();
     let mut walk = set.all_fields(alloc, document);
     while let Some(field) = walk.next() {
-        push_line(text, "all ", field?.response_key().as_str())?;
+        say_line(text, outlet, "all ", field?.response_key().as_str())?;
     }
-    push_turns(alloc, text, "all-turns ", walk.turns())
+    say_turns(alloc, text, outlet, "all-turns ", walk.turns())
 }
 
-/// Adds the line of a number of turns.
-fn push_turns(alloc: Global, text: &mut String, word: &str, turns: u64) -> Result<(), AllocError>
-    ensures { OnOk result (string_bytes text.new ≡ string_bytes text.old ++ turns_line word.now turns) }
+/// Adds the line of a number of turns, and lets the text out where it has grown long.
+fn say_turns<O: Outlet>(
+    alloc: Global,
+    text: &mut String,
+    outlet: &mut O,
+    word: &str,
+    turns: u64,
+) -> Result<(), CutShort>
+    ensures held { OnOk result (GoesOut (string_bytes text.old ++ turns_line word.now turns) (O.sent outlet.old) (O.sent outlet.new) (string_bytes text.new)) }
+    ensures begun { OnErr result (IsBegun (string_bytes text.old ++ turns_line word.now turns) (O.sent outlet.old) (O.sent outlet.new)) }
 {
-    text.push_str(word)?;
-    text.push_str(turns.to_string(alloc)?.as_str())?;
-    text.push_str("\n")
+    let number = turns.to_string(alloc)?;
+    say_line(text, outlet, word, number.as_str())
 }

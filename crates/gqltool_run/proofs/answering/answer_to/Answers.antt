@@ -1,75 +1,73 @@
-use Rattle.std.proofs.Common.{◌≡◌, ℕ, List, All, IfSome, false, inl, inr, string_bytes, subst}
-use Rattle.std.proofs.lemmas.Option.{IfSome_then}
-use Rattle.std.proofs.lemmas.Result.{IfErr-weaker, IfOk-weaker, err_from_is_err_and, on_ok_weaker}
+use Rattle.std.proofs.Common.{◌≡◌, false, All, IfOk, IfSome, Result, Ok, Err, string_bytes, sym, subst, inr, ◌∙◌}
+use Rattle.std.proofs.lemmas.Bool.{true≢false}
+use Rattle.std.proofs.lemmas.Result.{IfErr-weaker, IfOk-weaker}
 use Rattle.bench_notation.specs.Line.{IsLine, lines_of, texts_of}
 use Rattle.gqltool_run.specs.declared.answer.Answer.{Answer}
-use Rattle.gqltool_run.specs.Commands.{IsAnswerOf, IsAnswerTo, IsCauseOf, IsPrintTo}
+use Rattle.gqltool_run.specs.declared.failure.Failure.{Failure}
+use Rattle.gqltool_run.specs.declared.failure.Failure.TheVariants as failures
+use Rattle.gqltool_run.specs.declared.prepared.Prepared.TheVariants as prepared
+use Rattle.gqltool_run.specs.declared.task.Task.TheVariants as tasks
+use Rattle.gqltool_run.specs.Commands.{IsAnswerTo, IsPrintTo}
+use Rattle.gqltool_run.specs.Prepared.{AreLinesOf, IsReadyTo, has_fault}
 use Rattle.gqltool_run.specs.Runs.{IsCauseTo}
-use Rattle.gqltool_run.proofs.AnswerLemmas.{asked_apart, faultless_print}
-use Rattle.gqltool_run.proofs.EndLemmas.{cause_over, handed_on, input_cause}
+use Rattle.gqltool_run.proofs.EndLemmas.{no_error}
+use Rattle.gqltool_run.proofs.PreparedLemmas.{walks_answer, walks_print}
 use Rattle.gqltool_run.proofs.answering.answer_to.Goals as goal
 
-pub returns-in_err-task-clause-causes : goal.returns-in_err-task-clause-causes
-returns-in_err-task-clause-causes g c =
-    let exit = err_from_is_err_and c.from_residual.result c.from_residual.ensures.1 in
-    rw (exit.1, exit.2) (inl c.in_err-task.ensures.refused)
+both_ok : {T E : Type 0} (P Q : T → Type 0) (r : Result T E) → IfOk r P → IfOk r Q → IfOk r (λ x. P x × Q x)
+both_ok P Q (Ok x) p q = (p, q)
+both_ok P Q (Err e) p q = tt
 
-pub returns-in_err-input-clause-causes : goal.returns-in_err-input-clause-causes
-returns-in_err-input-clause-causes g c =
-    let exit = err_from_is_err_and c.from_residual-in_err-input.result c.from_residual-in_err-input.ensures.1 in
-    let task = c.in_ok-task.task in
-    let held = g.R.Input.holds c.args.reader.now in
-    rw (exit.1, exit.2) (inr (task, (c.in_ok-task.ensures.asked, input_cause task held (g.R.Input.may_fail c.args.reader.now) c.in_err-input.field-0.0 c.in_err-input.ensures.causes)))
+pub returns-in-Ok-Answer-clause-means : goal.returns-in-Ok-Answer-clause-means
+returns-in-Ok-Answer-clause-means g c =
+    let ready : IsReadyTo (texts_of c.args.words.now) (g.R.Input.holds c.args.reader.now) (prepared.Answer c.in-Ok-Answer.answer) = rw c.in-Ok-Answer.field-0-is at c.in-Ok-Answer.ensures.ready in
+    ready.0
 
-pub returns-clause-read : goal.returns-clause-read
-returns-clause-read g c =
-    let text = c.as_str.result.now in
-    let held = g.R.Input.holds c.args.reader.now in
-    let is = handed_on held (string_bytes c.in_ok-input.input) text c.as_str.ensures.value c.in_ok-input.ensures.text in
-    on_ok_weaker {P = All IsLine (lines_of text)} {Q = IfSome held (λ input. All IsLine (lines_of input))} c.answer_task.result
-    (λ lines. IfSome_then held {P = λ input. text ≡ input} {Q = λ input. All IsLine (lines_of input)} is (λ input same. subst (λ (t : List ℕ). All IsLine (lines_of t)) same lines))
-    c.answer_task.ensures.read
+pub returns-in-Ok-Answer-clause-prints : goal.returns-in-Ok-Answer-clause-prints
+returns-in-Ok-Answer-clause-prints g c =
+    let ready : IsReadyTo (texts_of c.args.words.now) (g.R.Input.holds c.args.reader.now) (prepared.Answer c.in-Ok-Answer.answer) = rw c.in-Ok-Answer.field-0-is at c.in-Ok-Answer.ensures.ready in
+    ready.1
 
-pub returns-clause-means : goal.returns-clause-means
-returns-clause-means g c =
+pub returns-in-Ok-Answer-clause-usage : goal.returns-in-Ok-Answer-clause-usage
+returns-in-Ok-Answer-clause-usage g c = λ none. absurd (no_error ((c.in-Ok-Answer.ensures.usage none).0))
+
+pub returns-in-Ok-Answer-clause-no_coordinate : goal.returns-in-Ok-Answer-clause-no_coordinate
+returns-in-Ok-Answer-clause-no_coordinate g c = λ refused. absurd (true≢false (sym ((c.in-Ok-Answer.ensures.no_coordinate refused).0)))
+
+pub returns-in-Ok-Walks-clause-read : goal.returns-in-Ok-Walks-clause-read
+returns-in-Ok-Walks-clause-read g c =
+    IfOk-weaker c.whole_walk_answer.result (λ (answer : Answer). AreLinesOf c.in-Ok-Walks.compiled (string_bytes answer.text)) (λ (answer : Answer). IfSome (g.R.Input.holds c.args.reader.now) (λ input. All IsLine (lines_of input)))
+    (λ answer lines. c.in-Ok-Walks.ensures.read) c.whole_walk_answer.ensures.text
+
+pub returns-in-Ok-Walks-clause-means : goal.returns-in-Ok-Walks-clause-means
+returns-in-Ok-Walks-clause-means g c =
     let words = texts_of c.args.words.now in
-    let task = c.in_ok-task.task in
-    let text = c.as_str.result.now in
     let held = g.R.Input.holds c.args.reader.now in
-    let is = handed_on held (string_bytes c.in_ok-input.input) text c.as_str.ensures.value c.in_ok-input.ensures.text in
-    IfOk-weaker c.answer_task.result
-    (λ (answer : Answer). IsAnswerOf task text (string_bytes answer.text) answer.has_faults)
-    (λ (answer : Answer). IfSome held (λ input. IsAnswerTo words input (string_bytes answer.text) answer.has_faults))
-    (λ answer given. IfSome_then held {P = λ input. text ≡ input} {Q = λ input. IsAnswerTo words input (string_bytes answer.text) answer.has_faults} is
-    (λ input same. (task, (c.in_ok-task.ensures.asked, subst (λ (t : List ℕ). IsAnswerOf task t (string_bytes answer.text) answer.has_faults) same given))))
-    c.answer_task.ensures.means
+    let compiled = c.in-Ok-Walks.compiled in
+    let ready : IsReadyTo words held (prepared.Walks compiled) = rw c.in-Ok-Walks.field-0-is at c.in-Ok-Walks.ensures.ready in
+    IfOk-weaker c.whole_walk_answer.result (λ (answer : Answer). AreLinesOf compiled (string_bytes answer.text) × (answer.has_faults ≡ has_fault compiled)) (λ (answer : Answer). IfSome held (λ input. IsAnswerTo words input (string_bytes answer.text) answer.has_faults))
+    (λ answer is. walks_answer words held compiled (string_bytes answer.text) answer.has_faults ready.0 ready.1 is.0 is.1) (both_ok (λ (answer : Answer). AreLinesOf compiled (string_bytes answer.text)) (λ (answer : Answer). answer.has_faults ≡ has_fault compiled) c.whole_walk_answer.result c.whole_walk_answer.ensures.text c.whole_walk_answer.ensures.faults)
 
-pub returns-clause-prints : goal.returns-clause-prints
-returns-clause-prints g c =
+pub returns-in-Ok-Walks-clause-prints : goal.returns-in-Ok-Walks-clause-prints
+returns-in-Ok-Walks-clause-prints g c =
     let words = texts_of c.args.words.now in
-    let task = c.in_ok-task.task in
-    let text = c.as_str.result.now in
-    IfOk-weaker c.answer_task.result
-    (λ (answer : Answer). IsAnswerOf task text (string_bytes answer.text) answer.has_faults)
-    (λ (answer : Answer). answer.has_faults ≡ false → IsPrintTo words (string_bytes answer.text))
-    (λ answer is none. (task, (c.in_ok-task.ensures.asked, faultless_print task text (string_bytes answer.text) answer.has_faults is none)))
-    c.answer_task.ensures.means
+    let held = g.R.Input.holds c.args.reader.now in
+    let compiled = c.in-Ok-Walks.compiled in
+    let ready : IsReadyTo words held (prepared.Walks compiled) = rw c.in-Ok-Walks.field-0-is at c.in-Ok-Walks.ensures.ready in
+    IfOk-weaker c.whole_walk_answer.result (λ (answer : Answer). AreLinesOf compiled (string_bytes answer.text) × (answer.has_faults ≡ has_fault compiled)) (λ (answer : Answer). answer.has_faults ≡ false → IsPrintTo words (string_bytes answer.text))
+    (λ answer is none. walks_print words compiled (string_bytes answer.text) ready.0 is.0 (sym is.1 ∙ none)) (both_ok (λ (answer : Answer). AreLinesOf compiled (string_bytes answer.text)) (λ (answer : Answer). answer.has_faults ≡ has_fault compiled) c.whole_walk_answer.result c.whole_walk_answer.ensures.text c.whole_walk_answer.ensures.faults)
 
-pub returns-clause-causes : goal.returns-clause-causes
-returns-clause-causes g c =
+pub returns-in-Ok-Walks-clause-causes : goal.returns-in-Ok-Walks-clause-causes
+returns-in-Ok-Walks-clause-causes g c =
     let words = texts_of c.args.words.now in
-    let task = c.in_ok-task.task in
-    let text = c.as_str.result.now in
     let held = g.R.Input.holds c.args.reader.now in
     let may_fail = g.R.Input.may_fail c.args.reader.now in
-    let is = handed_on held (string_bytes c.in_ok-input.input) text c.as_str.ensures.value c.in_ok-input.ensures.text in
-    IfErr-weaker c.answer_task.result (IsCauseOf task text) (IsCauseTo words held may_fail)
-    (λ failure cause. inr (task, (c.in_ok-task.ensures.asked, cause_over task held may_fail text failure is cause)))
-    c.answer_task.ensures.causes
+    let ready : IsReadyTo words held (prepared.Walks c.in-Ok-Walks.compiled) = rw c.in-Ok-Walks.field-0-is at c.in-Ok-Walks.ensures.ready in
+    IfErr-weaker c.whole_walk_answer.result (λ (failure : Failure). failure ≡ failures.Memory) (IsCauseTo words held may_fail)
+    (λ failure is. subst (IsCauseTo words held may_fail) (sym is) (inr (tasks.Walk, (ready.0, tt)))) c.whole_walk_answer.ensures.memory
 
--- where something is asked, no text is refused
-pub returns-in_err-input-clause-no_coordinate : goal.returns-in_err-input-clause-no_coordinate
-returns-in_err-input-clause-no_coordinate g c = λ refused. absurd (asked_apart c.coordinates.ensures.said (texts_of c.args.words.now) c.in_ok-task.task c.in_ok-task.ensures.asked refused)
+pub returns-in-Ok-Walks-clause-usage : goal.returns-in-Ok-Walks-clause-usage
+returns-in-Ok-Walks-clause-usage g c = λ none. absurd (no_error ((c.in-Ok-Walks.ensures.usage none).0))
 
-pub returns-clause-no_coordinate : goal.returns-clause-no_coordinate
-returns-clause-no_coordinate g c = λ refused. absurd (asked_apart c.coordinates.ensures.said (texts_of c.args.words.now) c.in_ok-task.task c.in_ok-task.ensures.asked refused)
+pub returns-in-Ok-Walks-clause-no_coordinate : goal.returns-in-Ok-Walks-clause-no_coordinate
+returns-in-Ok-Walks-clause-no_coordinate g c = λ refused. absurd (true≢false (sym ((c.in-Ok-Walks.ensures.no_coordinate refused).0)))

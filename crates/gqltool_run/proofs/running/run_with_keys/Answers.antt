@@ -1,29 +1,59 @@
-use Rattle.std.proofs.Common.{◌≡◌, ◌⊎◌, string_bytes, refl, sym, subst, ◌∙◌}
+use Rattle.std.proofs.Common.{◌≡◌, ◌⊎◌, string_bytes, inl, inr, refl, sym, subst, ◌∙◌}
 use Rattle.std.proofs.lemmas.Bool.{true≢false}
 use Rattle.bench_notation.specs.Line.{texts_of}
+use Rattle.gqltool_run.specs.declared.prepared.Prepared.TheVariants as prepared
 use Rattle.gqltool_run.specs.declared.status.Status.{Status}
 use Rattle.gqltool_run.specs.declared.status.Status.TheVariants as s
-use Rattle.gqltool_run.specs.Runs.{IsWritten, MayEnd}
+use Rattle.gqltool_run.specs.declared.task.Task.TheVariants as tasks
+use Rattle.gqltool_run.specs.Prepared.{IsReadyTo, has_fault}
+use Rattle.gqltool_run.specs.Runs.{IsSentOut, IsWritten, MayEnd}
 use Rattle.gqltool_run.specs.Status.{Writes}
-use Rattle.gqltool_run.proofs.EndLemmas.{no_error, nothing_written, two_ends, usage_refused, with_answer, without_answer}
+use Rattle.gqltool_run.proofs.EndLemmas.{beginning_appended, no_error, nothing_written, two_ends, usage_refused, with_answer, with_sent_answer, without_answer}
+use Rattle.gqltool_run.proofs.PreparedLemmas.{walks_answer, walks_print}
 use Rattle.gqltool_run.proofs.running.run_with_keys.Goals as goal
 
-pub returns-in-Ok : goal.returns-in-Ok
-returns-in-Ok g c =
+pub returns-in-Ok-Answer : goal.returns-in-Ok-Answer
+returns-in-Ok-Answer g c =
     let words = texts_of c.args.words.now in
     let held = g.R.Input.holds c.args.reader.now in
     let may_fail = g.R.Input.may_fail c.args.reader.now in
     let old = g.O.Write.contents c.args.output.now in
     let new = g.O.Write.contents c.end_with_answer.new.output in
-    let text = string_bytes c.in-Ok.answer.text in
-    let has_faults = c.in-Ok.answer.has_faults in
-    let is = c.in-Ok.ensures in
+    let answer = c.in-Ok-Answer.answer in
+    let text = string_bytes answer.text in
+    let is = c.in-Ok-Answer.ensures in
+    let ready : IsReadyTo words held (prepared.Answer answer) = rw c.in-Ok-Answer.field-0-is at is.ready in
     let written = c.end_with_answer.ensures.written in
     record {
-      ends = with_answer words held may_fail old new text has_faults c.end_with_answer.result written is.read is.means is.prints;
-      refused = λ e. absurd (subst (IsWritten text has_faults old new) e written);
-      exhausted = λ e. absurd (subst (IsWritten text has_faults old new) e written);
+      ends = with_answer words held may_fail old new text answer.has_faults c.end_with_answer.result written is.read ready.0 ready.1;
+      refused = λ e. absurd (subst (IsWritten text answer.has_faults old new) e written);
+      exhausted = λ e no_walk. absurd (subst (IsWritten text answer.has_faults old new) e written);
+      begun = λ e. absurd (subst (IsWritten text answer.has_faults old new) e written);
       quiet = c.end_with_answer.ensures.quiet;
+      usage = λ none. absurd (no_error ((is.usage none).0));
+      no_coordinate = λ refused. absurd (true≢false (sym ((is.no_coordinate refused).0)));
+    }
+
+pub returns-in-Ok-Walks : goal.returns-in-Ok-Walks
+returns-in-Ok-Walks g c =
+    let words = texts_of c.args.words.now in
+    let held = g.R.Input.holds c.args.reader.now in
+    let may_fail = g.R.Input.may_fail c.args.reader.now in
+    let old = g.O.Write.contents c.args.output.now in
+    let new = g.O.Write.contents c.end_with_walks.new.output in
+    let compiled = c.in-Ok-Walks.compiled in
+    let is = c.in-Ok-Walks.ensures in
+    let ready : IsReadyTo words held (prepared.Walks compiled) = rw c.in-Ok-Walks.field-0-is at is.ready in
+    let text = c.end_with_walks.ensures.sent.0 in
+    let lines = c.end_with_walks.ensures.sent.1.0 in
+    let sent = c.end_with_walks.ensures.sent.1.1 in
+    let means = walks_answer words held compiled text (has_fault compiled) ready.0 ready.1 lines refl in
+    record {
+      ends = with_sent_answer words tasks.Walk held may_fail old new text (has_fault compiled) c.end_with_walks.result sent ready.0 is.read means (walks_print words compiled text ready.0 lines);
+      refused = λ e. absurd (subst (IsSentOut text (has_fault compiled) old new) e sent);
+      exhausted = λ e no_walk. absurd (no_walk ready.0);
+      begun = λ e. inr (beginning_appended words held old new text (has_fault compiled) means (subst (IsSentOut text (has_fault compiled) old new) e sent));
+      quiet = c.end_with_walks.ensures.quiet;
       usage = λ none. absurd (no_error ((is.usage none).0));
       no_coordinate = λ refused. absurd (true≢false (sym ((is.no_coordinate refused).0)));
     }
@@ -40,7 +70,8 @@ returns-in-Err g c =
     record {
       ends = subst (MayEnd words held may_fail old old) (sym ended) (without_answer words held may_fail old old failure is.causes);
       refused = λ _. refl {a = c.args.output.now};
-      exhausted = λ _. refl {a = c.args.output.now};
+      exhausted = λ _ _. refl {a = c.args.output.now};
+      begun = λ _. inl (refl {a = c.args.output.now});
       quiet = λ writes. absurd (nothing_written failure (subst Writes ended writes));
       usage = λ none. (ended ∙ usage_refused failure ((is.usage none).0), (is.usage none).1);
       no_coordinate = λ refused. (subst (λ (status : Status). (status ≡ s.Refused) ⊎ (status ≡ s.Exhausted)) (sym ended) (two_ends failure), (is.no_coordinate refused).1);

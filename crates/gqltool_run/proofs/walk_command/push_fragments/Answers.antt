@@ -1,35 +1,61 @@
-use Rattle.std.proofs.Common.{◌++◌, codes, map, string_bytes, ap, subst, ◌∙◌, append_assoc}
+use Rattle.std.proofs.Common.{◌++◌, List, ℕ, codes, map, string_bytes, ap, subst, ◌∙◌}
 use Rattle.std.proofs.lemmas.Map.Iter.{rest_all, rest_more}
+use Rattle.std.proofs.lemmas.Result.{err_from_is_err_and}
 use Rattle.std.specs.Map.Iter.{deref_pair}
 use Rattle.apollo_executable.specs.declared.operation.Fragment.{Fragment}
-use Rattle.gqltool_run.specs.WalkCommand.{IsSetText, fragment_line, fragment_set}
-use Rattle.gqltool_run.proofs.WalkTextLemmas.{sets-begin, sets-turn, sets-end}
+use Rattle.gqltool_run.specs.Pieces.{IsCutShort, IsSaid}
+use Rattle.gqltool_run.specs.WalkCommand.{IsSetText, fragment_set}
+use Rattle.gqltool_run.proofs.WalkTextLemmas.{set-cut, sets-begin, sets-cut, sets-end, sets-turn}
 use Rattle.gqltool_run.proofs.walk_command.push_fragments.Goals as goal
 
 pub loop-name-init : goal.loop-name-init
-loop-name-init c =
-    sets-begin c.args.document.now (map fragment_set c.args.document.now.fragments) (map fragment_set c.into_iter-name-iterator.result) (string_bytes c.args.text.now)
+loop-name-init g c =
+    sets-begin c.args.document.now (map fragment_set c.args.document.now.fragments) (map fragment_set c.into_iter-name-iterator.result) (g.O.Outlet.sent c.args.outlet.now) (string_bytes c.args.text.now)
     (ap (map fragment_set) (c.into_iter-name-iterator.ensures.into_iter_gives ∙ c.iter-name-items.ensures.rest))
 
 pub loop-name-preserved : goal.loop-name-preserved
-loop-name-preserved c =
+loop-name-preserved g c =
     let document = c.args.document.now in
+    let sent = g.O.Outlet.sent in
     let left = c.loop-name.name-iterator in
     let more = c.next.new.self in
     let name = c.in-Some.name in
     let fragment = c.in-Some.fragment in
     let text = string_bytes c.loop-name.text in
-    let said = c.in_ok-push_set.ensures.0 in
-    sets-turn document (map fragment_set document.fragments) (map fragment_set left) (fragment_set (name.now, fragment.now)) (map fragment_set more) (string_bytes c.args.text.now) text (string_bytes c.push_set.new.text) said
+    let after = string_bytes c.push_set.new.text in
+    let line = c.in_ok-push_line.ensures ∙ ap (λ key. text ++ (codes "walk fragment " ++ (key ++ codes "\n"))) c.as_str.ensures in
+    sets-turn document (map fragment_set document.fragments) (map fragment_set left) (fragment_set (name.now, fragment.now)) (map fragment_set more) (sent c.args.outlet.now) (sent c.loop-name.outlet) (sent c.push_set.new.outlet) (string_bytes c.args.text.now) text after
     c.loop-name.invariant
     (ap (map fragment_set) (rest_more deref_pair left more c.next.result (name, fragment) c.in-Some.is c.next.ensures.steps))
-    (subst (λ (f : Fragment). IsSetText document f.selection_set said) c.deref.ensures c.in_ok-push_set.ensures.1.1)
-    (c.in_ok-push_set.ensures.1.0
-    ∙ ap (λ t. t ++ said) (c.in_ok-push_line.ensures ∙ ap (λ key. text ++ (codes "walk fragment " ++ (key ++ codes "\n"))) c.as_str.ensures)
-    ∙ append_assoc text (fragment_line name.now) said)
+    (subst (λ (t : List ℕ). IsSaid (IsSetText document fragment.now.value.selection_set) (sent c.loop-name.outlet) (sent c.push_set.new.outlet) t after) line
+    (subst (λ (f : Fragment). IsSaid (IsSetText document f.selection_set) (sent c.loop-name.outlet) (sent c.push_set.new.outlet) (string_bytes c.push_line.new.text) after) c.deref.ensures c.in_ok-push_set.ensures.said))
 
-pub returns : goal.returns
-returns c =
+pub returns-in_err-push_line-clause-begun : goal.returns-in_err-push_line-clause-begun
+returns-in_err-push_line-clause-begun g c =
+    let exit = err_from_is_err_and c.from_residual.result c.from_residual.ensures.1 in
+    let document = c.args.document.now in
+    rw (exit.1) (sets-cut document (map fragment_set document.fragments) (map fragment_set c.loop-name.name-iterator) (g.O.Outlet.sent c.args.outlet.now) (g.O.Outlet.sent c.loop-name.outlet) (string_bytes c.args.text.now) (string_bytes c.loop-name.text) (c.walks_have_texts.ensures.texts document) c.loop-name.invariant)
+
+pub returns-in_err-push_set-clause-begun : goal.returns-in_err-push_set-clause-begun
+returns-in_err-push_set-clause-begun g c =
+    let exit = err_from_is_err_and c.from_residual-in_err-push_set.result c.from_residual-in_err-push_set.ensures.1 in
+    let document = c.args.document.now in
+    let sent = g.O.Outlet.sent in
     let left = c.loop-name.name-iterator in
-    sets-end c.args.document.now (map fragment_set c.args.document.now.fragments) (map fragment_set left) (string_bytes c.args.text.now) (string_bytes c.loop-name.text) c.loop-name.invariant
+    let more = c.next.new.self in
+    let name = c.in-Some.name in
+    let fragment = c.in-Some.fragment in
+    let text = string_bytes c.loop-name.text in
+    let line = c.in_ok-push_line.ensures ∙ ap (λ key. text ++ (codes "walk fragment " ++ (key ++ codes "\n"))) c.as_str.ensures in
+    rw (exit.1) (set-cut document (map fragment_set document.fragments) (map fragment_set left) (fragment_set (name.now, fragment.now)) (map fragment_set more) (sent c.args.outlet.now) (sent c.loop-name.outlet) (sent c.push_set.new.outlet) (string_bytes c.args.text.now) text
+    (c.walks_have_texts.ensures.texts document)
+    c.loop-name.invariant
+    (ap (map fragment_set) (rest_more deref_pair left more c.next.result (name, fragment) c.in-Some.is c.next.ensures.steps))
+    (subst (λ (t : List ℕ). IsCutShort (IsSetText document fragment.now.value.selection_set) (sent c.loop-name.outlet) (sent c.push_set.new.outlet) t) line
+    (subst (λ (f : Fragment). IsCutShort (IsSetText document f.selection_set) (sent c.loop-name.outlet) (sent c.push_set.new.outlet) (string_bytes c.push_line.new.text)) c.deref.ensures c.in_err-push_set.ensures.begun)))
+
+pub returns-clause-said : goal.returns-clause-said
+returns-clause-said g c =
+    let left = c.loop-name.name-iterator in
+    sets-end c.args.document.now (map fragment_set c.args.document.now.fragments) (map fragment_set left) (g.O.Outlet.sent c.args.outlet.now) (g.O.Outlet.sent c.loop-name.outlet) (string_bytes c.args.text.now) (string_bytes c.loop-name.text) c.loop-name.invariant
     (ap (map fragment_set) (rest_all deref_pair left c.next.new.self c.next.result c.in-None.is c.next.ensures.steps))

@@ -5,4 +5,5 @@ use Rattle.gqltool_run.proofs.WalkTextLemmas.{LacksSets}
 use Rattle.gqltool_run.proofs.walk_command.push_operations.Given as goal
 
 abbrev pub invariant-loop-operation : goal.invariant-loop-operation
-invariant-loop-operation l = LacksSets l.document (map operation_set (all_operations l.document.operations)) (map operation_set l.operation-iterator) (string_bytes l.fn.text) (string_bytes l.text)
+invariant-loop-operation g l =
+    LacksSets l.document (map operation_set (all_operations l.document.operations)) (map operation_set l.operation-iterator) (g.O.Outlet.sent l.fn.outlet) (g.O.Outlet.sent l.outlet) (string_bytes l.fn.text) (string_bytes l.text)

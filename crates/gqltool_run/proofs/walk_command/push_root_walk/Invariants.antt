@@ -1,16 +1,17 @@
 use Rattle.std.proofs.Common.{◌≡◌, ◌++◌, false, codes, length, string_bytes}
 use Rattle.std.specs.List.{flat_map}
+use Rattle.gqltool_run.specs.Pieces.{GoesOut}
 use Rattle.gqltool_run.specs.WalkCommand.{field_line}
 use Rattle.gqltool_run.proofs.walk_command.push_root_walk.Given as goal
 
 abbrev pub invariant-loop-field : goal.invariant-loop-field
-invariant-loop-field l =
+invariant-loop-field g l =
     record {
       document : l.walk.document ≡ l.document;
       start : l.walk.start ≡ l.set;
       goes_on : l.walk.ended ≡ false;
-      says : string_bytes l.text ++ flat_map (field_line (codes "root ")) l.walk.coming ≡ string_bytes l.fn.text ++ flat_map (field_line (codes "root ")) l.initial.walk.coming;
+      says : GoesOut (string_bytes l.fn.text ++ flat_map (field_line (codes "root ")) l.initial.walk.coming) (g.O.Outlet.sent l.fn.outlet) (g.O.Outlet.sent l.outlet) (string_bytes l.text ++ flat_map (field_line (codes "root ")) l.walk.coming);
     }
 
 abbrev pub decreases-loop-field : goal.decreases-loop-field
-decreases-loop-field l = length l.walk.coming
+decreases-loop-field g l = length l.walk.coming

@@ -1,9 +1,28 @@
-use Rattle.std.proofs.Common.{◌++◌, refl, ap, ◌∙◌, append_assoc, string_bytes}
-use Rattle.std.proofs.lemmas.Result.{on_ok_weaker}
+use Rattle.std.proofs.Common.{map, string_bytes, refl}
+use Rattle.std.proofs.lemmas.Result.{err_from_is_err_and, on_err_weaker, on_ok_weaker}
+use Rattle.gqltool_run.specs.WalkCommand.{fragment_set}
+use Rattle.gqltool_run.proofs.PieceLemmas.{cut-first, cut-second, said-both}
+use Rattle.gqltool_run.proofs.WalkTextLemmas.{sets-text}
 use Rattle.gqltool_run.proofs.walk_command.push_walks.Goals as goal
 
-pub returns : goal.returns
-returns c =
-    let first = c.in_ok-push_operations.ensures in
+pub returns-in_err-push_operations-clause-begun : goal.returns-in_err-push_operations-clause-begun
+returns-in_err-push_operations-clause-begun g c =
+    let exit = err_from_is_err_and c.from_residual.result c.from_residual.ensures.1 in
+    let sent = g.O.Outlet.sent in
+    let document = c.args.document.now in
+    let text = sets-text document (c.walks_have_texts.ensures.texts document) (map fragment_set document.fragments) in
+    rw (exit.1) (cut-first (λ x y first then. (x, (first, (y, (then, refl))))) (sent c.args.outlet.now) (sent c.push_operations.new.outlet) (string_bytes c.args.text.now) text.0 c.in_err-push_operations.ensures.begun text.1)
+
+pub returns-clause-said : goal.returns-clause-said
+returns-clause-said g c =
+    let sent = g.O.Outlet.sent in
     on_ok_weaker c.push_fragments.result
-    (λ second. (first.0 ++ second.0, (second.1.0 ∙ ap (λ t. t ++ second.0) first.1.0 ∙ append_assoc (string_bytes c.args.text.now) first.0 second.0, (first.0, (first.1.1, (second.0, (second.1.1, refl))))))) c.push_fragments.ensures
+    (λ then. said-both (λ x y first then. (x, (first, (y, (then, refl))))) (sent c.args.outlet.now) (sent c.push_operations.new.outlet) (sent c.push_fragments.new.outlet) (string_bytes c.args.text.now) (string_bytes c.push_operations.new.text) (string_bytes c.push_fragments.new.text) c.in_ok-push_operations.ensures.said then)
+    c.push_fragments.ensures.said
+
+pub returns-clause-begun : goal.returns-clause-begun
+returns-clause-begun g c =
+    let sent = g.O.Outlet.sent in
+    on_err_weaker c.push_fragments.result
+    (λ cut. cut-second (λ x y first then. (x, (first, (y, (then, refl))))) (sent c.args.outlet.now) (sent c.push_operations.new.outlet) (sent c.push_fragments.new.outlet) (string_bytes c.args.text.now) (string_bytes c.push_operations.new.text) c.in_ok-push_operations.ensures.said cut)
+    c.push_fragments.ensures.begun

@@ -1,6 +1,7 @@
-use Rattle.std.proofs.Common.{rules, ◌≡◌, ◌++◌, true, Some, Result, Ok, Bor, codes, string_bytes, refl, ap, subst, ◌∙◌}
-use Rattle.std.proofs.lemmas.Result.{on_ok_weaker}
+use Rattle.std.proofs.Common.{rules, ◌≡◌, ◌++◌, ℕ, true, List, Some, Result, Ok, Bor, codes, string_bytes, ap, subst, ◌∙◌}
+use Rattle.std.proofs.lemmas.Result.{err_from_is_err_and, on_err_weaker, on_ok_weaker}
 use Rattle.std.specs.declared.alloc.AllocError.{AllocError}
+use Rattle.std.specs.List.{flat_map}
 use Rattle.graphql_nodes.specs.NodeView.{NodeView}
 use Rattle.apollo_executable.specs.SelectionParts.{response_key}
 use Rattle.apollo_executable.specs.Walks.NextItem.{GivesFirst}
@@ -8,37 +9,92 @@ use Rattle.apollo_executable.specs.Walks.WalkView.{TakesAllTurns}
 use Rattle.apollo_executable.specs.declared.document.ExecutableDocument.{ExecutableDocument}
 use Rattle.apollo_executable.specs.declared.selection.Field.{Field}
 use Rattle.apollo_executable.specs.declared.selection.SelectionSet.{SelectionSet}
+use Rattle.gqltool_run.specs.Pieces.{GoesOut, IsBegun}
 use Rattle.gqltool_run.specs.WalkCommand.{field_line, turns_line}
-use Rattle.gqltool_run.proofs.WalkTextLemmas.{lines-turn, fields-end}
+use Rattle.gqltool_run.proofs.PieceLemmas.{goes-nowhere}
+use Rattle.gqltool_run.proofs.WalkTextLemmas.{lines-cut, lines-turn, walk-cut, walk-end, walk-end-cut}
 use Rattle.gqltool_run.proofs.walk_command.push_whole_walk.Goals as goal
 
 pub loop-field-init : goal.loop-field-init
-loop-field-init c = record { document = c.all_fields-walk.ensures.document_is; start = c.all_fields-walk.ensures.start_is; goes_on = c.all_fields-walk.ensures.goes_on; says = refl }
+loop-field-init g c = record {
+  document = c.all_fields-walk.ensures.document_is;
+  start = c.all_fields-walk.ensures.start_is;
+  goes_on = c.all_fields-walk.ensures.goes_on;
+  says = goes-nowhere (g.O.Outlet.sent c.args.outlet.now) (string_bytes c.args.text.now ++ flat_map (field_line (codes "all ")) c.all_fields-walk.result.coming);
+}
 
 pub loop-field-preserved : goal.loop-field-preserved
-loop-field-preserved c =
+loop-field-preserved g c =
     let was = c.loop-field.invariant in
     let steps = c.in-Some.ensures.steps in
     let field = c.in_ok-field.field-0 in
     let given : c.in-Some.field ≡ Ok field = search rules in
     let first = subst (λ (r : Result (Bor (NodeView Field)) AllocError). GivesFirst c.loop-field.walk (Some r) c.next.new.self) given steps.gives in
     let key = c.as_str.ensures ∙ ap (λ name. name.text) (c.response_key.ensures ∙ ap response_key c.deref.ensures) in
+    let sent = g.O.Outlet.sent in
+    let text = string_bytes c.loop-field.text in
+    let whole = string_bytes c.args.text.now ++ flat_map (field_line (codes "all ")) c.all_fields-walk.result.coming in
+    let line = subst (λ (k : List ℕ). GoesOut (text ++ (codes "all " ++ (k ++ codes "\n"))) (sent c.loop-field.outlet) (sent c.say_line.new.outlet) (string_bytes c.say_line.new.text)) key c.in_ok-say_line.ensures.held in
     record {
       document = steps.document ∙ was.document;
       start = steps.start ∙ was.start;
       goes_on = first.2;
-      says = lines-turn (field_line (codes "all ")) (string_bytes c.args.text.now) (string_bytes c.loop-field.text) (string_bytes c.push_line.new.text) field.now c.all_fields-walk.result.coming c.loop-field.walk.coming c.next.new.self.coming was.says first.0
-          (c.in_ok-push_line.ensures ∙ ap (λ key. string_bytes c.loop-field.text ++ (codes "all " ++ (key ++ codes "\n"))) key);
+      says = lines-turn (field_line (codes "all ")) whole text (string_bytes c.say_line.new.text) (sent c.args.outlet.now) (sent c.loop-field.outlet) (sent c.say_line.new.outlet) field.now c.loop-field.walk.coming c.next.new.self.coming was.says first.0 line;
     }
 
-pub returns : goal.returns
-returns c =
+-- the fields are cut short
+pub returns-in_err-field-clause-begun : goal.returns-in_err-field-clause-begun
+returns-in_err-field-clause-begun g c =
+    let exit = err_from_is_err_and c.from_residual.result c.from_residual.ensures.1 in
+    let document = c.args.document.now in
+    let set = c.args.set.now in
+    let turns = c.walks_have_texts.ensures.turns true document set in
+    rw (exit.1) (walk-cut true (codes "all ") (codes "all-turns ") document set (string_bytes c.args.text.now) (g.O.Outlet.sent c.args.outlet.now) c.all_fields-walk.result.coming c.all_fields-walk.ensures.coming turns.0 turns.1 (g.O.Outlet.sent c.loop-field.outlet)
+    (string_bytes c.loop-field.text ++ flat_map (field_line (codes "all ")) c.loop-field.walk.coming, c.loop-field.invariant.says))
+
+pub returns-in_err-say_line-clause-begun : goal.returns-in_err-say_line-clause-begun
+returns-in_err-say_line-clause-begun g c =
+    let exit = err_from_is_err_and c.from_residual-in_err-say_line.result c.from_residual-in_err-say_line.ensures.1 in
+    let document = c.args.document.now in
+    let set = c.args.set.now in
+    let turns = c.walks_have_texts.ensures.turns true document set in
+    let steps = c.in-Some.ensures.steps in
+    let field = c.in_ok-field.field-0 in
+    let given : c.in-Some.field ≡ Ok field = search rules in
+    let first = subst (λ (r : Result (Bor (NodeView Field)) AllocError). GivesFirst c.loop-field.walk (Some r) c.next.new.self) given steps.gives in
+    let key = c.as_str.ensures ∙ ap (λ name. name.text) (c.response_key.ensures ∙ ap response_key c.deref.ensures) in
+    let sent = g.O.Outlet.sent in
+    let text = string_bytes c.loop-field.text in
+    let whole = string_bytes c.args.text.now ++ flat_map (field_line (codes "all ")) c.all_fields-walk.result.coming in
+    let line = subst (λ (k : List ℕ). IsBegun (text ++ (codes "all " ++ (k ++ codes "\n"))) (sent c.loop-field.outlet) (sent c.say_line.new.outlet)) key c.in_err-say_line.ensures.begun in
+    rw (exit.1) (walk-cut true (codes "all ") (codes "all-turns ") document set (string_bytes c.args.text.now) (sent c.args.outlet.now) c.all_fields-walk.result.coming c.all_fields-walk.ensures.coming turns.0 turns.1 (sent c.say_line.new.outlet)
+    (lines-cut (field_line (codes "all ")) whole text (sent c.args.outlet.now) (sent c.loop-field.outlet) (sent c.say_line.new.outlet) field.now c.loop-field.walk.coming c.next.new.self.coming c.loop-field.invariant.says first.0 line))
+
+pub returns-clause-said : goal.returns-clause-said
+returns-clause-said g c =
     let was = c.loop-field.invariant in
     let steps = c.in_default.ensures.steps in
-    let last = c.next.new.self in
+    let taken = c.next.new.self.taken in
     let over = (steps.over was.goes_on).0 in
-    let takes = subst (λ (d : ExecutableDocument). TakesAllTurns true d c.args.set.now last.taken) (steps.document ∙ was.document) (subst (λ (s : SelectionSet). TakesAllTurns true last.document s last.taken) (steps.start ∙ was.start) over) in
-    on_ok_weaker c.push_turns.result
-    (λ line. fields-end true (codes "all ") (codes "all-turns ") c.args.document.now c.args.set.now (string_bytes c.args.text.now) (string_bytes c.loop-field.text) (string_bytes c.push_turns.new.text) c.all_fields-walk.result.coming c.loop-field.walk.coming last.taken c.all_fields-walk.ensures.coming takes was.says steps.gives.0
-    (line ∙ ap (λ n. string_bytes c.loop-field.text ++ turns_line (codes "all-turns ") n) c.turns.ensures.turns))
-    c.push_turns.ensures
+    let takes = subst (λ (d : ExecutableDocument). TakesAllTurns true d c.args.set.now taken) (steps.document ∙ was.document) (subst (λ (s : SelectionSet). TakesAllTurns true c.next.new.self.document s taken) (steps.start ∙ was.start) over) in
+    let sent = g.O.Outlet.sent in
+    let text = string_bytes c.loop-field.text in
+    let left = string_bytes c.say_turns.new.text in
+    on_ok_weaker c.say_turns.result
+    (λ goes. walk-end true (codes "all ") (codes "all-turns ") c.args.document.now c.args.set.now (string_bytes c.args.text.now) (sent c.args.outlet.now) c.all_fields-walk.result.coming c.all_fields-walk.ensures.coming taken takes (sent c.loop-field.outlet) (sent c.say_turns.new.outlet) text left c.loop-field.walk.coming was.says steps.gives.0
+    (subst (λ (n : ℕ). GoesOut (text ++ turns_line (codes "all-turns ") n) (sent c.loop-field.outlet) (sent c.say_turns.new.outlet) left) c.turns.ensures.turns goes))
+    c.say_turns.ensures.held
+
+pub returns-clause-begun : goal.returns-clause-begun
+returns-clause-begun g c =
+    let was = c.loop-field.invariant in
+    let steps = c.in_default.ensures.steps in
+    let taken = c.next.new.self.taken in
+    let over = (steps.over was.goes_on).0 in
+    let takes = subst (λ (d : ExecutableDocument). TakesAllTurns true d c.args.set.now taken) (steps.document ∙ was.document) (subst (λ (s : SelectionSet). TakesAllTurns true c.next.new.self.document s taken) (steps.start ∙ was.start) over) in
+    let sent = g.O.Outlet.sent in
+    let text = string_bytes c.loop-field.text in
+    on_err_weaker c.say_turns.result
+    (λ cut. walk-end-cut true (codes "all ") (codes "all-turns ") c.args.document.now c.args.set.now (string_bytes c.args.text.now) (sent c.args.outlet.now) c.all_fields-walk.result.coming c.all_fields-walk.ensures.coming taken takes (sent c.loop-field.outlet) (sent c.say_turns.new.outlet) text c.loop-field.walk.coming was.says steps.gives.0
+    (subst (λ (n : ℕ). IsBegun (text ++ turns_line (codes "all-turns ") n) (sent c.loop-field.outlet) (sent c.say_turns.new.outlet)) c.turns.ensures.turns cut))
+    c.say_turns.ensures.begun
