@@ -15,7 +15,13 @@ mod hash_keys;
 #[cfg(test)]
 mod inputs;
 #[cfg(test)]
+mod json_runs;
+#[cfg(test)]
 mod many_extensions;
+#[cfg(test)]
+mod memory_runs;
+#[cfg(test)]
+mod process_statuses;
 #[cfg(test)]
 mod rebuilt;
 #[cfg(test)]

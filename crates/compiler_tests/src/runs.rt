@@ -1,6 +1,7 @@
 //! Runs over clocks whose readings are known, and over sources of random bytes that are.
 
 use crate::clocks::{SteadyClock, StoppedClock};
+use crate::process_statuses::NoStatus;
 use crate::sources::{EmptySource, SteadySource};
 use gqlbench_run::running::run;
 use gqltool_run::status::Status;
@@ -10,7 +11,7 @@ use std::random::RandomSource;
 use std::time::Clock;
 
 /// An interface, an object type that has it, and an extension of no union. The built-in types have 35 fields.
-const INPUT: &str = "def interface I
+pub const INPUT: &str = "def interface I
 field a Int
 def object Query
 implements I
@@ -22,7 +23,7 @@ member Query
 
 /// Two documents behind a schema: a query whose fragment leads back to itself, a mutation without a root, and a fragment that
 /// nothing spreads, with a field that lacks subselections.
-const DIVIDED: &str = "def object Query
+pub const DIVIDED: &str = "def object Query
 field a Int
 field q Query
 ===
@@ -64,6 +65,7 @@ fn expect<C: Clock, S: RandomSource>(
         rt.alloc(),
         clock,
         source,
+        &NoStatus,
         words,
         &mut reader,
         &mut output,
@@ -84,7 +86,8 @@ fn refused(errors: &str) -> Outcome<'_> {
 
 /// Expects a run on these words over a source that gives nothing, and one on these further words over one that gives bytes,
 /// to write the same.
-fn expect_both(
+/// No clause: it serves tests.
+pub fn expect_both(
     rt: &(impl Abort + AllocGlobal),
     words: &[&str],
     with_random_keys: &[&str],
@@ -209,7 +212,7 @@ drop           min            7 median            7 mean            7 ns
 
 #[test]
 fn words_that_are_no_command(rt: HostRuntime) {
-    let rows: [&[&str]; 12] = [
+    let rows: [&[&str]; 16] = [
         &[],
         &["schema"],
         &["schema", "0"],
@@ -220,11 +223,15 @@ fn words_that_are_no_command(rt: HostRuntime) {
         &["schema", "--random-keys"],
         &["schema", "--adopt", "--random-keys", "3"],
         &["walk", "--random-keys", "--random-keys", "3"],
+        &["schema", "--json"],
+        &["leaf", "--json", "--json", "3"],
+        &["doc", "--random-keys", "--json", "3"],
+        &["compile", "--adopt", "--json", "3"],
         &["lookups", "--adopt", "--adopt", "3"],
         &["document", "3"],
     ];
     let usage =
-        "usage: gqlbench schema|lookups|doc|walk|leaf|compile [--random-keys] [--adopt] [--ignore-builtin] REPEAT (without --random-keys tables hash by fixed keys)\n";
+        "usage: gqlbench schema|lookups|doc|walk|leaf|compile [--json] [--random-keys] [--adopt] [--ignore-builtin] REPEAT (without --random-keys tables hash by fixed keys)\n";
     for words in rows {
         expect(
             &rt,
@@ -363,6 +370,7 @@ fn writers_that_take_nothing(rt: HostRuntime) {
         rt.alloc(),
         &SteadyClock::new(7),
         &EmptySource,
+        &NoStatus,
         &["schema", "1"],
         &mut reader,
         &mut FullWriter,

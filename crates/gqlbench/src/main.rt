@@ -15,6 +15,7 @@ fn run_on_streams(rt: &HostRuntime) -> io::Result<Status> {
         alloc,
         rt,
         rt,
+        rt,
         words.as_slice(),
         &mut rt.stdin(),
         &mut rt.stdout(),

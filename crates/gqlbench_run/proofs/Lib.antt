@@ -1,2 +1,2 @@
-pub mod PhaseLineLemmas
+pub mod PhaseLemmas
 pub mod WalkCountLemmas

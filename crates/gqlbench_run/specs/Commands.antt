@@ -11,6 +11,8 @@ use Rattle.gqlbench_run.specs.declared.command.Work.{Work}
 use Rattle.gqlbench_run.specs.declared.command.Work.TheVariants as w
 use Rattle.gqlbench_run.specs.declared.failure.Failure.{Failure}
 use Rattle.gqlbench_run.specs.declared.failure.Failure.TheVariants as f
+use Rattle.gqlbench_run.specs.declared.format.Format.{Format}
+use Rattle.gqlbench_run.specs.declared.format.Format.TheVariants as t
 use Rattle.gqlbench_run.specs.declared.keys.KeyChoice.{KeyChoice}
 use Rattle.gqlbench_run.specs.declared.keys.KeyChoice.TheVariants as k
 
@@ -31,17 +33,23 @@ pub record IsRepeat (word : List ℕ) (repeat : ℕ) : Type 0 where
   pub fits : repeat < 2 ^ 64
 
 -- the words choose keys and options: `--random-keys` stands first, and fixed keys have no word
-abbrev pub AreChoices : KeyChoice → CompileOptions → List (List ℕ) → Type 0
-AreChoices k.Fixed options words = AreOptions words options
-AreChoices k.Random options [] = ⊥
-AreChoices k.Random options (first ∷ words) = (first ≡ codes "--random-keys") × AreOptions words options
+abbrev pub AreBuildChoices : KeyChoice → CompileOptions → List (List ℕ) → Type 0
+AreBuildChoices k.Fixed options words = AreOptions words options
+AreBuildChoices k.Random options [] = ⊥
+AreBuildChoices k.Random options (first ∷ words) = (first ≡ codes "--random-keys") × AreOptions words options
 
--- the words of a command: what is timed, the keys and options, and how many times
+-- the words choose how to report, and keys and options: `--json` stands first, and text has no word
+abbrev pub AreChoices : Format → KeyChoice → CompileOptions → List (List ℕ) → Type 0
+AreChoices t.Text keys options words = AreBuildChoices keys options words
+AreChoices t.Json keys options [] = ⊥
+AreChoices t.Json keys options (first ∷ words) = (first ≡ codes "--json") × AreBuildChoices keys options words
+
+-- the words of a command: what is timed, how it is reported, the keys and options, and how many times
 pub record AreWordsOf (words : List (List ℕ)) (command : Command) : Type 0 where
   pub choices : List (List ℕ)
   pub repeat : List ℕ
   pub are : words ≡ work_word command.work ∷ (choices ++ repeat ∷ [])
-  pub say : AreChoices command.keys command.options choices
+  pub say : AreChoices command.format command.keys command.options choices
   pub times : IsRepeat repeat command.repeat
 
 -- these words are no command

@@ -1,5 +1,5 @@
 -- What the report of the command `compile` says.
-use Rattle.std.specs.Prelude.{◌≡◌, ℕ, List, [], ◌∷◌, ◌++◌, ◌+◌, codes, decimal, length, true}
+use Rattle.std.specs.Prelude.{◌≡◌, ℕ, List, [], ◌∷◌, ◌+◌, codes, length, true}
 use Rattle.graphql_ast.specs.declared.document.Document.{Document}
 use Rattle.apollo_executable.specs.Operations.{all_operations}
 use Rattle.apollo_compiler.specs.Compilation.{IsCompiled}
@@ -7,7 +7,10 @@ use Rattle.apollo_compiler.specs.declared.compile_options.CompileOptions.{Compil
 use Rattle.apollo_compiler.specs.declared.compiled.Compiled.{Compiled}
 use Rattle.gqlbench_run.specs.declared.command.Command.{Command}
 use Rattle.gqlbench_run.specs.declared.compile_phases.CompileTimes.{CompileTimes}
-use Rattle.gqlbench_run.specs.PhaseLines.{ArePhaseLines}
+use Rattle.gqlbench_run.specs.declared.counts.Counts.{Counts}
+use Rattle.gqlbench_run.specs.declared.counts.Counts.TheVariants as c
+use Rattle.gqlbench_run.specs.declared.report.Report.{Report}
+use Rattle.gqlbench_run.specs.Phases.{ArePhases}
 
 -- the whole call, all its phases one after another, each of them, and what the call gave freed
 abbrev pub compile_phases : List (List ℕ)
@@ -37,20 +40,13 @@ pub record TakesEachPhase (before after : CompileTimes) : Type 0 where
   pub erasure : length after.erasure.items ≡ length before.erasure.items + 1
   pub free : after.free ≡ before.free
 
--- how much there is of types, of definitions in the write-out, of operations, of fragments, and of the faults of both
-abbrev pub compile_counts : ℕ → ℕ → ℕ → ℕ → ℕ → ℕ → List ℕ
-compile_counts types definitions schema_faults operations fragments document_faults = decimal types ++ (codes " types, " ++ (decimal definitions ++ (codes " definitions out, " ++ (decimal schema_faults ++ (codes " faults; " ++ (decimal operations ++ (codes " operations, " ++ (decimal fragments ++ (codes " fragments, " ++ (decimal document_faults ++ codes " faults\n"))))))))))
-
--- the text counts what these documents are compiled to
-pub record AreCompileCounts (options : CompileOptions) (before behind : List Document) (text : List ℕ) : Type 0 where
+-- the counts are of what these documents are compiled to
+pub record AreCompileCounts (options : CompileOptions) (before behind : List Document) (counts : Counts) : Type 0 where
   pub compiled : Compiled
   pub are : IsCompiled options before behind true compiled
-  pub is : text ≡ compile_counts (length compiled.schema.types) (length compiled.ast.items) (length compiled.schema_faults.items) (length (all_operations compiled.document.operations)) (length compiled.document.fragments) (length compiled.document_faults.items)
+  pub is : counts ≡ c.Compilation (length compiled.schema.types) (length compiled.ast.items) (length compiled.schema_faults.items) (length (all_operations compiled.document.operations)) (length compiled.document.fragments) (length compiled.document_faults.items)
 
--- the text counts what the documents before the division and those behind it are compiled to, and has a line for each phase
-pub record IsCompileReport (command : Command) (before behind : List Document) (text : List ℕ) : Type 0 where
-  pub counts : List ℕ
-  pub counted : AreCompileCounts command.options before behind counts
-  pub lines : List ℕ
-  pub timed : ArePhaseLines compile_phases command.repeat lines
-  pub is : text ≡ counts ++ lines
+-- the report counts what the documents before the division and those behind it are compiled to, and has each phase
+pub record IsCompileReport (command : Command) (before behind : List Document) (report : Report) : Type 0 where
+  pub counted : AreCompileCounts command.options before behind report.counts
+  pub timed : ArePhases compile_phases command.repeat report.phases.items

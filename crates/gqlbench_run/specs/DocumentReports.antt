@@ -1,5 +1,5 @@
 -- What the report of the command `doc` says.
-use Rattle.std.specs.Prelude.{◌≡◌, ℕ, List, [], ◌∷◌, ◌++◌, Some, codes, decimal, length, true}
+use Rattle.std.specs.Prelude.{◌≡◌, ℕ, List, [], ◌∷◌, Some, codes, length, true}
 use Rattle.graphql_ast.specs.declared.document.Document.{Document}
 use Rattle.apollo_schema.specs.declared.schema.Schema.{Schema}
 use Rattle.apollo_schema.specs.MeantSchema.{MeansSchema}
@@ -9,8 +9,11 @@ use Rattle.apollo_document.specs.Documents.{IsDocumentOf}
 use Rattle.apollo_document.specs.DocumentFaults.{document_faults}
 use Rattle.apollo_compiler.specs.Lists.{executable_list, schema_list}
 use Rattle.gqlbench_run.specs.declared.command.Command.{Command}
+use Rattle.gqlbench_run.specs.declared.counts.Counts.{Counts}
+use Rattle.gqlbench_run.specs.declared.counts.Counts.TheVariants as c
 use Rattle.gqlbench_run.specs.declared.document_phases.DocumentTimes.{DocumentTimes}
-use Rattle.gqlbench_run.specs.PhaseLines.{ArePhaseLines}
+use Rattle.gqlbench_run.specs.declared.report.Report.{Report}
+use Rattle.gqlbench_run.specs.Phases.{ArePhases}
 
 -- the phases of the command `doc`
 abbrev pub document_phases : List (List ℕ)
@@ -22,23 +25,15 @@ pub record HaveDocumentTimes (n : ℕ) (times : DocumentTimes) : Type 0 where
   pub write_out : length times.write_out.items ≡ n
   pub free : length times.free.items ≡ n
 
--- how much there is of operations, of fragments, and of faults
-abbrev pub document_counts : ℕ → ℕ → ℕ → List ℕ
-document_counts operations fragments faults = decimal operations ++ (codes " operations, " ++ (decimal fragments ++ (codes " fragments, " ++ (decimal faults ++ codes " faults\n"))))
-
--- the text counts what these documents mean over a schema
-pub record AreDocumentCounts (schema : Schema) (documents : List Document) (text : List ℕ) : Type 0 where
+-- the counts are of what these documents mean over a schema
+pub record AreDocumentCounts (schema : Schema) (documents : List Document) (counts : Counts) : Type 0 where
   pub document : ExecutableDocument
   pub built : IsDocumentOf (Some schema) (executable_list true documents) document
-  pub is : text ≡ document_counts (length (all_operations document.operations)) (length document.fragments) (length (document_faults (Some schema) (executable_list true documents)))
+  pub is : counts ≡ c.Documents (length (all_operations document.operations)) (length document.fragments) (length (document_faults (Some schema) (executable_list true documents)))
 
--- the text counts what the documents behind the division mean over the schema of those before it, and has a line for each
--- phase
-pub record IsDocumentReport (command : Command) (before behind : List Document) (text : List ℕ) : Type 0 where
+-- the report counts what the documents behind the division mean over the schema of those before it, and has each phase
+pub record IsDocumentReport (command : Command) (before behind : List Document) (report : Report) : Type 0 where
   pub schema : Schema
   pub means : MeansSchema 0 command.options.adopt_orphan_extensions (schema_list command.options before) schema
-  pub counts : List ℕ
-  pub counted : AreDocumentCounts schema behind counts
-  pub lines : List ℕ
-  pub timed : ArePhaseLines document_phases command.repeat lines
-  pub is : text ≡ counts ++ lines
+  pub counted : AreDocumentCounts schema behind report.counts
+  pub timed : ArePhases document_phases command.repeat report.phases.items

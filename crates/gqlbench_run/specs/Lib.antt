@@ -1,9 +1,14 @@
 pub mod Commands
 pub mod CompileReports
+pub mod Counts
 pub mod DocumentReports
+pub mod Json
 pub mod LeafReports
 pub mod LookupQuestions
+pub mod Memory
 pub mod PhaseLines
+pub mod Phases
+pub mod ReportTexts
 pub mod Reports
 pub mod Summaries
 pub mod TypedBuilds

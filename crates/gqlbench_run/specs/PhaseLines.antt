@@ -1,7 +1,9 @@
--- The line of a phase.
-use Rattle.std.specs.Prelude.{◌≡◌, ◌⊎◌, ℕ, ◌-◌, List, [], ◌∷◌, ◌++◌, codes, decimal, length, replicate}
-use Rattle.gqlbench_run.specs.Summaries.{IsSummary}
-use Rattle.gqlbench_run.specs.declared.summary.Summary.{Summary}
+-- The line of a phase: in text, and as a JSON object.
+use Rattle.std.specs.Prelude.{ℕ, ◌-◌, List, [], ◌∷◌, ◌++◌, codes, decimal, length, replicate}
+use Rattle.gqlbench_run.specs.Json.{object_line, quoted}
+use Rattle.gqlbench_run.specs.declared.format.Format.{Format}
+use Rattle.gqlbench_run.specs.declared.format.Format.TheVariants as f
+use Rattle.gqlbench_run.specs.declared.phase.Phase.{Phase}
 
 -- so many spaces
 abbrev pub spaces : ℕ → List ℕ
@@ -15,15 +17,15 @@ name_column name = name ++ spaces (14 - length name)
 abbrev pub number_column : ℕ → List ℕ
 number_column n = spaces (12 - length (decimal n)) ++ decimal n
 
--- the line of a phase of this name
-abbrev pub phase_line : List ℕ → Summary → List ℕ
-phase_line name summary = name_column name ++ codes " min " ++ number_column summary.least ++ codes " median " ++ number_column summary.median ++ codes " mean " ++ number_column summary.mean ++ codes " ns\n"
+-- the line of text
+abbrev pub phase_text : Phase → List ℕ
+phase_text phase = name_column phase.name.now ++ codes " min " ++ number_column phase.summary.least ++ codes " median " ++ number_column phase.summary.median ++ codes " mean " ++ number_column phase.summary.mean ++ codes " ns\n"
 
--- the text is the line of a phase of this name with these times; it is empty where there are none
-abbrev pub IsPhaseText : List ℕ → List ℕ → List ℕ → Type 0
-IsPhaseText name times text = ((times ≡ []) × (text ≡ [])) ⊎ ((summary : Summary) × (IsSummary times summary × (text ≡ phase_line name summary)))
+-- the line of JSON
+abbrev pub phase_object : Phase → List ℕ
+phase_object phase = object_line ((codes "phase", quoted phase.name.now) ∷ (codes "least", decimal phase.summary.least) ∷ (codes "median", decimal phase.summary.median) ∷ (codes "mean", decimal phase.summary.mean) ∷ [])
 
--- the text is a line for each phase of these names, in order, each with so many times
-abbrev pub ArePhaseLines : List (List ℕ) → ℕ → List ℕ → Type 0
-ArePhaseLines [] repeat text = text ≡ []
-ArePhaseLines (name ∷ names) repeat text = (times : List ℕ) × ((line : List ℕ) × ((rest : List ℕ) × ((length times ≡ repeat) × (IsPhaseText name times line × ((text ≡ line ++ rest) × ArePhaseLines names repeat rest)))))
+-- the line in a format
+abbrev pub phase_line : Format → Phase → List ℕ
+phase_line f.Text phase = phase_text phase
+phase_line f.Json phase = phase_object phase

@@ -1,5 +1,5 @@
 -- What the report of the command `walk` says.
-use Rattle.std.specs.Prelude.{◌≡◌, ◌+◌, ◌-◌, ◌^◌, ℕ, Bool, true, false, List, [], ◌∷◌, ◌++◌, codes, decimal, length, map, min}
+use Rattle.std.specs.Prelude.{◌≡◌, ◌+◌, ◌-◌, ◌^◌, ℕ, Bool, true, false, List, [], ◌∷◌, ◌++◌, codes, length, map, min}
 use Rattle.graphql_ast.specs.declared.document.Document.{Document}
 use Rattle.graphql_nodes.specs.NodeView.{NodeView}
 use Rattle.graphql_nodes.specs.Tables.{values_of}
@@ -12,8 +12,10 @@ use Rattle.apollo_executable.specs.declared.selection.SelectionSet.{SelectionSet
 use Rattle.apollo_executable.specs.Operations.{all_operations}
 use Rattle.apollo_executable.specs.Walks.WalkView.{AreWalked}
 use Rattle.gqlbench_run.specs.declared.command.Command.{Command}
+use Rattle.gqlbench_run.specs.declared.counts.Counts.TheVariants as c
+use Rattle.gqlbench_run.specs.declared.report.Report.{Report}
 use Rattle.gqlbench_run.specs.declared.walk_phases.WalkTimes.{WalkTimes}
-use Rattle.gqlbench_run.specs.PhaseLines.{ArePhaseLines}
+use Rattle.gqlbench_run.specs.Phases.{ArePhases}
 use Rattle.gqlbench_run.specs.TypedBuilds.{AreBuiltFrom}
 
 -- the phases of the command `walk`
@@ -55,13 +57,9 @@ pub record HaveWalked (document : ExecutableDocument) (n : ℕ) (times : WalkTim
 abbrev pub HaveWalkTimes : ℕ → WalkTimes → Type 0
 HaveWalkTimes n times = (length times.root.items ≡ n) × (length times.all.items ≡ n)
 
--- how much there is of operations and of fragments, and what walks over them give
-abbrev pub walk_counts : ℕ → ℕ → ℕ → ℕ → List ℕ
-walk_counts operations fragments root_fields all_fields = decimal operations ++ (codes " operations, " ++ (decimal fragments ++ (codes " fragments, " ++ (decimal root_fields ++ (codes " root fields, " ++ (decimal all_fields ++ codes " fields in all\n"))))))
-
--- the text counts the typed document that the documents behind the division mean over the schema of those before it, and what
--- walks over its operations and fragments give, and has a line for each phase
-pub record IsWalkReport (command : Command) (before behind : List Document) (text : List ℕ) : Type 0 where
+-- the report counts the typed document that the documents behind the division mean over the schema of those before it, and what
+-- walks over its operations and fragments give, and has each phase
+pub record IsWalkReport (command : Command) (before behind : List Document) (report : Report) : Type 0 where
   pub schema : Schema
   pub document : ExecutableDocument
   pub built : AreBuiltFrom command.options before behind schema document
@@ -69,6 +67,5 @@ pub record IsWalkReport (command : Command) (before behind : List Document) (tex
   pub root : IsCountOver false document (sets_of document) root_fields
   pub all_fields : ℕ
   pub all : IsCountOver true document (sets_of document) all_fields
-  pub lines : List ℕ
-  pub timed : ArePhaseLines walk_phases command.repeat lines
-  pub is : text ≡ walk_counts (length (all_operations document.operations)) (length document.fragments) root_fields all_fields ++ lines
+  pub counts : report.counts ≡ c.Walks (length (all_operations document.operations)) (length document.fragments) root_fields all_fields
+  pub timed : ArePhases walk_phases command.repeat report.phases.items

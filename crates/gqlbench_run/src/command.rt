@@ -2,9 +2,11 @@
 ghost use Rattle.std.specs.Prelude.{MatchOption, ◌≡◌, ◌≢◌, ℕ};
 ghost use Rattle.bench_notation.specs.Line.{texts_of};
 ghost use Rattle.apollo_compiler.specs.declared.compile_options.CompileOptions.{CompileOptions};
-ghost use Rattle.gqlbench_run.specs.Commands.{AreChoices, AreNoCommand, AreWordsOf, IsRepeat, work_word};
+ghost use Rattle.gqlbench_run.specs.Commands.{AreBuildChoices, AreChoices, AreNoCommand, AreWordsOf, IsRepeat, work_word};
+ghost use Rattle.gqlbench_run.specs.declared.format.Format.{Format};
 ghost use Rattle.gqlbench_run.specs.declared.keys.KeyChoice.{KeyChoice};
 
+use crate::format::Format;
 use crate::keys::KeyChoice;
 use apollo_compiler::compile_options::CompileOptions;
 use gqltool_run::schema_options::read_options;
@@ -26,26 +28,28 @@ pub enum Work {
     Compilation,
 }
 
-/// A command of the program, which is what the words after its name say: what is timed, under which keys and options of a
-/// build, and how many times.
+/// A command of the program, which is what the words after its name say: what is timed, how it is reported, under which keys and
+/// options of a build, and how many times.
 #[derive(Debug, Clone, Copy)]
 pub struct Command {
     pub work: Work,
+    pub format: Format,
     pub keys: KeyChoice,
     pub options: CompileOptions,
     pub repeat: usize,
 }
 
-/// The command that these words are: the word of its work, then `--random-keys` or not, the options of a build, and a number from
-/// 1 on. Other words are none. It takes no memory.
+/// The command that these words are: the word of its work, then `--json` or not, `--random-keys` or not, the options of a build,
+/// and a number from 1 on. Other words are none. It takes no memory.
 pub fn read_command(words: &[&str]) -> Option<Command>
     ensures { MatchOption result (AreNoCommand (texts_of words.now)) (AreWordsOf (texts_of words.now)) }
 {
     let (work, rest) = words.split_first()?;
     let (repeat, choices) = rest.split_last()?;
-    let (keys, options) = read_choices(choices)?;
+    let (format, keys, options) = read_choices(choices)?;
     Some(Command {
         work: read_work(*work)?,
+        format,
         keys,
         options,
         repeat: read_repeat(*repeat)?,
@@ -67,9 +71,21 @@ fn read_work(word: &str) -> Option<Work>
     }
 }
 
+/// How to report, and the keys and the options of a build, that these words choose. Other words choose none.
+fn read_choices(words: &[&str]) -> Option<(Format, KeyChoice, CompileOptions)>
+    ensures { MatchOption result ((format : Format) (keys : KeyChoice) (options : CompileOptions) → ¬ AreChoices format keys options (texts_of words.now)) (λ chosen. AreChoices chosen.0 chosen.1 chosen.2 (texts_of words.now)) }
+{
+    let (format, choices) = match words {
+        ["--json", choices @ ..] => (Format::Json, choices),
+        choices => (Format::Text, choices),
+    };
+    let (keys, options) = read_build_choices(choices)?;
+    Some((format, keys, options))
+}
+
 /// The keys and the options of a build that these words choose. Other words choose none.
-fn read_choices(words: &[&str]) -> Option<(KeyChoice, CompileOptions)>
-    ensures { MatchOption result ((keys : KeyChoice) (options : CompileOptions) → ¬ AreChoices keys options (texts_of words.now)) (λ chosen. AreChoices chosen.0 chosen.1 (texts_of words.now)) }
+fn read_build_choices(words: &[&str]) -> Option<(KeyChoice, CompileOptions)>
+    ensures { MatchOption result ((keys : KeyChoice) (options : CompileOptions) → ¬ AreBuildChoices keys options (texts_of words.now)) (λ chosen. AreBuildChoices chosen.0 chosen.1 (texts_of words.now)) }
 {
     match words {
         ["--random-keys", options @ ..] => Some((KeyChoice::Random, read_options(options)?)),

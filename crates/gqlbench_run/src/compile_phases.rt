@@ -1,13 +1,15 @@
 //! The phases of the command `compile`: documents compiled in one call, and beside it each phase of that.
-ghost use Rattle.std.specs.Prelude.{◌≡◌, ◌+◌, ◌++◌, ℕ, List, true, IfOk, OnOk, length, string_bytes};
+ghost use Rattle.std.specs.Prelude.{◌≡◌, ◌+◌, ℕ, true, IfOk, OnOk, length};
 ghost use Rattle.apollo_compiler.specs.Compilation.{IsCompiled};
-ghost use Rattle.gqlbench_run.specs.CompileReports.{AreCompileCounts, HaveCompileTimes, IsCompileReport, compile_counts};
+ghost use Rattle.gqlbench_run.specs.CompileReports.{AreCompileCounts, HaveCompileTimes, IsCompileReport};
 
 use crate::command::Command;
+use crate::counts::Counts;
 use crate::document_phases;
 use crate::failure::Failure;
-use crate::phase::{push_phase, push_time};
+use crate::phase::{Phase, push_phase, push_time};
 use crate::repetition::{Timed, take_times};
+use crate::report::Report;
 use crate::schema_phases::{REBUILDING, time_build, time_write_out};
 use apollo_compiler::compile_options::CompileOptions;
 use apollo_compiler::compiled::Compiled;
@@ -158,7 +160,7 @@ fn time_typing<C: Clock>(
 
 impl CompileTimes {
     ghost use Rattle.gqlbench_run.specs.CompileReports.{TakesEachPhase, compile_phases};
-    ghost use Rattle.gqlbench_run.specs.PhaseLines.{ArePhaseLines};
+    ghost use Rattle.gqlbench_run.specs.Phases.{ArePhases};
 
     fn new(alloc: Global) -> CompileTimes
         ensures { HaveCompileTimes 0 result }
@@ -216,20 +218,21 @@ impl CompileTimes {
         push_time(clock, began, &mut self.all)
     }
 
-    /// Adds the line of each phase.
-    fn push_lines(&mut self, alloc: Global, text: &mut String) -> Result<(), AllocError>
-        ensures { OnOk result ((lines : List ℕ) × ((string_bytes text.new ≡ string_bytes text.old ++ lines) × ((n : ℕ) → HaveCompileTimes n self.old → ArePhaseLines compile_phases n lines))) }
+    /// What the times of each phase come to.
+    fn phases(&mut self, alloc: Global) -> Result<Vec<Phase>, AllocError>
+        ensures { IfOk result (λ phases. (n : ℕ) → HaveCompileTimes n self.old → ArePhases compile_phases n phases.items) }
     {
-        push_phase(alloc, text, "compile", &mut self.whole)?;
-        push_phase(alloc, text, "all-phases", &mut self.all)?;
-        push_phase(alloc, text, "schema-build", &mut self.build)?;
-        push_phase(alloc, text, "to_ast", &mut self.write_out)?;
-        push_phase(alloc, text, "rebuild", &mut self.rebuild)?;
-        push_phase(alloc, text, "rebuild-to_ast", &mut self.write_out_again)?;
-        push_phase(alloc, text, "doc-build", &mut self.document_build)?;
-        push_phase(alloc, text, "doc-to_ast", &mut self.erasure)?;
-        push_phase(alloc, text, "drop", &mut self.free)?;
-        Ok(())
+        let mut phases = Vec::new(alloc);
+        push_phase(&mut phases, "compile", &mut self.whole)?;
+        push_phase(&mut phases, "all-phases", &mut self.all)?;
+        push_phase(&mut phases, "schema-build", &mut self.build)?;
+        push_phase(&mut phases, "to_ast", &mut self.write_out)?;
+        push_phase(&mut phases, "rebuild", &mut self.rebuild)?;
+        push_phase(&mut phases, "rebuild-to_ast", &mut self.write_out_again)?;
+        push_phase(&mut phases, "doc-build", &mut self.document_build)?;
+        push_phase(&mut phases, "doc-to_ast", &mut self.erasure)?;
+        push_phase(&mut phases, "drop", &mut self.free)?;
+        Ok(phases)
     }
 }
 
@@ -266,41 +269,14 @@ impl Timed for CompileWork<'_> {
     }
 }
 
-/// How much there is on either side of the division.
-#[derive(Clone, Copy)]
-struct Sizes {
-    types: usize,
-    definitions: usize,
-    schema_faults: usize,
-    operations: usize,
-    fragments: usize,
-    document_faults: usize,
-}
-
-fn counts_text(alloc: Global, sizes: Sizes) -> Result<String, AllocError>
-    ensures { IfOk result (λ text. string_bytes text ≡ compile_counts sizes.types sizes.definitions sizes.schema_faults sizes.operations sizes.fragments sizes.document_faults) }
-{
-    let Sizes {
-        types,
-        definitions,
-        schema_faults,
-        operations,
-        fragments,
-        document_faults,
-    } = sizes;
-    format!(in alloc;
-        "{types} types, {definitions} definitions out, {schema_faults} faults; {operations} operations, {fragments} fragments, {document_faults} faults\n"
-    )
-}
-
 /// What is compiled: how much there is of it, and how many faults.
 fn counts(
     alloc: Global,
     keys: HashKeys,
     options: CompileOptions,
     documents: &DividedDocuments,
-) -> Result<String, Failure>
-    ensures { IfOk result (λ text. AreCompileCounts options documents.now.schema.items documents.now.executable.items (string_bytes text)) }
+) -> Result<Counts, Failure>
+    ensures { IfOk result (AreCompileCounts options documents.now.schema.items documents.now.executable.items) }
 {
     let made = compiled(alloc, keys, options, documents)?;
     let types = made.schema.types.len();
@@ -309,18 +285,17 @@ fn counts(
     let operations = made.document.operations.len();
     let fragments = made.document.fragments.len();
     let document_faults = made.document_faults.as_slice().len();
-    let sizes = Sizes {
+    Ok(Counts::Compilation {
         types,
         definitions,
         schema_faults,
         operations,
         fragments,
         document_faults,
-    };
-    Ok(counts_text(alloc, sizes)?)
+    })
 }
 
-/// The report of the command `compile` on documents: what they are compiled to, and the line of each phase.
+/// The report of the command `compile` on documents: what they are compiled to, and each phase.
 pub fn compile_report<C: Clock, E: Write>(
     alloc: Global,
     clock: &C,
@@ -328,11 +303,11 @@ pub fn compile_report<C: Clock, E: Write>(
     command: Command,
     documents: &DividedDocuments,
     errors: &mut E,
-) -> Result<String, Failure>
-    ensures { IfOk result (λ text. IsCompileReport command documents.now.schema.items documents.now.executable.items (string_bytes text)) }
+) -> Result<Report, Failure>
+    ensures { IfOk result (IsCompileReport command documents.now.schema.items documents.now.executable.items) }
 {
     let options = command.options;
-    let mut text = counts(alloc, keys, options, documents)?;
+    let counts = counts(alloc, keys, options, documents)?;
     let work = CompileWork {
         keys,
         options,
@@ -340,6 +315,6 @@ pub fn compile_report<C: Clock, E: Write>(
     };
     let mut times = CompileTimes::new(alloc);
     take_times(alloc, clock, &work, command.repeat, &mut times, errors)?;
-    times.push_lines(alloc, &mut text)?;
-    Ok(text)
+    let phases = times.phases(alloc)?;
+    Ok(Report { counts, phases })
 }

@@ -1,11 +1,13 @@
 //! The phases of the command `doc`: a typed document built over a schema that is built once, written out, and freed.
-ghost use Rattle.std.specs.Prelude.{◌≡◌, ◌+◌, ◌++◌, ℕ, List, IfOk, OnOk, length, string_bytes};
-ghost use Rattle.gqlbench_run.specs.DocumentReports.{AreDocumentCounts, IsDocumentReport, document_counts};
+ghost use Rattle.std.specs.Prelude.{◌≡◌, ◌+◌, ℕ, IfOk, OnOk, length};
+ghost use Rattle.gqlbench_run.specs.DocumentReports.{AreDocumentCounts, IsDocumentReport};
 
 use crate::command::Command;
+use crate::counts::Counts;
 use crate::failure::Failure;
-use crate::phase::{push_phase, push_time};
+use crate::phase::{Phase, push_phase, push_time};
 use crate::repetition::{Timed, take_times};
+use crate::report::Report;
 use apollo_compiler::building::build_schema;
 use apollo_compiler::document_building::build_executable_document;
 use apollo_document::Faults;
@@ -83,7 +85,7 @@ fn time_free<C: Clock>(
 
 impl DocumentTimes {
     ghost use Rattle.gqlbench_run.specs.DocumentReports.{HaveDocumentTimes, document_phases};
-    ghost use Rattle.gqlbench_run.specs.PhaseLines.{ArePhaseLines};
+    ghost use Rattle.gqlbench_run.specs.Phases.{ArePhases};
 
     fn new(alloc: Global) -> DocumentTimes
         ensures { HaveDocumentTimes 0 result }
@@ -95,14 +97,15 @@ impl DocumentTimes {
         }
     }
 
-    /// Adds the line of each phase.
-    fn push_lines(&mut self, alloc: Global, text: &mut String) -> Result<(), AllocError>
-        ensures { OnOk result ((lines : List ℕ) × ((string_bytes text.new ≡ string_bytes text.old ++ lines) × ((n : ℕ) → HaveDocumentTimes n self.old → ArePhaseLines document_phases n lines))) }
+    /// What the times of each phase come to.
+    fn phases(&mut self, alloc: Global) -> Result<Vec<Phase>, AllocError>
+        ensures { IfOk result (λ phases. (n : ℕ) → HaveDocumentTimes n self.old → ArePhases document_phases n phases.items) }
     {
-        push_phase(alloc, text, "doc-build", &mut self.build)?;
-        push_phase(alloc, text, "doc-to_ast", &mut self.write_out)?;
-        push_phase(alloc, text, "drop", &mut self.free)?;
-        Ok(())
+        let mut phases = Vec::new(alloc);
+        push_phase(&mut phases, "doc-build", &mut self.build)?;
+        push_phase(&mut phases, "doc-to_ast", &mut self.write_out)?;
+        push_phase(&mut phases, "drop", &mut self.free)?;
+        Ok(phases)
     }
 }
 
@@ -132,28 +135,22 @@ impl Timed for DocumentWork<'_> {
     }
 }
 
-fn counts_text(
-    alloc: Global,
-    operations: usize,
-    fragments: usize,
-    faults: usize,
-) -> Result<String, AllocError>
-    ensures { IfOk result (λ text. string_bytes text ≡ document_counts operations fragments faults) }
-{
-    format!(in alloc; "{operations} operations, {fragments} fragments, {faults} faults\n")
-}
-
 /// What is built over a schema: how many operations and fragments there are, and how many faults.
-fn counts(alloc: Global, schema: &Schema, documents: &[Document]) -> Result<String, Failure>
-    ensures { IfOk result (λ text. AreDocumentCounts schema.now documents.now (string_bytes text)) }
+fn counts(alloc: Global, schema: &Schema, documents: &[Document]) -> Result<Counts, Failure>
+    ensures { IfOk result (AreDocumentCounts schema.now documents.now) }
 {
     let (document, faults) = build_executable_document(alloc, schema, documents, true)?;
     let operations = document.operations.len();
     let fragments = document.fragments.len();
-    Ok(counts_text(alloc, operations, fragments, faults.as_slice().len())?)
+    let faults = faults.as_slice().len();
+    Ok(Counts::Documents {
+        operations,
+        fragments,
+        faults,
+    })
 }
 
-/// The report of the command `doc` on documents: what is built, and the line of each phase.
+/// The report of the command `doc` on documents: what is built, and each phase.
 pub fn document_report<C: Clock, E: Write>(
     alloc: Global,
     clock: &C,
@@ -161,8 +158,8 @@ pub fn document_report<C: Clock, E: Write>(
     command: Command,
     documents: &DividedDocuments,
     errors: &mut E,
-) -> Result<String, Failure>
-    ensures { IfOk result (λ text. IsDocumentReport command documents.now.schema.items documents.now.executable.items (string_bytes text)) }
+) -> Result<Report, Failure>
+    ensures { IfOk result (IsDocumentReport command documents.now.schema.items documents.now.executable.items) }
 {
     let (schema, _faults) = build_schema(
         alloc,
@@ -171,13 +168,13 @@ pub fn document_report<C: Clock, E: Write>(
         documents.schema.as_slice(),
     )?;
     let executable = documents.executable.as_slice();
-    let mut text = counts(alloc, &schema, executable)?;
+    let counts = counts(alloc, &schema, executable)?;
     let work = DocumentWork {
         schema: &schema,
         documents: executable,
     };
     let mut times = DocumentTimes::new(alloc);
     take_times(alloc, clock, &work, command.repeat, &mut times, errors)?;
-    times.push_lines(alloc, &mut text)?;
-    Ok(text)
+    let phases = times.phases(alloc)?;
+    Ok(Report { counts, phases })
 }

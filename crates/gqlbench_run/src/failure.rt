@@ -11,7 +11,7 @@ use thiserror::Error;
 #[derive(Debug, Drop, Error)]
 pub enum Failure {
     /// The words are none that the program takes.
-    #[error("usage: gqlbench schema|lookups|doc|walk|leaf|compile [--random-keys] [--adopt] [--ignore-builtin] REPEAT (without --random-keys tables hash by fixed keys)")]
+    #[error("usage: gqlbench schema|lookups|doc|walk|leaf|compile [--json] [--random-keys] [--adopt] [--ignore-builtin] REPEAT (without --random-keys tables hash by fixed keys)")]
     Usage,
     /// The input is refused, or memory or numbers are wanting, as in a run of `gqltool`.
     #[error(transparent)]

@@ -1,13 +1,16 @@
 //! The phase of the command `leaf`: the leaf faults of a typed document that is built once.
-ghost use Rattle.std.specs.Prelude.{◌≡◌, ◌+◌, IfOk, OnOk, length, string_bytes};
+ghost use Rattle.std.specs.Prelude.{◌≡◌, ◌+◌, IfOk, OnOk, length};
 ghost use Rattle.apollo_executable.specs.Operations.{all_operations};
 ghost use Rattle.leafcheck.specs.LeafFaults as spec;
-ghost use Rattle.gqlbench_run.specs.LeafReports.{IsLeafReport, leaf_counts};
+ghost use Rattle.gqlbench_run.specs.LeafReports.{IsLeafReport};
+ghost use Rattle.gqlbench_run.specs.declared.counts.Counts.TheVariants as counted;
 
 use crate::command::Command;
+use crate::counts::Counts;
 use crate::failure::Failure;
 use crate::phase::{push_phase, push_time};
 use crate::repetition::{Timed, take_times};
+use crate::report::Report;
 use crate::typed_building::build_typed;
 use apollo_executable::document::ExecutableDocument;
 use apollo_schema::schema::Schema;
@@ -15,7 +18,7 @@ use bench_notation::reading::DividedDocuments;
 use graphql_nodes::collections::hash_keys::HashKeys;
 use leafcheck::checking::leaf_faults;
 use leafcheck::leaf_fault::LeafFault;
-use std::alloc::{AllocError, Global};
+use std::alloc::Global;
 use std::io::Write;
 use std::time::{Clock, Instant};
 
@@ -59,28 +62,22 @@ impl Timed for LeafWork<'_> {
     }
 }
 
-fn leaf_counts(
-    alloc: Global,
-    operations: usize,
-    fragments: usize,
-    faults: usize,
-) -> Result<String, AllocError>
-    ensures { IfOk result (λ text. string_bytes text ≡ leaf_counts operations fragments faults) }
-{
-    format!(in alloc; "{operations} operations, {fragments} fragments, {faults} leaf faults\n")
-}
-
 /// How much there is in the document, and how many leaf faults it has.
-fn counts(alloc: Global, schema: &Schema, document: &ExecutableDocument) -> Result<String, Failure>
-    ensures { IfOk result (λ text. string_bytes text ≡ leaf_counts (length (all_operations document.now.operations)) (length document.now.fragments) (length (spec.leaf_faults schema.now document.now))) }
+fn counts(alloc: Global, schema: &Schema, document: &ExecutableDocument) -> Result<Counts, Failure>
+    ensures { IfOk result (λ counts. counts ≡ counted.LeafFaults (length (all_operations document.now.operations)) (length document.now.fragments) (length (spec.leaf_faults schema.now document.now))) }
 {
     let faults = leaf_faults(alloc, schema, document)?;
     let operations = document.operations.len();
     let fragments = document.fragments.len();
-    Ok(leaf_counts(alloc, operations, fragments, faults.as_slice().len())?)
+    let faults = faults.as_slice().len();
+    Ok(Counts::LeafFaults {
+        operations,
+        fragments,
+        faults,
+    })
 }
 
-/// The report of the command `leaf` on documents: what is found, and the line of the phase.
+/// The report of the command `leaf` on documents: what is found, and the phase.
 pub fn leaf_report<C: Clock, E: Write>(
     alloc: Global,
     clock: &C,
@@ -88,17 +85,18 @@ pub fn leaf_report<C: Clock, E: Write>(
     command: Command,
     documents: &DividedDocuments,
     errors: &mut E,
-) -> Result<String, Failure>
-    ensures { IfOk result (λ text. IsLeafReport command documents.now.schema.items documents.now.executable.items (string_bytes text)) }
+) -> Result<Report, Failure>
+    ensures { IfOk result (IsLeafReport command documents.now.schema.items documents.now.executable.items) }
 {
     let typed = build_typed(alloc, keys, command.options, documents)?;
-    let mut text = counts(alloc, &typed.schema, &typed.document)?;
+    let counts = counts(alloc, &typed.schema, &typed.document)?;
     let work = LeafWork {
         schema: &typed.schema,
         document: &typed.document,
     };
     let mut times = Vec::new(alloc);
     take_times(alloc, clock, &work, command.repeat, &mut times, errors)?;
-    push_phase(alloc, &mut text, "leaf_faults", &mut times)?;
-    Ok(text)
+    let mut phases = Vec::new(alloc);
+    push_phase(&mut phases, "leaf_faults", &mut times)?;
+    Ok(Report { counts, phases })
 }

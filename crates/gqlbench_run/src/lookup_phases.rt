@@ -1,15 +1,18 @@
 //! The phases of the command `lookups`: fields by name, and subtypes, in a schema that is built once.
-ghost use Rattle.std.specs.Prelude.{◌≡◌, ◌+◌, ◌++◌, ℕ, List, IfOk, OnOk, count_by, length, string_bytes};
+ghost use Rattle.std.specs.Prelude.{◌≡◌, ◌+◌, ℕ, IfOk, OnOk, count_by, length};
 ghost use Rattle.gqlbench_run.specs.LookupQuestions.{has_field, has_subtype};
-ghost use Rattle.gqlbench_run.specs.Reports.{IsLookupReport, calls_text};
+ghost use Rattle.gqlbench_run.specs.Reports.{IsLookupReport};
+ghost use Rattle.gqlbench_run.specs.declared.counts.Counts.TheVariants as counted;
 
 use crate::command::Command;
+use crate::counts::Counts;
 use crate::failure::Failure;
 use crate::lookup_questions::{
     Question, count_fields, count_subtypes, field_questions, subtype_questions,
 };
-use crate::phase::{push_phase, push_time};
+use crate::phase::{Phase, push_phase, push_time};
 use crate::repetition::{Timed, take_times};
+use crate::report::Report;
 use apollo_compiler::building::build_schema;
 use apollo_schema::schema::Schema;
 use graphql_ast::document::Document;
@@ -86,7 +89,7 @@ fn time_subtypes<C: Clock>(
 
 impl LookupTimes {
     ghost use Rattle.gqlbench_run.specs.Reports.{HaveLookupTimes, HaveLookedUp, lookup_phases};
-    ghost use Rattle.gqlbench_run.specs.PhaseLines.{ArePhaseLines};
+    ghost use Rattle.gqlbench_run.specs.Phases.{ArePhases};
 
     /// What is there is counted once, before a time is taken.
     fn new(alloc: Global, schema: &Schema, questions: &Questions) -> LookupTimes
@@ -100,13 +103,14 @@ impl LookupTimes {
         }
     }
 
-    /// Adds the line of each phase.
-    fn push_lines(&mut self, alloc: Global, text: &mut String) -> Result<(), AllocError>
-        ensures { OnOk result ((lines : List ℕ) × ((string_bytes text.new ≡ string_bytes text.old ++ lines) × ((n : ℕ) → HaveLookupTimes n self.old → ArePhaseLines lookup_phases n lines))) }
+    /// What the times of each phase come to.
+    fn phases(&mut self, alloc: Global) -> Result<Vec<Phase>, AllocError>
+        ensures { IfOk result (λ phases. (n : ℕ) → HaveLookupTimes n self.old → ArePhases lookup_phases n phases.items) }
     {
-        push_phase(alloc, text, "type_field", &mut self.type_field)?;
-        push_phase(alloc, text, "is_subtype", &mut self.is_subtype)?;
-        Ok(())
+        let mut phases = Vec::new(alloc);
+        push_phase(&mut phases, "type_field", &mut self.type_field)?;
+        push_phase(&mut phases, "is_subtype", &mut self.is_subtype)?;
+        Ok(phases)
     }
 }
 
@@ -138,30 +142,19 @@ impl Timed for LookupWork<'_> {
     }
 }
 
-fn calls_text(
-    alloc: Global,
-    fields: usize,
-    fields_found: usize,
-    subtypes: usize,
-    subtypes_found: usize,
-) -> Result<String, AllocError>
-    ensures { IfOk result (λ text. string_bytes text ≡ calls_text fields fields_found subtypes subtypes_found) }
-{
-    format!(in alloc;
-        "{fields} calls of type_field, {fields_found} found, {subtypes} calls of is_subtype, {subtypes_found} true\n"
-    )
-}
-
 /// How many calls of each lookup a repetition makes, and how many find something.
-fn calls(alloc: Global, questions: &Questions, times: &LookupTimes) -> Result<String, AllocError>
-    ensures { IfOk result (λ text. string_bytes text ≡ calls_text (length questions.now.fields.items) times.now.fields (length questions.now.subtypes.items) times.now.subtypes) }
+fn calls(questions: &Questions, times: &LookupTimes) -> Counts
+    ensures { result ≡ counted.Lookups (length questions.now.fields.items) times.now.fields (length questions.now.subtypes.items) times.now.subtypes }
 {
-    let fields = questions.fields.as_slice().len();
-    let subtypes = questions.subtypes.as_slice().len();
-    calls_text(alloc, fields, times.fields, subtypes, times.subtypes)
+    Counts::Lookups {
+        fields: questions.fields.len(),
+        fields_found: times.fields,
+        subtypes: questions.subtypes.len(),
+        subtypes_found: times.subtypes,
+    }
 }
 
-/// The report of the command `lookups` on documents: how much is asked for and found, and the line of each phase.
+/// The report of the command `lookups` on documents: how much is asked for and found, and each phase.
 pub fn lookup_report<C: Clock, E: Write>(
     alloc: Global,
     clock: &C,
@@ -169,8 +162,8 @@ pub fn lookup_report<C: Clock, E: Write>(
     command: Command,
     documents: &[Document],
     errors: &mut E,
-) -> Result<String, Failure>
-    ensures { IfOk result (λ text. IsLookupReport command documents.now (string_bytes text)) }
+) -> Result<Report, Failure>
+    ensures { IfOk result (IsLookupReport command documents.now) }
 {
     let (schema, _faults) = build_schema(alloc, keys, command.options, documents)?;
     let questions = Questions {
@@ -183,7 +176,7 @@ pub fn lookup_report<C: Clock, E: Write>(
         questions: &questions,
     };
     take_times(alloc, clock, &work, command.repeat, &mut times, errors)?;
-    let mut text = calls(alloc, &questions, &times)?;
-    times.push_lines(alloc, &mut text)?;
-    Ok(text)
+    let counts = calls(&questions, &times);
+    let phases = times.phases(alloc)?;
+    Ok(Report { counts, phases })
 }

@@ -1,12 +1,19 @@
-//! The times of a phase.
-ghost use Rattle.std.specs.Prelude.{◌≡◌, ◌+◌, ◌++◌, ℕ, List, OnOk, length, string_bytes};
-ghost use Rattle.gqlbench_run.specs.PhaseLines.{IsPhaseText};
+//! What the times of a phase come to.
+ghost use Rattle.std.specs.Prelude.{◌≡◌, ◌+◌, ◌++◌, List, OnOk, length};
+ghost use Rattle.gqlbench_run.specs.Phases.{AreSummedUp};
+ghost use Rattle.gqlbench_run.specs.declared.phase.Phase.{Phase};
 
 use crate::failure::Failure;
-use crate::phase_line::push_line;
-use crate::summary::summarize;
-use std::alloc::{AllocError, Global};
+use crate::summary::{Summary, summarize};
+use std::alloc::AllocError;
 use std::time::{Clock, Instant};
+
+/// A phase, and what its times come to.
+#[derive(Clone, Copy)]
+pub struct Phase {
+    pub name: &'static str,
+    pub summary: Summary,
+}
 
 fn push(times: &mut Vec<u64>, nanoseconds: u64) -> Result<(), AllocError>
     ensures { OnOk result (length times.new.items ≡ length times.old.items + 1) }
@@ -23,20 +30,16 @@ pub fn push_time<C: Clock>(clock: &C, began: Instant, times: &mut Vec<u64>) -> R
     Ok(push(times, u64::try_from(nanoseconds).unwrap_or(u64::MAX))?)
 }
 
-/// Adds the line of a phase of this name, which sums up its times. A phase without times has none. The error is want of memory.
+/// Adds the phase of this name, which sums up its times. There is none without times. The error is want of memory.
 pub fn push_phase(
-    alloc: Global,
-    text: &mut String,
-    name: &str,
+    phases: &mut Vec<Phase>,
+    name: &'static str,
     times: &mut Vec<u64>,
 ) -> Result<(), AllocError>
-    ensures { OnOk result ((line : List ℕ) × ((string_bytes text.new ≡ string_bytes text.old ++ line) × IsPhaseText name.now times.old.items line)) }
+    ensures { OnOk result ((more : List Phase) × ((phases.new.items ≡ phases.old.items ++ more) × AreSummedUp name.now times.old.items more)) }
 {
     match summarize(times.as_mut_slice()) {
-        Some(summary) => {
-            push_line(alloc, text, name, summary)?;
-            Ok(())
-        }
+        Some(summary) => Ok(phases.push(Phase { name, summary })?),
         None => Ok(()),
     }
 }

@@ -1,8 +1,9 @@
 //! The line of a phase.
 ghost use Rattle.std.specs.Prelude.{◌≡◌, ◌++◌, OnOk, string_bytes};
-ghost use Rattle.gqlbench_run.specs.PhaseLines.{name_column, number_column, phase_line, spaces};
+ghost use Rattle.gqlbench_run.specs.PhaseLines.{name_column, number_column, phase_line, phase_object, phase_text, spaces};
 
-use crate::summary::Summary;
+use crate::format::Format;
+use crate::phase::Phase;
 use std::alloc::{AllocError, Global};
 
 const NAME_WIDTH: usize = 14;
@@ -35,15 +36,10 @@ fn push_name(text: &mut String, name: &str) -> Result<(), AllocError>
     push_spaces(text, NAME_WIDTH.saturating_sub(name.len()))
 }
 
-/// Adds the line of a phase of this name. The error is want of memory.
-pub fn push_line(
-    alloc: Global,
-    text: &mut String,
-    name: &str,
-    summary: Summary,
-) -> Result<(), AllocError>
-    ensures { OnOk result (string_bytes text.new ≡ string_bytes text.old ++ phase_line name.now summary) }
+fn push_text(alloc: Global, text: &mut String, phase: Phase) -> Result<(), AllocError>
+    ensures { OnOk result (string_bytes text.new ≡ string_bytes text.old ++ phase_text phase) }
 {
+    let Phase { name, summary } = phase;
     push_name(text, name)?;
     text.push_str(" min ")?;
     push_number(alloc, text, summary.least)?;
@@ -52,4 +48,32 @@ pub fn push_line(
     text.push_str(" mean ")?;
     push_number(alloc, text, summary.mean)?;
     text.push_str(" ns\n")
+}
+
+fn push_object(alloc: Global, text: &mut String, phase: Phase) -> Result<(), AllocError>
+    ensures { OnOk result (string_bytes text.new ≡ string_bytes text.old ++ phase_object phase) }
+{
+    let Phase { name, summary } = phase;
+    let least = summary.least;
+    let median = summary.median;
+    let mean = summary.mean;
+    let line = format!(in alloc;
+        "{{\"phase\":\"{name}\",\"least\":{least},\"median\":{median},\"mean\":{mean}}}\n"
+    )?;
+    text.push_str(line.as_str())
+}
+
+/// Adds the line of a phase in this format. The error is want of memory.
+pub fn push_line(
+    alloc: Global,
+    text: &mut String,
+    format: Format,
+    phase: Phase,
+) -> Result<(), AllocError>
+    ensures { OnOk result (string_bytes text.new ≡ string_bytes text.old ++ phase_line format phase) }
+{
+    match format {
+        Format::Text => push_text(alloc, text, phase),
+        Format::Json => push_object(alloc, text, phase),
+    }
 }

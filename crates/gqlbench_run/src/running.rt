@@ -13,6 +13,9 @@ use crate::failure::Failure;
 use crate::keys::chosen_keys;
 use crate::leaf_phases::leaf_report;
 use crate::lookup_phases::lookup_report;
+use crate::memory::{ProcessStatus, peak_memory};
+use crate::printing::report_text;
+use crate::report::Report;
 use crate::schema_phases::schema_report;
 use crate::walk_phases::walk_report;
 use bench_notation::reading::{DividedDocuments, read, read_divided};
@@ -36,11 +39,13 @@ use std::time::Clock;
 /// The output is written only once all of it is there. What is wrong is said on `errors`, in one line, and so is how far a
 /// long run is; that it cannot be said there changes nothing. A clock that can't be read ends the run as want of memory
 /// does, and so does a source that gives no random keys where the words ask for them. They are drawn once, before anything
-/// is read; without the word nothing is drawn, and tables hash by fixed keys.
-pub fn run<C: Clock, S: RandomSource, R: Read, O: Write, E: Write>(
+/// is read; without the word nothing is drawn, and tables hash by fixed keys. How much memory the process had is asked of `system`
+/// last; where it doesn't tell, the report has no line of it.
+pub fn run<C: Clock, S: RandomSource, P: ProcessStatus, R: Read, O: Write, E: Write>(
     alloc: Global,
     clock: &C,
     source: &S,
+    system: &P,
     words: &[&str],
     reader: &mut R,
     output: &mut O,
@@ -58,14 +63,14 @@ pub fn run<C: Clock, S: RandomSource, R: Read, O: Write, E: Write>(
     // Words that are no command are refused before anything is read.
     ensures usage { AreNoCommand (texts_of words.now) → (result ≡ Status.Refused) × (reader.new ≡ reader.old) }
 {
-    let report = match report(alloc, clock, source, words, reader, errors) {
-        Ok(report) => report,
+    let text = match report(alloc, clock, source, system, words, reader, errors) {
+        Ok(text) => text,
         Err(failure) => {
             let _ = writeln!(errors, "{failure}");
             return failure.status();
         }
     };
-    match write_out(output, report.as_str()) {
+    match write_out(output, text.as_str()) {
         Ok(()) => Status::Done,
         Err(_) => {
             let _ = writeln!(errors, "cannot write output");
@@ -74,11 +79,12 @@ pub fn run<C: Clock, S: RandomSource, R: Read, O: Write, E: Write>(
     }
 }
 
-/// The report that the words ask for. Nothing is read where the words are refused.
-fn report<C: Clock, S: RandomSource, R: Read, E: Write>(
+/// The text of the report that the words ask for. Nothing is read where the words are refused.
+fn report<C: Clock, S: RandomSource, P: ProcessStatus, R: Read, E: Write>(
     alloc: Global,
     clock: &C,
     source: &S,
+    system: &P,
     words: &[&str],
     reader: &mut R,
     errors: &mut E,
@@ -93,7 +99,8 @@ fn report<C: Clock, S: RandomSource, R: Read, E: Write>(
     let keys = chosen_keys(source, command.keys)?;
     let input = read_input(alloc, reader)?;
     let report = report_on(alloc, clock, keys, command, input.as_str(), errors)?;
-    Ok(report)
+    let kilobytes = peak_memory(alloc, system);
+    Ok(report_text(alloc, command.format, &report, kilobytes)?)
 }
 
 /// The whole input.
@@ -127,9 +134,9 @@ fn report_on<C: Clock, E: Write>(
     command: Command,
     input: &str,
     errors: &mut E,
-) -> Result<String, Failure>
+) -> Result<Report, Failure>
     ensures read { OnOk result (All IsLine (lines_of input.now)) }
-    ensures means { IfOk result (λ text. IsReportOf command input.now (string_bytes text)) }
+    ensures means { IfOk result (IsReportOf command input.now) }
 {
     match command.work {
         Work::Schema => {

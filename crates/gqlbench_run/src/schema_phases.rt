@@ -1,12 +1,14 @@
 //! The phases of the command `schema`: a schema built, written out, built again from that, and freed.
-ghost use Rattle.std.specs.Prelude.{◌≡◌, ◌+◌, ◌++◌, ℕ, List, IfOk, OnOk, length, string_bytes};
+ghost use Rattle.std.specs.Prelude.{◌≡◌, ◌+◌, ℕ, IfOk, OnOk, length};
 ghost use Rattle.graphql_ast.specs.declared.definition.Definition.{Definition};
-ghost use Rattle.gqlbench_run.specs.Reports.{IsCountsText, IsSchemaReport, counts_text, rebuilt_text};
+ghost use Rattle.gqlbench_run.specs.Reports.{AreSchemaSizes, IsSchemaReport};
 
 use crate::command::Command;
+use crate::counts::Counts;
 use crate::failure::Failure;
-use crate::phase::{push_phase, push_time};
+use crate::phase::{Phase, push_phase, push_time};
 use crate::repetition::{Timed, take_times};
+use crate::report::Report;
 use apollo_compiler::building::build_schema;
 use apollo_compiler::compile_options::CompileOptions;
 use apollo_meaning::build_error::Faults;
@@ -115,7 +117,7 @@ fn time_free<C: Clock>(
 
 impl SchemaTimes {
     ghost use Rattle.gqlbench_run.specs.Reports.{HaveTimes, schema_phases};
-    ghost use Rattle.gqlbench_run.specs.PhaseLines.{ArePhaseLines};
+    ghost use Rattle.gqlbench_run.specs.Phases.{ArePhases};
 
     fn new(alloc: Global) -> SchemaTimes
         ensures { HaveTimes 0 result }
@@ -129,15 +131,16 @@ impl SchemaTimes {
         }
     }
 
-    /// Adds the line of each phase.
-    fn push_lines(&mut self, alloc: Global, text: &mut String) -> Result<(), AllocError>
-        ensures { OnOk result ((lines : List ℕ) × ((string_bytes text.new ≡ string_bytes text.old ++ lines) × ((n : ℕ) → HaveTimes n self.old → ArePhaseLines schema_phases n lines))) }
+    /// What the times of each phase come to.
+    fn phases(&mut self, alloc: Global) -> Result<Vec<Phase>, AllocError>
+        ensures { IfOk result (λ phases. (n : ℕ) → HaveTimes n self.old → ArePhases schema_phases n phases.items) }
     {
-        push_phase(alloc, text, "schema-build", &mut self.build)?;
-        push_phase(alloc, text, "to_ast", &mut self.write_out)?;
-        push_phase(alloc, text, "rebuild+eq", &mut self.rebuild)?;
-        push_phase(alloc, text, "drop", &mut self.free)?;
-        Ok(())
+        let mut phases = Vec::new(alloc);
+        push_phase(&mut phases, "schema-build", &mut self.build)?;
+        push_phase(&mut phases, "to_ast", &mut self.write_out)?;
+        push_phase(&mut phases, "rebuild+eq", &mut self.rebuild)?;
+        push_phase(&mut phases, "drop", &mut self.free)?;
+        Ok(phases)
     }
 }
 
@@ -186,44 +189,36 @@ impl Timed for SchemaWork<'_> {
     }
 }
 
-fn counts_text(
-    alloc: Global,
+/// How many types a schema has, how many definitions are written out of it, and how many faults there are.
+#[derive(Clone, Copy)]
+struct SchemaSizes {
     types: usize,
     definitions: usize,
     faults: usize,
-) -> Result<String, AllocError>
-    ensures { IfOk result (λ text. string_bytes text ≡ counts_text types definitions faults) }
-{
-    format!(in alloc; "{types} types, {definitions} definitions out, {faults} faults")
 }
 
-/// What is built: how many types the schema has, how many definitions are written out, and how many faults there are.
-fn counts(
+/// How much there is of what is built.
+fn sizes(
     alloc: Global,
     keys: HashKeys,
     options: CompileOptions,
     documents: &[Document],
-) -> Result<String, Failure>
-    ensures { IfOk result (λ text. IsCountsText options documents.now (string_bytes text)) }
+) -> Result<SchemaSizes, Failure>
+    ensures { IfOk result (AreSchemaSizes options documents.now) }
 {
     let (schema, faults) = build_schema(alloc, keys, options, documents)?;
     let written = schema.to_ast(alloc)?;
+    let types = schema.types.len();
     let definitions = written.as_slice().len();
     let faults = faults.as_slice().len();
-    Ok(counts_text(alloc, schema.types.len(), definitions, faults)?)
+    Ok(SchemaSizes {
+        types,
+        definitions,
+        faults,
+    })
 }
 
-fn rebuilt_text(is_equal: bool) -> &'static str
-    ensures { result.now ≡ rebuilt_text is_equal }
-{
-    if is_equal {
-        ", equal when rebuilt\n"
-    } else {
-        ", unequal when rebuilt\n"
-    }
-}
-
-/// The report of the command `schema` on documents: what is built, and the line of each phase.
+/// The report of the command `schema` on documents: what is built, and each phase.
 pub fn schema_report<C: Clock, E: Write>(
     alloc: Global,
     clock: &C,
@@ -231,11 +226,15 @@ pub fn schema_report<C: Clock, E: Write>(
     command: Command,
     documents: &[Document],
     errors: &mut E,
-) -> Result<String, Failure>
-    ensures { IfOk result (λ text. IsSchemaReport command documents.now (string_bytes text)) }
+) -> Result<Report, Failure>
+    ensures { IfOk result (IsSchemaReport command documents.now) }
 {
     let options = command.options;
-    let mut text = counts(alloc, keys, options, documents)?;
+    let SchemaSizes {
+        types,
+        definitions,
+        faults,
+    } = sizes(alloc, keys, options, documents)?;
     let work = SchemaWork {
         keys,
         options,
@@ -243,7 +242,13 @@ pub fn schema_report<C: Clock, E: Write>(
     };
     let mut times = SchemaTimes::new(alloc);
     take_times(alloc, clock, &work, command.repeat, &mut times, errors)?;
-    text.push_str(rebuilt_text(times.all_equal))?;
-    times.push_lines(alloc, &mut text)?;
-    Ok(text)
+    let all_equal = times.all_equal;
+    let counts = Counts::Schema {
+        types,
+        definitions,
+        faults,
+        all_equal,
+    };
+    let phases = times.phases(alloc)?;
+    Ok(Report { counts, phases })
 }

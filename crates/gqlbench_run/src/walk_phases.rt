@@ -1,12 +1,15 @@
 //! The phases of the command `walk`: walks over each operation and fragment of a typed document that is built once.
-ghost use Rattle.std.specs.Prelude.{◌≡◌, ◌+◌, ◌++◌, ℕ, List, IfOk, OnOk, length, string_bytes, true, false};
+ghost use Rattle.std.specs.Prelude.{◌≡◌, ◌+◌, ℕ, IfOk, OnOk, length, true, false};
 ghost use Rattle.apollo_executable.specs.Operations.{all_operations};
-ghost use Rattle.gqlbench_run.specs.WalkReports.{IsCountedOn, IsCountOver, IsWalkReport, sets_of, walk_counts};
+ghost use Rattle.gqlbench_run.specs.WalkReports.{IsCountedOn, IsCountOver, IsWalkReport, sets_of};
+ghost use Rattle.gqlbench_run.specs.declared.counts.Counts.TheVariants as counted;
 
 use crate::command::Command;
+use crate::counts::Counts;
 use crate::failure::Failure;
-use crate::phase::{push_phase, push_time};
+use crate::phase::{Phase, push_phase, push_time};
 use crate::repetition::{Timed, take_times};
+use crate::report::Report;
 use crate::typed_building::build_typed;
 use apollo_executable::document::ExecutableDocument;
 use apollo_executable::selection::SelectionSet;
@@ -131,7 +134,7 @@ fn time_all<C: Clock>(
 
 impl WalkTimes {
     ghost use Rattle.gqlbench_run.specs.WalkReports.{HaveWalked, HaveWalkTimes, walk_phases};
-    ghost use Rattle.gqlbench_run.specs.PhaseLines.{ArePhaseLines};
+    ghost use Rattle.gqlbench_run.specs.Phases.{ArePhases};
 
     /// The fields are counted once, before a time is taken.
     fn new(alloc: Global, document: &ExecutableDocument) -> Result<WalkTimes, AllocError>
@@ -145,13 +148,14 @@ impl WalkTimes {
         })
     }
 
-    /// Adds the line of each phase.
-    fn push_lines(&mut self, alloc: Global, text: &mut String) -> Result<(), AllocError>
-        ensures { OnOk result ((lines : List ℕ) × ((string_bytes text.new ≡ string_bytes text.old ++ lines) × ((n : ℕ) → HaveWalkTimes n self.old → ArePhaseLines walk_phases n lines))) }
+    /// What the times of each phase come to.
+    fn phases(&mut self, alloc: Global) -> Result<Vec<Phase>, AllocError>
+        ensures { IfOk result (λ phases. (n : ℕ) → HaveWalkTimes n self.old → ArePhases walk_phases n phases.items) }
     {
-        push_phase(alloc, text, "root-walks", &mut self.root)?;
-        push_phase(alloc, text, "all-walks", &mut self.all)?;
-        Ok(())
+        let mut phases = Vec::new(alloc);
+        push_phase(&mut phases, "root-walks", &mut self.root)?;
+        push_phase(&mut phases, "all-walks", &mut self.all)?;
+        Ok(phases)
     }
 }
 
@@ -180,40 +184,19 @@ impl Timed for WalkWork<'_> {
     }
 }
 
-fn walk_counts(
-    alloc: Global,
-    operations: usize,
-    fragments: usize,
-    root_fields: u64,
-    all_fields: u64,
-) -> Result<String, AllocError>
-    ensures { IfOk result (λ text. string_bytes text ≡ walk_counts operations fragments root_fields all_fields) }
-{
-    format!(in alloc;
-        "{operations} operations, {fragments} fragments, {root_fields} root fields, {all_fields} fields in all\n"
-    )
-}
-
 /// How much there is in the document, and how many fields the walks give.
-fn counts(
-    alloc: Global,
-    document: &ExecutableDocument,
-    times: &WalkTimes,
-) -> Result<String, AllocError>
-    ensures { IfOk result (λ text. string_bytes text ≡ walk_counts (length (all_operations document.now.operations)) (length document.now.fragments) times.now.root_fields times.now.all_fields) }
+fn counts(document: &ExecutableDocument, times: &WalkTimes) -> Counts
+    ensures { result ≡ counted.Walks (length (all_operations document.now.operations)) (length document.now.fragments) times.now.root_fields times.now.all_fields }
 {
-    let operations = document.operations.len();
-    let fragments = document.fragments.len();
-    walk_counts(
-        alloc,
-        operations,
-        fragments,
-        times.root_fields,
-        times.all_fields,
-    )
+    Counts::Walks {
+        operations: document.operations.len(),
+        fragments: document.fragments.len(),
+        root_fields: times.root_fields,
+        all_fields: times.all_fields,
+    }
 }
 
-/// The report of the command `walk` on documents: what the walks give, and the line of each phase.
+/// The report of the command `walk` on documents: what the walks give, and each phase.
 pub fn walk_report<C: Clock, E: Write>(
     alloc: Global,
     clock: &C,
@@ -221,15 +204,15 @@ pub fn walk_report<C: Clock, E: Write>(
     command: Command,
     documents: &DividedDocuments,
     errors: &mut E,
-) -> Result<String, Failure>
-    ensures { IfOk result (λ text. IsWalkReport command documents.now.schema.items documents.now.executable.items (string_bytes text)) }
+) -> Result<Report, Failure>
+    ensures { IfOk result (IsWalkReport command documents.now.schema.items documents.now.executable.items) }
 {
     let typed = build_typed(alloc, keys, command.options, documents)?;
     let document = &typed.document;
     let mut times = WalkTimes::new(alloc, document)?;
     let work = WalkWork { document };
     take_times(alloc, clock, &work, command.repeat, &mut times, errors)?;
-    let mut text = counts(alloc, document, &times)?;
-    times.push_lines(alloc, &mut text)?;
-    Ok(text)
+    let counts = counts(document, &times);
+    let phases = times.phases(alloc)?;
+    Ok(Report { counts, phases })
 }

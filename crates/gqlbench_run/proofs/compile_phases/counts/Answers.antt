@@ -1,5 +1,5 @@
-use Rattle.std.proofs.Common.{ap, length, ◌∙◌}
-use Rattle.gqlbench_run.specs.CompileReports.{compile_counts}
+use Rattle.std.proofs.Common.{ap, length}
+use Rattle.gqlbench_run.specs.declared.counts.Counts.TheVariants as counted
 use Rattle.gqlbench_run.proofs.compile_phases.counts.Goals as goal
 
 pub returns : goal.returns
@@ -13,5 +13,5 @@ returns c =
     record {
       compiled = c.in_ok-made.made;
       are = c.in_ok-made.ensures;
-      is = c.in_ok-counts_text.ensures ∙ (λ i. compile_counts (types i) (definitions i) (schema_faults i) (operations i) (fragments i) (document_faults i));
+      is = λ i. counted.Compilation (types i) (definitions i) (schema_faults i) (operations i) (fragments i) (document_faults i);
     }

@@ -1,9 +1,7 @@
-use Rattle.std.proofs.Common.{◌++◌, ap, ◌∙◌}
 use Rattle.gqlbench_run.proofs.walk_phases.walk_report.Goals as goal
 
 pub returns : goal.returns
 returns g c =
-    let lines = c.in_ok-push_lines.ensures.0 in
     let have = c.in_ok-take_times.ensures c.in_ok-times.ensures in
     record {
       schema = c.in_ok-typed.typed.schema;
@@ -13,7 +11,6 @@ returns g c =
       root = have.root_fields;
       all_fields = c.take_times.new.times.all_fields;
       all = have.all_fields;
-      lines = lines;
-      timed = c.in_ok-push_lines.ensures.1.1 c.args.command.repeat (have.root, have.all);
-      is = c.in_ok-push_lines.ensures.1.0 ∙ ap (λ t. t ++ lines) c.in_ok-text.ensures;
+      counts = c.counts-counts.ensures;
+      timed = c.in_ok-phases.ensures c.args.command.repeat (have.root, have.all);
     }

@@ -1,0 +1,41 @@
+//! How much memory the process had at its highest.
+ghost use Rattle.std.specs.Prelude.{IfSome};
+ghost use Rattle.gqlbench_run.specs.Memory.{IsNumber, IsPeakIn};
+
+use std::alloc::Global;
+use std::{fs, io};
+
+/// What tells how the process stands.
+pub trait ProcessStatus {
+    /// The text that says it, as Linux writes it in `/proc/self/status`. The error is a system that has none, or want of memory.
+    fn status_text(&self, alloc: Global) -> io::Result<String>;
+}
+
+impl ProcessStatus for HostRuntime {
+    fn status_text(&self, _alloc: Global) -> io::Result<String> {
+        fs::read_to_string(self, "/proc/self/status")
+    }
+}
+
+/// The kilobytes of memory that the process had at its highest, where the system tells.
+/// No clause: what a system tells is seen by no contract.
+pub fn peak_memory<P: ProcessStatus>(alloc: Global, system: &P) -> Option<u64> {
+    let status = system.status_text(alloc).ok()?;
+    peak_in(status.as_str())
+}
+
+/// The number of kilobytes that this status has behind `VmHWM:`.
+fn peak_in(status: &str) -> Option<u64>
+    ensures { IfSome result (IsPeakIn status.now) }
+{
+    let (_, after) = status.split_once("\nVmHWM:")?;
+    let (number, _) = after.split_once(" kB\n")?;
+    number_in(number.trim_start())
+}
+
+/// The number that this word is.
+fn number_in(word: &str) -> Option<u64>
+    ensures { IfSome result (IsNumber word.now) }
+{
+    word.parse().ok()
+}
