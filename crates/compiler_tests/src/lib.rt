@@ -17,6 +17,8 @@ mod inputs;
 #[cfg(test)]
 mod json_runs;
 #[cfg(test)]
+mod long_walks;
+#[cfg(test)]
 mod many_extensions;
 #[cfg(test)]
 mod memory_runs;
