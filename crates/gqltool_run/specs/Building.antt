@@ -1,13 +1,15 @@
 -- What the commands build.
-use Rattle.std.specs.Prelude.{◌≡◌, ℕ, List}
+use Rattle.std.specs.Prelude.{◌≡◌, ℕ, true, List, []}
 use Rattle.graphql_ast.specs.declared.document.Document.{Document}
 use Rattle.apollo_schema.specs.declared.schema.Schema.{Schema}
 use Rattle.apollo_meaning.specs.Order.SpentIds.{SpendsIds}
 use Rattle.apollo_meaning.specs.Faults.Collisions.{Fault}
 use Rattle.apollo_meaning.specs.Faults.ListFaults.{faults_of}
 use Rattle.apollo_schema.specs.MeantSchema.{MeansSchema}
+use Rattle.apollo_compiler.specs.Compilation.{IsCompiled}
 use Rattle.apollo_compiler.specs.Lists.{all_sources, schema_list}
 use Rattle.apollo_compiler.specs.declared.compile_options.CompileOptions.{CompileOptions}
+use Rattle.apollo_compiler.specs.declared.compiled.Compiled.{Compiled}
 use Rattle.gqltool_run.specs.declared.failure.Failure.{Failure}
 use Rattle.gqltool_run.specs.declared.failure.Failure.TheVariants as failures
 use Rattle.bench_notation.specs.Line.{lines_of}
@@ -20,6 +22,10 @@ pub record IsBuilt (options : CompileOptions) (input : List ℕ) (schema : Schem
   pub means : MeansSchema 0 options.adopt_orphan_extensions (schema_list options documents) schema
   pub sources : schema.sources ≡ all_sources documents
   pub are : faults ≡ faults_of options.adopt_orphan_extensions (schema_list options documents)
+
+-- what the documents of the input are compiled to with these options, without executable documents
+abbrev pub IsCompiledInput : CompileOptions → List ℕ → Compiled → Type 0
+IsCompiledInput options input compiled = (documents : List Document) × (AreDocumentsOf input documents × IsCompiled options documents [] true compiled)
 
 -- why nothing is built of an input with these options: a line says nothing where it stands, or the extensions spend the
 -- numbers; want of memory says nothing

@@ -10,7 +10,9 @@ use Rattle.apollo_executable.specs.declared.document.ExecutableDocument.{Executa
 use Rattle.apollo_elaboration.specs.Typable.{Fault as DocumentFault}
 use Rattle.apollo_document.specs.Documents.{IsDocumentOf}
 use Rattle.apollo_document.specs.DocumentFaults.{document_faults}
+use Rattle.apollo_compiler.specs.Compilation.{IsCompiled}
 use Rattle.apollo_compiler.specs.Lists.{all_sources, executable_list, no_options, schema_list}
+use Rattle.apollo_compiler.specs.declared.compiled.Compiled.{Compiled}
 use Rattle.bench_notation.specs.Line.{lines_of}
 use Rattle.bench_notation.specs.Documents.{AreDividedDocumentsOf, IsDividedReadError}
 use Rattle.bench_notation.specs.declared.refusal.ReadError.TheVariants as reading
@@ -28,6 +30,10 @@ pub record IsBuiltDocument (input : List ℕ) (schema : Schema) (document : Exec
   pub typed : IsDocumentOf (Some schema) (executable_list true executable_documents) document
   pub sources : document.sources ≡ all_sources executable_documents
   pub are : faults ≡ document_faults (Some schema) (executable_list true executable_documents)
+
+-- what the documents before the division of the input and those behind it are compiled to, without options
+abbrev pub IsCompiledDivided : List ℕ → Compiled → Type 0
+IsCompiledDivided input compiled = (before : List Document) × ((behind : List Document) × (AreDividedDocumentsOf input before behind × IsCompiled no_options before behind true compiled))
 
 -- why no document is built of an input: a line says nothing where it stands, none divides it, or the schema's extensions spend
 -- the numbers; want of memory says nothing

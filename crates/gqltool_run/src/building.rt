@@ -2,7 +2,7 @@
 ghost use Rattle.std.specs.Prelude.{◌≡◌, All, IfOk, IfErr, OnOk};
 ghost use Rattle.apollo_schema.specs.SchemaWriteOut.{write_schema};
 ghost use Rattle.bench_notation.specs.Line.{IsLine, lines_of};
-ghost use Rattle.gqltool_run.specs.Building.{IsBuilt, IsCause};
+ghost use Rattle.gqltool_run.specs.Building.{IsBuilt, IsCause, IsCompiledInput};
 
 use crate::failure::Failure;
 use crate::leaving::leave;
@@ -51,6 +51,7 @@ pub fn compile_input(
     ensures read { OnOk result (All IsLine (lines_of input.now)) }
     ensures means { IfOk result (λ compiled. IsBuilt options input.now compiled.schema compiled.schema_faults.items) }
     ensures ast { IfOk result (λ compiled. compiled.ast.items ≡ write_schema compiled.schema) }
+    ensures compiled { IfOk result (IsCompiledInput options input.now) }
     ensures causes { IfErr result (IsCause options input.now) }
 {
     let documents = read(alloc, input)?;

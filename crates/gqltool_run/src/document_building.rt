@@ -3,7 +3,7 @@
 ghost use Rattle.std.specs.Prelude.{◌≡◌, ◌==◌, ◌&&◌, not, length, All, IfOk, IfErr, OnOk};
 ghost use Rattle.apollo_executable.specs.Erasure.{erased_document};
 ghost use Rattle.bench_notation.specs.Line.{IsLine, lines_of};
-ghost use Rattle.gqltool_run.specs.DocumentBuilding.{IsBuiltDocument, IsDocumentCause};
+ghost use Rattle.gqltool_run.specs.DocumentBuilding.{IsBuiltDocument, IsCompiledDivided, IsDocumentCause};
 
 use crate::failure::Failure;
 use crate::leaving::leave;
@@ -32,6 +32,7 @@ pub fn compile_documents(alloc: Global, keys: HashKeys, input: &str) -> Result<C
     ensures read { OnOk result (All IsLine (lines_of input.now)) }
     ensures means { IfOk result (λ compiled. IsBuiltDocument input.now compiled.schema compiled.document compiled.schema_faults.items compiled.document_faults.items) }
     ensures erased { IfOk result (λ compiled. compiled.erased ≡ erased_document compiled.document) }
+    ensures compiled { IfOk result (IsCompiledDivided input.now) }
     ensures causes { IfErr result (IsDocumentCause input.now) }
 {
     let documents = read_divided(alloc, input)?;

@@ -20,6 +20,12 @@ returns-clause-means c =
       are = is.schema_faults;
     }
 
+pub returns-clause-compiled : goal.returns-clause-compiled
+returns-clause-compiled c =
+    let is : IsCompiled c.args.options c.in_ok-documents.documents.items [] true c.in_ok-compiled.compiled =
+    subst (λ (ds : List Document). IsCompiled c.args.options ds [] true c.in_ok-compiled.compiled) c.as_slice.ensures.value c.in_ok-compiled.ensures.compiled in
+    (c.in_ok-documents.documents.items, (c.in_ok-documents.ensures.said, is))
+
 pub returns-clause-ast : goal.returns-clause-ast
 returns-clause-ast c = c.in_ok-compiled.ensures.compiled.ast
 

@@ -29,6 +29,18 @@ returns-clause-means c =
       are = is.document_faults;
     }
 
+pub returns-clause-compiled : goal.returns-clause-compiled
+returns-clause-compiled c =
+    let compiled = c.in_ok-compiled.compiled in
+    let documents = c.in_ok-documents.documents in
+    let before = c.as_slice.result.now in
+    let behind = c.as_slice-2.result.now in
+    let is : IsCompiled no_options documents.schema.items documents.executable.items true compiled =
+    subst (λ (ds : List Document). IsCompiled no_options ds documents.executable.items true compiled) c.as_slice.ensures.value
+    (subst (λ (ds : List Document). IsCompiled no_options before ds true compiled) c.as_slice-2.ensures.value
+    (subst (λ (o : CompileOptions). IsCompiled o before behind true compiled) c.none.ensures c.in_ok-compiled.ensures.compiled)) in
+    (documents.schema.items, (documents.executable.items, (c.in_ok-documents.ensures.said, is)))
+
 pub returns-clause-erased : goal.returns-clause-erased
 returns-clause-erased c = c.in_ok-compiled.ensures.compiled.erased
 
