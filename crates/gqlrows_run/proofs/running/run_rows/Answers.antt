@@ -13,7 +13,7 @@ returns-in-Ok-write_out-clause-agree g c = λ done.
     let differing = c.in-Ok.report.differing in
     let old = g.O.Write.contents c.args.output.now in
     let new = g.O.Write.contents c.write_out.new.output in
-    let wrote = subst (Appends old new) c.as_slice.ensures.value c.in-Ok-write_out.ensures.written in
+    let wrote = subst (Appends old new) c.as_slice.ensures.value c.in-Ok-write_out.ensures in
     IfSome_then (g.R.Input.holds c.args.reader.now) {P = λ input. IsReportOn (lines_of input) text differing} c.in-Ok.ensures.report
     (λ input is. let agree = agreement (lines_of input) text differing c.if-report-eq0.true is in (agree.0, subst (Appends old new) agree.1 wrote))
 
