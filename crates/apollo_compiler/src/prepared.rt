@@ -37,6 +37,7 @@ impl Model for Prepared {
 
 impl Prepared {
     /// A builder that hashes by these keys, and draws its numbers from a new source. The error is want of memory.
+    /// No clause: what each value of the type stands for is its invariant, and no clause sees keys.
     pub fn new(alloc: Global, keys: HashKeys) -> Result<Prepared, AllocError> {
         let source = ExtensionSource::new();
         let bare = SchemaBuilder::with_keys(alloc, source, keys)?;

@@ -24,8 +24,8 @@ use std::io::{self, Write};
 
 /// Runs the program on the words that follow its name, and answers how that ended.
 ///
-/// `Done` and `Faults`: exactly the answer of [`answer_to`](crate::answering::answer_to) stands on `output`, behind what was there, and nothing was written
-/// on `errors`. The output is written only once all of it is there; but that of `walk`, which may be long, goes out piece by
+/// `Done` and `Faults`: exactly the answer of [`answer_to`](crate::answering::answer_to) stands on `output`, behind what was
+/// there, and nothing was written on `errors`. The output is written only once all of it is there; but that of `walk`, which may be long, goes out piece by
 /// piece while it is made, once nothing can be refused any more.
 ///
 /// `Refused` and `Exhausted`: nothing was written on `output`, for an error that `answer_to` has. Where memory is wanting while
