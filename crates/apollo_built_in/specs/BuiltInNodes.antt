@@ -27,8 +27,8 @@ abbrev pub no_directives : DirectiveList
 no_directives = record { 0 = [] }
 
 -- `text`, `text!`, `[inner]` and `[inner]!`
-abbrev pub named : List ℕ → TypeReference
-named text = Named (name text)
+abbrev pub named_type : List ℕ → TypeReference
+named_type text = Named (name text)
 
 abbrev pub non_null : List ℕ → TypeReference
 non_null text = NonNullNamed (name text)

@@ -11,7 +11,7 @@ use Rattle.apollo_built_in.specs.declared.nodes.FieldRow.{FieldRow}
 use Rattle.apollo_built_in.specs.declared.nodes.FieldRow.TheVariants as field_rows
 
 abbrev pub row_type : TypeRow → TypeReference
-row_type (type_rows.Named text) = nodes.named text.now
+row_type (type_rows.Named text) = nodes.named_type text.now
 row_type (type_rows.NonNull text) = nodes.non_null text.now
 row_type (type_rows.ListOf text) = nodes.list_of (nodes.non_null text.now)
 row_type (type_rows.NonNullListOf text) = nodes.non_null_list_of (nodes.non_null text.now)

@@ -14,8 +14,8 @@ use Rattle.apollo_built_in.specs.BuiltInNodes as nodes
 use Rattle.apollo_built_in.specs.BuiltInNodes.{list_of, non_null_list_of}
 
 -- parts of the table by their texts
-abbrev pub named : String → TypeReference
-named text = nodes.named (codes text)
+abbrev pub named_type : String → TypeReference
+named_type text = nodes.named_type (codes text)
 
 abbrev pub non_null : String → TypeReference
 non_null text = nodes.non_null (codes text)
@@ -31,7 +31,7 @@ value text = nodes.enum_value (codes text)
 
 -- `includeDeprecated: Boolean = false`
 abbrev pub include_deprecated : NodeView InputValueDefinition
-include_deprecated = nodes.argument (codes "includeDeprecated") (named "Boolean") (Some (Boolean false))
+include_deprecated = nodes.argument (codes "includeDeprecated") (named_type "Boolean") (Some (Boolean false))
 
 abbrev pub built_in_scalars : List Definition
 built_in_scalars = map (λ text. nodes.scalar (codes text)) ("Int" ∷ "Float" ∷ "String" ∷ "Boolean" ∷ "ID" ∷ [])
@@ -48,7 +48,7 @@ include_directive = nodes.directive (codes "include")
 
 abbrev pub deprecated_directive : Definition
 deprecated_directive = nodes.directive (codes "deprecated")
-    (nodes.argument (codes "reason") (named "String") (Some (Text (codes "No longer supported"))))
+    (nodes.argument (codes "reason") (named_type "String") (Some (Text (codes "No longer supported"))))
     (at.FieldDefinition ∷ at.EnumValue ∷ [])
 
 abbrev pub specified_by_directive : Definition
@@ -61,26 +61,26 @@ built_in_directives = skip_directive ∷ include_directive ∷ deprecated_direct
 
 abbrev pub schema_type : Definition
 schema_type = nodes.object (codes "__Schema") (
-    field "description" (named "String")
+    field "description" (named_type "String")
     ∷ field "types" (non_null_list_of (non_null "__Type"))
     ∷ field "queryType" (non_null "__Type")
-    ∷ field "mutationType" (named "__Type")
-    ∷ field "subscriptionType" (named "__Type")
+    ∷ field "mutationType" (named_type "__Type")
+    ∷ field "subscriptionType" (named_type "__Type")
     ∷ field "directives" (non_null_list_of (non_null "__Directive"))
     ∷ [])
 
 abbrev pub type_type : Definition
 type_type = nodes.object (codes "__Type") (
     field "kind" (non_null "__TypeKind")
-    ∷ field "name" (named "String")
-    ∷ field "description" (named "String")
+    ∷ field "name" (named_type "String")
+    ∷ field "description" (named_type "String")
     ∷ field_with "fields" include_deprecated (list_of (non_null "__Field"))
     ∷ field "interfaces" (list_of (non_null "__Type"))
     ∷ field "possibleTypes" (list_of (non_null "__Type"))
     ∷ field_with "enumValues" include_deprecated (list_of (non_null "__EnumValue"))
     ∷ field "inputFields" (list_of (non_null "__InputValue"))
-    ∷ field "ofType" (named "__Type")
-    ∷ field "specifiedByURL" (named "String")
+    ∷ field "ofType" (named_type "__Type")
+    ∷ field "specifiedByURL" (named_type "String")
     ∷ [])
 
 abbrev pub type_kind_type : Definition
@@ -90,33 +90,33 @@ type_kind_type = nodes.enumeration (codes "__TypeKind") (map value (
 abbrev pub field_type : Definition
 field_type = nodes.object (codes "__Field") (
     field "name" (non_null "String")
-    ∷ field "description" (named "String")
+    ∷ field "description" (named_type "String")
     ∷ field "args" (non_null_list_of (non_null "__InputValue"))
     ∷ field "type" (non_null "__Type")
     ∷ field "isDeprecated" (non_null "Boolean")
-    ∷ field "deprecationReason" (named "String")
+    ∷ field "deprecationReason" (named_type "String")
     ∷ [])
 
 abbrev pub input_value_type : Definition
 input_value_type = nodes.object (codes "__InputValue") (
     field "name" (non_null "String")
-    ∷ field "description" (named "String")
+    ∷ field "description" (named_type "String")
     ∷ field "type" (non_null "__Type")
-    ∷ field "defaultValue" (named "String")
+    ∷ field "defaultValue" (named_type "String")
     ∷ [])
 
 abbrev pub enum_value_type : Definition
 enum_value_type = nodes.object (codes "__EnumValue") (
     field "name" (non_null "String")
-    ∷ field "description" (named "String")
+    ∷ field "description" (named_type "String")
     ∷ field "isDeprecated" (non_null "Boolean")
-    ∷ field "deprecationReason" (named "String")
+    ∷ field "deprecationReason" (named_type "String")
     ∷ [])
 
 abbrev pub directive_type : Definition
 directive_type = nodes.object (codes "__Directive") (
     field "name" (non_null "String")
-    ∷ field "description" (named "String")
+    ∷ field "description" (named_type "String")
     ∷ field "locations" (non_null_list_of (non_null "__DirectiveLocation"))
     ∷ field "args" (non_null_list_of (non_null "__InputValue"))
     ∷ field "isRepeatable" (non_null "Boolean")

@@ -59,8 +59,8 @@ sections_of p = record {
 }
 
 -- the directives without their origins
-abbrev pub directives_of : Sections → List (NodeView Directive)
-directives_of s = map (λ d. d.1) s.directives
+abbrev pub section_directives : Sections → List (NodeView Directive)
+section_directives s = map (λ d. d.1) s.directives
 
 -- the definition has what the components of that make
 abbrev pub HasDefinitionOf : Sections → PartsByOrigin → Type 0

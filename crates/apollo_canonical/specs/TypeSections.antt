@@ -8,7 +8,7 @@ use Rattle.graphql_nodes.specs.SameText.{same_text}
 use Rattle.graphql_nodes.specs.Tables.{values_of}
 use Rattle.graphql_nodes.specs.declared.source.SourceSpan.{SourceSpan}
 use Rattle.graphql_ast.specs.declared.definition_parts.DefinitionParts.{DefinitionParts}
-use Rattle.apollo_component.specs.Extensions.{place_of, same_id}
+use Rattle.apollo_component.specs.Extensions.{extension_location, same_id}
 use Rattle.apollo_component.specs.WriteOut.{by_origin}
 use Rattle.apollo_component.specs.declared.component.Component.{Component}
 use Rattle.apollo_component.specs.declared.component.ComponentName.{ComponentName}
@@ -21,35 +21,35 @@ use Rattle.apollo_types.specs.declared.extended_type.ExtendedType.TheVariants.{S
 use Rattle.apollo_canonical.specs.Sections.{Sections, sections_of}
 
 -- a component's node, and a name, with its origin
-abbrev pub node_of : {T : Type 0} → Component T → ComponentOrigin × NodeView T
-node_of c = (c.origin, c.node)
+abbrev pub node_with_origin : {T : Type 0} → Component T → ComponentOrigin × NodeView T
+node_with_origin c = (c.origin, c.node)
 
-abbrev pub name_of : ComponentName → ComponentOrigin × NameView
-name_of c = (c.origin, c.name)
+abbrev pub name_with_origin : ComponentName → ComponentOrigin × NameView
+name_with_origin c = (c.origin, c.name)
 
 abbrev pub no_components : Sections
 no_components = record { directives = []; names = []; fields = []; values = []; input_fields = []; roots = [] }
 
 -- the components of a type
 abbrev pub type_sections : ExtendedType → Sections
-type_sections (Scalar n) = record no_components { directives = map node_of n.value.directives.0 }
+type_sections (Scalar n) = record no_components { directives = map node_with_origin n.value.directives.0 }
 type_sections (Object n) = record no_components {
-  directives = map node_of n.value.directives.0;
-  names = map name_of n.value.implements_interfaces;
-  fields = map node_of (values_of n.value.fields);
+  directives = map node_with_origin n.value.directives.0;
+  names = map name_with_origin n.value.implements_interfaces;
+  fields = map node_with_origin (values_of n.value.fields);
 }
 type_sections (Interface n) = record no_components {
-  directives = map node_of n.value.directives.0;
-  names = map name_of n.value.implements_interfaces;
-  fields = map node_of (values_of n.value.fields);
+  directives = map node_with_origin n.value.directives.0;
+  names = map name_with_origin n.value.implements_interfaces;
+  fields = map node_with_origin (values_of n.value.fields);
 }
-type_sections (Union n) = record no_components { directives = map node_of n.value.directives.0; names = map name_of n.value.members }
-type_sections (Enum n) = record no_components { directives = map node_of n.value.directives.0; values = map node_of (values_of n.value.values) }
-type_sections (InputObject n) = record no_components { directives = map node_of n.value.directives.0; input_fields = map node_of (values_of n.value.fields) }
+type_sections (Union n) = record no_components { directives = map node_with_origin n.value.directives.0; names = map name_with_origin n.value.members }
+type_sections (Enum n) = record no_components { directives = map node_with_origin n.value.directives.0; values = map node_with_origin (values_of n.value.values) }
+type_sections (InputObject n) = record no_components { directives = map node_with_origin n.value.directives.0; input_fields = map node_with_origin (values_of n.value.fields) }
 
 -- the parts of extensions, each where it stands
 abbrev pub placed : List (ExtensionId × DefinitionParts) → List (Option SourceSpan × DefinitionParts)
-placed = map (λ e. (place_of e.0, e.1))
+placed = map (λ e. (extension_location e.0, e.1))
 
 -- type u has what type t is written out as: its definition's parts and those of its extensions, where these stand, under
 -- any distinct numbers

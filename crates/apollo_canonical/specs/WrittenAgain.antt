@@ -1,7 +1,7 @@
 -- Lists that the law of the write-out speaks of: GraphQL specification of October 2021, sections 3 and 3.3.
 use Rattle.std.specs.Prelude.{◌≡◌, ◌≢◌, ℕ, Bool, List, [], ◌++◌, false, filter_map, All}
 use Rattle.graphql_nodes.specs.BuiltIn.{is_built_in}
-use Rattle.graphql_ast.specs.Definitions.{location_of}
+use Rattle.graphql_ast.specs.Definitions.{definition_location}
 use Rattle.graphql_ast.specs.declared.definition.Definition.{Definition}
 use Rattle.apollo_built_in.specs.BuiltInTable.{built_in_definitions}
 use Rattle.apollo_meaning.specs.Items.ListItems.{Added, added, added_items, defined_schema}
@@ -15,7 +15,7 @@ with_built_ins more = added false built_in_definitions ++ more
 
 -- none of these is marked built-in, and each schema definition among them names a root
 pub record IsUnmarkedAndRooted (more : List Added) : Type 0 where
-  pub unmarked : All (λ a. is_built_in (location_of a.1) ≡ false) more
+  pub unmarked : All (λ a. is_built_in (definition_location a.1) ≡ false) more
   pub rooted : All (λ s. s.roots ≢ []) (filter_map defined_schema (added_items more))
 
 -- a schema that some such list means, with extensions numbered from some number, under some setting of adoption

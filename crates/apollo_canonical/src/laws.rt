@@ -18,7 +18,7 @@ ghost use Rattle.apollo_schema.specs.SchemaWriteOut.{write_schema};
 ghost use Rattle.apollo_schema.specs.declared.schema.Schema.{Schema};
 ghost use Rattle.graphql_ast.specs.declared.definition.Definition.{Definition};
 ghost use Rattle.apollo_canonical.specs.MeaningLaws.{MeaningLaws};
-ghost use Rattle.apollo_canonical.specs.Sections.{Sections, directives_of, HasDefinitionOf, HasDistinctIdentities, HasExtensionsOf, HasSameComponents, in_sections, sections_of};
+ghost use Rattle.apollo_canonical.specs.Sections.{Sections, section_directives, HasDefinitionOf, HasDistinctIdentities, HasExtensionsOf, HasSameComponents, in_sections, sections_of};
 ghost use Rattle.apollo_canonical.specs.TypeSections.{HasWhatIsWritten, HasEachNameOnce, type_sections};
 ghost use Rattle.apollo_canonical.specs.WrittenAgain.{IsMeantByList, IsWriteOutOf, written_again};
 
@@ -65,7 +65,7 @@ pub fn written_parts_have_all_components()
 pub fn written_parts_keep_directives_in_order()
     ensures { (s : Sections) (q p : PartsByOrigin) → HasDistinctIdentities q → s.directives ≡ (sections_of q).directives
         → HasDefinitionOf s p → HasExtensionsOf s p
-        → directives_of (sections_of p) ≡ directives_of s }
+        → section_directives (sections_of p) ≡ section_directives s }
 {}
 
 /// A type of any kind that has, sort by sort, what another one is written out as, is written out as that one is, whatever

@@ -4,8 +4,9 @@ use Rattle.std.specs.Cmp.{on_equiv}
 use Rattle.std.specs.Cmp.Lexicographic.{nat_list_eq_equiv}
 use Rattle.graphql_nodes.specs.KeySets.{set_eq}
 use Rattle.graphql_nodes.specs.Comparing.{members_by_text}
+use Rattle.graphql_nodes.specs.NameView.{plain_name}
 use Rattle.graphql_nodes.proofs.Comparisons.{Compares, At, of_part, names, lists, numbers}
-use Rattle.graphql_nodes.proofs.TableEquality.{sets, by_texts, name_of}
+use Rattle.graphql_nodes.proofs.TableEquality.{sets, by_texts}
 use Rattle.graphql_ast.proofs.DirectiveEquality.{directives}
 use Rattle.apollo_component.specs.BareComponents.{bare_component, bare_component_name, bare_directives, bare_origin}
 use Rattle.apollo_component.specs.Extensions.{number_of}
@@ -29,7 +30,7 @@ pub component_names : Compares component_name.ghosts.eq bare_component_name
 component_names = of_part (λ (c : ComponentName). c.name) names
 
 pub sets_of_component_names : Compares (set_eq component_name.ghosts.eq) (members_by_text (λ (c : ComponentName). c.name))
-sets_of_component_names = by_texts (λ text. record { origin = Definition; name = name_of text }) (λ c. c.name.text) (λ _ _. refl) (sets (on_equiv (λ (c : ComponentName). c.name.text) nat_list_eq_equiv))
+sets_of_component_names = by_texts (λ text. record { origin = Definition; name = plain_name text }) (λ c. c.name.text) (λ _ _. refl) (sets (on_equiv (λ (c : ComponentName). c.name.text) nat_list_eq_equiv))
 
 pub directive_lists : Compares directive_list.ghosts.eq bare_directives
 directive_lists = of_part (λ (l : DirectiveList). l.0) (lists (components directives))

@@ -7,7 +7,7 @@ use Rattle.std.specs.Cmp.{IsEquivalence, on_equiv, nat_eq_equiv}
 use Rattle.std.proofs.lemmas.List.{append-nil, map-append}
 use Rattle.std.proofs.lemmas.List.Elements.{filter-append, filter_map-append}
 use Rattle.indexmap.specs.IndexMap.{insert_entry}
-use Rattle.graphql_ast.specs.DefinitionParts.{directive_in, name_in, field_in, value_in, input_field_in, root_in, with_some, parts_of, no_parts, with_part}
+use Rattle.graphql_ast.specs.DefinitionParts.{as_directive, as_name, as_field, as_value, as_input_field, as_root, with_some, parts_of, no_parts, with_part}
 use Rattle.graphql_ast.specs.declared.definition_parts.DefinitionPart.{DefinitionPart}
 use Rattle.graphql_ast.specs.declared.definition_parts.DefinitionParts.{DefinitionParts}
 use Rattle.apollo_component.specs.Extensions.{id_of, number_of, same_id, same_origin}
@@ -33,12 +33,12 @@ filter_map-push {X} {Y} which xs x = filter_map-append which xs (x ∷ []) ∙ b
 
 parts_of-push : (ps : List DefinitionPart) (p : DefinitionPart) → parts_of (ps ++ p ∷ []) ≡ with_part p (parts_of ps)
 parts_of-push ps p = (λ i. record {
-  directives = record { 0 = filter_map-push directive_in ps p i };
-  names = filter_map-push name_in ps p i;
-  fields = filter_map-push field_in ps p i;
-  values = filter_map-push value_in ps p i;
-  input_fields = filter_map-push input_field_in ps p i;
-  roots = filter_map-push root_in ps p i;
+  directives = record { 0 = filter_map-push as_directive ps p i };
+  names = filter_map-push as_name ps p i;
+  fields = filter_map-push as_field ps p i;
+  values = filter_map-push as_value ps p i;
+  input_fields = filter_map-push as_input_field ps p i;
+  roots = filter_map-push as_root ps p i;
 })
 
 module _ (origin : ComponentOrigin) (cs : List SourcedPart) (c : SourcedPart) where

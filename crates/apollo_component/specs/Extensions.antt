@@ -13,8 +13,8 @@ extension_id n place = record { number = n; location = place }
 abbrev pub number_of : ExtensionId → ℕ
 number_of e = e.number
 
-abbrev pub place_of : ExtensionId → Option SourceSpan
-place_of e = e.location
+abbrev pub extension_location : ExtensionId → Option SourceSpan
+extension_location e = e.location
 
 -- the source whose next number is this one
 abbrev pub source_at : ℕ → ExtensionSource

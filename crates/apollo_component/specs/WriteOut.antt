@@ -10,7 +10,7 @@ use Rattle.graphql_ast.specs.DefinitionParts.{parts_of, type_definition, type_ex
 use Rattle.graphql_ast.specs.declared.definition.Definition.{Definition}
 use Rattle.graphql_ast.specs.declared.definition_parts.DefinitionPart.{DefinitionPart}
 use Rattle.graphql_ast.specs.declared.definition_parts.DefinitionParts.{DefinitionParts}
-use Rattle.apollo_component.specs.Extensions.{id_of, place_of, same_id, same_origin}
+use Rattle.apollo_component.specs.Extensions.{id_of, extension_location, same_id, same_origin}
 use Rattle.apollo_component.specs.FirstOfEach.{first_of_each}
 use Rattle.graphql_ast.specs.declared.definition_parts.DefinitionPart.TheVariants as p
 use Rattle.apollo_component.specs.declared.component.Component.{Component}
@@ -52,8 +52,8 @@ by_origin cs = record { definition = of_origin origins.Definition cs; extensions
 
 -- the definition of a type, at this location, then its extensions, each where it stands
 abbrev pub written_type : TypeKind → Option NameView → NameView → PartsByOrigin → Option SourceSpan → List Definition
-written_type kind description name parts place = type_definition kind description name parts.definition place ∷ map (λ e. type_extension kind name e.1 (place_of e.0)) parts.extensions
+written_type kind description name parts place = type_definition kind description name parts.definition place ∷ map (λ e. type_extension kind name e.1 (extension_location e.0)) parts.extensions
 
 -- the definition of the schema, at this location, if it is written, then its extensions, each where it stands
 abbrev pub written_schema : Bool → Option NameView → PartsByOrigin → Option SourceSpan → List Definition
-written_schema is_written description parts place = (if is_written then schema_definition description parts.definition place ∷ [] else []) ++ map (λ e. schema_extension e.1 (place_of e.0)) parts.extensions
+written_schema is_written description parts place = (if is_written then schema_definition description parts.definition place ∷ [] else []) ++ map (λ e. schema_extension e.1 (extension_location e.0)) parts.extensions

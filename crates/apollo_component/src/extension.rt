@@ -6,7 +6,7 @@ ghost use Rattle.std.specs.Cmp;
 ghost use Rattle.std.specs.Hash as fed;
 ghost use Rattle.std.specs.Option.{option_copied};
 ghost use Rattle.std.proofs.Common.{rules};
-ghost use Rattle.apollo_component.specs.Extensions.{extension_id, number_of, place_of, next_number, source_at, id_of};
+ghost use Rattle.apollo_component.specs.Extensions.{extension_id, number_of, extension_location, next_number, source_at, id_of};
 
 use graphql_nodes::node::Node;
 use graphql_nodes::source::SourceSpan;
@@ -97,14 +97,14 @@ impl ExtensionId {
 
     /// Where the extension stands in a source, if it is known.
     pub fn location(&self) -> Option<SourceSpan>
-        ensures { result ≡ place_of self.now }
+        ensures { result ≡ extension_location self.now }
     {
         self.location
     }
 
     /// A node at the location of the extension. The error is want of memory, and drops the value.
     pub fn same_location<T: Drop>(&self, alloc: Global, value: T) -> Result<Node<T>, AllocError>
-        ensures { IfOk result (λ n. n ≡ record { value = value; location = place_of self.now }) }
+        ensures { IfOk result (λ n. n ≡ record { value = value; location = extension_location self.now }) }
     {
         Node::new_opt_location(alloc, value, self.location)
     }

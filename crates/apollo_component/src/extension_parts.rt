@@ -2,7 +2,7 @@
 ghost use Rattle.std.specs.Prelude.{◌≡◌, [], ◌∷◌, ◌++◌, map, IfOk, OnOk};
 ghost use Rattle.graphql_ast.specs.DefinitionParts.{no_parts, with_part, type_extension, schema_extension};
 ghost use Rattle.apollo_component.specs.Beginnings.{Begins};
-ghost use Rattle.apollo_component.specs.Extensions.{place_of};
+ghost use Rattle.apollo_component.specs.Extensions.{extension_location};
 ghost use Rattle.apollo_component.specs.ExtensionTables.{entries_held, with_extension_part};
 
 use crate::definition_item::DefinitionItem;
@@ -79,7 +79,7 @@ impl ExtensionParts {
         name: &Name,
         written: &mut Vec<Definition>,
     ) -> Result<(), AllocError>
-        ensures added { OnOk result (written.new.items ≡ written.old.items ++ map (λ e. type_extension kind name.now e.1 (place_of e.0)) self) }
+        ensures added { OnOk result (written.new.items ≡ written.old.items ++ map (λ e. type_extension kind name.now e.1 (extension_location e.0)) self) }
         ensures kept { Begins written.old.items written.new.items }
     {
         match self.held {
@@ -98,7 +98,7 @@ impl ExtensionParts {
         alloc: Global,
         written: &mut Vec<Definition>,
     ) -> Result<(), AllocError>
-        ensures { OnOk result (written.new.items ≡ written.old.items ++ map (λ e. schema_extension e.1 (place_of e.0)) self) }
+        ensures { OnOk result (written.new.items ≡ written.old.items ++ map (λ e. schema_extension e.1 (extension_location e.0)) self) }
     {
         for (id, parts) in self.held.into_table(alloc)?.into_index_map() {
             written.push(parts.into_schema_extension(alloc, id.location())?)?;
@@ -169,7 +169,7 @@ fn write_types_of(
     name: &Name,
     written: &mut Vec<Definition>,
 ) -> Result<(), AllocError>
-    ensures added { OnOk result (written.new.items ≡ written.old.items ++ map (λ e. type_extension kind name.now e.1 (place_of e.0)) extensions) }
+    ensures added { OnOk result (written.new.items ≡ written.old.items ++ map (λ e. type_extension kind name.now e.1 (extension_location e.0)) extensions) }
     ensures kept { Begins written.old.items written.new.items }
 {
     for (id, parts) in extensions.into_index_map() {

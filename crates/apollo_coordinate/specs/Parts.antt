@@ -1,7 +1,7 @@
 -- The parts of a text, borrowed from it: the coordinate that they make, its names at no location, and the error that a refusal
 -- is answered as, where there is memory for it.
-use Rattle.std.specs.Prelude.{ℕ, List, None}
-use Rattle.graphql_nodes.specs.NameView.{NameView}
+use Rattle.std.specs.Prelude.{None}
+use Rattle.graphql_nodes.specs.NameView.{plain_name}
 use Rattle.apollo_coordinate.specs.declared.coordinates.TypeAttributeCoordinate.{TypeAttributeCoordinate}
 use Rattle.apollo_coordinate.specs.declared.coordinates.FieldArgumentCoordinate.{FieldArgumentCoordinate}
 use Rattle.apollo_coordinate.specs.declared.coordinates.DirectiveArgumentCoordinate.{DirectiveArgumentCoordinate}
@@ -17,23 +17,20 @@ use Rattle.apollo_coordinate.specs.declared.parts.Parts.TheVariants as parts
 use Rattle.apollo_coordinate.specs.declared.refusal.Refusal.{Refusal}
 use Rattle.apollo_coordinate.specs.declared.refusal.Refusal.TheVariants as refusals
 
-abbrev pub name_of : List ℕ → NameView
-name_of part = record { text = part; location = None }
-
 abbrev pub attribute_of : AttributeParts → TypeAttributeCoordinate
-attribute_of p = record { ty = name_of p.ty.now; attribute = name_of p.attribute.now }
+attribute_of p = record { ty = plain_name p.ty.now; attribute = plain_name p.attribute.now }
 
 abbrev pub field_argument_of : FieldArgumentParts → FieldArgumentCoordinate
-field_argument_of p = record { ty = name_of p.field.ty.now; field = name_of p.field.attribute.now; argument = name_of p.argument.now }
+field_argument_of p = record { ty = plain_name p.field.ty.now; field = plain_name p.field.attribute.now; argument = plain_name p.argument.now }
 
 abbrev pub directive_argument_of : DirectiveArgumentParts → DirectiveArgumentCoordinate
-directive_argument_of p = record { directive = name_of p.directive.now; argument = name_of p.argument.now }
+directive_argument_of p = record { directive = plain_name p.directive.now; argument = plain_name p.argument.now }
 
 abbrev pub coordinate_of : Parts → SchemaCoordinate
-coordinate_of (parts.Ty part) = any.Ty (record { ty = name_of part.now })
+coordinate_of (parts.Ty part) = any.Ty (record { ty = plain_name part.now })
 coordinate_of (parts.TypeAttribute p) = any.TypeAttribute (attribute_of p)
 coordinate_of (parts.FieldArgument p) = any.FieldArgument (field_argument_of p)
-coordinate_of (parts.Directive part) = any.Directive (record { directive = name_of part.now })
+coordinate_of (parts.Directive part) = any.Directive (record { directive = plain_name part.now })
 coordinate_of (parts.DirectiveArgument p) = any.DirectiveArgument (directive_argument_of p)
 
 abbrev pub error_of : Refusal → SchemaCoordinateParseError

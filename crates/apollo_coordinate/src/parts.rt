@@ -1,8 +1,9 @@
 //! The parts of a text, cut at its marks and checked in place: nothing here takes memory.
 ghost use Rattle.std.specs.Prelude.{◌≡◌, ◌≢◌, ◌++◌, ◌<◌, ℕ, List, IfOk, IfErr, OnOk, IsOk, MatchOption, codes};
 ghost use Rattle.graphql_nodes.specs.NameSyntax.{IsName};
+ghost use Rattle.graphql_nodes.specs.NameView.{plain_name};
 ghost use Rattle.apollo_coordinate.specs.CoordinateText.{IsCoordinateText, IsAttributeText, IsDirectiveText, Says};
-ghost use Rattle.apollo_coordinate.specs.Parts.{name_of, attribute_of, field_argument_of, directive_argument_of, coordinate_of, error_of};
+ghost use Rattle.apollo_coordinate.specs.Parts.{attribute_of, field_argument_of, directive_argument_of, coordinate_of, error_of};
 ghost use Rattle.apollo_coordinate.specs.Refusals.{Lacks, IsCut, IsNoName, IsNoNames, IsNoAttribute, IsNoDirective, IsNoArgument, IsNoPair, IsNoFieldArgument, IsNoDirectiveArgument, IsNoCoordinate, without_at};
 ghost use Rattle.apollo_coordinate.specs.declared.coordinates.SchemaCoordinate.TheVariants as any;
 
@@ -90,7 +91,7 @@ fn argument_part<'a>(text: &'a str) -> Result<&'a str, Refusal<'a>>
 
 /// The directive of `@directive`.
 pub(crate) fn directive_part<'a>(text: &'a str) -> Result<&'a str, Refusal<'a>>
-    ensures says { IfOk result (λ name. Says text.now (any.Directive (record { directive = name_of name.now }))) }
+    ensures says { IfOk result (λ name. Says text.now (any.Directive (record { directive = plain_name name.now }))) }
     ensures refused { IfErr result (λ refusal. IsNoDirective text.now (error_of refusal)) }
 {
     match after_at(text) {

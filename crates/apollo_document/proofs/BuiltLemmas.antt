@@ -1,14 +1,13 @@
 -- Tables that stand for a list hold its document.
 use Rattle.std.proofs.Common.{◌≡◌, ◌∙◌, ap, sym, subst, refl, Bool, true, false, cond, List, [], ◌∷◌, ◌++◌, filter, Option, None, Some, option_map, is_some, unwrap_or}
 use Rattle.std.specs.List.{AllByRecursion, AllZip, filter_map, find, cons_option}
-use Rattle.graphql_nodes.specs.NameView.{NameView}
+use Rattle.graphql_nodes.specs.NameView.{NameView, plain_name}
 use Rattle.graphql_nodes.specs.NodeView.{NodeView}
 use Rattle.graphql_nodes.specs.SameText.{same_text}
 use Rattle.graphql_ast.specs.declared.selection.Selection as ast
 use Rattle.graphql_ast.specs.declared.operation.OperationDefinition.{OperationDefinition}
 use Rattle.graphql_ast.specs.declared.operation.FragmentDefinition.{FragmentDefinition}
 use Rattle.apollo_component.specs.FirstOfEach.{same_key}
-use Rattle.apollo_schema.specs.MetaFields.{plain_name}
 use Rattle.apollo_schema.specs.declared.schema.Schema.{Schema}
 use Rattle.apollo_executable.specs.Listed.{listed}
 use Rattle.apollo_executable.specs.Erasure.{at_place, erased_set, erased_operation, erased_fragment}

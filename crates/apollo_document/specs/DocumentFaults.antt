@@ -7,7 +7,7 @@ use Rattle.graphql_nodes.specs.OperationTexts.{operation_text}
 use Rattle.graphql_nodes.specs.SameText.{same_text}
 use Rattle.graphql_nodes.specs.Tables.{lookup_key}
 use Rattle.graphql_nodes.specs.declared.source.SourceSpan.{SourceSpan}
-use Rattle.graphql_ast.specs.Definitions.{name_of, location_of}
+use Rattle.graphql_ast.specs.Definitions.{definition_name, definition_location}
 use Rattle.graphql_ast.specs.DefinitionTexts.{definition_text}
 use Rattle.graphql_ast.specs.declared.definition.Definition.{Definition}
 use Rattle.graphql_ast.specs.declared.definition.Definition.TheVariants as d
@@ -88,7 +88,7 @@ fragment_faults s taken n = unless_taken e.FragmentNameCollision n.value.name ta
 
 -- a definition of the type system is at fault, if it is to be
 abbrev pub type_system_faults : Bool → Definition → List Fault
-type_system_faults true d = (location_of d, e.TypeSystemDefinition (name_of d) (definition_text d)) ∷ []
+type_system_faults true d = (definition_location d, e.TypeSystemDefinition (definition_name d) (definition_text d)) ∷ []
 type_system_faults false d = []
 
 -- what is wrong with a definition after these

@@ -2,7 +2,7 @@
 -- specification of October 2021, sections 2.3 and 2.8. The roots are those of section 3.3.1.
 use Rattle.std.specs.Prelude.{Bool, ◌&&◌, cond, List, [], ◌∷◌, map, filter, filter_map, Option, None, Some, option_map, is_some, not}
 use Rattle.std.specs.List.{find, list_any}
-use Rattle.graphql_nodes.specs.NameView.{NameView}
+use Rattle.graphql_nodes.specs.NameView.{NameView, plain_name}
 use Rattle.graphql_nodes.specs.NodeView.{NodeView}
 use Rattle.graphql_nodes.specs.OperationTexts.{default_type_text}
 use Rattle.graphql_nodes.specs.SameText.{same_text}
@@ -11,7 +11,6 @@ use Rattle.graphql_ast.specs.declared.operation.OperationDefinition.{OperationDe
 use Rattle.graphql_ast.specs.declared.operation.FragmentDefinition.{FragmentDefinition}
 use Rattle.apollo_component.specs.FirstOfEach.{first_of_each, same_key}
 use Rattle.apollo_types.specs.SchemaRoots.{root_of}
-use Rattle.apollo_schema.specs.MetaFields.{plain_name}
 use Rattle.apollo_schema.specs.declared.schema.Schema.{Schema}
 use Rattle.apollo_elaboration.specs.Typable.{has_type}
 use Rattle.apollo_document.specs.AddedDefinitions.{DocumentItem, operations, fragments}

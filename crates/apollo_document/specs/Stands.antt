@@ -1,10 +1,9 @@
 -- What a builder holds for a list. The code is proved against this.
 use Rattle.std.specs.Prelude.{◌≡◌, List, ◌∷◌, [], ◌++◌, map, Option, None, Some, option_map, unwrap_or, cond}
-use Rattle.graphql_nodes.specs.NameView.{NameView}
+use Rattle.graphql_nodes.specs.NameView.{NameView, plain_name}
 use Rattle.graphql_nodes.specs.NodeView.{NodeView}
 use Rattle.graphql_ast.specs.declared.operation.OperationDefinition.{OperationDefinition}
 use Rattle.graphql_ast.specs.declared.operation.FragmentDefinition.{FragmentDefinition}
-use Rattle.apollo_schema.specs.MetaFields.{plain_name}
 use Rattle.apollo_schema.specs.declared.schema.Schema.{Schema}
 use Rattle.apollo_executable.specs.Erasure.{at_place}
 use Rattle.apollo_executable.specs.declared.operation.Operation.{Operation}

@@ -12,7 +12,7 @@ use Rattle.graphql_ast.specs.declared.selection.Field as ast_field
 use Rattle.graphql_ast.specs.declared.selection.InlineFragment as ast_inline
 use Rattle.graphql_ast.specs.declared.type_system.FieldDefinition.{FieldDefinition}
 use Rattle.apollo_schema.specs.declared.schema.Schema.{Schema}
-use Rattle.apollo_executable.specs.SelectionParts.{key_of}
+use Rattle.apollo_executable.specs.SelectionParts.{response_key_of}
 use Rattle.apollo_executable.specs.Erasure as e
 use Rattle.apollo_executable.specs.Erasure.{ES, EF, EI, EL, erased, erased_field, erased_inline_fragment, erased_set}
 use Rattle.apollo_executable.specs.declared.selection.Selection.{Selection, roll-Selection}
@@ -84,7 +84,7 @@ field_again s y ty h =
     let bare : is_bare (erased_set y.selection_set.0) ≡ is_bare y.selection_set.0.selections = ap is_bare erases ∙ is_bare-map erased y.selection_set.0.selections in
     let c : typable_field s ty y.name (is_bare (erased_set y.selection_set.0)) ≡ Ok y.definition = ap (typable_field s ty y.name) bare ∙ t.0 in
     let b = y.selection_set.1 (child_of y.definition) t.1 in
-    let within : SelectionPath → SelectionPath = λ path. inside path (key_of y.alias y.name) in (
+    let within : SelectionPath → SelectionPath = λ path. inside path (response_key_of y.alias y.name) in (
       ap (elaborated_field s ty) r ∙ elaborated-field s ty z ∙ ap (if_typable (field_of y.alias y.name y.arguments y.directives (typed_in s (erased_set y.selection_set.0)))) c
           ∙ (λ i. Some (roll-Field (record { definition = y.definition; alias = y.alias; name = y.name; arguments = y.arguments; directives = y.directives; selection_set = b.0 i }))),
       λ place path. ap (faults_of_field s ty place path) r ∙ faults-field s ty place path z

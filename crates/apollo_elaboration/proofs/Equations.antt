@@ -13,7 +13,7 @@ use Rattle.graphql_ast.specs.declared.selection.Field as ast_field
 use Rattle.graphql_ast.specs.declared.selection.InlineFragment as ast_inline
 use Rattle.graphql_ast.specs.declared.type_system.FieldDefinition.{FieldDefinition}
 use Rattle.apollo_schema.specs.declared.schema.Schema.{Schema}
-use Rattle.apollo_executable.specs.SelectionParts.{key_of}
+use Rattle.apollo_executable.specs.SelectionParts.{response_key_of}
 use Rattle.apollo_executable.specs.declared.selection.Selection.{Selection}
 use Rattle.apollo_executable.specs.declared.selection.Field.{Field, roll-Field}
 use Rattle.apollo_executable.specs.declared.selection.InlineFragment.{InlineFragment, roll-InlineFragment}
@@ -58,10 +58,10 @@ each_fault : Option Schema → ast.Selection → FS
 each_fault s = folds.fold-Selection FS FN FN faults_step (field_faults_step s) (fragment_faults_step s)
 
 pub faults-field : (s : Option Schema) (ty : NameView) (place : Option SourceSpan) (path : SelectionPath) (f : ast_field.Field)
-    → faults_of_field s ty place path f ≡ found (λ d. faults_of_selections s (child_of d) (inside path (key_of f.alias f.name)) f.selection_set) place (inside path (key_of f.alias f.name)) (typable_field s ty f.name (is_bare f.selection_set))
+    → faults_of_field s ty place path f ≡ found (λ d. faults_of_selections s (child_of d) (inside path (response_key_of f.alias f.name)) f.selection_set) place (inside path (response_key_of f.alias f.name)) (typable_field s ty f.name (is_bare f.selection_set))
 unfolding each_fault
 faults-field s ty place path f =
-    let within = inside path (key_of f.alias f.name) in
+    let within = inside path (response_key_of f.alias f.name) in
     let e = ap (λ (u : FN). u ty place path) (folds.fold_out-Field FS FN FN faults_step (field_faults_step s) (fragment_faults_step s) f) in
     let b : (t : NameView) (p : SelectionPath) → faults_below (map (each_fault s) f.selection_set) t p ≡ faults_of_selections s t p f.selection_set = λ t p. flat_map-map (λ (u : FS). u t p) (each_fault s) f.selection_set in
     e ∙ (λ i. found (λ (d : NodeView FieldDefinition). b (child_of d) within i) place within (typable_field s ty f.name (is_bare-map (each_fault s) f.selection_set i)))

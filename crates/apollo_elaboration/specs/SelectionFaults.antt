@@ -11,7 +11,7 @@ use Rattle.graphql_ast.specs.declared.selection.Selection.TheFolds as folds
 use Rattle.graphql_ast.specs.declared.selection.Field.{Field}
 use Rattle.graphql_ast.specs.declared.selection.InlineFragment.{InlineFragment}
 use Rattle.apollo_schema.specs.declared.schema.Schema.{Schema}
-use Rattle.apollo_executable.specs.SelectionParts.{key_of}
+use Rattle.apollo_executable.specs.SelectionParts.{response_key_of}
 use Rattle.apollo_elaboration.specs.Typable.{Fault, Wrong, child_of, is_bare, typable_field, typable_fragment}
 use Rattle.apollo_elaboration.specs.declared.selection_path.SelectionPath.{SelectionPath}
 
@@ -45,7 +45,7 @@ found below place path (Err wrong) = wrong place path
 -- one level of a field, and of an inline fragment
 abbrev pub field_faults_step : Option Schema → Field-F FS FN FN → FN
 field_faults_step s f ty place path =
-    found (λ d. faults_below f.selection_set (child_of d) (inside path (key_of f.alias f.name))) place (inside path (key_of f.alias f.name)) (typable_field s ty f.name (is_bare f.selection_set))
+    found (λ d. faults_below f.selection_set (child_of d) (inside path (response_key_of f.alias f.name))) place (inside path (response_key_of f.alias f.name)) (typable_field s ty f.name (is_bare f.selection_set))
 
 abbrev pub fragment_faults_step : Option Schema → InlineFragment-F FS FN FN → FN
 fragment_faults_step s f ty place path = found (λ child. faults_below f.selection_set child path) place path (typable_fragment s ty f.type_condition)

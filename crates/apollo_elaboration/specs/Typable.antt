@@ -1,7 +1,7 @@
 -- Which untyped selections are typable in a type, over a schema value or without a schema, and what is wrong with the others:
 -- GraphQL specification of October 2021, sections 2.4 to 2.8. The leaf types are those of sections 3.5 and 3.9.
 use Rattle.std.specs.Prelude.{◌==◌, Bool, true, false, List, [], ◌∷◌, length, Option, None, Some, is_some, Result, Ok, Err, codes}
-use Rattle.graphql_nodes.specs.NameView.{NameView}
+use Rattle.graphql_nodes.specs.NameView.{NameView, plain_name}
 use Rattle.graphql_nodes.specs.NodeView.{NodeView}
 use Rattle.graphql_nodes.specs.SameText.{same_text}
 use Rattle.graphql_nodes.specs.Tables.{lookup_key}
@@ -14,7 +14,7 @@ use Rattle.apollo_component.specs.declared.component.Component.{Component}
 use Rattle.apollo_types.specs.declared.extended_type.ExtendedType.{ExtendedType}
 use Rattle.apollo_types.specs.declared.extended_type.ExtendedType.TheVariants.{Scalar, Enum}
 use Rattle.apollo_schema.specs.Lookups.{field_at, type_at}
-use Rattle.apollo_schema.specs.MetaFields.{plain_name, plain_node}
+use Rattle.apollo_schema.specs.MetaFields.{plain_node}
 use Rattle.apollo_schema.specs.declared.schema.Schema.{Schema}
 use Rattle.apollo_elaboration.specs.declared.build_error.BuildError.{BuildError}
 use Rattle.apollo_elaboration.specs.declared.build_error.BuildError.TheVariants as e

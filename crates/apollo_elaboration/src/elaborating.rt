@@ -5,7 +5,7 @@
 ghost use Rattle.std.specs.Prelude.{◌≡◌, ◌++◌, [], IfOk, OnOk, option_map};
 ghost use Rattle.std.specs.List.{cons_option, filter_map};
 ghost use Rattle.std.specs.Option.{option_copied};
-ghost use Rattle.apollo_executable.specs.SelectionParts.{key_of};
+ghost use Rattle.apollo_executable.specs.SelectionParts.{response_key_of};
 ghost use Rattle.apollo_elaboration.specs.Elaborated as spec;
 ghost use Rattle.apollo_elaboration.specs.Elaborated.{elaborated, elaborated_selection, elaborated_field, elaborated_fragment};
 ghost use Rattle.apollo_elaboration.specs.Stripped.{in_place_of};
@@ -29,7 +29,7 @@ use std::alloc::{AllocError, Global};
 
 /// The key of a field in a response: its alias, or else its name (section 2.7).
 fn response_key(field: &ast::Field) -> &Name
-    ensures { result.now ≡ key_of field.now.alias field.now.name }
+    ensures { result.now ≡ response_key_of field.now.alias field.now.name }
 {
     match &field.alias {
         Some(alias) => alias,

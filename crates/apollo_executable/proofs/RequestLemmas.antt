@@ -8,7 +8,7 @@ use Rattle.graphql_nodes.specs.Tables.{values_of}
 use Rattle.apollo_executable.specs.Listed.{listed}
 use Rattle.apollo_executable.specs.Operations.{the_only}
 use Rattle.apollo_executable.specs.Requests.{requested}
-use Rattle.apollo_executable.specs.OperationLending.{with_only, with_requested, place_of}
+use Rattle.apollo_executable.specs.OperationLending.{with_only, with_requested, operation_location}
 use Rattle.apollo_executable.specs.declared.operation.Operation.{Operation}
 use Rattle.apollo_executable.specs.declared.operation_map.OperationMap.{OperationMap}
 
@@ -27,7 +27,7 @@ put_back m None o h = only_put_back m.anonymous m.named o h
 
 -- a node with another value stands where the operation stood
 pub put_anew : (m : OperationMap) (name : Option NameView) (o written : NodeView Operation) (w : Operation) (final : OperationMap) → requested m name ≡ Some o
-    → written ≡ record { value = w; location = o.location } → final ≡ with_requested m name written → final ≡ with_requested m name (record { value = w; location = place_of (requested m name) })
+    → written ≡ record { value = w; location = o.location } → final ≡ with_requested m name written → final ≡ with_requested m name (record { value = w; location = operation_location (requested m name) })
 put_anew m name o written w final there is put =
-    let place : o.location ≡ place_of (requested m name) = ap place_of (sym there) in
+    let place : o.location ≡ operation_location (requested m name) = ap operation_location (sym there) in
     put ∙ ap (with_requested m name) is ∙ (λ i. with_requested m name (record { value = w; location = place i }))

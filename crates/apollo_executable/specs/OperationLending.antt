@@ -28,11 +28,11 @@ abbrev pub LendsNode : MutBor OperationMap → Option NameView → Option (MutBo
 LendsNode m name r = LendsSo map.the_row (node.the_row operation.the_row) m r (λ n w. OnSome r (n ≡ with_requested m.now name w)) (λ n. n ≡ m.now)
 
 -- where an operation stands
-abbrev pub place_of : Option (NodeView Operation) → Option SourceSpan
-place_of (Some o) = o.location
-place_of None = None
+abbrev pub operation_location : Option (NodeView Operation) → Option SourceSpan
+operation_location (Some o) = o.location
+operation_location None = None
 
 -- once the borrow r ends, the operation that was asked for is the last value written, where it stood, and all else is as it
 -- was; at `Err` the map is unchanged
 abbrev pub LendsOperation : MutBor OperationMap → Option NameView → {E : Type 0} → Result (MutBor Operation) E → Fml
-LendsOperation m name r = LendsSoOk map.the_row operation.the_row m r (λ n w. n ≡ with_requested m.now name (record { value = w; location = place_of (requested m.now name) })) (λ n. n ≡ m.now)
+LendsOperation m name r = LendsSoOk map.the_row operation.the_row m r (λ n w. n ≡ with_requested m.now name (record { value = w; location = operation_location (requested m.now name) })) (λ n. n ≡ m.now)

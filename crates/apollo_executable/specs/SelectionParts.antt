@@ -12,13 +12,13 @@ use Rattle.apollo_executable.specs.declared.selection.SelectionSet.{SelectionSet
 use Rattle.apollo_executable.specs.declared.selection.FragmentSpread.{FragmentSpread}
 
 -- the alias, or else the name
-abbrev pub key_of : Option NameView → NameView → NameView
-key_of (Some alias) name = alias
-key_of None name = name
+abbrev pub response_key_of : Option NameView → NameView → NameView
+response_key_of (Some alias) name = alias
+response_key_of None name = name
 
 -- the key of a field in a response
 abbrev pub response_key : Field → NameView
-response_key f = key_of f.alias f.name
+response_key f = response_key_of f.alias f.name
 
 -- a selection, opened
 abbrev pub Opened : Type 0

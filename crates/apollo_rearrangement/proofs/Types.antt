@@ -15,7 +15,7 @@ use Rattle.apollo_component.specs.declared.component.Component.{Component}
 use Rattle.apollo_component.specs.declared.component.ComponentName.{ComponentName}
 use Rattle.apollo_component.specs.declared.extension.ComponentOrigin.{ComponentOrigin}
 use Rattle.apollo_types.specs.BareTypes.{BareType, bare_extended_type, BareSchemaDefinition, bare_schema_definition}
-use Rattle.apollo_meaning.specs.Types.Components.{Sourced, body_fields, body_input_fields, body_interfaces, body_members, body_values, component, component_name, directives_of, distinct_entries, distinct_names}
+use Rattle.apollo_meaning.specs.Types.Components.{Sourced, body_fields, body_input_fields, body_interfaces, body_members, body_values, component, component_name, sourced_directives, distinct_entries, distinct_names}
 use Rattle.apollo_meaning.specs.Types.Meaning.{type_at, type_from, parts, sourced}
 use Rattle.apollo_rearrangement.proofs.Subjects.{extensions-agree, first-agree, first_schema-agree, schema_extensions-agree}
 use Rattle.apollo_rearrangement.proofs.BySubject.{option_cases}
@@ -43,7 +43,7 @@ module _ {A B C : Type 0} (seen : A → B) (sourced : ComponentOrigin → C → 
 abbrev plain_directives : List TypePart → List Directive
 plain_directives = flat_map (λ p. map (λ d. bare_directive d.value) p.directives)
 
-forget-directives : (ps : List Sourced) → bare_directives (record { 0 = flat_map directives_of ps }) ≡ plain_directives (parts_of ps)
+forget-directives : (ps : List Sourced) → bare_directives (record { 0 = flat_map sourced_directives ps }) ≡ plain_directives (parts_of ps)
 forget-directives = forget (bare_component bare_directive) component (λ d. bare_directive d.value) (λ o d. refl) (λ p. p.directives)
 
 module _ (held : TypePart → List NameView) where
@@ -89,8 +89,8 @@ module _ (head : TypePart) (ps qs : List Sourced) (alike : parts_of ps ≡ parts
   by_parts : {R : Type 0} (of : List Sourced → R) (plain : List TypePart → R) → ((rs : List Sourced) → of rs ≡ plain (parts_of rs)) → of ps ≡ of qs
   by_parts of plain forgets = forgets ps ∙ ap plain alike ∙ sym (forgets qs)
 
-  directives-alike : bare_directives (record { 0 = flat_map directives_of ps }) ≡ bare_directives (record { 0 = flat_map directives_of qs })
-  directives-alike = by_parts (λ rs. bare_directives (record { 0 = flat_map directives_of rs })) plain_directives forget-directives
+  directives-alike : bare_directives (record { 0 = flat_map sourced_directives ps }) ≡ bare_directives (record { 0 = flat_map sourced_directives qs })
+  directives-alike = by_parts (λ rs. bare_directives (record { 0 = flat_map sourced_directives rs })) plain_directives forget-directives
 
   names-alike : (held : TypePart → List NameView) → members_by_text (λ c. c.name) (distinct_names (names_of held ps)) ≡ members_by_text (λ c. c.name) (distinct_names (names_of held qs))
   names-alike held = by_parts (λ rs. members_by_text (λ c. c.name) (distinct_names (names_of held rs))) (plain_names held) (forget-names held)

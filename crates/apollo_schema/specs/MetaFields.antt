@@ -1,16 +1,13 @@
 -- The fields that types have without declaring them: GraphQL specification of October 2021, sections 4.1 and 4.2. They have
 -- no description and no directive, and have no location.
 use Rattle.std.specs.Prelude.{ℕ, List, [], ◌∷◌, None, codes}
-use Rattle.graphql_nodes.specs.NameView.{NameView}
+use Rattle.graphql_nodes.specs.NameView.{plain_name}
 use Rattle.graphql_nodes.specs.NodeView.{NodeView}
 use Rattle.graphql_ast.specs.declared.type_reference.Type.{«Type» as TypeReference, Named, NonNullNamed}
 use Rattle.graphql_ast.specs.declared.type_system.FieldDefinition.{FieldDefinition}
 use Rattle.graphql_ast.specs.declared.type_system.InputValueDefinition.{InputValueDefinition}
 use Rattle.apollo_component.specs.declared.component.Component.{Component}
 use Rattle.apollo_component.specs.declared.extension.ComponentOrigin.TheVariants.{Definition}
-
-abbrev pub plain_name : List ℕ → NameView
-plain_name text = record { text = text; location = None }
 
 abbrev pub plain_node : {T : Type 0} → T → NodeView T
 plain_node value = record { value = value; location = None }

@@ -1,7 +1,8 @@
 //! The fields that types have without declaring them: GraphQL specification of October 2021, sections 4.1 and 4.2.
 ghost use Rattle.std.specs.Prelude.{◌≡◌, IfOk, codes};
+ghost use Rattle.graphql_nodes.specs.NameView.{plain_name};
 ghost use Rattle.graphql_ast.specs.declared.type_reference.Type.{NonNullNamed};
-ghost use Rattle.apollo_schema.specs.MetaFields.{plain_name, plain_argument, plain_field, typename_field, schema_field, type_by_name_field};
+ghost use Rattle.apollo_schema.specs.MetaFields.{plain_argument, plain_field, typename_field, schema_field, type_by_name_field};
 
 use apollo_component::component::Component;
 use graphql_ast::directive::DirectiveList;

@@ -2,7 +2,7 @@
 ghost use Rattle.std.specs.Prelude.{◌≡◌, false, None, ◌+◌, ◌^◌, ◌≤◌, [], ◌∷◌, ◌++◌, length, OnOk, IfOk, IfErr, Some};
 ghost use Rattle.graphql_nodes.specs.Tables.{insert_entry};
 ghost use Rattle.graphql_nodes.specs.SameText.{same_text};
-ghost use Rattle.graphql_ast.specs.Definitions.{location_of};
+ghost use Rattle.graphql_ast.specs.Definitions.{definition_location};
 ghost use Rattle.graphql_ast.specs.DefinitionTexts.{definition_text};
 ghost use Rattle.apollo_component.specs.Extensions.{next_number};
 ghost use Rattle.apollo_meaning.specs.declared.build_error.BuildError.TheVariants as errors;
@@ -223,7 +223,7 @@ impl Tables {
 
     /// Notes a definition that does not belong into a schema.
     fn note_executable(&mut self, definition: &Definition) -> Result<(), AllocError>
-        ensures noted { OnOk result (self.new ≡ record self.old { faults = self.old.faults ++ (location_of definition.now, errors.ExecutableDefinition (definition_text definition.now)) ∷ [] }) }
+        ensures noted { OnOk result (self.new ≡ record self.old { faults = self.old.faults ++ (definition_location definition.now, errors.ExecutableDefinition (definition_text definition.now)) ∷ [] }) }
         ensures sources { self.new.sources ≡ self.old.sources }
     {
         let error = BuildError::ExecutableDefinition {

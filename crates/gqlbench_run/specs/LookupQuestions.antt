@@ -12,18 +12,18 @@ use Rattle.apollo_schema.specs.Lookups.{Types, field_at, declared_interfaces, is
 use Rattle.apollo_schema.specs.declared.schema.Schema.{Schema}
 
 -- the fields of an object or interface type, under their names
-abbrev pub fields_of : ExtendedType → List (NameView × Component FieldDefinition)
-fields_of (Object n) = n.value.fields
-fields_of (Interface n) = n.value.fields
-fields_of _ = []
+abbrev pub declared_fields : ExtendedType → List (NameView × Component FieldDefinition)
+declared_fields (Object n) = n.value.fields
+declared_fields (Interface n) = n.value.fields
+declared_fields _ = []
 
 -- each field of a type, by the type's name and its own
 abbrev pub field_questions_of : (NameView × ExtendedType) → List (NameView × NameView)
-field_questions_of entry = map (λ name. (entry.0, name)) (keys_of (fields_of entry.1))
+field_questions_of entry = map (λ name. (entry.0, name)) (keys_of (declared_fields entry.1))
 
 -- each interface of a type, and the type of each of its fields, with the type's own name
 abbrev pub subtype_questions_of : (NameView × ExtendedType) → List (NameView × NameView)
-subtype_questions_of entry = map (λ interface. (interface.name, entry.0)) (declared_interfaces entry.1) ++ map (λ field. (inner_name field.node.value.ty, entry.0)) (values_of (fields_of entry.1))
+subtype_questions_of entry = map (λ interface. (interface.name, entry.0)) (declared_interfaces entry.1) ++ map (λ field. (inner_name field.node.value.ty, entry.0)) (values_of (declared_fields entry.1))
 
 abbrev pub field_questions : Types → List (NameView × NameView)
 field_questions types = flat_map field_questions_of types

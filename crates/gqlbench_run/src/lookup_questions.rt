@@ -3,7 +3,7 @@ ghost use Rattle.std.specs.Prelude.{◌≡◌, ◌++◌, [], IfOk, MatchOption, 
 ghost use Rattle.graphql_nodes.specs.Tables.{keys_of, values_of};
 ghost use Rattle.apollo_schema.specs.Lookups.{declared_interfaces};
 ghost use Rattle.graphql_ast.specs.TypeReferences.{inner_name};
-ghost use Rattle.gqlbench_run.specs.LookupQuestions.{fields_of, field_questions, field_questions_of, subtype_questions, subtype_questions_of, has_field, has_subtype};
+ghost use Rattle.gqlbench_run.specs.LookupQuestions.{declared_fields, field_questions, field_questions_of, subtype_questions, subtype_questions_of, has_field, has_subtype};
 
 use apollo_component::component::{Component, ComponentName};
 use apollo_schema::schema::Schema;
@@ -16,8 +16,8 @@ use std::alloc::{AllocError, Global};
 /// Two names that are asked for together.
 pub type Question = (Name, Name);
 
-fn fields_of(ty: &ExtendedType) -> Option<&Table<Name, Component<FieldDefinition>>>
-    ensures { MatchOption result (fields_of ty.now ≡ []) (λ fields. fields.now ≡ fields_of ty.now) }
+fn declared_fields(ty: &ExtendedType) -> Option<&Table<Name, Component<FieldDefinition>>>
+    ensures { MatchOption result (declared_fields ty.now ≡ []) (λ fields. fields.now ≡ declared_fields ty.now) }
 {
     match ty {
         ExtendedType::Object(object) => Some(&object.fields),
@@ -83,7 +83,7 @@ fn push_field_questions(
 ) -> Result<(), AllocError>
     ensures { OnOk result (questions.new.items ≡ questions.old.items ++ field_questions_of (name.now, ty.now)) }
 {
-    match fields_of(ty) {
+    match declared_fields(ty) {
         Some(fields) => push_field_names(questions, name, fields),
         None => Ok(()),
     }
@@ -97,7 +97,7 @@ fn push_subtype_questions(
     ensures { OnOk result (questions.new.items ≡ questions.old.items ++ subtype_questions_of (name.now, ty.now)) }
 {
     push_interfaces(questions, name, declared_interfaces(ty))?;
-    match fields_of(ty) {
+    match declared_fields(ty) {
         Some(fields) => push_field_types(questions, name, fields),
         None => Ok(()),
     }

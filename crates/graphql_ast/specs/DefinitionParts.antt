@@ -18,39 +18,39 @@ use Rattle.graphql_ast.specs.declared.type_system.FieldDefinition.{FieldDefiniti
 use Rattle.graphql_ast.specs.declared.type_system.InputValueDefinition.{InputValueDefinition}
 
 -- what a part is, if it is of this sort
-abbrev pub directive_in : DefinitionPart → Option (NodeView Directive)
-directive_in (p.Directive directive) = Some directive
-directive_in _ = None
+abbrev pub as_directive : DefinitionPart → Option (NodeView Directive)
+as_directive (p.Directive directive) = Some directive
+as_directive _ = None
 
-abbrev pub name_in : DefinitionPart → Option NameView
-name_in (p.Name name) = Some name
-name_in _ = None
+abbrev pub as_name : DefinitionPart → Option NameView
+as_name (p.Name name) = Some name
+as_name _ = None
 
-abbrev pub field_in : DefinitionPart → Option (NodeView FieldDefinition)
-field_in (p.Field field) = Some field
-field_in _ = None
+abbrev pub as_field : DefinitionPart → Option (NodeView FieldDefinition)
+as_field (p.Field field) = Some field
+as_field _ = None
 
-abbrev pub value_in : DefinitionPart → Option (NodeView EnumValueDefinition)
-value_in (p.EnumValue value) = Some value
-value_in _ = None
+abbrev pub as_value : DefinitionPart → Option (NodeView EnumValueDefinition)
+as_value (p.EnumValue value) = Some value
+as_value _ = None
 
-abbrev pub input_field_in : DefinitionPart → Option (NodeView InputValueDefinition)
-input_field_in (p.InputField field) = Some field
-input_field_in _ = None
+abbrev pub as_input_field : DefinitionPart → Option (NodeView InputValueDefinition)
+as_input_field (p.InputField field) = Some field
+as_input_field _ = None
 
-abbrev pub root_in : DefinitionPart → Option (NodeView (OperationType × NameView))
-root_in (p.Root root) = Some root
-root_in _ = None
+abbrev pub as_root : DefinitionPart → Option (NodeView (OperationType × NameView))
+as_root (p.Root root) = Some root
+as_root _ = None
 
 -- these parts, each sort in order
 abbrev pub parts_of : List DefinitionPart → DefinitionParts
 parts_of parts = record {
-  directives = record { 0 = filter_map directive_in parts };
-  names = filter_map name_in parts;
-  fields = filter_map field_in parts;
-  values = filter_map value_in parts;
-  input_fields = filter_map input_field_in parts;
-  roots = filter_map root_in parts;
+  directives = record { 0 = filter_map as_directive parts };
+  names = filter_map as_name parts;
+  fields = filter_map as_field parts;
+  values = filter_map as_value parts;
+  input_fields = filter_map as_input_field parts;
+  roots = filter_map as_root parts;
 }
 
 -- no part
@@ -65,12 +65,12 @@ with_some (Some x) xs = xs ++ x ∷ []
 -- one part more, the last of its sort
 abbrev pub with_part : DefinitionPart → DefinitionParts → DefinitionParts
 with_part part parts = record {
-  directives = record { 0 = with_some (directive_in part) parts.directives.0 };
-  names = with_some (name_in part) parts.names;
-  fields = with_some (field_in part) parts.fields;
-  values = with_some (value_in part) parts.values;
-  input_fields = with_some (input_field_in part) parts.input_fields;
-  roots = with_some (root_in part) parts.roots;
+  directives = record { 0 = with_some (as_directive part) parts.directives.0 };
+  names = with_some (as_name part) parts.names;
+  fields = with_some (as_field part) parts.fields;
+  values = with_some (as_value part) parts.values;
+  input_fields = with_some (as_input_field part) parts.input_fields;
+  roots = with_some (as_root part) parts.roots;
 }
 
 -- the definition of a type of this kind

@@ -9,61 +9,61 @@ use Rattle.graphql_ast.specs.declared.definition.Definition.{Definition}
 use Rattle.graphql_ast.specs.declared.definition.Definition.TheVariants as d
 
 -- the name of what is defined or extended
-abbrev pub name_of : Definition → Option NameView
-name_of (d.OperationDefinition n) = n.value.name
-name_of (d.FragmentDefinition n) = Some n.value.name
-name_of (d.DirectiveDefinition n) = Some n.value.name
-name_of (d.SchemaDefinition n) = None
-name_of (d.ScalarTypeDefinition n) = Some n.value.name
-name_of (d.ObjectTypeDefinition n) = Some n.value.name
-name_of (d.InterfaceTypeDefinition n) = Some n.value.name
-name_of (d.UnionTypeDefinition n) = Some n.value.name
-name_of (d.EnumTypeDefinition n) = Some n.value.name
-name_of (d.InputObjectTypeDefinition n) = Some n.value.name
-name_of (d.SchemaExtension n) = None
-name_of (d.ScalarTypeExtension n) = Some n.value.name
-name_of (d.ObjectTypeExtension n) = Some n.value.name
-name_of (d.InterfaceTypeExtension n) = Some n.value.name
-name_of (d.UnionTypeExtension n) = Some n.value.name
-name_of (d.EnumTypeExtension n) = Some n.value.name
-name_of (d.InputObjectTypeExtension n) = Some n.value.name
+abbrev pub definition_name : Definition → Option NameView
+definition_name (d.OperationDefinition n) = n.value.name
+definition_name (d.FragmentDefinition n) = Some n.value.name
+definition_name (d.DirectiveDefinition n) = Some n.value.name
+definition_name (d.SchemaDefinition n) = None
+definition_name (d.ScalarTypeDefinition n) = Some n.value.name
+definition_name (d.ObjectTypeDefinition n) = Some n.value.name
+definition_name (d.InterfaceTypeDefinition n) = Some n.value.name
+definition_name (d.UnionTypeDefinition n) = Some n.value.name
+definition_name (d.EnumTypeDefinition n) = Some n.value.name
+definition_name (d.InputObjectTypeDefinition n) = Some n.value.name
+definition_name (d.SchemaExtension n) = None
+definition_name (d.ScalarTypeExtension n) = Some n.value.name
+definition_name (d.ObjectTypeExtension n) = Some n.value.name
+definition_name (d.InterfaceTypeExtension n) = Some n.value.name
+definition_name (d.UnionTypeExtension n) = Some n.value.name
+definition_name (d.EnumTypeExtension n) = Some n.value.name
+definition_name (d.InputObjectTypeExtension n) = Some n.value.name
 
 -- where the definition stands
-abbrev pub location_of : Definition → Option SourceSpan
-location_of (d.OperationDefinition n) = n.location
-location_of (d.FragmentDefinition n) = n.location
-location_of (d.DirectiveDefinition n) = n.location
-location_of (d.SchemaDefinition n) = n.location
-location_of (d.ScalarTypeDefinition n) = n.location
-location_of (d.ObjectTypeDefinition n) = n.location
-location_of (d.InterfaceTypeDefinition n) = n.location
-location_of (d.UnionTypeDefinition n) = n.location
-location_of (d.EnumTypeDefinition n) = n.location
-location_of (d.InputObjectTypeDefinition n) = n.location
-location_of (d.SchemaExtension n) = n.location
-location_of (d.ScalarTypeExtension n) = n.location
-location_of (d.ObjectTypeExtension n) = n.location
-location_of (d.InterfaceTypeExtension n) = n.location
-location_of (d.UnionTypeExtension n) = n.location
-location_of (d.EnumTypeExtension n) = n.location
-location_of (d.InputObjectTypeExtension n) = n.location
+abbrev pub definition_location : Definition → Option SourceSpan
+definition_location (d.OperationDefinition n) = n.location
+definition_location (d.FragmentDefinition n) = n.location
+definition_location (d.DirectiveDefinition n) = n.location
+definition_location (d.SchemaDefinition n) = n.location
+definition_location (d.ScalarTypeDefinition n) = n.location
+definition_location (d.ObjectTypeDefinition n) = n.location
+definition_location (d.InterfaceTypeDefinition n) = n.location
+definition_location (d.UnionTypeDefinition n) = n.location
+definition_location (d.EnumTypeDefinition n) = n.location
+definition_location (d.InputObjectTypeDefinition n) = n.location
+definition_location (d.SchemaExtension n) = n.location
+definition_location (d.ScalarTypeExtension n) = n.location
+definition_location (d.ObjectTypeExtension n) = n.location
+definition_location (d.InterfaceTypeExtension n) = n.location
+definition_location (d.UnionTypeExtension n) = n.location
+definition_location (d.EnumTypeExtension n) = n.location
+definition_location (d.InputObjectTypeExtension n) = n.location
 
 -- the kind of the type that is defined or extended
-abbrev pub kind_of : Definition → Option TypeKind
-kind_of (d.OperationDefinition n) = None
-kind_of (d.FragmentDefinition n) = None
-kind_of (d.DirectiveDefinition n) = None
-kind_of (d.SchemaDefinition n) = None
-kind_of (d.ScalarTypeDefinition n) = Some k.Scalar
-kind_of (d.ObjectTypeDefinition n) = Some k.Object
-kind_of (d.InterfaceTypeDefinition n) = Some k.Interface
-kind_of (d.UnionTypeDefinition n) = Some k.Union
-kind_of (d.EnumTypeDefinition n) = Some k.Enum
-kind_of (d.InputObjectTypeDefinition n) = Some k.InputObject
-kind_of (d.SchemaExtension n) = None
-kind_of (d.ScalarTypeExtension n) = Some k.Scalar
-kind_of (d.ObjectTypeExtension n) = Some k.Object
-kind_of (d.InterfaceTypeExtension n) = Some k.Interface
-kind_of (d.UnionTypeExtension n) = Some k.Union
-kind_of (d.EnumTypeExtension n) = Some k.Enum
-kind_of (d.InputObjectTypeExtension n) = Some k.InputObject
+abbrev pub definition_kind : Definition → Option TypeKind
+definition_kind (d.OperationDefinition n) = None
+definition_kind (d.FragmentDefinition n) = None
+definition_kind (d.DirectiveDefinition n) = None
+definition_kind (d.SchemaDefinition n) = None
+definition_kind (d.ScalarTypeDefinition n) = Some k.Scalar
+definition_kind (d.ObjectTypeDefinition n) = Some k.Object
+definition_kind (d.InterfaceTypeDefinition n) = Some k.Interface
+definition_kind (d.UnionTypeDefinition n) = Some k.Union
+definition_kind (d.EnumTypeDefinition n) = Some k.Enum
+definition_kind (d.InputObjectTypeDefinition n) = Some k.InputObject
+definition_kind (d.SchemaExtension n) = None
+definition_kind (d.ScalarTypeExtension n) = Some k.Scalar
+definition_kind (d.ObjectTypeExtension n) = Some k.Object
+definition_kind (d.InterfaceTypeExtension n) = Some k.Interface
+definition_kind (d.UnionTypeExtension n) = Some k.Union
+definition_kind (d.EnumTypeExtension n) = Some k.Enum
+definition_kind (d.InputObjectTypeExtension n) = Some k.InputObject

@@ -73,11 +73,11 @@ impl Clone for Definition {
 
 impl Definition {
     ghost use Rattle.graphql_ast.specs.DefinitionTexts.{definition_text};
-    ghost use Rattle.graphql_ast.specs.Definitions.{name_of, location_of, kind_of};
+    ghost use Rattle.graphql_ast.specs.Definitions.{definition_name, definition_location, definition_kind};
 
     /// The name of what is defined or extended: none for the schema, nor for an anonymous operation.
     pub fn name(&self) -> Option<&Name>
-        ensures { option_copied result ≡ name_of self.now }
+        ensures { option_copied result ≡ definition_name self.now }
     {
         match self {
             Definition::OperationDefinition(node) => node.name.as_ref(),
@@ -102,7 +102,7 @@ impl Definition {
 
     /// Where the definition stands in a source, if it is known.
     pub fn location(&self) -> Option<SourceSpan>
-        ensures { result ≡ location_of self.now }
+        ensures { result ≡ definition_location self.now }
     {
         match self {
             Definition::OperationDefinition(node) => node.location(),
@@ -127,7 +127,7 @@ impl Definition {
 
     /// The kind of the type that is defined or extended, if one is.
     pub fn type_kind(&self) -> Option<TypeKind>
-        ensures { result ≡ kind_of self.now }
+        ensures { result ≡ definition_kind self.now }
     {
         match self {
             Definition::OperationDefinition(_)

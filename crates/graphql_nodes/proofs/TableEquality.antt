@@ -1,5 +1,5 @@
 -- Equality of tables and sets, as functions of their keys.
-use Rattle.std.proofs.Common.{◌≡◌, ℕ, Bool, List, [], ◌∷◌, refl, sym, ap, subst, map, None, ◌∙◌}
+use Rattle.std.proofs.Common.{◌≡◌, ℕ, Bool, List, [], ◌∷◌, refl, sym, ap, subst, map, ◌∙◌}
 use Rattle.std.specs.Bool.{Decides}
 use Rattle.std.specs.Cmp.{IsEquivalence, on_equiv}
 use Rattle.std.specs.Cmp.Lexicographic.{nat_list_eq_equiv}
@@ -7,7 +7,7 @@ use Rattle.std.specs.HashMap.Eq.{get_from_hash_map_eq, hash_map_eq_from_get}
 use Rattle.std.specs.HashSet.{HashSet}
 use Rattle.std.specs.HashSet.Eq.{hash_set_eq_decides}
 use Rattle.indexmap.specs.Layout.{key_set, hash_map}
-use Rattle.graphql_nodes.specs.NameView.{NameView}
+use Rattle.graphql_nodes.specs.NameView.{plain_name}
 use Rattle.graphql_nodes.specs.SameText.{same_text}
 use Rattle.graphql_nodes.specs.KeySets.{has_key, set_eq}
 use Rattle.graphql_nodes.specs.Tables.{as_map, table_eq}
@@ -44,14 +44,11 @@ module _ {K : Type 0} where
 pub by_texts : {A K B : Type 0} {E : A → A → Bool} {g : A → K → B} (named : List ℕ → K) (text : K → List ℕ) → ((a : A) (k : K) → g a (named (text k)) ≡ g a k) → Compares E g → Compares {B = List ℕ → B} E (λ a n. g a (named n))
 by_texts named text alike t = record { at = λ a b. (λ h i n. (t.at a b).0 h i (named n), λ h. (t.at a b).1 (λ i k. (sym (alike a k) ∙ (λ j. h j (text k)) ∙ alike b k) i)) }
 
-abbrev pub name_of : List ℕ → NameView
-name_of text = record { text = text; location = None }
-
 names_equiv : IsEquivalence same_text
 names_equiv = on_equiv (λ k. k.text) nat_list_eq_equiv
 
 pub tables_of_names : {V B : Type 0} {E : V → V → Bool} {f : V → B} → Compares E f → Compares (table_eq same_text E) (entries_by_text f)
-tables_of_names t = by_texts name_of (λ k. k.text) (λ _ _. refl) (tables names_equiv t)
+tables_of_names t = by_texts plain_name (λ k. k.text) (λ _ _. refl) (tables names_equiv t)
 
 pub sets_of_names : Compares (set_eq same_text) (members_by_text (λ n. n))
-sets_of_names = by_texts name_of (λ k. k.text) (λ _ _. refl) (sets names_equiv)
+sets_of_names = by_texts plain_name (λ k. k.text) (λ _ _. refl) (sets names_equiv)

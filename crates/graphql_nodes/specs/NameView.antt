@@ -1,4 +1,4 @@
-use Rattle.std.specs.Prelude.{ℕ, List, Option, refl}
+use Rattle.std.specs.Prelude.{ℕ, List, Option, None, refl}
 use Rattle.std.specs.Coded.{Coded, code_by, coded×, coded_option, coded_list, coded_ℕ}
 use Rattle.graphql_nodes.specs.declared.source.SourceSpan.{SourceSpan}
 use Rattle.graphql_nodes.specs.NodeView.{span_code}
@@ -7,6 +7,10 @@ use Rattle.graphql_nodes.specs.NodeView.{span_code}
 pub record NameView : Type 0 where
   pub text : List ℕ
   pub location : Option SourceSpan
+
+-- a name of this text without a location
+abbrev pub plain_name : List ℕ → NameView
+plain_name text = record { text = text; location = None }
 
 abbrev pub name_view_code : Coded NameView
 name_view_code = code_by (List ℕ × Option SourceSpan) (coded× (coded_list coded_ℕ) (coded_option span_code)) (λ n. (n.text, n.location)) (λ p. record { text = p.0; location = p.1 }) (λ _. refl)

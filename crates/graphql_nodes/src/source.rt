@@ -1,5 +1,5 @@
 //! Source files, and locations in them.
-ghost use Rattle.std.specs.Prelude.{◌≡◌, IfOk, OnOk, OnErr};
+ghost use Rattle.std.specs.Prelude.{◌≡◌, ◌≢◌, [], IfOk, OnOk, OnErr};
 ghost use Rattle.graphql_nodes.specs.Sources.{merged};
 
 use crate::collections::shared::Shared;
@@ -54,11 +54,15 @@ pub type SourceMap = Table<FileId, Shared<SourceFile>>;
 
 /// Adds the files of other sources, in order. Of two files of one number the later stays, where the earlier stood.
 ///
-/// The error is want of memory, and leaves the sources as they were.
+/// The error is want of memory, and leaves the sources as they were. It comes only where there are files to add.
 pub fn merge_sources(sources: &mut SourceMap, more: &SourceMap) -> Result<(), AllocError>
     ensures merged { OnOk result (sources.new ≡ merged sources.old more.now) }
     ensures err { OnErr result (sources.new ≡ sources.old) }
+    ensures wants { OnErr result (more.now ≢ []) }
 {
+    if more.is_empty() {
+        return Ok(());
+    }
     let mut copies = more.clone()?;
     sources.append(&mut copies)
 }

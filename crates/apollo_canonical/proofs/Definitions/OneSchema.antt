@@ -1,9 +1,9 @@
 -- A schema definition that a list means, and the one that what is written of it means.
 use Rattle.apollo_canonical.proofs.Words.Lists.{◌≡◌, ℕ, List, [], ◌∷◌, ◌++◌, None, Option, Some, map, find, flat_map, length, option_map, slice_get, refl, sym, ap, ◌∙◌, ◌==◌, length-map, map-map, AllByRecursion, IsDistinct, IsPermutation}
 use Rattle.apollo_canonical.proofs.Words.Syntax.{bare_name, NodeView, OperationType, Query, Mutation, Subscription, bare_directive, DefinitionParts, Directive}
-use Rattle.apollo_canonical.proofs.Words.Types.{bare_component, bare_component_name, place_of, by_origin, identities, of_extensions, of_origin, origins_in, Component, ComponentName, ComponentOrigin, Definition, Extension, ExtensionId, PartsByOrigin, bare_schema_definition, root_node, schema_components, root_of, SchemaDefinition}
+use Rattle.apollo_canonical.proofs.Words.Types.{bare_component, bare_component_name, extension_location, by_origin, identities, of_extensions, of_origin, origins_in, Component, ComponentName, ComponentOrigin, Definition, Extension, ExtensionId, PartsByOrigin, bare_schema_definition, root_node, schema_components, root_of, SchemaDefinition}
 use Rattle.apollo_canonical.proofs.Words.Meaning.{Root, SchemaPart, root_in, roots_of, same_operation, schema_definition_of, schema_directives_of, schema_extension_source, component, component_name}
-use Rattle.apollo_canonical.proofs.Words.Written.{Sections, in_sections, joined, with_origins, no_components, node_of, placed}
+use Rattle.apollo_canonical.proofs.Words.Written.{Sections, in_sections, joined, with_origins, no_components, node_with_origin, placed}
 use Rattle.apollo_canonical.proofs.Lists.{in_order, find-first, find-made, map-flat_map, option_map-twice}
 use Rattle.apollo_canonical.proofs.Sections.{kept, origins-split, roots-there, HasOrigins, directives-in_order}
 use Rattle.apollo_canonical.proofs.Types.{same-placed, directives_alone, numbered-distinct, numbered-written, numbered_parts, paired, paired-self, renumbered, renumbered-distinct, renumbered-placed, directives-numbered, shown-joined, shown-made, shown_in, IsMadeBy}
@@ -26,7 +26,7 @@ abbrev pub written_parts_of : SchemaDefinition → PartsByOrigin
 written_parts_of d = by_origin (schema_components d)
 
 abbrev pub schema_extension_of : ExtensionId × DefinitionParts → SchemaPart
-schema_extension_of e = record { location = place_of e.0; description = None; directives = e.1.directives.0; roots = e.1.roots }
+schema_extension_of e = record { location = extension_location e.0; description = None; directives = e.1.directives.0; roots = e.1.roots }
 
 -- the schema definition of a part and of extensions with numbers
 abbrev pub made_schema : SchemaPart → List (ℕ × SchemaPart) → SchemaDefinition
@@ -70,9 +70,9 @@ equal-again d u a = (λ i. record {
 
 -- the directives stand in the order of the definition and the extensions
 pub directives-in_parts : (head : SchemaPart) (es : List (ℕ × SchemaPart))
-    → map node_of (flat_map schema_directives_of ((Definition, head) ∷ map schema_extension_source es)) ≡ joined (λ d. d.directives.0) (with_origins (record { definition = directives_alone head.directives; extensions = map (numbered_parts (λ p. p.location) (λ p. directives_alone p.directives)) es }))
+    → map node_with_origin (flat_map schema_directives_of ((Definition, head) ∷ map schema_extension_source es)) ≡ joined (λ d. d.directives.0) (with_origins (record { definition = directives_alone head.directives; extensions = map (numbered_parts (λ p. p.location) (λ p. directives_alone p.directives)) es }))
 directives-in_parts head es =
-    shown-made node_of component (λ o a. refl) (λ (s : SchemaPart). s.directives) ((Definition, head) ∷ map schema_extension_source es) ∙ directives-numbered (λ p. p.location) (λ p. p.directives) head es
+    shown-made node_with_origin component (λ o a. refl) (λ (s : SchemaPart). s.directives) ((Definition, head) ∷ map schema_extension_source es) ∙ directives-numbered (λ p. p.location) (λ p. p.directives) head es
 
 perm-entries : (op : OperationType) (n : Option ComponentName) (ys : List Root) → IsPermutation (map (λ x. x.1) (entries op n)) ys → ys ≡ map (λ x. x.1) (entries op n)
 perm-entries op None ys p = none-permuted ys p
@@ -118,9 +118,9 @@ module _ (d : SchemaDefinition) (m : IsMadeBy made_schema d) (head : SchemaPart)
   abbrev all : List (ComponentOrigin × SchemaPart)
   all = (Definition, head) ∷ map (λ g. (Extension g.0, schema_extension_of g)) gs
 
-  directives-again : map node_of u.directives.0 ≡ joined (λ d. d.directives.0) (with_origins p)
+  directives-again : map node_with_origin u.directives.0 ≡ joined (λ d. d.directives.0) (with_origins p)
   directives-again =
-      ap (λ l. map node_of (flat_map schema_directives_of ((Definition, head) ∷ l))) sourced ∙ shown-made node_of component (λ o a. refl) (λ (s : SchemaPart). s.directives) all
+      ap (λ l. map node_with_origin (flat_map schema_directives_of ((Definition, head) ∷ l))) sourced ∙ shown-made node_with_origin component (λ o a. refl) (λ (s : SchemaPart). s.directives) all
       ∙ (λ i. originated Definition (h.directives i) ++ shown-joined (λ (s : SchemaPart). s.directives) (λ d. d.directives.0) (λ g. Extension g.0) schema_extension_of (λ g. g.1) (λ g. refl) gs i)
 
   roots-listed : flat_map roots_of ((Definition, head) ∷ map schema_extension_source es) ≡ map named_entry (joined (λ d. d.roots) (with_origins p))
@@ -180,10 +180,10 @@ module _ (d : SchemaDefinition) (m : IsMadeBy made_schema d) (head : SchemaPart)
     roots = (λ op. ap (option_map (λ (c : ComponentName). c.name)) (root_u op ∙ root-found op) ∙ (from-values op (joined (roots_for op) (with_origins p)) (root_of d op) (root-values op)).1);
   }
     where
-      nodes : (cs : List (Component Directive)) → map (λ c. c.node) cs ≡ map (λ x. x.1) (map node_of cs)
-      nodes cs = sym (map-map (λ (x : ComponentOrigin × NodeView Directive). x.1) node_of cs)
+      nodes : (cs : List (Component Directive)) → map (λ c. c.node) cs ≡ map (λ x. x.1) (map node_with_origin cs)
+      nodes cs = sym (map-map (λ (x : ComponentOrigin × NodeView Directive). x.1) node_with_origin cs)
 
-      in_order_again : map (λ x. x.1) (joined (λ d. d.directives.0) (with_origins p)) ≡ map (λ x. x.1) (map node_of d.directives.0)
+      in_order_again : map (λ x. x.1) (joined (λ d. d.directives.0) (with_origins p)) ≡ map (λ x. x.1) (map node_with_origin d.directives.0)
       in_order_again =
           directives-in_order s (record { definition = directives_alone m.head.directives; extensions = map (numbered_parts (λ p. p.location) (λ p. directives_alone p.directives)) m.extensions }) p (numbered-distinct (λ (p : SchemaPart). p.location) (λ p. directives_alone p.directives) m.extensions m.apart)
-          (ap (λ (v : SchemaDefinition). map node_of v.directives.0) m.is ∙ directives-in_parts m.head m.extensions) same_definition same_parts
+          (ap (λ (v : SchemaDefinition). map node_with_origin v.directives.0) m.is ∙ directives-in_parts m.head m.extensions) same_definition same_parts

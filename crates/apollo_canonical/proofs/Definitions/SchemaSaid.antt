@@ -1,7 +1,7 @@
 -- What is written of a schema definition: of two that say the same, of one of roots alone, and of one that is left out.
 use Rattle.apollo_canonical.proofs.Words.Lists.{◌≡◌, ℕ, Bool, true, false, cond, not, ◌||◌, ◌&&◌, List, [], ◌∷◌, ◌++◌, None, Option, Some, is_none, map, find, flat_map, length, option_map, refl, sym, ap, ◌∙◌, ◌==◌, or_right, length-map, map-map, cons_option, list_any, option_eq, nat_eq, true≢false, arith, and_parts, nat_tests, list_all, flat_map-map, IsDistinct}
 use Rattle.apollo_canonical.proofs.Words.Syntax.{NameView, OperationType, Query, Mutation, Subscription, SourceSpan, schema_definition, schema_extension, DefinitionParts, Directive, bare_name, default_type_text, same-is, same-true, bare_directive}
-use Rattle.apollo_canonical.proofs.Words.Types.{place_of, same_origin, identities, origins_in, Component, ComponentName, ComponentOrigin, PartsByOrigin, ExtensionId, root_node, has_implied_root, has_own_root, implied_name, is_written, schema_components, write_schema_definition, root_of, ExtendedType, SchemaDefinition, bare_component, bare_component_name, bare_schema_definition, is_implied, operation_types}
+use Rattle.apollo_canonical.proofs.Words.Types.{extension_location, same_origin, identities, origins_in, Component, ComponentName, ComponentOrigin, PartsByOrigin, ExtensionId, root_node, has_implied_root, has_own_root, implied_name, is_written, schema_components, write_schema_definition, root_of, ExtendedType, SchemaDefinition, bare_component, bare_component_name, bare_schema_definition, is_implied, operation_types}
 use Rattle.apollo_canonical.proofs.Words.Meaning.{Root, SchemaPart, roots_of, same_operation, schema_extension_source, component_name, default_root, schema_of_roots, roots_in}
 use Rattle.apollo_canonical.proofs.Words.Faults.{same_root}
 use Rattle.apollo_canonical.proofs.Words.Written.{with_origins, placed}
@@ -106,7 +106,7 @@ module _ (d u : SchemaDefinition) (a : IsSchemaAgain d u) (types others : List (
   implied-root op = (λ i. option_eq (pointwise nat_eq) (text-of d u a op i) (same op i))
 
   abbrev place_part : ExtensionId × DefinitionParts → Option SourceSpan × DefinitionParts
-  place_part e = (place_of e.0, e.1)
+  place_part e = (extension_location e.0, e.1)
 
   counted : (c : SchemaDefinition) → length (identities (origins_in (schema_components c))) ≡ length (placed (written_parts_of c).extensions)
   counted c =
@@ -252,7 +252,7 @@ module _ (types : List (NameView × ExtendedType)) (q m s : Bool) (are : (op : O
 -- nothing is written of it
 pub left-out-written : (d : SchemaDefinition) (place : Option SourceSpan) (types : List (NameView × ExtendedType)) → is_implied types d ≡ true → identities (origins_in (schema_components d)) ≡ [] → write_schema_definition d place types ≡ []
 left-out-written d place types implied none =
-    (λ i. (cond (unwritten i) (schema_definition d.description (written_parts_of d).definition place ∷ []) []) ++ map (λ e. schema_extension e.1 (place_of e.0)) (map (extension_written d) (none i)))
+    (λ i. (cond (unwritten i) (schema_definition d.description (written_parts_of d).definition place ∷ []) []) ++ map (λ e. schema_extension e.1 (extension_location e.0)) (map (extension_written d) (none i)))
   where
     unwritten : is_written types d ≡ false
     unwritten = ap (λ b. has_own_root d && not b) implied ∙ grind arith

@@ -3,7 +3,7 @@ use Rattle.apollo_canonical.proofs.Words.Lists.{◌≡◌, Bool, true, false, co
 use Rattle.apollo_canonical.proofs.Words.Syntax.{OperationType, Query, Mutation, Subscription, DefinitionParts}
 use Rattle.apollo_canonical.proofs.Words.Types.{same_id, same_origin, of_origin, of_extensions, SourcedPart, by_origin, ComponentName, ComponentOrigin, Extension, Definition, ExtensionId, of_root, root_node, schema_components, root_of, SchemaDefinition, PartsByOrigin}
 use Rattle.apollo_canonical.proofs.Words.Meaning.{Root, same_operation, component_name}
-use Rattle.apollo_canonical.proofs.Words.Written.{Sections, as_parts, in_sections, joined, with_origins, node_of, no_components}
+use Rattle.apollo_canonical.proofs.Words.Written.{Sections, as_parts, in_sections, joined, with_origins, node_with_origin, no_components}
 use Rattle.graphql_ast.specs.declared.definition_parts.DefinitionPart.TheVariants as parts
 use Rattle.apollo_canonical.proofs.Lists.{in_order, in_order-map, each-both, shown}
 use Rattle.apollo_canonical.proofs.Sections.{ids_in, ids_in-append, ids_in-sections, picked, picked-append, of_origin-sections, parts_in, has_some, has_some-picked, written-in_order, definition-alone, each-alone, extension-alone, marks, of-alone, parts-again, shown-joined}
@@ -17,7 +17,7 @@ abbrev pub root_entries : SchemaDefinition → List (ComponentOrigin × Root)
 root_entries d = entries Query d.query ++ (entries Mutation d.mutation ++ (entries Subscription d.subscription ++ []))
 
 abbrev pub schema_sections : SchemaDefinition → Sections
-schema_sections d = record no_components { directives = map node_of d.directives.0; roots = root_entries d }
+schema_sections d = record no_components { directives = map node_with_origin d.directives.0; roots = root_entries d }
 
 one-root : (op : OperationType) (o : Option ComponentName) (rest : List (OperationType × ComponentName)) (more : List (ComponentOrigin × Root)) → map of_root rest ≡ as_parts parts.Root more
     → map of_root (cons_option (option_map (λ n. (op, n)) o) rest) ≡ as_parts parts.Root (entries op o ++ more)
@@ -27,10 +27,10 @@ one-root op (Some n) rest more e = ap (λ l. of_root (op, n) ∷ l) e
 -- they are those that are written
 pub schema-components : (d : SchemaDefinition) → schema_components d ≡ in_sections (schema_sections d)
 schema-components d =
-    (λ i. sym (map-map (λ x. (x.0, parts.Directive x.1)) node_of d.directives.0) i
+    (λ i. sym (map-map (λ x. (x.0, parts.Directive x.1)) node_with_origin d.directives.0) i
     ++ one-root Query d.query (cons_option (option_map (λ n. (Mutation, n)) d.mutation) (cons_option (option_map (λ n. (Subscription, n)) d.subscription) [])) (entries Mutation d.mutation ++ (entries Subscription d.subscription ++ []))
     (one-root Mutation d.mutation (cons_option (option_map (λ n. (Subscription, n)) d.subscription) []) (entries Subscription d.subscription ++ []) (one-root Subscription d.subscription [] [] refl)) i)
-    ∙ ap (λ l. as_parts parts.Directive (map node_of d.directives.0) ++ l) (sym (append-nil (as_parts parts.Root (root_entries d))))
+    ∙ ap (λ l. as_parts parts.Directive (map node_with_origin d.directives.0) ++ l) (sym (append-nil (as_parts parts.Root (root_entries d))))
 
 abbrev pub is_op : OperationType → Root → Bool
 is_op op r = same_operation op r.value.0
@@ -94,7 +94,7 @@ module _ (d : SchemaDefinition) where
   }
 
   abbrev id_lists : List (List ExtensionId)
-  id_lists = ids_in (map node_of d.directives.0) ∷ ids_in (entries Query d.query) ∷ ids_in (entries Mutation d.mutation) ∷ ids_in (entries Subscription d.subscription) ∷ []
+  id_lists = ids_in (map node_with_origin d.directives.0) ∷ ids_in (entries Query d.query) ∷ ids_in (entries Mutation d.mutation) ∷ ids_in (entries Subscription d.subscription) ∷ []
 
   ids-listed : ids_in (schema_components d) ≡ flat_map (λ l. l) id_lists
   ids-listed = ap ids_in (schema-components d) ∙ ids_in-sections (schema_sections d) ∙ simp (append-nil, ids_in-append)
@@ -103,8 +103,8 @@ module _ (d : SchemaDefinition) where
   pub schema-in_order : in_order schema_sorts (map (λ e. e.1) (of_extensions (schema_components d))) ≡ true
   schema-in_order = written-in_order (schema_components d) schema_sorts id_lists ids-listed (λ i. directives i ∷ roots Query i ∷ roots Mutation i ∷ roots Subscription i ∷ [])
     where
-      directives : ◌≡◌ {A = ExtensionId → Bool} (λ e. has_some (of_origin (Extension e) (schema_components d)).directives.0) (λ e. list_any (same_id e) (ids_in (map node_of d.directives.0)))
-      directives = λ i e. (ap (λ (p : DefinitionParts). has_some p.directives.0) (of_schema-origin (Extension e)) ∙ has_some-picked e (map node_of d.directives.0)) i
+      directives : ◌≡◌ {A = ExtensionId → Bool} (λ e. has_some (of_origin (Extension e) (schema_components d)).directives.0) (λ e. list_any (same_id e) (ids_in (map node_with_origin d.directives.0)))
+      directives = λ i e. (ap (λ (p : DefinitionParts). has_some p.directives.0) (of_schema-origin (Extension e)) ∙ has_some-picked e (map node_with_origin d.directives.0)) i
 
       roots : (op : OperationType) → ◌≡◌ {A = ExtensionId → Bool} (λ e. has_some (roots_for op (of_origin (Extension e) (schema_components d)))) (λ e. list_any (same_id e) (ids_in (entries op (root_of d op))))
       roots op = λ i e. (ap has_some (roots-origin (Extension e) op) ∙ has_some-picked e (entries op (root_of d op))) i

@@ -6,7 +6,7 @@ use Rattle.apollo_canonical.proofs.Words.Meaning.{ListItem, Defined, Extended, a
 use Rattle.apollo_canonical.proofs.Words.Meaning.{TypePart, key_of, SchemaPart, Root, roots_in, adopted, adopted_by, extended_names, orphans_of, with_adopted, implied_schema, schema_for, schema_of_roots, implicit_roots, whole, Schema}
 use Rattle.apollo_canonical.proofs.Words.Written.{IsMeantByList, with_built_ins}
 use Rattle.std.specs.Map.{lookup}
-use Rattle.graphql_ast.specs.Definitions.{location_of}
+use Rattle.graphql_ast.specs.Definitions.{definition_location}
 use Rattle.graphql_ast.specs.declared.definition.Definition.TheVariants as ast
 use Rattle.apollo_canonical.proofs.Lists.{found-holds}
 use Rattle.apollo_canonical.proofs.Items.About.{Name, about, lookup-named}
@@ -97,13 +97,13 @@ about-built_ins n = about-first n built_ins no-extensions distinct-keys
 abbrev pub IsHandedIn : ListItem → Type 0
 IsHandedIn (Defined p) = is_built_in p.location ≡ false
 IsHandedIn (Extended p) = is_built_in p.location ≡ false
-IsHandedIn (Other d) = is_built_in (location_of d) ≡ false
+IsHandedIn (Other d) = is_built_in (definition_location d) ≡ false
 IsHandedIn _ = Unit {0}
 
 abbrev pub IsAddedByHand : Added → Type 0
-IsAddedByHand a = is_built_in (location_of a.1) ≡ false
+IsAddedByHand a = is_built_in (definition_location a.1) ≡ false
 
-handed-item : (b : Bool) (d : Definition) → is_built_in (location_of d) ≡ false → IsHandedIn (ignorable_if b (item_of d))
+handed-item : (b : Bool) (d : Definition) → is_built_in (definition_location d) ≡ false → IsHandedIn (ignorable_if b (item_of d))
 handed-item b (ast.SchemaDefinition n) h = tt
 handed-item b (ast.SchemaExtension n) h = tt
 handed-item b d h = h

@@ -5,7 +5,7 @@ use Rattle.apollo_canonical.proofs.Words.Lists.{length-map, ◌+◌, ◌++◌, f
 use Rattle.apollo_canonical.proofs.Words.Syntax.{NameView, NodeView, same_text, values_of, OperationType, Query, Mutation, Subscription, DefinitionPart, Directive, SourceSpan, DefinitionParts, is_built_in, by_text, keys_of, lookup}
 use Rattle.apollo_canonical.proofs.Words.Types.{same_key, SourcedPart, sourced, identities, of_extensions, of_origin, origins_in, Component, ComponentName, ComponentOrigin, of_directive, of_name, of_root, schema_components, named_roots, type_components, each-first, list_any-first_of_each, extension_id, id_of, same_id, Definition, Extension, ExtensionId, first_of_each-distinct, type_location, ExtendedType, SchemaDefinition, name_laws}
 use Rattle.apollo_canonical.proofs.Words.Meaning.{EnumBody, InputObjectBody, InterfaceBody, ObjectBody, ScalarBody, SchemaPart, TypeBody, TypePart, UnionBody, SourcedSchema, root_in, roots_of, same_operation, schema_definition_of, schema_directives_of, Sourced, body_fields, body_input_fields, body_interfaces, body_members, body_values, component, component_name}
-use Rattle.apollo_canonical.proofs.Words.Meaning.{directives_of, distinct_entries, distinct_names, field_entry, input_field_entry, same_component_name, value_entry, type_at, adopted, adopted_by, extended_names, orphans_of, with_adopted, implied_schema, Added, ListItem, OfSchema, OfType, added_items, extended_part, Defined, Extended, Folding, schema_extensions}
+use Rattle.apollo_canonical.proofs.Words.Meaning.{sourced_directives, distinct_entries, distinct_names, field_entry, input_field_entry, same_component_name, value_entry, type_at, adopted, adopted_by, extended_names, orphans_of, with_adopted, implied_schema, Added, ListItem, OfSchema, OfType, added_items, extended_part, Defined, Extended, Folding, schema_extensions}
 use Rattle.apollo_canonical.proofs.Words.Meaning.{first, first_schema, Family, Placed, extension_places, first_place, folded_when, folding_order, is_folded, is_met, met_when, once_if_defined, schemas, times_met, types, folds, whole, Directives, is_handed_in, no_schema, schema_from, schema_parts, of_type, parts, type_from, MeansSchema, Schema}
 use Rattle.apollo_canonical.proofs.Words.Written.{MeaningLaws, written_again}
 use Rattle.std.proofs.lemmas.Map.Made.{length-le_from_is_member}
@@ -36,9 +36,9 @@ module _ (P : ComponentOrigin → Type 0) where
 
   -- the components of a type
   module _ (ps : List Sourced) (a : AllByRecursion (λ s. P s.0) ps) where
-    directives : AllByRecursion From (map of_directive (flat_map directives_of ps))
+    directives : AllByRecursion From (map of_directive (flat_map sourced_directives ps))
     directives =
-        each-map From of_directive (flat_map directives_of ps) (each-made (λ (c : Component Directive). c.origin) component (λ o n. refl) (λ (p : TypePart). p.directives) ps a)
+        each-map From of_directive (flat_map sourced_directives ps) (each-made (λ (c : Component Directive). c.origin) component (λ o n. refl) (λ (p : TypePart). p.directives) ps a)
 
     names : (of : TypePart → List NameView) → AllByRecursion From (map of_name (distinct_names (flat_map (λ s. map (component_name s.0) (of s.1)) ps)))
     names of =

@@ -1,7 +1,7 @@
 -- The list with a write-out, item by item, and what it is completed with.
 use Rattle.apollo_canonical.proofs.Words.Lists.{◌≡◌, Bool, true, false, cond, List, [], ◌∷◌, ◌++◌, None, Option, Some, map, filter, flat_map, slice_get, refl, sym, ap, subst, ◌∙◌, append-nil, filter-append, filter_map-append, AllByRecursion, filter_map, each-append, each-weaken, filter-fails, ℕ, option_map_or, option_or, or-none, map-map, filter_map-made}
 use Rattle.apollo_canonical.proofs.Words.Syntax.{is_built_in, NameView, SourceSpan, schema_definition, schema_extension, DefinitionParts, built_in_definitions, NodeView, default_type_text, by_text, lookup, values_of, OperationType, Query, Mutation, Subscription}
-use Rattle.apollo_canonical.proofs.Words.Types.{place_of, ExtensionId, is_written, write_schema_definition, type_location, ExtendedType, SchemaDefinition, is_some_object, is_object, type_kind, Scalar}
+use Rattle.apollo_canonical.proofs.Words.Types.{extension_location, ExtensionId, is_written, write_schema_definition, type_location, ExtendedType, SchemaDefinition, is_some_object, is_object, type_kind, Scalar}
 use Rattle.apollo_canonical.proofs.Words.Meaning.{Directives, directive_definitions, is_handed_in, Defined, Extended, ListItem, Other, SchemaDefined, SchemaExtended, defined_schema, extended_part, extended_schema, first_schema, schema_extensions, SchemaPart, write_directives, adopted, adopted_by}
 use Rattle.apollo_canonical.proofs.Words.Meaning.{extended_names, orphans_of, with_adopted, implicit_roots, implied_schema, is_object_name, adopting_schema, schema_for, extensions_of, first, Root, TypePart, kind_of, same_kind, roots_in, folding_order, whole, AreTypesOf, Schema, directive_part}
 use Rattle.apollo_canonical.proofs.Words.Written.{MeaningLaws, IsMeantByList, with_built_ins}
@@ -57,14 +57,14 @@ module _ (c : Bool) (d : SchemaDefinition) (place : Option SourceSpan) (types : 
 
   pub schema-listed : schema_items ≡ head_items ++ schema_extension_items (written_parts_of d).extensions
   schema-listed =
-      document_items-append c (cond (is_written types d) (schema_definition d.description (written_parts_of d).definition place ∷ []) []) (map (λ e. schema_extension e.1 (place_of e.0)) (written_parts_of d).extensions)
+      document_items-append c (cond (is_written types d) (schema_definition d.description (written_parts_of d).definition place ∷ []) []) (map (λ e. schema_extension e.1 (extension_location e.0)) (written_parts_of d).extensions)
       ∙ (λ i. head (is_written types d) i ++ later (written_parts_of d).extensions i)
     where
       head : (b : Bool) → document_items c (cond b (schema_definition d.description (written_parts_of d).definition place ∷ []) []) ≡ cond b (SchemaDefined (written_head d place) ∷ []) []
       head true = refl
       head false = refl
 
-      later : (es : List (ExtensionId × DefinitionParts)) → document_items c (map (λ e. schema_extension e.1 (place_of e.0)) es) ≡ schema_extension_items es
+      later : (es : List (ExtensionId × DefinitionParts)) → document_items c (map (λ e. schema_extension e.1 (extension_location e.0)) es) ≡ schema_extension_items es
       later es = simp map-map
 
   -- they are all about the schema

@@ -1,6 +1,6 @@
 -- Components in sections: their identities, what is of one origin, and what parts make again.
 use Rattle.apollo_canonical.proofs.Words.Lists.{◌≡◌, Bool, true, false, cond, not, ◌||◌, List, [], ◌∷◌, ◌++◌, Option, map, filter, refl, sym, ap, ◌∙◌, arith, map-append, append-nil, map-id, filter-append, filter_map-append, map-map, IsEquivalence, on_equiv, nat_eq_equiv, AllByRecursion, IsDistinct, filter_map, cons_option, flat_map, list_any, each-weaken, filter-map}
-use Rattle.apollo_canonical.proofs.Words.Syntax.{directive_in, name_in, field_in, value_in, input_field_in, root_in, DefinitionPart, DefinitionParts}
+use Rattle.apollo_canonical.proofs.Words.Syntax.{as_directive, as_name, as_field, as_value, as_input_field, as_root, DefinitionPart, DefinitionParts}
 use Rattle.apollo_canonical.proofs.Words.Types.{id_of, number_of, same_id, same_origin, first_of_each, SourcedPart, origins_in, identities, of_origin, of_extensions, by_origin, ComponentOrigin, Definition, Extension, ExtensionId, PartsByOrigin}
 use Rattle.apollo_canonical.proofs.Words.Written.{Sections, as_parts, in_sections, with_origins, joined, sections_of}
 use Rattle.graphql_ast.specs.declared.definition_parts.DefinitionPart.TheVariants as parts
@@ -66,12 +66,12 @@ module _ (origin : ComponentOrigin) where
 
     pub of_origin-sections : of_origin origin (in_sections s) ≡ parts_in
     of_origin-sections = (λ i. record {
-      directives = record { 0 = found directive_in (picked s.directives) (simp (filter_map-some, filter_map-none, append-nil)) i };
-      names = found name_in (picked s.names) (simp (filter_map-some, filter_map-none, append-nil)) i;
-      fields = found field_in (picked s.fields) (simp (filter_map-some, filter_map-none, append-nil)) i;
-      values = found value_in (picked s.values) (simp (filter_map-some, filter_map-none, append-nil)) i;
-      input_fields = found input_field_in (picked s.input_fields) (simp (filter_map-some, filter_map-none, append-nil)) i;
-      roots = found root_in (picked s.roots) (simp (filter_map-some, filter_map-none, append-nil)) i;
+      directives = record { 0 = found as_directive (picked s.directives) (simp (filter_map-some, filter_map-none, append-nil)) i };
+      names = found as_name (picked s.names) (simp (filter_map-some, filter_map-none, append-nil)) i;
+      fields = found as_field (picked s.fields) (simp (filter_map-some, filter_map-none, append-nil)) i;
+      values = found as_value (picked s.values) (simp (filter_map-some, filter_map-none, append-nil)) i;
+      input_fields = found as_input_field (picked s.input_fields) (simp (filter_map-some, filter_map-none, append-nil)) i;
+      roots = found as_root (picked s.roots) (simp (filter_map-some, filter_map-none, append-nil)) i;
     })
 
   -- of joined parts

@@ -1,9 +1,9 @@
 -- Types by their sections: their write-out, and the names that stand once in them and in what is written of them.
 use Rattle.apollo_canonical.proofs.Words.Lists.{◌≡◌, List, [], ◌++◌, Option, map, sym, ap, ◌∙◌, append_assoc, subst, append-nil, map-map, ℕ, ◌∷◌, None, Some, is_some, refl, true≢false, map-id, flat_map, IsPermutation-map, IsDistinct-IsPermutation, AllByRecursion, IsDistinct, IsPermutation, option_map, unwrap_or, each-append, each-weaken, flat_map-map, map-append}
 use Rattle.apollo_canonical.proofs.Words.Syntax.{NameView, values_of, SourceSpan, type_extension, DefinitionPart, DefinitionParts, NodeView, same_text}
-use Rattle.apollo_canonical.proofs.Words.Types.{place_of, by_origin, written_type, Component, ComponentName, ExtensionId, of_name, type_kind, type_name, type_location, type_description, type_components, write_type, ExtendedType, Scalar, Object, Interface, Union, Enum, InputObject, first_of_each, same_key, ComponentOrigin, each-first, first_of_each-map, name_laws, first_of_each-distinct}
+use Rattle.apollo_canonical.proofs.Words.Types.{extension_location, by_origin, written_type, Component, ComponentName, ExtensionId, of_name, type_kind, type_name, type_location, type_description, type_components, write_type, ExtendedType, Scalar, Object, Interface, Union, Enum, InputObject, first_of_each, same_key, ComponentOrigin, each-first, first_of_each-map, name_laws, first_of_each-distinct}
 use Rattle.apollo_canonical.proofs.Words.Meaning.{ListItem, Folding, first, TypePart, TypeBody, ScalarBody, ObjectBody, InterfaceBody, UnionBody, EnumBody, InputObjectBody, Sourced, body_fields, body_values, body_input_fields, interfaces_of, members_of, fields_of, field_entry, input_fields_of, input_field_entry, value_entry, distinct_names, distinct_entries, parts, type_at, type_from, type_of}
-use Rattle.apollo_canonical.proofs.Words.Written.{HasSameComponents, as_parts, in_sections, node_of, name_of, type_sections, placed, HasWhatIsWritten, Sections, with_origins, joined, sections_of, HasEachNameOnce}
+use Rattle.apollo_canonical.proofs.Words.Written.{HasSameComponents, as_parts, in_sections, node_with_origin, name_with_origin, type_sections, placed, HasWhatIsWritten, Sections, with_origins, joined, sections_of, HasEachNameOnce}
 use Rattle.graphql_ast.specs.declared.definition_parts.DefinitionPart.TheVariants as parts
 use Rattle.apollo_meaning.specs.Types.Components as components
 use Rattle.apollo_canonical.proofs.Lists.{each-map, each-of, map-each, map-flat_map, flat_map-none}
@@ -11,11 +11,11 @@ use Rattle.apollo_canonical.proofs.Sections.{written-keeps, written-parts-again}
 use Rattle.apollo_canonical.proofs.Items.{HaveEachNameOnce, interfaces_in, members_in, fields_in, values_in, input_fields_in}
 use Rattle.apollo_canonical.proofs.Types.WrittenParts.{written, definition_part, extension_of}
 
-nodes : {T : Type 0} (part : _ → DefinitionPart) (cs : List (Component T)) → map (λ c. (c.origin, part c.node)) cs ≡ as_parts part (map node_of cs)
-nodes part cs = sym (map-map (λ x. (x.0, part x.1)) node_of cs)
+nodes : {T : Type 0} (part : _ → DefinitionPart) (cs : List (Component T)) → map (λ c. (c.origin, part c.node)) cs ≡ as_parts part (map node_with_origin cs)
+nodes part cs = sym (map-map (λ x. (x.0, part x.1)) node_with_origin cs)
 
-names : (cs : List ComponentName) → map of_name cs ≡ as_parts parts.Name (map name_of cs)
-names cs = sym (map-map (λ x. (x.0, parts.Name x.1)) name_of cs)
+names : (cs : List ComponentName) → map of_name cs ≡ as_parts parts.Name (map name_with_origin cs)
+names cs = sym (map-map (λ x. (x.0, parts.Name x.1)) name_with_origin cs)
 
 two : {X : Type 0} {xs ys us vs : List X} → xs ≡ us → ys ≡ vs → xs ++ ys ≡ us ++ (vs ++ [])
 two e f = simp (e, f, append-nil)
@@ -25,7 +25,7 @@ three e f g = simp (e, f, g, append_assoc, append-nil)
 
 -- the components of a type are those of its sections
 pub components-sections : (t : ExtendedType) → type_components t ≡ in_sections (type_sections t)
-components-sections (Scalar n) = nodes parts.Directive n.value.directives.0 ∙ sym (append-nil (as_parts parts.Directive (map node_of n.value.directives.0)))
+components-sections (Scalar n) = nodes parts.Directive n.value.directives.0 ∙ sym (append-nil (as_parts parts.Directive (map node_with_origin n.value.directives.0)))
 components-sections (Object n) = three (nodes parts.Directive n.value.directives.0) (names n.value.implements_interfaces) (nodes parts.Field (values_of n.value.fields))
 components-sections (Interface n) = three (nodes parts.Directive n.value.directives.0) (names n.value.implements_interfaces) (nodes parts.Field (values_of n.value.fields))
 components-sections (Union n) = two (nodes parts.Directive n.value.directives.0) (names n.value.members)
@@ -34,8 +34,8 @@ components-sections (InputObject n) = two (nodes parts.Directive n.value.directi
 
 -- what is made of extensions by their locations and their parts is the same where these are
 pub same-placed : {X : Type 0} (make : Option SourceSpan × DefinitionParts → X) (es fs : List (ExtensionId × DefinitionParts)) → placed es ≡ placed fs
-    → map (λ e. make (place_of e.0, e.1)) es ≡ map (λ e. make (place_of e.0, e.1)) fs
-same-placed make es fs e = sym (map-map make (λ e. (place_of e.0, e.1)) es) ∙ ap (map make) e ∙ map-map make (λ e. (place_of e.0, e.1)) fs
+    → map (λ e. make (extension_location e.0, e.1)) es ≡ map (λ e. make (extension_location e.0, e.1)) fs
+same-placed make es fs e = sym (map-map make (λ e. (extension_location e.0, e.1)) es) ∙ ap (map make) e ∙ map-map make (λ e. (extension_location e.0, e.1)) fs
 
 module _ (t u : ExtendedType) (h : HasWhatIsWritten t u) where
   pub same_parts : map (λ e. e.1) h.parts.extensions ≡ map (λ e. e.1) (by_origin (in_sections (type_sections t))).extensions
@@ -74,20 +74,20 @@ once-kept a b all once = record {
 pub once-again : (t u : ExtendedType) → HasWhatIsWritten t u → HasEachNameOnce (type_sections t) → HasEachNameOnce (type_sections u)
 once-again t u h once = once-kept (type_sections t) (type_sections u) (components-again t u h) once
 
-names-once : (cs : List ComponentName) → IsDistinct same_text (map (λ n. n.1) (map name_of (distinct_names cs)))
+names-once : (cs : List ComponentName) → IsDistinct same_text (map (λ n. n.1) (map name_with_origin (distinct_names cs)))
 names-once cs =
-    subst (IsDistinct same_text) (sym (map-map (λ (n : ComponentOrigin × NameView). n.1) name_of (distinct_names cs) ∙ first_of_each-map same_text (λ c. c.name) cs)) (first_of_each-distinct same_text (map (λ c. c.name) cs))
+    subst (IsDistinct same_text) (sym (map-map (λ (n : ComponentOrigin × NameView). n.1) name_with_origin (distinct_names cs) ∙ first_of_each-map same_text (λ c. c.name) cs)) (first_of_each-distinct same_text (map (λ c. c.name) cs))
 
 module _ {T : Type 0} (name : NodeView T → NameView) where
   -- an entry stands under its own name
   abbrev pub IsNamed : NameView × Component T → Type 0
   IsNamed e = e.0 ≡ name e.1.node
 
-  entries-once : (es : List (NameView × Component T)) → AllByRecursion IsNamed es → IsDistinct same_text (map (λ x. name x.1) (map node_of (values_of (distinct_entries es))))
+  entries-once : (es : List (NameView × Component T)) → AllByRecursion IsNamed es → IsDistinct same_text (map (λ x. name x.1) (map node_with_origin (values_of (distinct_entries es))))
   entries-once es named =
       let kept : List (NameView × Component T) = distinct_entries es in
-      let keys : map (λ x. name x.1) (map node_of (values_of kept)) ≡ first_of_each same_text (map (λ e. e.0) es) =
-      map-map (λ (x : ComponentOrigin × NodeView T). name x.1) node_of (values_of kept)
+      let keys : map (λ x. name x.1) (map node_with_origin (values_of kept)) ≡ first_of_each same_text (map (λ e. e.0) es) =
+      map-map (λ (x : ComponentOrigin × NodeView T). name x.1) node_with_origin (values_of kept)
       ∙ map-map (λ c. name c.node) (λ (e : NameView × Component T). e.1) kept
       ∙ map-each (λ e. name e.1.node) (λ e. e.0) kept (each-weaken IsNamed (λ e. name e.1.node ≡ e.0) (λ e h. sym h) kept (each-first IsNamed (same_key same_text) es named))
       ∙ first_of_each-map same_text (λ e. e.0) es in
@@ -101,7 +101,7 @@ module _ {T : Type 0} (name : NodeView T → NameView) where
       each-append IsNamed (map (entry s.0) (nodes s)) (flat_map (λ s. map (entry s.0) (nodes s)) ps) (each-map IsNamed (entry s.0) (nodes s) (each-of (λ n. IsNamed (entry s.0 n)) (is s.0) (nodes s))) (all-named nodes entry is ps)
 
 module _ (head : TypePart) (ps : List Sourced) where
-  made_fields-once : IsDistinct same_text (map (λ x. x.1.value.name) (map node_of (values_of (distinct_entries (flat_map fields_of ps)))))
+  made_fields-once : IsDistinct same_text (map (λ x. x.1.value.name) (map node_with_origin (values_of (distinct_entries (flat_map fields_of ps)))))
   made_fields-once = entries-once (λ f. f.value.name) (flat_map fields_of ps) (all-named (λ f. f.value.name) (λ s. body_fields s.1.body) field_entry (λ o n. refl) ps)
 
   pub made-once : (body : TypeBody) → HasEachNameOnce (type_sections (type_at body head ps))

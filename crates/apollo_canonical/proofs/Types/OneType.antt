@@ -3,7 +3,7 @@ use Rattle.apollo_canonical.proofs.Words.Lists.{◌≡◌, ℕ, Bool, true, fals
 use Rattle.apollo_canonical.proofs.Words.Syntax.{bare_name, entries_by_text, members_by_text, NameView, NodeView, by_text, same_text, lookup, values_of, TypeKind, bare_directive, bare_field_definition, bare_enum_value_definition, bare_input_value_definition, Directive, SourceSpan}
 use Rattle.apollo_canonical.proofs.Words.Types.{bare_component, same_key, Component, ComponentName, ComponentOrigin, BareType, bare_extended_type, type_kind, type_name, type_description, type_location, write_type, ExtendedType, Scalar, Object, Interface, Union, Enum, InputObject, each-first, name_laws, by_origin, Definition, PartsByOrigin, same_origin, first_of_each, of_origin, entry_laws}
 use Rattle.apollo_canonical.proofs.Words.Meaning.{TypePart, TypeBody, ScalarBody, ObjectBody, InterfaceBody, UnionBody, EnumBody, InputObjectBody, Sourced, body_fields, body_values, body_input_fields, fields_of, field_entry, input_fields_of, input_field_entry, value_entry, component, type_at, type_from, extension_part, component_name, same_component_name, body_interfaces, body_members, distinct_names, distinct_entries}
-use Rattle.apollo_canonical.proofs.Words.Written.{Sections, HasSameComponents, sections_of, node_of, name_of, type_sections, HasEachNameOnce, HasWhatIsWritten, MeaningLaws}
+use Rattle.apollo_canonical.proofs.Words.Written.{Sections, HasSameComponents, sections_of, node_with_origin, name_with_origin, type_sections, HasEachNameOnce, HasWhatIsWritten, MeaningLaws}
 use Rattle.graphql_nodes.specs.declared.type_kind.TypeKind.TheVariants as kinds
 use Rattle.graphql_ast.specs.declared.type_system.EnumValueDefinition.{EnumValueDefinition}
 use Rattle.graphql_ast.specs.declared.type_system.FieldDefinition.{FieldDefinition}
@@ -52,25 +52,25 @@ bare_of kinds.Union d n s = BareType.Union (record { description = d; name = n; 
 bare_of kinds.Enum d n s = BareType.Enum (record { description = d; name = n; directives = s.directives; values = s.values })
 bare_of kinds.InputObject d n s = BareType.InputObject (record { description = d; name = n; directives = s.directives; fields = s.input_fields })
 
-pub directives-bare : (cs : List (Component Directive)) → map (bare_component bare_directive) cs ≡ map (λ d. bare_directive d.value) (map (λ x. x.1) (map node_of cs))
+pub directives-bare : (cs : List (Component Directive)) → map (bare_component bare_directive) cs ≡ map (λ d. bare_directive d.value) (map (λ x. x.1) (map node_with_origin cs))
 directives-bare cs = simp map-map
 
-names-bare : (cs : List ComponentName) → members_by_text (λ c. c.name) cs ≡ (λ text. list_any (by_text text) (map (λ x. x.1) (map name_of cs)))
+names-bare : (cs : List ComponentName) → members_by_text (λ c. c.name) cs ≡ (λ text. list_any (by_text text) (map (λ x. x.1) (map name_with_origin cs)))
 names-bare cs = λ i text. by text cs i
   where
-    by : (text : List ℕ) (cs : List ComponentName) → list_any (λ c. by_text text c.name) cs ≡ list_any (by_text text) (map (λ x. x.1) (map name_of cs))
+    by : (text : List ℕ) (cs : List ComponentName) → list_any (λ c. by_text text c.name) cs ≡ list_any (by_text text) (map (λ x. x.1) (map name_with_origin cs))
     by text [] = refl
     by text (c ∷ cs) = ap (λ b. by_text text c.name || b) (by text cs)
 
-entries-bare : {T B : Type 0} (name : NodeView T → NameView) (bare : T → B) (es : List (NameView × Component T)) → AllByRecursion (IsNamed name) es → entries_by_text (bare_component bare) es ≡ entries_in name bare (map node_of (values_of es))
+entries-bare : {T B : Type 0} (name : NodeView T → NameView) (bare : T → B) (es : List (NameView × Component T)) → AllByRecursion (IsNamed name) es → entries_by_text (bare_component bare) es ≡ entries_in name bare (map node_with_origin (values_of es))
 entries-bare {T} {B} name bare es named = λ i text. by text es named i
   where
     by : (text : List ℕ) (es : List (NameView × Component T)) → AllByRecursion (IsNamed name) es
-        → option_map (bare_component bare) (lookup (by_text text) es) ≡ option_map (λ n. bare n.value) (find (λ n. by_text text (name n)) (map (λ x. x.1) (map node_of (values_of es))))
+        → option_map (bare_component bare) (lookup (by_text text) es) ≡ option_map (λ n. bare n.value) (find (λ n. by_text text (name n)) (map (λ x. x.1) (map node_with_origin (values_of es))))
     by text [] named = refl
     by text (e ∷ es) named =
         ap (λ k. option_map (bare_component bare) (cond (by_text text k) (Some e.1) (lookup (by_text text) es))) named.0
-        ∙ elim (by_text text (name e.1.node)) as (λ b. option_map (bare_component bare) (cond b (Some e.1) (lookup (by_text text) es)) ≡ option_map (λ n. bare n.value) (cond b (Some e.1.node) (find (λ n. by_text text (name n)) (map (λ x. x.1) (map node_of (values_of es)))))) [ true ↦ refl | false ↦ by text es named.1 ]
+        ∙ elim (by_text text (name e.1.node)) as (λ b. option_map (bare_component bare) (cond b (Some e.1) (lookup (by_text text) es)) ≡ option_map (λ n. bare n.value) (cond b (Some e.1.node) (find (λ n. by_text text (name n)) (map (λ x. x.1) (map node_with_origin (values_of es)))))) [ true ↦ refl | false ↦ by text es named.1 ]
 
 -- each entry stands under its own name
 abbrev pub HasNamedEntries : ExtendedType → Type 0
@@ -144,8 +144,8 @@ module _ (head : TypePart) (es : List (ℕ × TypePart)) where
   directive_parts = record { definition = directives_alone head.directives; extensions = map (numbered_parts (λ p. p.location) (λ p. directives_alone p.directives)) es }
 
   directives-made : (body : TypeBody) (ps : List Sourced) → (type_sections (type_at body head ps)).directives ≡ shown_in (λ (p : TypePart). p.directives) ps
-  directives-made ScalarBody ps = shown-made node_of component (λ o a. refl) (λ p. p.directives) ps
-  directives-made body ps = shown-made node_of component (λ o a. refl) (λ p. p.directives) ps
+  directives-made ScalarBody ps = shown-made node_with_origin component (λ o a. refl) (λ p. p.directives) ps
+  directives-made body ps = shown-made node_with_origin component (λ o a. refl) (λ p. p.directives) ps
 
   -- the directives stand in the order of the definition and the extensions
   directives-in_parts : (type_sections (made head es)).directives ≡ (sections_of directive_parts).directives
@@ -229,17 +229,17 @@ module _ {A C : Type 0} (view : C → ComponentOrigin × A) (make : ComponentOri
       (each-weaken (λ c. IsLater c × (new c ≡ true)) IsLater (λ c h. h.0) (filter new (first_of_each same later)) (each-filter IsLater new (first_of_each same later) (each-first IsLater same later (later-extensions of es))))
 
 names-own : (of : TypePart → List NameView) (head : TypePart) (es : List (ℕ × TypePart)) → IsDistinct same_text (of head ++ [])
-    → picked Definition (map name_of (distinct_names (flat_map (λ s. map (component_name s.0) (of s.1)) ((Definition, head) ∷ map extension_part es)))) ≡ of head
+    → picked Definition (map name_with_origin (distinct_names (flat_map (λ s. map (component_name s.0) (of s.1)) ((Definition, head) ∷ map extension_part es)))) ≡ of head
 names-own of head es d =
-    kept-own name_of component_name (λ o a. refl) same_component_name (on_equiv (λ c. c.name) name_laws) of head es
+    kept-own name_with_origin component_name (λ o a. refl) same_component_name (on_equiv (λ c. c.name) name_laws) of head es
     (all-first same_text (λ c. c.name) (map (component_name Definition) (of head)) (subst (IsDistinct same_text) (append-nil (of head) ∙ sym (map-map (λ (c : ComponentName). c.name) (component_name Definition) (of head) ∙ map-id (of head))) d))
 
-entries-own : {T : Type 0} (name : NodeView T → NameView) (entry : ComponentOrigin → NodeView T → NameView × Component T) → ((o : ComponentOrigin) (n : NodeView T) → node_of (entry o n).1 ≡ (o, n)) → ((o : ComponentOrigin) (n : NodeView T) → (entry o n).0 ≡ name n)
+entries-own : {T : Type 0} (name : NodeView T → NameView) (entry : ComponentOrigin → NodeView T → NameView × Component T) → ((o : ComponentOrigin) (n : NodeView T) → node_with_origin (entry o n).1 ≡ (o, n)) → ((o : ComponentOrigin) (n : NodeView T) → (entry o n).0 ≡ name n)
     → (of : TypePart → List (NodeView T)) (head : TypePart) (es : List (ℕ × TypePart)) → IsDistinct same_text (map name (of head) ++ [])
-    → picked Definition (map node_of (values_of (distinct_entries (flat_map (λ s. map (entry s.0) (of s.1)) ((Definition, head) ∷ map extension_part es))))) ≡ of head
+    → picked Definition (map node_with_origin (values_of (distinct_entries (flat_map (λ s. map (entry s.0) (of s.1)) ((Definition, head) ∷ map extension_part es))))) ≡ of head
 entries-own {T} name entry is named of head es d =
-    ap (picked Definition) (map-map node_of (λ (e : NameView × Component T). e.1) (distinct_entries (flat_map (λ s. map (entry s.0) (of s.1)) ((Definition, head) ∷ map extension_part es))))
-    ∙ kept-own (λ (e : NameView × Component T). node_of e.1) entry is (λ a b. same_text a.0 b.0) entry_laws of head es
+    ap (picked Definition) (map-map node_with_origin (λ (e : NameView × Component T). e.1) (distinct_entries (flat_map (λ s. map (entry s.0) (of s.1)) ((Definition, head) ∷ map extension_part es))))
+    ∙ kept-own (λ (e : NameView × Component T). node_with_origin e.1) entry is (λ a b. same_text a.0 b.0) entry_laws of head es
     (all-first same_text (λ (e : NameView × Component T). e.0) (map (entry Definition) (of head)) (subst (IsDistinct same_text) (append-nil (map name (of head)) ∙ sym (map-map (λ (e : NameView × Component T). e.0) (entry Definition) (of head) ∙ map-each (λ n. (entry Definition n).0) name (of head) (each-of (λ n. (entry Definition n).0 ≡ name n) (named Definition) (of head)))) d))
 
 module _ (name : NameView) (place : Option SourceSpan) (description : Option NameView) (directives : List (NodeView Directive)) (es : List (ℕ × TypePart)) where
@@ -253,10 +253,10 @@ module _ (name : NameView) (place : Option SourceSpan) (description : Option Nam
   by_sections : (t : ExtendedType) → definition_part t ≡ part_from (type_kind t) (type_location t) (type_name t) (type_description t) (parts_in Definition (type_sections t))
   by_sections t = ap (part_from (type_kind t) (type_location t) (type_name t) (type_description t)) (ap (of_origin Definition) (components-sections t) ∙ of_origin-sections Definition (type_sections t))
 
-  own_directives : (body : TypeBody) → picked Definition (map node_of (flat_map (λ s. map (component s.0) s.1.directives) ((Definition, part_with body) ∷ map extension_part es))) ≡ directives
-  own_directives body = picked-own node_of component (λ o a. refl) directives (flat_map (λ s. map (component s.0) s.1.directives) (map extension_part es)) (later-extensions node_of component (λ o a. refl) (λ p. p.directives) es)
+  own_directives : (body : TypeBody) → picked Definition (map node_with_origin (flat_map (λ s. map (component s.0) s.1.directives) ((Definition, part_with body) ∷ map extension_part es))) ≡ directives
+  own_directives body = picked-own node_with_origin component (λ o a. refl) directives (flat_map (λ s. map (component s.0) s.1.directives) (map extension_part es)) (later-extensions node_with_origin component (λ o a. refl) (λ p. p.directives) es)
 
-  fields-own : (head : TypePart) → HaveEachNameOnce (head ∷ []) → picked Definition (map node_of (values_of (distinct_entries (flat_map (λ s. map (field_entry s.0) (body_fields s.1.body)) ((Definition, head) ∷ map extension_part es))))) ≡ body_fields head.body
+  fields-own : (head : TypePart) → HaveEachNameOnce (head ∷ []) → picked Definition (map node_with_origin (values_of (distinct_entries (flat_map (λ s. map (field_entry s.0) (body_fields s.1.body)) ((Definition, head) ∷ map extension_part es))))) ≡ body_fields head.body
   fields-own head h = entries-own (λ f. f.value.name) field_entry (λ o n. refl) (λ o n. refl) (λ p. body_fields p.body) head es h.fields
 
   definition-with : (body : TypeBody) → HaveEachNameOnce (part_with body ∷ []) → written_with body ≡ part_with body

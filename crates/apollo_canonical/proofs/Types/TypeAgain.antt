@@ -1,9 +1,9 @@
 -- The type that written parts mean again, under any distinct numbers of the extensions, has what is written of the first.
 use Rattle.apollo_canonical.proofs.Words.Lists.{◌≡◌, ℕ, ◌+◌, ◌≤◌, Bool, true, false, cond, ◌==◌, List, [], ◌∷◌, Option, map, filter, length, refl, ap, arith, nat_tests, AllByRecursion, IsDistinct, filter_map, enumerate_from, ◌++◌, flat_map, sym, subst, ◌∙◌, map-map, each-weaken, flat_map-map}
 use Rattle.apollo_canonical.proofs.Words.Syntax.{same, SourceSpan, NodeView, Directive, DefinitionParts, NameView, same_text, values_of}
-use Rattle.apollo_canonical.proofs.Words.Types.{ComponentOrigin, Extension, extension_id, place_of, same_id, ExtensionId, by_origin, of_origin, identities, origins_in, Component, ComponentName, Definition, PartsByOrigin, type_kind, type_components, ExtendedType, Scalar, Object, Interface, Union, Enum, InputObject}
-use Rattle.apollo_canonical.proofs.Words.Meaning.{Folding, OfType, OfSchema, TypePart, SchemaPart, key_of, of_schema, of_type, Sourced, component, component_name, field_entry, value_entry, input_field_entry, body_interfaces, body_members, body_fields, body_values, body_input_fields, directives_of, distinct_names, distinct_entries, type_from}
-use Rattle.apollo_canonical.proofs.Words.Written.{placed, MeaningLaws, in_sections, with_origins, joined, sections_of, node_of, name_of, type_sections, HasWhatIsWritten, HasEachNameOnce}
+use Rattle.apollo_canonical.proofs.Words.Types.{ComponentOrigin, Extension, extension_id, extension_location, same_id, ExtensionId, by_origin, of_origin, identities, origins_in, Component, ComponentName, Definition, PartsByOrigin, type_kind, type_components, ExtendedType, Scalar, Object, Interface, Union, Enum, InputObject}
+use Rattle.apollo_canonical.proofs.Words.Meaning.{Folding, OfType, OfSchema, TypePart, SchemaPart, key_of, of_schema, of_type, Sourced, component, component_name, field_entry, value_entry, input_field_entry, body_interfaces, body_members, body_fields, body_values, body_input_fields, sourced_directives, distinct_names, distinct_entries, type_from}
+use Rattle.apollo_canonical.proofs.Words.Written.{placed, MeaningLaws, in_sections, with_origins, joined, sections_of, node_with_origin, name_with_origin, type_sections, HasWhatIsWritten, HasEachNameOnce}
 use Rattle.apollo_canonical.proofs.Lists.{map-each, all-first, map-flat_map}
 use Rattle.apollo_canonical.proofs.Sections.{written-keeps, of_origin-sections, parts_in}
 use Rattle.apollo_canonical.proofs.Types.WrittenParts.{written, definition_part, extension_of, kind-body}
@@ -63,13 +63,13 @@ paired-self (e ∷ es) = ap (λ l. e ∷ l) (paired-self es)
 abbrev pub renumbered : List ℕ → List (ExtensionId × DefinitionParts) → List (ExtensionId × DefinitionParts)
 renumbered [] es = []
 renumbered (i ∷ is) [] = []
-renumbered (i ∷ is) (e ∷ es) = (extension_id i (place_of e.0), e.1) ∷ renumbered is es
+renumbered (i ∷ is) (e ∷ es) = (extension_id i (extension_location e.0), e.1) ∷ renumbered is es
 
 pub renumbered-placed : (is : List ℕ) (es : List (ExtensionId × DefinitionParts)) → length is ≡ length es → placed (renumbered is es) ≡ placed es
 renumbered-placed [] [] h = refl
 renumbered-placed [] (e ∷ es) h = absurd (omega (arith, h))
 renumbered-placed (i ∷ is) [] h = absurd (omega (arith, h))
-renumbered-placed (i ∷ is) (e ∷ es) h = ap (λ l. (place_of e.0, e.1) ∷ l) (renumbered-placed is es (omega (arith, h)))
+renumbered-placed (i ∷ is) (e ∷ es) h = ap (λ l. (extension_location e.0, e.1) ∷ l) (renumbered-placed is es (omega (arith, h)))
 
 pub renumbered-distinct : (is : List ℕ) (es : List (ExtensionId × DefinitionParts)) → IsDistinct ◌==◌ is → IsDistinct same_id (map (λ e. e.0) (renumbered is es))
 unfolding IsDistinct
@@ -77,7 +77,7 @@ renumbered-distinct [] es d = tt
 renumbered-distinct (i ∷ is) [] d = tt
 renumbered-distinct (i ∷ is) (e ∷ es) d = (apart is es d.0, renumbered-distinct is es d.1)
   where
-    apart : (js : List ℕ) (fs : List (ExtensionId × DefinitionParts)) → AllByRecursion (λ k. (i == k) ≡ false) js → AllByRecursion (λ k. same_id (extension_id i (place_of e.0)) k ≡ false) (map (λ f. f.0) (renumbered js fs))
+    apart : (js : List ℕ) (fs : List (ExtensionId × DefinitionParts)) → AllByRecursion (λ k. (i == k) ≡ false) js → AllByRecursion (λ k. same_id (extension_id i (extension_location e.0)) k ≡ false) (map (λ f. f.0) (renumbered js fs))
     apart [] fs a = tt
     apart (j ∷ js) [] a = tt
     apart (j ∷ js) (f ∷ fs) a = (a.0, apart js fs a.1)
@@ -103,10 +103,10 @@ numbered-distinct {P} place parts (f ∷ fs) d = (others fs d.0, numbered-distin
 
 -- written parts under their numbers are parts of a list under theirs
 pub numbered-written : {P : Type 0} (place : P → Option SourceSpan) (part : Option SourceSpan → DefinitionParts → P) → ((s : Option SourceSpan) (d : DefinitionParts) → place (part s d) ≡ s) → (is : List ℕ) (es : List (ExtensionId × DefinitionParts))
-    → map {B = ComponentOrigin × P} (λ e. (Extension (extension_id e.0 (place e.1)), e.1)) (paired is (map (λ e. part (place_of e.0) e.1) es)) ≡ map (λ g. (Extension g.0, part (place_of g.0) g.1)) (renumbered is es)
+    → map {B = ComponentOrigin × P} (λ e. (Extension (extension_id e.0 (place e.1)), e.1)) (paired is (map (λ e. part (extension_location e.0) e.1) es)) ≡ map (λ g. (Extension g.0, part (extension_location g.0) g.1)) (renumbered is es)
 numbered-written place part at [] es = refl
 numbered-written place part at (i ∷ is) [] = refl
-numbered-written place part at (i ∷ is) (e ∷ es) = (λ j. (Extension (extension_id i (at (place_of e.0) e.1 j)), part (place_of e.0) e.1) ∷ numbered-written place part at is es j)
+numbered-written place part at (i ∷ is) (e ∷ es) = (λ j. (Extension (extension_id i (at (extension_location e.0) e.1 j)), part (extension_location e.0) e.1) ∷ numbered-written place part at is es j)
 
 -- The type that written parts mean again, under any distinct numbers of the extensions, has what is written of the first.
 
@@ -130,20 +130,20 @@ directives-numbered place of head es =
     ∙ ap (joined (λ d. d.directives.0)) (sym (map-map (λ (e : ExtensionId × DefinitionParts). (Extension e.0, e.1)) (numbered_parts place (λ p. directives_alone (of p))) es)))
 
 -- names that differ are all kept
-names-kept : (cs : List ComponentName) (js : List (ComponentOrigin × NameView)) → map name_of cs ≡ js → IsDistinct same_text (map (λ n. n.1) js) → map name_of (distinct_names cs) ≡ js
+names-kept : (cs : List ComponentName) (js : List (ComponentOrigin × NameView)) → map name_with_origin cs ≡ js → IsDistinct same_text (map (λ n. n.1) js) → map name_with_origin (distinct_names cs) ≡ js
 names-kept cs js is d =
-    ap (map name_of) (all-first same_text (λ c. c.name) cs (subst (IsDistinct same_text) (ap (map (λ n. n.1)) (sym is) ∙ map-map (λ (n : ComponentOrigin × NameView). n.1) name_of cs) d)) ∙ is
+    ap (map name_with_origin) (all-first same_text (λ c. c.name) cs (subst (IsDistinct same_text) (ap (map (λ n. n.1)) (sym is) ∙ map-map (λ (n : ComponentOrigin × NameView). n.1) name_with_origin cs) d)) ∙ is
 
 -- and so are entries
 module _ {T : Type 0} (name : NodeView T → NameView) where
-  entries-kept : (es : List (NameView × Component T)) (js : List (ComponentOrigin × NodeView T)) → AllByRecursion (IsNamed name) es → map (λ e. node_of e.1) es ≡ js → IsDistinct same_text (map (λ x. name x.1) js)
-      → map node_of (values_of (distinct_entries es)) ≡ js
+  entries-kept : (es : List (NameView × Component T)) (js : List (ComponentOrigin × NodeView T)) → AllByRecursion (IsNamed name) es → map (λ e. node_with_origin e.1) es ≡ js → IsDistinct same_text (map (λ x. name x.1) js)
+      → map node_with_origin (values_of (distinct_entries es)) ≡ js
   entries-kept es js named is d =
       let keys : map (λ x. name x.1) js ≡ map (λ e. e.0) es =
-      ap (map (λ x. name x.1)) (sym is) ∙ map-map (λ (x : ComponentOrigin × NodeView T). name x.1) (λ e. node_of e.1) es
+      ap (map (λ x. name x.1)) (sym is) ∙ map-map (λ (x : ComponentOrigin × NodeView T). name x.1) (λ e. node_with_origin e.1) es
       ∙ map-each (λ e. name e.1.node) (λ e. e.0) es (each-weaken (IsNamed name) (λ e. name e.1.node ≡ e.0) (λ e h. sym h) es named) in
-      ap (λ l. map node_of (values_of l)) (all-first same_text (λ (e : NameView × Component T). e.0) es (subst (IsDistinct same_text) keys d))
-      ∙ map-map node_of (λ (e : NameView × Component T). e.1) es ∙ is
+      ap (λ l. map node_with_origin (values_of l)) (all-first same_text (λ (e : NameView × Component T). e.0) es (subst (IsDistinct same_text) keys d))
+      ∙ map-map node_with_origin (λ (e : NameView × Component T). e.1) es ∙ is
 
 module _ (t : ExtendedType) (is : List ℕ) where
   abbrev pub parts_again : PartsByOrigin
@@ -162,7 +162,7 @@ module _ (t : ExtendedType) (is : List ℕ) where
       later : (js : List ℕ) (ids : List ExtensionId) → joined sort (map (λ e. (Extension e.0, e.1)) (renumbered js (map (λ e. (e, of_origin (Extension e) (type_components t))) ids))) ≡ []
       later [] ids = refl
       later (j ∷ js) [] = refl
-      later (j ∷ js) (e ∷ ids) = (λ i. map (λ x. (Extension (extension_id j (place_of e)), x)) (none (Extension e) i) ++ later js ids i)
+      later (j ∷ js) (e ∷ ids) = (λ i. map (λ x. (Extension (extension_id j (extension_location e)), x)) (none (Extension e) i) ++ later js ids i)
 
   -- what is of an origin, by sections
   of_sections : (o : ComponentOrigin) → of_origin o (type_components t) ≡ parts_in o (type_sections t)
@@ -172,24 +172,24 @@ module _ (t : ExtendedType) (is : List ℕ) where
       → shown_in of sourced_again ≡ joined sort (with_origins parts_again)
   shown-again of sort first each = (λ i. map (λ x. (Definition, x)) (first i) ++ shown-joined of sort (λ g. Extension g.0) (extension_of t) (λ g. g.1) each parts_again.extensions i)
 
-  directives-again : map node_of (flat_map directives_of sourced_again) ≡ joined (λ d. d.directives.0) (with_origins parts_again)
-  directives-again = shown-made node_of component (λ o a. refl) (λ p. p.directives) sourced_again ∙ shown-again (λ p. p.directives) (λ d. d.directives.0) refl (λ g. refl)
+  directives-again : map node_with_origin (flat_map sourced_directives sourced_again) ≡ joined (λ d. d.directives.0) (with_origins parts_again)
+  directives-again = shown-made node_with_origin component (λ o a. refl) (λ p. p.directives) sourced_again ∙ shown-again (λ p. p.directives) (λ d. d.directives.0) refl (λ g. refl)
 
   names-again : (of : TypePart → List NameView) → of (definition_part t) ≡ (written t).definition.names → ((g : ExtensionId × DefinitionParts) → of (extension_of t g) ≡ g.1.names)
       → IsDistinct same_text (map (λ n. n.1) (sections_of parts_again).names)
-      → map name_of (distinct_names (flat_map (λ s. map (component_name s.0) (of s.1)) sourced_again)) ≡ joined (λ d. d.names) (with_origins parts_again)
+      → map name_with_origin (distinct_names (flat_map (λ s. map (component_name s.0) (of s.1)) sourced_again)) ≡ joined (λ d. d.names) (with_origins parts_again)
   names-again of first each d =
       names-kept (flat_map (λ s. map (component_name s.0) (of s.1)) sourced_again) (joined (λ d. d.names) (with_origins parts_again))
-      (shown-made name_of component_name (λ o a. refl) of sourced_again ∙ shown-again of (λ d. d.names) first each) d
+      (shown-made name_with_origin component_name (λ o a. refl) of sourced_again ∙ shown-again of (λ d. d.names) first each) d
 
   entries-again : {T : Type 0} (name : NodeView T → NameView) (entry : ComponentOrigin → NodeView T → NameView × Component T) → ((o : ComponentOrigin) (n : NodeView T) → IsNamed name (entry o n))
-      → ((o : ComponentOrigin) (n : NodeView T) → node_of (entry o n).1 ≡ (o, n))
+      → ((o : ComponentOrigin) (n : NodeView T) → node_with_origin (entry o n).1 ≡ (o, n))
       → (of : TypePart → List (NodeView T)) (sort : DefinitionParts → List (NodeView T)) → of (definition_part t) ≡ sort (written t).definition → ((g : ExtensionId × DefinitionParts) → of (extension_of t g) ≡ sort g.1)
       → IsDistinct same_text (map (λ x. name x.1) (joined sort (with_origins parts_again)))
-      → map node_of (values_of (distinct_entries (flat_map (λ s. map (entry s.0) (of s.1)) sourced_again))) ≡ joined sort (with_origins parts_again)
+      → map node_with_origin (values_of (distinct_entries (flat_map (λ s. map (entry s.0) (of s.1)) sourced_again))) ≡ joined sort (with_origins parts_again)
   entries-again name entry named is_node of sort first each d =
       entries-kept name (flat_map (λ s. map (entry s.0) (of s.1)) sourced_again) (joined sort (with_origins parts_again)) (all-named name (λ s. of s.1) entry named sourced_again)
-      (shown-made (λ e. node_of e.1) entry is_node of sourced_again ∙ shown-again of sort first each) d
+      (shown-made (λ e. node_with_origin e.1) entry is_node of sourced_again ∙ shown-again of sort first each) d
 
   module _ (many : length is ≡ length (written t).extensions) (once : HasEachNameOnce (type_sections t)) where
     same_parts : map (λ e. e.1) parts_again.extensions ≡ map (λ e. e.1) (by_origin (in_sections (type_sections t))).extensions

@@ -1,7 +1,7 @@
 -- What a type is written out as, and types of a table, read as items of a list, and what that says of one name.
 use Rattle.apollo_canonical.proofs.Words.Lists.{◌≡◌, Bool, List, [], ◌∷◌, None, Option, map, refl, ℕ, true, false, cond, not, ◌++◌, Some, drop, filter, flat_map, ap, ◌∙◌, append-nil, map-append, filter-append, AllByRecursion, IsDistinct, list_any, option_map_or, map-map}
 use Rattle.apollo_canonical.proofs.Words.Syntax.{NameView, SourceSpan, TypeKind, type_definition, type_extension, DefinitionParts, is_built_in, same, same_text, by_text, HasUniqueKeys, keys_of, values_of, lookup, Definition}
-use Rattle.apollo_canonical.proofs.Words.Types.{place_of, by_origin, ExtensionId, PartsByOrigin, type_kind, type_name, type_location, type_description, type_components, write_type, ExtendedType}
+use Rattle.apollo_canonical.proofs.Words.Types.{extension_location, by_origin, ExtensionId, PartsByOrigin, type_kind, type_name, type_location, type_description, type_components, write_type, ExtendedType}
 use Rattle.apollo_canonical.proofs.Words.Meaning.{Defined, Extended, item_of, added, added_items, ignorable_if, ListItem, added_item, TypePart, TypeBody, ScalarBody, ObjectBody, InterfaceBody, UnionBody, EnumBody, InputObjectBody, body_kind, part_at, write_held_type}
 use Rattle.graphql_nodes.specs.declared.type_kind.TypeKind.TheVariants as kinds
 use Rattle.apollo_canonical.proofs.Lists.{new_to_these, each-map, each-of, filter-alike}
@@ -42,11 +42,11 @@ module _ (t : ExtendedType) where
   definition_part = part_from (type_kind t) (type_location t) (type_name t) (type_description t) written.definition
 
   abbrev pub extension_of : ExtensionId × DefinitionParts → TypePart
-  extension_of e = part_from (type_kind t) (place_of e.0) (type_name t) None e.1
+  extension_of e = part_from (type_kind t) (extension_location e.0) (type_name t) None e.1
 
   pub items-extensions : (b : Bool) (es : List (ExtensionId × DefinitionParts))
-      → added_items (added b (map (λ e. type_extension (type_kind t) (type_name t) e.1 (place_of e.0)) es)) ≡ map (λ e. Extended (extension_of e)) es
-  items-extensions b es = simp map-map (λ i. map (λ e. ignorable_if b (item-extended (type_kind t) (type_name t) e.1 (place_of e.0) i)) es)
+      → added_items (added b (map (λ e. type_extension (type_kind t) (type_name t) e.1 (extension_location e.0)) es)) ≡ map (λ e. Extended (extension_of e)) es
+  items-extensions b es = simp map-map (λ i. map (λ e. ignorable_if b (item-extended (type_kind t) (type_name t) e.1 (extension_location e.0) i)) es)
 
   pub items-written : (b : Bool) → added_items (added b (write_type t)) ≡ Defined (record definition_part { ignorable = b }) ∷ map (λ e. Extended (extension_of e)) written.extensions
   items-written b = (λ i. ignorable_if b (item-defined (type_kind t) (type_description t) (type_name t) written.definition (type_location t) i) ∷ items-extensions b written.extensions i)

@@ -13,7 +13,7 @@ pub use Rattle.graphql_nodes.specs.declared.type_kind.TypeKind.{TypeKind}
 pub use Rattle.graphql_nodes.proofs.Texts.{same-flip, same-is, same-true}
 pub use Rattle.graphql_ast.specs.Bare.{bare_directive}
 pub use Rattle.graphql_ast.specs.BareTypeSystem.{bare_directive_definition, bare_enum_value_definition, bare_field_definition, bare_input_value_definition}
-pub use Rattle.graphql_ast.specs.DefinitionParts.{directive_in, field_in, input_field_in, name_in, root_in, schema_definition, schema_extension, type_definition, type_extension, value_in}
+pub use Rattle.graphql_ast.specs.DefinitionParts.{as_directive, as_field, as_input_field, as_name, as_root, schema_definition, schema_extension, type_definition, type_extension, as_value}
 pub use Rattle.graphql_ast.specs.declared.definition.Definition.{Definition}
 pub use Rattle.graphql_ast.specs.declared.definition_parts.DefinitionPart.{DefinitionPart}
 pub use Rattle.graphql_ast.specs.declared.definition_parts.DefinitionParts.{DefinitionParts}

@@ -1,7 +1,7 @@
 -- Words of components and of types.
 pub use Rattle.apollo_component.specs.BareComponents.{bare_component, bare_component_name}
 pub use Rattle.apollo_component.specs.EachAfter.{each_after}
-pub use Rattle.apollo_component.specs.Extensions.{extension_id, id_of, number_of, place_of, same_id, same_origin}
+pub use Rattle.apollo_component.specs.Extensions.{extension_id, id_of, number_of, extension_location, same_id, same_origin}
 pub use Rattle.apollo_component.specs.FirstOfEach.{first_of_each, same_key}
 pub use Rattle.apollo_component.specs.WriteOut.{SourcedPart, by_origin, identities, of_extensions, of_origin, origins_in, sourced, written_type}
 pub use Rattle.apollo_component.specs.declared.component.Component.{Component}

@@ -2,14 +2,14 @@
 use Rattle.std.specs.Prelude.{ℕ, List, [], map, ◌≡◌}
 use Rattle.std.specs.List.{filter_map}
 use Rattle.graphql_nodes.specs.SameText.{same}
-use Rattle.graphql_ast.specs.Definitions.{name_of}
+use Rattle.graphql_ast.specs.Definitions.{definition_name}
 use Rattle.graphql_ast.specs.declared.definition.Definition.{Definition}
 use Rattle.apollo_component.specs.FirstOfEach.{first_of_each}
 use Rattle.graphql_ast.specs.declared.definition.Definition.TheVariants as ast
 
 -- the names that are defined, in order
 abbrev pub defined_names : List Definition → List (List ℕ)
-defined_names xs = map (λ n. n.text) (filter_map name_of xs)
+defined_names xs = map (λ n. n.text) (filter_map definition_name xs)
 
 -- the names of the fields or values of a type
 abbrev pub component_names : Definition → List (List ℕ)

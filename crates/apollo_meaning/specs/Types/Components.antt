@@ -58,8 +58,8 @@ abbrev pub body_input_fields : TypeBody → List (NodeView InputValueDefinition)
 body_input_fields (InputObjectBody fields) = fields
 body_input_fields _ = []
 
-abbrev pub directives_of : Sourced → List (Component Directive)
-directives_of s = map (component s.0) s.1.directives
+abbrev pub sourced_directives : Sourced → List (Component Directive)
+sourced_directives s = map (component s.0) s.1.directives
 
 abbrev pub interfaces_of : Sourced → List ComponentName
 interfaces_of s = map (component_name s.0) (body_interfaces s.1.body)

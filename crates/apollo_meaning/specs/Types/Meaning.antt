@@ -20,7 +20,7 @@ use Rattle.apollo_types.specs.declared.input_object_type.InputObjectType.{InputO
 use Rattle.apollo_meaning.specs.Items.Parts.{TypePart, TypeBody, ScalarBody, ObjectBody, InterfaceBody, UnionBody, EnumBody, InputObjectBody, key_of}
 use Rattle.apollo_meaning.specs.Items.ListItems.{ListItem, Folding, OfType, OfSchema}
 use Rattle.apollo_meaning.specs.Items.Named.{first, definitions}
-use Rattle.apollo_meaning.specs.Types.Components.{Sourced, directives_of, interfaces_of, members_of, fields_of, values_of, input_fields_of, distinct_names, distinct_entries}
+use Rattle.apollo_meaning.specs.Types.Components.{Sourced, sourced_directives, interfaces_of, members_of, fields_of, values_of, input_fields_of, distinct_names, distinct_entries}
 
 -- the names that are defined, as their first definitions write them, in the order of those
 abbrev pub type_names : List ListItem → List NameView
@@ -48,7 +48,7 @@ abbrev pub scalar_of : TypePart → List Sourced → ScalarType
 scalar_of head parts = record {
   description = head.description;
   name = head.name;
-  directives = record { 0 = flat_map directives_of parts };
+  directives = record { 0 = flat_map sourced_directives parts };
 }
 
 abbrev pub object_of : TypePart → List Sourced → ObjectType
@@ -56,7 +56,7 @@ object_of head parts = record {
   description = head.description;
   name = head.name;
   implements_interfaces = distinct_names (flat_map interfaces_of parts);
-  directives = record { 0 = flat_map directives_of parts };
+  directives = record { 0 = flat_map sourced_directives parts };
   fields = distinct_entries (flat_map fields_of parts);
 }
 
@@ -65,7 +65,7 @@ interface_of head parts = record {
   description = head.description;
   name = head.name;
   implements_interfaces = distinct_names (flat_map interfaces_of parts);
-  directives = record { 0 = flat_map directives_of parts };
+  directives = record { 0 = flat_map sourced_directives parts };
   fields = distinct_entries (flat_map fields_of parts);
 }
 
@@ -73,7 +73,7 @@ abbrev pub union_of : TypePart → List Sourced → UnionType
 union_of head parts = record {
   description = head.description;
   name = head.name;
-  directives = record { 0 = flat_map directives_of parts };
+  directives = record { 0 = flat_map sourced_directives parts };
   members = distinct_names (flat_map members_of parts);
 }
 
@@ -81,7 +81,7 @@ abbrev pub enum_of : TypePart → List Sourced → EnumType
 enum_of head parts = record {
   description = head.description;
   name = head.name;
-  directives = record { 0 = flat_map directives_of parts };
+  directives = record { 0 = flat_map sourced_directives parts };
   values = distinct_entries (flat_map values_of parts);
 }
 
@@ -89,7 +89,7 @@ abbrev pub input_object_of : TypePart → List Sourced → InputObjectType
 input_object_of head parts = record {
   description = head.description;
   name = head.name;
-  directives = record { 0 = flat_map directives_of parts };
+  directives = record { 0 = flat_map sourced_directives parts };
   fields = distinct_entries (flat_map input_fields_of parts);
 }
 

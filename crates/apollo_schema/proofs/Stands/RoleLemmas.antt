@@ -1,6 +1,6 @@
 -- What a definition does that neither defines nor extends a type, and what the settings leave.
 use Rattle.apollo_meaning.proofs.Prelude.{◌≡◌, false, List, [], ◌∷◌, refl, sym, ap, ◌∙◌, arith, NodeView, Directives, directive_definitions, other_faults, Definition, Other, item_of, items_of, added, added_items, ◌⊎◌, inl, inr, Bor}
-use Rattle.graphql_ast.specs.Definitions.{location_of}
+use Rattle.graphql_ast.specs.Definitions.{definition_location}
 use Rattle.graphql_ast.specs.DefinitionTexts.{definition_text}
 use Rattle.graphql_ast.specs.declared.operation.OperationDefinition.{OperationDefinition}
 use Rattle.graphql_ast.specs.declared.operation.FragmentDefinition.{FragmentDefinition}
@@ -13,9 +13,9 @@ use Rattle.apollo_folding.specs.Views.{item_seen}
 
 -- an operation or fragment is no directive definition, and at fault
 pub executable-other : (ds : Directives) (d : Definition) → ((n : NodeView OperationDefinition) × (d ≡ ast.OperationDefinition n)) ⊎ ((n : NodeView FragmentDefinition) × (d ≡ ast.FragmentDefinition n))
-    → (directive_definitions (Other d ∷ []) ≡ []) × (other_faults ds d ≡ (location_of d, errors.ExecutableDefinition (definition_text d)) ∷ [])
-executable-other ds d (inl h) = (ap (λ d. directive_definitions (Other d ∷ [])) h.1, ap (other_faults ds) h.1 ∙ sym (ap (λ d. (location_of d, errors.ExecutableDefinition (definition_text d)) ∷ []) h.1))
-executable-other ds d (inr h) = (ap (λ d. directive_definitions (Other d ∷ [])) h.1, ap (other_faults ds) h.1 ∙ sym (ap (λ d. (location_of d, errors.ExecutableDefinition (definition_text d)) ∷ []) h.1))
+    → (directive_definitions (Other d ∷ []) ≡ []) × (other_faults ds d ≡ (definition_location d, errors.ExecutableDefinition (definition_text d)) ∷ [])
+executable-other ds d (inl h) = (ap (λ d. directive_definitions (Other d ∷ [])) h.1, ap (other_faults ds) h.1 ∙ sym (ap (λ d. (definition_location d, errors.ExecutableDefinition (definition_text d)) ∷ []) h.1))
+executable-other ds d (inr h) = (ap (λ d. directive_definitions (Other d ∷ [])) h.1, ap (other_faults ds) h.1 ∙ sym (ap (λ d. (definition_location d, errors.ExecutableDefinition (definition_text d)) ∷ []) h.1))
 
 pub executable-item : (d : Definition) → ((n : NodeView OperationDefinition) × (d ≡ ast.OperationDefinition n)) ⊎ ((n : NodeView FragmentDefinition) × (d ≡ ast.FragmentDefinition n)) → item_of d ≡ Other d
 executable-item d (inl h) = ap item_of h.1 ∙ sym (ap Other h.1)

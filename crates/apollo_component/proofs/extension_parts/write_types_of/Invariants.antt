@@ -1,8 +1,8 @@
 use Rattle.std.proofs.Common.{◌≡◌, ◌++◌, map}
 use Rattle.graphql_ast.specs.DefinitionParts.{type_extension}
 use Rattle.apollo_component.specs.Beginnings.{Begins}
-use Rattle.apollo_component.specs.Extensions.{place_of}
+use Rattle.apollo_component.specs.Extensions.{extension_location}
 use Rattle.apollo_component.proofs.extension_parts.write_types_of.Given as goal
 
 abbrev pub invariant-loop-id : goal.invariant-loop-id
-invariant-loop-id l = (l.written.items ++ map (λ e. type_extension l.kind l.name e.1 (place_of e.0)) l.id-iterator ≡ l.fn.written.items ++ map (λ e. type_extension l.kind l.name e.1 (place_of e.0)) l.fn.extensions) × Begins l.fn.written.items l.written.items
+invariant-loop-id l = (l.written.items ++ map (λ e. type_extension l.kind l.name e.1 (extension_location e.0)) l.id-iterator ≡ l.fn.written.items ++ map (λ e. type_extension l.kind l.name e.1 (extension_location e.0)) l.fn.extensions) × Begins l.fn.written.items l.written.items

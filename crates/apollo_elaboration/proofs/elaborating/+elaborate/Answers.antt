@@ -2,7 +2,7 @@ use Rattle.std.proofs.Common.{rules, arith, ◌≡◌, ◌∙◌, ◌++◌, ◌�
 use Rattle.std.specs.Option.{option_copied, option_map}
 use Rattle.graphql_nodes.specs.NameView.{NameView}
 use Rattle.graphql_ast.specs.TypeReferences.{inner_name}
-use Rattle.apollo_executable.specs.SelectionParts.{key_of}
+use Rattle.apollo_executable.specs.SelectionParts.{response_key_of}
 use Rattle.apollo_elaboration.specs.Typable.{Fault, child_of, typable_fragment, if_typable}
 use Rattle.apollo_elaboration.specs.SelectionFaults.{found, faults_of_selections, faults_of_selection, faults_of_fragment}
 use Rattle.apollo_elaboration.specs.Elaborated.{elaborated_selection}
@@ -19,7 +19,7 @@ elaborate_field-returns-clause-faults t c =
     let faults = c.args.faults.now in
     let place = c.args.node.now.location in
     let f = c.args.node.now.value in
-    let pushed : c.push.new.self ≡ path.nested_fields ++ key_of f.alias f.name ∷ [] = search rules in
+    let pushed : c.push.new.self ≡ path.nested_fields ++ response_key_of f.alias f.name ∷ [] = search rules in
     c.in_ok-field.ensures.faults
     ∙ (λ i. faults ++ faults_within s ty place (record { root = path.root; nested_fields = pushed i }) f)
     ∙ ap (λ (l : List Fault). faults ++ l) (sym (faults-field s ty place path f))
