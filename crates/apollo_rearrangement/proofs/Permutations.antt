@@ -1,5 +1,5 @@
 -- Lists with the same elements in another order: parts that change places, and what is made of each element.
-use Rattle.apollo_meaning.proofs.Prelude.{◌++◌, ◌<◌, ◌∙◌, ◌∷◌, ◌≡◌, Bool, List, None, Option, Some, [], ap, append_assoc, arith, cond, filter, filter_map, flat_map, get_or, length, option_map_or, refl, subst, suc, zero, ℕ}
+use Rattle.apollo_meaning.proofs.Prelude.{◌++◌, ◌<◌, ◌∷◌, ◌≡◌, Bool, List, None, Option, Some, [], ap, append_assoc, arith, cond, filter, filter_map, flat_map, get_or, length, option_map_or, refl, subst, suc, zero, ℕ}
 use Rattle.apollo_rearrangement.proofs.Words.{IsPermutation, IsPermutation-append_comm, IsPermutation-append_left, IsPermutation-append_right, IsPermutation-keeps, IsPermutation-refl, IsPermutation-trans, cons_option, set, swap}
 use Rattle.std.proofs.lemmas.List.Edits.{swap_is}
 

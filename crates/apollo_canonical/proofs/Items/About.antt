@@ -1,6 +1,6 @@
 -- What a list says of one name, of the schema and of all else: tables by their keys, the names of the types of a list, and what is
 -- found at an item, which hangs on the items of its topic alone.
-use Rattle.apollo_canonical.proofs.Words.Lists.{◌≡◌, ℕ, Bool, true, false, cond, List, [], ◌∷◌, ◌++◌, None, Some, filter, find, flat_map, refl, sym, ap, ◌∙◌, is_some, map, option_map, subst, AllByRecursion, IsDistinct, filter_map, list_any, option_map_or, each-weaken, map-append, filter_map-append, slice_get, true≢false, is_some-map, found-passes, find-first, IsTest, IsOwn, chosen-wider, filter_map-wider, none-by_subject, lookup-keyed, find-made, flat_map-map}
+use Rattle.apollo_canonical.proofs.Words.Lists.{◌≡◌, arith, ℕ, Bool, true, false, cond, List, [], ◌∷◌, ◌++◌, None, Some, filter, find, flat_map, refl, sym, ap, ◌∙◌, is_some, map, option_map, subst, AllByRecursion, IsDistinct, filter_map, list_any, option_map_or, each-weaken, map-append, filter_map-append, slice_get, true≢false, is_some-map, found-passes, find-first, IsTest, IsOwn, chosen-wider, filter_map-wider, none-by_subject, lookup-keyed, find-made, flat_map-map}
 use Rattle.apollo_canonical.proofs.Words.Syntax.{NameView, same, same_text, by_text, HasUniqueKeys, keys_of, values_of, lookup, same-is, same-true, same-flip}
 use Rattle.apollo_canonical.proofs.Words.Types.{first_of_each, name_laws, found-any, given-by_keys}
 use Rattle.apollo_canonical.proofs.Words.Meaning.{ListItem, defined_part, named, first, TypePart, key_of, type_names, directive_definitions, directive_part, Defined, Extended, SchemaDefined, SchemaExtended, Other, defined_schema, extended_part, extended_schema, extensions_of, first_schema, schema_extensions}
@@ -102,39 +102,19 @@ first-found : (n : List ℕ) (xs : List ListItem) → first xs n ≡ slice_get (
 first-found n xs = lookup-named n (filter_map defined_part xs) ∙ find-first (λ p. same n (key_of p)) (filter_map defined_part xs)
 
 pub first-about : (n : List ℕ) (xs : List ListItem) → first xs n ≡ first (about (Name n) xs) n
-first-about n xs = first-found n xs ∙ ap (λ l. slice_get l 0) (sym (chosen-wider defined_part (is_about (Name n)) (λ p. same n (key_of p)) wider xs)) ∙ sym (first-found n (about (Name n) xs))
-  where
-    wider : (x : ListItem) → option_map_or (λ p. same n (key_of p)) (defined_part x) false ≡ true → is_about (Name n) x ≡ true
-    wider (Defined p) e = e
-    wider x e = absurd (true≢false (sym e))
+first-about n xs = first-found n xs ∙ ap (λ l. slice_get l 0) (sym (chosen-wider defined_part (is_about (Name n)) (λ p. same n (key_of p)) (λ x e. grind (arith, e)) xs)) ∙ sym (first-found n (about (Name n) xs))
 
 pub extensions-about : (n : List ℕ) (xs : List ListItem) → extensions_of xs n ≡ extensions_of (about (Name n) xs) n
-extensions-about n xs = sym (chosen-wider extended_part (is_about (Name n)) (λ p. same n (key_of p)) wider xs)
-  where
-    wider : (x : ListItem) → option_map_or (λ p. same n (key_of p)) (extended_part x) false ≡ true → is_about (Name n) x ≡ true
-    wider (Extended p) e = e
-    wider x e = absurd (true≢false (sym e))
+extensions-about n xs = sym (chosen-wider extended_part (is_about (Name n)) (λ p. same n (key_of p)) (λ x e. grind (arith, e)) xs)
 
 pub first_schema-about : (xs : List ListItem) → first_schema xs ≡ first_schema (about TheSchema xs)
-first_schema-about xs = ap (λ l. slice_get l 0) (sym (filter_map-wider defined_schema (is_about TheSchema) wider xs))
-  where
-    wider : (x : ListItem) → is_some (defined_schema x) ≡ true → is_about TheSchema x ≡ true
-    wider (SchemaDefined s) e = refl
-    wider x e = absurd (true≢false (sym e))
+first_schema-about xs = ap (λ l. slice_get l 0) (sym (filter_map-wider defined_schema (is_about TheSchema) (λ x e. grind (arith, e)) xs))
 
 pub schema_extensions-about : (xs : List ListItem) → schema_extensions xs ≡ schema_extensions (about TheSchema xs)
-schema_extensions-about xs = sym (filter_map-wider extended_schema (is_about TheSchema) wider xs)
-  where
-    wider : (x : ListItem) → is_some (extended_schema x) ≡ true → is_about TheSchema x ≡ true
-    wider (SchemaExtended s) e = refl
-    wider x e = absurd (true≢false (sym e))
+schema_extensions-about xs = sym (filter_map-wider extended_schema (is_about TheSchema) (λ x e. grind (arith, e)) xs)
 
 pub directives-about : (xs : List ListItem) → directive_definitions xs ≡ directive_definitions (about Others xs)
-directives-about xs = sym (filter_map-wider directive_part (is_about Others) wider xs)
-  where
-    wider : (x : ListItem) → is_some (directive_part x) ≡ true → is_about Others x ≡ true
-    wider (Other d) e = refl
-    wider x e = absurd (true≢false (sym e))
+directives-about xs = sym (filter_map-wider directive_part (is_about Others) (λ x e. grind (arith, e)) xs)
 
 -- what is found at an item hangs on what is about its topic
 found-own : IsOwn same_topic topic_laws topic_of found_at
