@@ -1,12 +1,13 @@
 //! Reading a whole text of the notation.
-ghost use Rattle.std.specs.Prelude.{◌≡◌, All, IfErr, IfOk, OnOk};
+ghost use Rattle.std.specs.Prelude.{◌≡◌, All, IfErr, IfOk, OnOk, Some};
+ghost use Rattle.bench_notation.specs.Components.{header_alone};
 ghost use Rattle.bench_notation.specs.Documents.{AreDividedDocumentsOf, AreDocumentsOf, IsDividedReadError, IsLinesError, IsReadError, LeadTo};
 ghost use Rattle.bench_notation.specs.Line.{IsLine, lines_of, line_place};
 ghost use Rattle.bench_notation.specs.Refusals.{SaysNothing, WhenRefused};
 
 use crate::above::{Above, Position};
 use crate::item::OpenItem;
-use crate::line::{Line, read_line};
+use crate::line::{Header, Line, read_line};
 use crate::names::Names;
 use crate::refusal::{LineError, ReadError, RefusedLine};
 use crate::words::first_piece;
@@ -114,14 +115,24 @@ impl DocumentReader {
             Line::Empty => Ok(()),
             Line::Break => self.end_document(alloc),
             Line::Division => self.divide(alloc),
-            Line::Header(header) => {
-                self.end_item(alloc, Some(OpenItem::new(alloc, header, place)))
-            }
+            Line::Header(header) => self.begin_item(alloc, header, place),
             Line::Component(component) => match &mut self.item {
                 Some(item) => item.add(alloc, component, place),
                 None => Ok(()),
             },
         }
+    }
+
+    /// Ends the item that is being read, after which that of this header is read.
+    fn begin_item(
+        &mut self,
+        alloc: Global,
+        header: Header,
+        place: SourceSpan,
+    ) -> Result<(), AllocError>
+        ensures { OnOk result (self.new ≡ record (item_ended self.old) { item = Some (header_alone header place) }) }
+    {
+        self.end_item(alloc, Some(OpenItem::new(alloc, header, place)))
     }
 
     /// Ends the item that is being read, after which the next is read, if there is one.

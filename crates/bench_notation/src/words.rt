@@ -52,11 +52,15 @@ pub(crate) fn first_piece<'a>(text: &'a str, between: u8) -> (&'a str, Option<&'
     (text, None)
 }
 
-/// What follows `prefix` in a text that begins with it, and none in any other.
-pub fn after<'a>(text: &'a str, prefix: &str) -> Option<&'a str>
-    ensures { MatchOption result ((rest : List ℕ) → text.now ≢ prefix.now ++ rest) (λ rest. text.now ≡ prefix.now ++ rest.now) }
+/// What follows a byte, which is an ASCII character, in a text that begins with it, and none in any other.
+pub fn after<'a>(text: &'a str, first: u8) -> Option<&'a str>
+    requires { first < 128 }
+    ensures { MatchOption result ((rest : List ℕ) → text.now ≢ first ∷ rest) (λ rest. text.now ≡ first ∷ rest.now) }
 {
-    text.strip_prefix(prefix)
+    match text.as_bytes() {
+        [byte, ..] if *byte == first => Some(&text[1..]),
+        _ => None,
+    }
 }
 
 /// What comes before `suffix` in a text that ends with it, and none in any other.
