@@ -15,12 +15,33 @@ pub fn lines_of(alloc: Global, text: &str) -> Result<Vec<&str>, AllocError>
     Ok(lines)
 }
 
-/// Takes the words of a line, which stand between its spaces, instead of those that were there. The error is want of memory.
-pub(crate) fn take_words<'a>(words: &mut Vec<&'a str>, line: &'a str) -> Result<(), AllocError>
-    ensures { OnOk result (texts_of words.new.items ≡ words_of line.now) }
+/// The first line of a text, and what stands behind its line feed, if it has one. Takes the words of that line, which stand
+/// between its spaces, instead of those that were there. The error is want of memory.
+pub(crate) fn take_words<'a>(
+    words: &mut Vec<&'a str>,
+    text: &'a str,
+) -> Result<(&'a str, Option<&'a str>), AllocError>
+    ensures lines { IfOk result (λ both. lines_of text.now ≡ both.0.now ∷ pieces_left 10 both.1) }
+    ensures words { IfOk result (λ both. texts_of words.new.items ≡ words_of both.0.now) }
+    ensures shorter { IfOk result (λ both. bytes_left both.1 ≤ length text.now) }
 {
     words.clear();
-    push_pieces(words, line, b' ')
+    let mut from = 0;
+    for (at, byte) in text.as_bytes().iter().enumerate() {
+        // A letter ends nothing: it is told by one look.
+        if *byte <= b' ' {
+            if *byte == b'\n' {
+                words.push(&text[from..at])?;
+                return Ok((&text[..at], Some(&text[at + 1..])));
+            }
+            if *byte == b' ' {
+                words.push(&text[from..at])?;
+                from = at + 1;
+            }
+        }
+    }
+    words.push(&text[from..])?;
+    Ok((text, None))
 }
 
 /// Adds the pieces of a text that stand between the bytes of this value, which is an ASCII character.
@@ -39,7 +60,7 @@ fn push_pieces<'a>(pieces: &mut Vec<&'a str>, text: &'a str, between: u8) -> Res
 
 /// The first piece of a text, up to the first byte of this value, which is an ASCII character, and what stands behind that
 /// byte, if there is one.
-pub(crate) fn first_piece<'a>(text: &'a str, between: u8) -> (&'a str, Option<&'a str>)
+fn first_piece<'a>(text: &'a str, between: u8) -> (&'a str, Option<&'a str>)
     requires { between < 128 }
     ensures pieces { slice_split (λ b. b == between) text.now ≡ result.0.now ∷ pieces_left between result.1 }
     ensures shorter { bytes_left result.1 ≤ length text.now }
