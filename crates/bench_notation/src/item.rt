@@ -1,5 +1,5 @@
 //! What has been read of the definition or extension that is being read.
-ghost use Rattle.std.specs.Prelude.{◌≡◌, IfOk, OnOk, Some};
+ghost use Rattle.std.specs.Prelude.{◌≡◌, IfOk, OnOk};
 ghost use Rattle.bench_notation.specs.Components.{is_input_object};
 
 use crate::above::Above;

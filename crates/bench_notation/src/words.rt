@@ -1,6 +1,5 @@
 //! The lines of a text, the words of a line, and what a word begins or ends with.
-ghost use Rattle.std.specs.Prelude.{◌≡◌, ◌≢◌, ◌<◌, ◌≤◌, ◌==◌, ◌∷◌, ◌++◌, ℕ, List, length, IfOk, MatchOption, OnOk};
-ghost use Rattle.std.specs.List.{slice_split};
+ghost use Rattle.std.specs.Prelude.{◌≡◌, ◌≢◌, ◌<◌, ◌≤◌, ◌∷◌, ◌++◌, ℕ, List, length, IfOk, MatchOption};
 ghost use Rattle.bench_notation.specs.Line.{bytes_left, lines_of, pieces_left, texts_of, words_of};
 
 use std::alloc::{AllocError, Global};
@@ -11,8 +10,26 @@ pub fn lines_of(alloc: Global, text: &str) -> Result<Vec<&str>, AllocError>
     ensures { IfOk result (λ lines. texts_of lines.items ≡ lines_of text.now) }
 {
     let mut lines = Vec::new(alloc);
-    push_pieces(&mut lines, text, b'\n')?;
+    let mut left = Some(text);
+    while let Some(rest) = left {
+        let (line, behind) = first_line(rest);
+        lines.push(line)?;
+        left = behind;
+    }
     Ok(lines)
+}
+
+/// The first line of a text, and what stands behind its line feed, if it has one.
+fn first_line<'a>(text: &'a str) -> (&'a str, Option<&'a str>)
+    ensures lines { lines_of text.now ≡ result.0.now ∷ pieces_left 10 result.1 }
+    ensures shorter { bytes_left result.1 ≤ length text.now }
+{
+    for (at, byte) in text.as_bytes().iter().enumerate() {
+        if *byte == b'\n' {
+            return (&text[..at], Some(&text[at + 1..]));
+        }
+    }
+    (text, None)
 }
 
 /// The first line of a text, and what stands behind its line feed, if it has one. Takes the words of that line, which stand
@@ -42,35 +59,6 @@ pub(crate) fn take_words<'a>(
     }
     words.push(&text[from..])?;
     Ok((text, None))
-}
-
-/// Adds the pieces of a text that stand between the bytes of this value, which is an ASCII character.
-fn push_pieces<'a>(pieces: &mut Vec<&'a str>, text: &'a str, between: u8) -> Result<(), AllocError>
-    requires { between < 128 }
-    ensures { OnOk result (texts_of pieces.new.items ≡ texts_of pieces.old.items ++ slice_split (λ b. b == between) text.now) }
-{
-    let mut left = Some(text);
-    while let Some(rest) = left {
-        let (piece, behind) = first_piece(rest, between);
-        pieces.push(piece)?;
-        left = behind;
-    }
-    Ok(())
-}
-
-/// The first piece of a text, up to the first byte of this value, which is an ASCII character, and what stands behind that
-/// byte, if there is one.
-fn first_piece<'a>(text: &'a str, between: u8) -> (&'a str, Option<&'a str>)
-    requires { between < 128 }
-    ensures pieces { slice_split (λ b. b == between) text.now ≡ result.0.now ∷ pieces_left between result.1 }
-    ensures shorter { bytes_left result.1 ≤ length text.now }
-{
-    for (at, byte) in text.as_bytes().iter().enumerate() {
-        if *byte == between {
-            return (&text[..at], Some(&text[at + 1..]));
-        }
-    }
-    (text, None)
 }
 
 /// What follows a byte, which is an ASCII character, in a text that begins with it, and none in any other.

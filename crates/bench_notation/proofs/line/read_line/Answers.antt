@@ -1,5 +1,5 @@
 -- A line that is not empty says what its words say.
-use Rattle.std.proofs.Common.{List, ℕ, ◌≡◌, ◌==◌, ◌∙◌, [], true, false, IfErr, IfOk, ap, length, subst}
+use Rattle.std.proofs.Common.{List, ℕ, ◌≡◌, ◌==◌, [], true, false, IfErr, IfOk, length, subst}
 use Rattle.std.proofs.lemmas.Result.{IfErr-weaker, IfOk-weaker}
 use Rattle.bench_notation.specs.Line.{SayLine, Says, texts_of, words_of}
 use Rattle.bench_notation.specs.Refusals.{SayNoLine, SaysNothing, WhenRefused}
