@@ -62,7 +62,7 @@ pub(crate) fn take_words<'a>(
 }
 
 /// What follows a byte, which is an ASCII character, in a text that begins with it, and none in any other.
-pub fn after<'a>(text: &'a str, first: u8) -> Option<&'a str>
+pub(crate) fn after<'a>(text: &'a str, first: u8) -> Option<&'a str>
     requires { first < 128 }
     ensures { MatchOption result ((rest : List ℕ) → text.now ≢ first ∷ rest) (λ rest. text.now ≡ first ∷ rest.now) }
 {
