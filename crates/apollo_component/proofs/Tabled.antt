@@ -1,17 +1,17 @@
--- Tables that have at each key what a function gives of it, and tables with the same under each key.
-use Rattle.std.proofs.Common.{◌≡◌, Bool, true, false, cond, not, ◌||◌, List, [], ◌∷◌, ◌++◌, Some, None, is_some, map, filter, refl, sym, ap, subst, ◌∙◌, true≢false}
-use Rattle.std.specs.List.{list_any, IsDistinct, AllByRecursion}
+-- Tables that have at each key what a function gives of it, tables with the same under each key, and what tables give, key by key.
+use Rattle.std.proofs.Common.{◌≡◌, Bool, true, false, cond, not, ◌||◌, List, [], ◌∷◌, ◌++◌, Option, Some, None, is_some, map, filter, refl, sym, ap, subst, ◌∙◌, true≢false}
+use Rattle.std.specs.List.{list_any, flat_map, IsDistinct, AllByRecursion}
 use Rattle.std.specs.Map.{lookup, set_value}
 use Rattle.graphql_nodes.specs.Tables.{HasUniqueKeys, keys_of}
 use Rattle.std.specs.Cmp.{IsEquivalence}
 use Rattle.std.proofs.lemmas.Map.{lookup-none}
 use Rattle.std.proofs.lemmas.Map.Entries.{lookup_head, lookup_tail, none_past_head}
-use Rattle.std.proofs.lemmas.Map.Keys.{IsDistinct-tail}
+use Rattle.std.proofs.lemmas.Map.Keys.{IsDistinct-head, IsDistinct-tail}
 use Rattle.indexmap.specs.IndexMap.{insert_entry}
 use Rattle.indexmap.specs.IndexSet.{insert_key}
 use Rattle.apollo_component.specs.FirstOfEach.{first_of_each}
 use Rattle.apollo_component.proofs.FirstOfEachLemmas.{first_of_each-push_new, first_of_each-push_old, list_any-first_of_each}
-use Rattle.apollo_component.proofs.Lists.Each.{each-filter, each-weaken}
+use Rattle.apollo_component.proofs.Lists.Each.{each-filter, each-weaken, flat_map-each}
 
 module _ {K : Type 0} (same : K → K → Bool) where
   apart : (x : K) (ks : List K) → AllByRecursion (λ k. same x k ≡ false) (filter (λ k. not (same x k)) ks)
@@ -122,3 +122,12 @@ entries_from_lookups {K} {V} {eq} laws (e ∷ es) (f ∷ fs) apart keys each =
             lookup-none (eq k) fs (none_past_head laws k f fs (subst (IsDistinct eq) (sym keys) apart) (ap (eq k) key ∙ own))
             ∙ sym (lookup-none (eq k) es (none_past_head laws k e es apart own))
         by false other = sym (lookup_tail (eq k) f fs (ap (eq k) key ∙ other)) ∙ each k ∙ lookup_tail (eq k) e es other
+
+-- what a table gives, entry by entry, is what it gives under its keys
+pub given-by_keys : {K V X : Type 0} {same : K → K → Bool} → IsEquivalence same → (give : K → Option V → List X) (es : List (K × V)) → HasUniqueKeys same es → flat_map (λ e. give e.0 (Some e.1)) es ≡ flat_map (λ k. give k (lookup (same k) es)) (keys_of es)
+given-by_keys laws give [] unique = refl
+given-by_keys {same = same} laws give (e ∷ es) unique =
+    ap (λ l. give e.0 (Some e.1) ++ l) (given-by_keys laws give es (IsDistinct-tail same e.0 (keys_of es) unique)
+    ∙ flat_map-each (λ k. same e.0 k ≡ false) (λ k. give k (lookup (same k) es)) (λ k. give k (lookup (same k) (e ∷ es)))
+    (λ k apart. ap (λ b. give k (cond b (Some e.1) (lookup (same k) es))) (sym (laws.symm k e.0 ∙ apart))) (keys_of es) (IsDistinct-head same e.0 (keys_of es) unique))
+    ∙ ap (λ b. give e.0 (cond b (Some e.1) (lookup (same e.0) es)) ++ flat_map (λ k. give k (lookup (same k) (e ∷ es))) (keys_of es)) (sym (laws.refl e.0))

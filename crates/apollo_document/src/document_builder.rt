@@ -83,7 +83,7 @@ impl<'schema> ExecutableDocumentBuilder<'schema> {
     /// the type system are passed over; with `type_system_definitions_are_errors` each is a fault (section 2.2).
     ///
     /// `Memory` is want of memory, and drops all that was added, sources too; `Failed` comes exactly after that, and changes
-    /// nothing. No other error comes.
+    /// nothing. No other error comes, and of a document without definitions and sources `Failed` alone.
     pub fn add_ast_document(
         &mut self,
         document: &Document,
@@ -95,6 +95,7 @@ impl<'schema> ExecutableDocumentBuilder<'schema> {
         ensures failed { HasFailed self.old ↔ (result ≡ Err BuilderError.Failed) }
         ensures memory { OnErr result ((HasFailed self.old → ⊥) → result ≡ Err BuilderError.Memory) }
         ensures unchanged { HasFailed self.old → self.new ≡ self.old }
+        ensures wants { OnErr result (document.now.definitions ≡ [] → document.now.sources ≡ [] → HasFailed self.old) }
     {
         let schema = self.schema;
         let State::Open(tables) = &mut self.state else {

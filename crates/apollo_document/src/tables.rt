@@ -1,5 +1,5 @@
 //! What a builder of documents holds until it fails.
-ghost use Rattle.std.specs.Prelude.{◌≡◌, Bool, [], ◌++◌, Option, None, Some, OnOk};
+ghost use Rattle.std.specs.Prelude.{◌≡◌, ◌≢◌, Bool, [], ◌++◌, Option, None, Some, OnOk, OnErr};
 ghost use Rattle.std.specs.Option.{option_copied};
 ghost use Rattle.graphql_nodes.specs.Sources.{merged};
 ghost use Rattle.apollo_schema.specs.declared.schema.Schema.{Schema};
@@ -207,6 +207,7 @@ impl Tables {
     ) -> Result<(), AllocError>
         ensures stands { OnOk result (StandsWith (option_copied schema.entry) (document_list type_system_definitions_are_errors definitions.now) self.old self.new) }
         ensures sources { self.new.sources ≡ self.old.sources }
+        ensures wants { OnErr result (definitions.now ≢ []) }
     {
         for definition in definitions {
             self.take_one(schema, definition, type_system_definitions_are_errors)?;
@@ -214,8 +215,8 @@ impl Tables {
         Ok(())
     }
 
-    /// Takes a document: its definitions, and then its sources. The error is want of memory, after which nothing is said of the
-    /// tables.
+    /// Takes a document: its definitions, and then its sources. The error is want of memory, which a document without definitions
+    /// and sources doesn't meet, and after which nothing is said of the tables.
     pub fn take_document(
         &mut self,
         schema: Option<&Schema>,
@@ -224,6 +225,7 @@ impl Tables {
     ) -> Result<(), AllocError>
         ensures stands { OnOk result (StandsWith (option_copied schema.entry) (document_list type_system_definitions_are_errors document.now.definitions) self.old self.new) }
         ensures sources { OnOk result (self.new.sources ≡ merged self.old.sources document.now.sources) }
+        ensures wants { OnErr result (document.now.definitions ≡ [] → document.now.sources ≢ []) }
     {
         self.take(
             schema,

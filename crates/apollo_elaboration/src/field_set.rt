@@ -1,6 +1,6 @@
 //! Sets of fields that stand by themselves, as arguments of directives have them: GraphQL specification of October 2021,
 //! section 2.4.
-ghost use Rattle.std.specs.Prelude.{◌≡◌, [], Some, IfOk};
+ghost use Rattle.std.specs.Prelude.{◌≡◌, ◌≢◌, [], Some, IfOk, OnErr};
 ghost use Rattle.graphql_nodes.specs.declared.operation_type.OperationType.TheVariants.{Query};
 ghost use Rattle.apollo_executable.specs.Erasure.{erased_set};
 ghost use Rattle.apollo_elaboration.specs.FieldSets.{field_set_path};
@@ -85,9 +85,10 @@ impl FieldSet {
         Ok((set, faults.into_vec()))
     }
 
-    /// The selections as syntax, in order. The error is want of memory.
+    /// The selections as syntax, in order. The error is want of memory, which a set without selections doesn't meet.
     pub fn to_ast(&self, alloc: Global) -> Result<Vec<ast::Selection>, AllocError>
-        ensures { IfOk result (λ written. written.items ≡ erased_set self.now.selection_set) }
+        ensures written { IfOk result (λ written. written.items ≡ erased_set self.now.selection_set) }
+        ensures memory { OnErr result (self.now.selection_set.selections ≢ []) }
     {
         self.selection_set.to_ast(alloc)
     }

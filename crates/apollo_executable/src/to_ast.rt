@@ -4,7 +4,7 @@
 //! set. All else stays, with every location.
 ghost use Rattle.std.specs.Prelude.{◌≡◌, ◌≢◌, [], IfOk, OnErr};
 ghost use Rattle.graphql_ast.specs.declared.definition.Definition.TheVariants as definitions;
-ghost use Rattle.apollo_executable.specs.Erasure.{erased, erased_field, erased_inline_fragment, erased_spread, erased_set, erased_operation, erased_fragment, erased_document};
+ghost use Rattle.apollo_executable.specs.Erasure.{erased, erased_field, erased_inline_fragment, erased_spread, erased_set, erased_operation, erased_fragment, erased_definitions, erased_document};
 
 use crate::document::ExecutableDocument;
 use crate::operation::{Fragment, Operation};
@@ -163,9 +163,11 @@ impl Fragment {
 
 impl ExecutableDocument {
     /// The document as syntax, without its sources: the anonymous operation, the named operations and the fragments, in
-    /// order, each at the location of its node. The error is want of memory.
+    /// order, each at the location of its node. The error is want of memory, which a document without operations and fragments
+    /// doesn't meet.
     pub fn to_ast(&self, alloc: Global) -> Result<Document, AllocError>
-        ensures { IfOk result (λ written. written ≡ erased_document self.now) }
+        ensures written { IfOk result (λ written. written ≡ erased_document self.now) }
+        ensures memory { OnErr result (erased_definitions self.now ≢ []) }
     {
         let mut definitions = Vec::new(alloc);
         for operation in self.operations.iter() {

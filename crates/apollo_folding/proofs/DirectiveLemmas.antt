@@ -1,8 +1,10 @@
 -- What names mean among directive definitions with one more, and tables that hold it.
-use Rattle.apollo_meaning.proofs.Prelude.{◌≡◌, ℕ, Bool, true, false, cond, not, ◌&&◌, List, [], ◌∷◌, ◌++◌, map, filter, Option, Some, None, is_some, refl, sym, ap, ◌∙◌, true≢false, find, list_any, option_or, unwrap_or, lookup, keys_of, set_value, IsEquivalence, on_equiv, nat_list_eq_equiv, append-nil, map-append, filter-append, keys-set_value, insert_entry, NameView, NodeView, is_built_in, same_text, same, by_text, DirectiveDefinition, first_of_each, list_any-first_of_each, first_of_each-push_new, first_of_each-push_old, is_some-lookup, Directives, AreDirectivesOf, or-none, same-true}
+use Rattle.apollo_meaning.proofs.Prelude.{◌≡◌, ℕ, Bool, true, false, cond, not, ◌&&◌, List, [], ◌∷◌, ◌++◌, map, filter, Option, Some, None, is_some, refl, sym, ap, ◌∙◌, true≢false, find, list_any, option_or, unwrap_or, lookup, keys_of, set_value, IsEquivalence, on_equiv, nat_list_eq_equiv, map-append, keys-set_value, insert_entry, NameView, NodeView, is_built_in, same_text, same, by_text, DirectiveDefinition, first_of_each, list_any-first_of_each, first_of_each-push_new, first_of_each-push_old, is_some-lookup, Directives, AreDirectivesOf, or-none, same-true}
 use Rattle.std.specs.List.{last_or}
 use Rattle.std.proofs.lemmas.Bool.{and_right}
 use Rattle.std.proofs.lemmas.List.Folds.{find-append}
+use Rattle.apollo_component.proofs.Lists.Cases.{found-passes, list_any-map}
+use Rattle.apollo_component.proofs.Lists.Ends.{filter-push_dropped, filter-push_kept}
 use Rattle.apollo_meaning.specs.declared.build_error.BuildError.TheVariants as errors
 use Rattle.apollo_meaning.specs.Directives.{has_text, is_handed_in, directive_of, directive_names}
 use Rattle.apollo_meaning.specs.Faults.OtherFaults.{directive_faults}
@@ -11,19 +13,6 @@ use Rattle.apollo_folding.proofs.NameTables.{lookup-put, keys-put, lookup-write}
 last_or-push : {X : Type 0} (o : Option X) (xs : List X) (x : X) → last_or o (xs ++ x ∷ []) ≡ Some x
 last_or-push o [] x = refl
 last_or-push o (y ∷ ys) x = last_or-push (Some y) ys x
-
-list_any-map : {X Y : Type 0} (p : Y → Bool) (h : X → Y) (xs : List X) → list_any p (map h xs) ≡ list_any (λ x. p (h x)) xs
-list_any-map p h [] = refl
-list_any-map p h (x ∷ xs) = rw (list_any-map p h xs)
-
--- what is found passes the test
-find-passes : {X : Type 0} (p : X → Bool) (xs : List X) (x : X) → find p xs ≡ Some x → p x ≡ true
-find-passes p [] x found = cc
-find-passes {X} p (y ∷ ys) x found = by (p y) refl found (find-passes p ys x)
-  where
-    by : (b : Bool) → p y ≡ b → cond b (Some y) (find p ys) ≡ Some x → (find p ys ≡ Some x → p x ≡ true) → p x ≡ true
-    by true e h rest = ap p (sym (ap (λ (o : Option X). unwrap_or o y) h)) ∙ e
-    by false e h rest = rest h
 
 -- where nothing passes both tests, the last that passes one fails the other
 last_or-fails : {X : Type 0} (p q : X → Bool) (o : Option X) (xs : List X) (v : X) → find (λ x. p x && q x) xs ≡ None
@@ -55,7 +44,7 @@ module _ (ds : Directives) (n : List ℕ) where
     where
       by : (o : Option (NodeView DirectiveDefinition)) → find (handed n) ds ≡ o → option_or o (last_or None (filter (has_text n) ds)) ≡ Some v → find (handed n) ds ≡ None
       by None e h = e
-      by (Some k) e h = absurd (true≢false (sym (find-passes (handed n) ds v (e ∙ h)) ∙ and_right (has_text n v) (is_handed_in v) (ap not built_in)))
+      by (Some k) e h = absurd (true≢false (sym (found-passes (handed n) ds v (e ∙ h)) ∙ and_right (has_text n v) (is_handed_in v) (ap not built_in)))
 
   -- and each other is the first that is handed in
   handed_is : (v : NodeView DirectiveDefinition) → directive_of ds n ≡ Some v → is_built_in v.location ≡ false → find (handed n) ds ≡ Some v
@@ -72,7 +61,7 @@ module _ (ds : Directives) (d : NodeView DirectiveDefinition) (n : List ℕ) whe
       ap (λ o. option_or o (last_or None (filter (has_text n) (ds ++ d ∷ []))))
       (find-append (handed n) ds (d ∷ []) ∙ ap (λ b. option_or (find (handed n) ds) (cond (b && is_handed_in d) (Some d) None)) apart ∙ or-none (find (handed n) ds))
       ∙ ap (λ l. option_or (find (handed n) ds) (last_or None l))
-      (filter-append (has_text n) ds (d ∷ []) ∙ ap (λ b. filter (has_text n) ds ++ cond b (d ∷ []) []) apart ∙ append-nil (filter (has_text n) ds))
+      (filter-push_dropped (has_text n) ds d apart)
 
   -- one after the first that is handed in changes nothing
   directive_of-kept : (k : NodeView DirectiveDefinition) → find (handed n) ds ≡ Some k → directive_of (ds ++ d ∷ []) n ≡ directive_of ds n
@@ -86,7 +75,7 @@ module _ (ds : Directives) (d : NodeView DirectiveDefinition) (n : List ℕ) whe
   directive_of-taken none own =
       ap (λ o. option_or o (last_or None (filter (has_text n) (ds ++ d ∷ []))))
       (find-append (handed n) ds (d ∷ []) ∙ ap (λ o. option_or o (find (handed n) (d ∷ []))) none)
-      ∙ ap (λ l. option_or (find (handed n) (d ∷ [])) (last_or None l)) (filter-append (has_text n) ds (d ∷ []) ∙ ap (λ b. filter (has_text n) ds ++ cond b (d ∷ []) []) own)
+      ∙ ap (λ l. option_or (find (handed n) (d ∷ [])) (last_or None l)) (filter-push_kept (has_text n) ds d own)
       ∙ ap (option_or (find (handed n) (d ∷ []))) (last_or-push None (filter (has_text n) ds) d)
       ∙ either (handed n d)
     where

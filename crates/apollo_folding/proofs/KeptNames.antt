@@ -1,6 +1,7 @@
 -- A name put into a set of names: it goes last, unless it is there.
 use Rattle.apollo_meaning.proofs.Prelude.{◌≡◌, false, [], ◌∷◌, ◌++◌, List, Option, Some, None, is_some, refl, sym, ap, ◌∙◌, true≢false, map, if◌then◌else◌, find, list_any, option_map, same_text, ComponentName, same_component_name, distinct_names}
 use Rattle.apollo_component.proofs.LaterLemmas.{found-any}
+use Rattle.apollo_component.proofs.Lists.Cases.{find-none}
 use Rattle.apollo_meaning.proofs.Faults.KeptLemmas.{component_name_laws, found-name, kept-old, kept-put}
 
 -- what isn't there is none
@@ -22,4 +23,4 @@ module _ (ks : List ComponentName) (x : ComponentName) where
           ∙ kept-old same_component_name component_name_laws ks x k is
 
   pub name-nowhere : list_any (same_component_name x) (distinct_names ks) ≡ false → find (same_text x.name) (map (λ k. k.name) ks) ≡ None
-  name-nowhere absent = found-name x ks ∙ ap (option_map (λ (k : ComponentName). k.name)) (none-of there (found-any (same_component_name x) (distinct_names ks) ∙ absent))
+  name-nowhere absent = found-name x ks ∙ ap (option_map (λ (k : ComponentName). k.name)) (find-none (same_component_name x) (distinct_names ks) absent)

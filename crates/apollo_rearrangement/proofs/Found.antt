@@ -1,17 +1,13 @@
 -- What rearranged lists are completed with, what is found in them, and all their faults are the same, in another order.
-use Rattle.apollo_rearrangement.proofs.Words.Lists.{◌≡◌, ℕ, Bool, true, false, cond, List, [], ◌∷◌, ◌++◌, Option, Some, None, map, filter, refl, sym, ap, subst, ◌∙◌, AllByRecursion, filter_map, flat_map, list_any, IsPermutation, option_map_or, filter-append, filter_passes, recursion_from_All, IsPermutation-map}
-use Rattle.apollo_rearrangement.proofs.Words.Lists.{IsPermutation-refl, each-append, each-weaken, append-nil, each_after-push, snoc_ind, true≢false, append_assoc, filter_agree, IsPermutation-sym, IsPermutation-trans, IsPermutation-append, IsPermutation-append_right, each_after-append}
-use Rattle.apollo_rearrangement.proofs.Words.Syntax.{same-true, same-is, default_type_text, same, Query, Mutation, Subscription, each_after, first_of_each, first_of_each-push_new, first_of_each-push_old, NodeView, DirectiveDefinition}
-use Rattle.apollo_rearrangement.proofs.Words.Meaning.{adopted, adopted_by, adopted_part, extended_names, orphans_of, with_adopted, completed, default_root, implicit_roots, implied_schema, schema_for, ListItem, Defined, extended_part, extensions_of, first, TypePart, key_of, kind_of, roots_in, same_kind, AreRearranged}
-use Rattle.apollo_rearrangement.proofs.Words.Meaning.{Group, DefinitionsOf, ExtensionsOf, SchemaDefinitions, SchemaExtensions, is_in, directive_part, has_text, Other, defined_schema, schema_extensions, DirectiveDefinitionsOf, faults-completed, schema_orphans}
-use Rattle.apollo_rearrangement.proofs.Words.Faults.{found, found_at, Fault, faults_in, schema_orphan, orphan}
+use Rattle.apollo_meaning.proofs.Prelude.{◌++◌, ◌∙◌, ◌∷◌, ◌≡◌, AllByRecursion, Bool, Defined, DirectiveDefinition, Fault, List, ListItem, Mutation, NodeView, None, Option, Other, Query, Some, Subscription, TypePart, [], adopted, adopted_by, adopted_part, ap, append-nil, append_assoc, completed, cond, defined_schema, each-weaken, each_after, each_after-append, each_after-push, extended_names, extended_part, extensions_of, false, filter, filter-append, filter_map, first, first_of_each, first_of_each-push_new, first_of_each-push_old, flat_map, found, found_at, implied_schema, key_of, kind_of, list_any, map, option_map_or, orphan, orphans_of, refl, roots_in, same, same-is, same-true, same_kind, schema_extensions, schema_for, schema_orphan, schema_orphans, snoc_ind, subst, sym, true, true≢false, with_adopted, ℕ}
+use Rattle.apollo_rearrangement.proofs.Words.{AreRearranged, DefinitionsOf, DirectiveDefinitionsOf, ExtensionsOf, Group, IsOwn, IsPermutation, IsPermutation-append, IsPermutation-append_right, IsPermutation-map, IsPermutation-refl, IsPermutation-sym, IsPermutation-trans, IsTest, SchemaDefinitions, SchemaExtensions, by_subject, default_root, default_type_text, directive_part, each-append, faults-completed, faults_in, filter_agree, filter_passes, has_text, implicit_roots, is_in, recursion_from_All, one-element-permutation}
 use Rattle.std.specs.Cmp.Lexicographic.{nat_list_eq_equiv}
 use Rattle.std.proofs.lemmas.Map.Views.{any-filter_same}
 use Rattle.graphql_nodes.specs.declared.type_kind.TypeKind.TheVariants as kinds
-use Rattle.apollo_rearrangement.proofs.BySubject.{filter-permutation, filter_map-permutation, flat_map-permutation, one-element-permutation, exchange, IsOwn, IsTest, by_subject}
 use Rattle.apollo_rearrangement.proofs.Subjects.{extensions-agree, first-agree, first_schema-agree, schema_extensions-agree, Subject, DirectiveNamed, NoSubject, TheSchema, TypeNamed, of_directive, same_subject, subject, subject_laws, subject_of_group, definitions-agree, definitions_of, found_at-agree, found_at-own, schema_definitions-agree}
 use Rattle.apollo_rearrangement.proofs.Rearranging.{rearranged-append, rearranged-refl}
 use Rattle.apollo_rearrangement.proofs.Regrouped.{finding_schemas, finding_types, grouped, schema-regrouped, type-regrouped}
+use Rattle.apollo_rearrangement.proofs.Permutations.{exchange, flat_map-permutation, filter-permutation, filter_map-permutation}
 
 -- names are told apart by their texts
 same_laws : IsTest same
@@ -29,7 +25,7 @@ first-one_by_one = snoc_ind (λ ns. first_of_each same ns ≡ each_after new_nam
     by ns n false e = first_of_each-push_new same nat_list_eq_equiv ns n e ∙ ap (λ b. first_of_each same ns ++ cond b [] (n ∷ [])) (sym e)
 
 new_name-own : IsOwn same same_laws (λ n. n) new_name
-new_name-own p respects before n e = ap (λ b. cond b [] (n ∷ [])) (any-filter_same (same n) p true (λ m h. respects m n (sym (same-true n m h)) ∙ e) before)
+new_name-own before n = ap (λ b. cond b [] (n ∷ [])) (sym (any-filter_same (same n) (same n) true (λ m h. h) before))
 
 pub first_of_each-permutation : (ns ms : List (List ℕ)) → IsPermutation ns ms → IsPermutation (first_of_each same ns) (first_of_each same ms)
 first_of_each-permutation ns ms s =

@@ -1,5 +1,5 @@
 mod Words
-mod BySubject
+mod Permutations
 mod Subjects
 mod Regrouped
 mod Rearranging

@@ -1,6 +1,6 @@
 -- Rearranged lists: an equivalence that goes on in longer lists, and documents that are added one by one, and as one.
-use Rattle.apollo_rearrangement.proofs.Words.Lists.{◌≡◌, true, false, List, [], ◌∷◌, ◌++◌, refl, sym, ◌∙◌, arith, filter-append, IsPermutation-append, IsPermutation-append_comm, IsPermutation-refl, IsPermutation-sym, IsPermutation-trans, Bool, ap, flat_map, map-append}
-use Rattle.apollo_rearrangement.proofs.Words.Meaning.{ListItem, AreRearranged, Group, is_in, added}
+use Rattle.apollo_meaning.proofs.Prelude.{◌++◌, ◌∙◌, ◌∷◌, ◌≡◌, Bool, List, ListItem, [], added, ap, arith, false, filter-append, flat_map, map-append, refl, sym, true}
+use Rattle.apollo_rearrangement.proofs.Words.{AreRearranged, Group, IsPermutation-append, IsPermutation-append_comm, IsPermutation-refl, IsPermutation-sym, IsPermutation-trans, is_in}
 use Rattle.apollo_rearrangement.specs.Documents.{Documents, added_each, added_joined}
 
 pub rearranged-refl : (xs : List ListItem) → AreRearranged xs xs

@@ -1,13 +1,9 @@
 -- What is found of one subject, that of its first definition with its extensions and that of each further definition, in
 -- another order.
-use Rattle.apollo_rearrangement.proofs.Words.Lists.{◌≡◌, ℕ, Bool, true, false, cond, List, [], ◌∷◌, ◌++◌, Option, Some, None, filter, slice_get, refl, sym, ap, subst, ◌∙◌, append_assoc, cons_option, filter_map, flat_map, IsPermutation, option_map_or, append-nil}
-use Rattle.apollo_rearrangement.proofs.Words.Lists.{filter-append, filter_map-append, IsPermutation-refl, IsPermutation-trans, IsPermutation-append_left, IsPermutation-append_right, IsPermutation-append_comm, each_after-push, all-kept, snoc_ind}
-use Rattle.apollo_rearrangement.proofs.Words.Syntax.{same-true, NodeView, same, DirectiveDefinition}
-use Rattle.apollo_rearrangement.proofs.Words.Meaning.{found-push, directive_part, ListItem, Defined, Extended, SchemaDefined, SchemaExtended, Other, defined_schema, extensions_of, first, of_kind, schema_extensions, TypePart, SchemaPart, key_of, kind_of, Family, schemas, types}
-use Rattle.apollo_rearrangement.proofs.Words.Faults.{Fault, further_schema, schema_faults, extension_faults, further_definition, joining_fault, part_faults, joining_faults, schema_begun_faults, schema_joining_faults, type_begun_faults, found, found_at}
+use Rattle.apollo_meaning.proofs.Prelude.{◌++◌, ◌∙◌, ◌∷◌, ◌≡◌, Bool, Defined, DirectiveDefinition, Extended, Family, Fault, List, ListItem, NodeView, None, Option, Other, SchemaDefined, SchemaExtended, SchemaPart, Some, TypePart, [], ap, append-nil, append_assoc, cond, defined_schema, each_after-push, extension_faults, extensions_of, false, filter, filter-append, filter_map, filter_map-append, first, flat_map, found, found_at, further_definition, further_schema, joining_faults, key_of, kind_of, of_kind, option_map_or, part_faults, refl, same, same-true, schema_begun_faults, schema_extensions, schema_faults, schema_joining_faults, schemas, slice_get, snoc_ind, subst, sym, true, types, ℕ}
+use Rattle.apollo_rearrangement.proofs.Words.{IsPermutation, IsPermutation-append_comm, IsPermutation-append_left, IsPermutation-append_right, IsPermutation-refl, IsPermutation-trans, all-kept, bool_cases, cons_option, directive_part, filter-push_dropped, filter-push_kept, found-push, joining_fault, own-kept, type_begun_faults}
 use Rattle.std.proofs.lemmas.Grind.{flat_map-append}
-use Rattle.apollo_rearrangement.proofs.Subjects.{Subject, TheSchema, TypeNamed, of_directive, same_subject, subject, definitions_of, first-is, found_at-own}
-use Rattle.apollo_rearrangement.proofs.BySubject.{bool_cases}
+use Rattle.apollo_rearrangement.proofs.Subjects.{Subject, TheSchema, TypeNamed, of_directive, same_subject, subject, subject_laws, definitions_of, first-is, found_at-own}
 
 -- how faults are found: at a further definition, at the first one with extensions before it, and at an extension after
 -- a first definition and extensions
@@ -107,11 +103,11 @@ module _ {P : Type 0} (f : Family P) (n : List ℕ) (by_kind : Finding P) (k : S
     where
       kept : (xs : List ListItem) (x : ListItem) → about x ≡ true → found (filter about (xs ++ x ∷ [])) ≡ found (filter about xs) ++ found_at xs x
       kept xs x e =
-          ap found (filter-append about xs (x ∷ []) ∙ ap (λ b. filter about xs ++ cond b (x ∷ []) []) e) ∙ found-push (filter about xs) x
-          ∙ ap (λ l. found (filter about xs) ++ l) (found_at-own about (λ y z s. ap (same_subject k) s) xs x e)
+          ap found (filter-push_kept about xs x e) ∙ found-push (filter about xs) x
+          ∙ ap (λ l. found (filter about xs) ++ l) (own-kept same_subject subject_laws subject found_at found_at-own about (λ y z s. ap (same_subject k) s) xs x e)
 
       dropped : (xs : List ListItem) (x : ListItem) → about x ≡ false → found (filter about (xs ++ x ∷ [])) ≡ found (filter about xs)
-      dropped xs x e = ap found (filter-append about xs (x ∷ []) ∙ ap (λ b. filter about xs ++ cond b (x ∷ []) []) e ∙ append-nil (filter about xs))
+      dropped xs x e = ap found (filter-push_dropped about xs x e)
 
 -- what is found of a type
 abbrev pub finding_types : Finding TypePart

@@ -1,11 +1,7 @@
 -- What a fault of a dropped component or root is about, the type or the schema that it is dropped from; and those faults of a list
 -- are those of what is dropped from a type, or from the schema, in order.
-use Rattle.apollo_rearrangement.proofs.Words.Lists.{◌≡◌, ℕ, Bool, true, false, cond, ◌&&◌, List, [], ◌∷◌, ◌++◌, map, Option, Some, None, filter, refl, sym, ap, subst, ◌∙◌, AllByRecursion, filter_map, find, option_map_or, append-nil, All-filter, filter-append, filter_passes, recursion_from_All, each-append, filter-each, filter-fails, all-kept, slice_get, flat_map, filter_agree, each_after-append}
-use Rattle.apollo_rearrangement.proofs.Words.Syntax.{same-is, same-true, NameView, NodeView, operation_text, same, same_text, Definition, DirectiveDefinition, each_after}
-use Rattle.apollo_rearrangement.proofs.Words.Meaning.{Directives, directive_definitions, has_text, is_handed_in, ListItem, Defined, Extended, SchemaDefined, SchemaExtended, Other, extended_part, extensions_of, first, first_schema, of_kind, schema_extensions, TypePart, SchemaPart, TypeBody, ScalarBody, ObjectBody, InterfaceBody, UnionBody}
-use Rattle.apollo_rearrangement.proofs.Words.Meaning.{EnumBody, InputObjectBody, Root, key_of, kind_of, roots_in, same_kind, same_operation, faults-completed, found-push, extended_names, orphans_of, schema_orphans, with_adopted, completed, implied_schema, defined_schema, Family, Placed, extension_places, first_place, schemas, types}
-use Rattle.apollo_rearrangement.proofs.Words.Faults.{Entry, Fault, collision, collision_at, collisions, other_faults, root_fault, root_faults, further_schema, schema_faults, joined_faults, body_faults, extension_faults, field_entries, field_names, further_definition, input_field_entries, input_field_names, interface_names}
-use Rattle.apollo_rearrangement.proofs.Words.Faults.{joining_fault, kind_mismatch, member_names, name_entries, part_faults, redefinition, value_entries, value_names, schema_begun_faults, schema_joining_faults, type_begun_faults, found_at, BuildError, faults_in, found_of_schema, found_of_type, schema_orphan, orphan, found}
+use Rattle.apollo_meaning.proofs.Prelude.{◌&&◌, ◌++◌, ◌∙◌, ◌∷◌, ◌≡◌, AllByRecursion, Bool, Defined, Definition, DirectiveDefinition, Directives, Entry, EnumBody, Extended, Family, Fault, InputObjectBody, InterfaceBody, List, ListItem, NameView, NodeView, None, ObjectBody, Option, Other, Placed, Root, ScalarBody, SchemaDefined, SchemaExtended, SchemaPart, Some, TypeBody, TypePart, UnionBody, [], ap, append-nil, body_faults, collision, collision_at, collisions, completed, cond, defined_schema, directive_definitions, each_after, each_after-append, extended_names, extended_part, extension_faults, extension_places, extensions_of, false, field_entries, field_names, filter, filter-append, filter_map, find, first, first_place, first_schema, flat_map, found, found_at, further_definition, further_schema, implied_schema, interface_names, key_of, kind_of, map, name_entries, of_kind, option_map_or, orphan, orphans_of, other_faults, part_faults, refl, roots_in, same, same-is, same-true, same_kind, same_text, schema_begun_faults, schema_extensions, schema_faults, schema_joining_faults, schema_orphan, schema_orphans, schemas, slice_get, subst, sym, true, types, with_adopted, ℕ}
+use Rattle.apollo_rearrangement.proofs.Words.{All-filter, BuildError, all-kept, each-append, faults-completed, faults_in, filter-each, filter-fails, filter_agree, filter_passes, found-push, found_of_schema, found_of_type, has_text, input_field_entries, input_field_names, is_handed_in, joined_faults, joining_fault, kind_mismatch, member_names, operation_text, recursion_from_All, redefinition, root_fault, root_faults, same_operation, type_begun_faults, value_entries, value_names}
 use Rattle.graphql_nodes.specs.BuiltIn.{is_built_in}
 use Rattle.apollo_meaning.specs.declared.collision.Collection.{Collection}
 use Rattle.apollo_meaning.specs.declared.collision.Collection.TheVariants.{ObjectInterfaces, InterfaceInterfaces, ObjectFields, InterfaceFields, EnumValues, UnionMembers, InputFields}

@@ -1,12 +1,8 @@
 -- What a definition is about, and what lists say of a subject, where those of its groups stand in both in the same order.
-use Rattle.apollo_rearrangement.proofs.Words.Lists.{◌≡◌, ℕ, Bool, true, false, List, Option, Some, None, refl, sym, ap, true≢false, ◌&&◌, [], ◌∷◌, filter, slice_get, ◌∙◌, arith, option_map_or, option_or, filter_map, find, last_or, lookup}
-use Rattle.apollo_rearrangement.proofs.Words.Syntax.{same-is, same-true, NodeView, same, DirectiveDefinition, Definition}
-use Rattle.apollo_rearrangement.proofs.Words.Meaning.{directive_part, has_text, Directives, directive_definitions, directive_of, is_handed_in, ListItem, Defined, Extended, SchemaDefined, SchemaExtended, Other, defined_part, defined_schema, extended_part}
-use Rattle.apollo_rearrangement.proofs.Words.Meaning.{extended_schema, key_of, TypePart, Group, DefinitionsOf, ExtensionsOf, DirectiveDefinitionsOf, SchemaDefinitions, SchemaExtensions, is_in, extensions_of, first, first_schema, named, schema_extensions}
-use Rattle.apollo_rearrangement.proofs.Words.Faults.{directive_faults, other_faults, further_schema, schema_faults, extension_faults, further_definition, schema_begun_faults, type_begun_faults, found_at}
+use Rattle.apollo_meaning.proofs.Prelude.{◌&&◌, ◌∙◌, ◌∷◌, ◌≡◌, Bool, Defined, Definition, DirectiveDefinition, Directives, Extended, List, ListItem, NodeView, None, Option, Other, SchemaDefined, SchemaExtended, Some, TypePart, [], ap, arith, defined_part, defined_schema, directive_definitions, extended_part, extended_schema, extension_faults, extensions_of, false, filter, filter_map, find, first, first_schema, found_at, further_definition, further_schema, is_some, key_of, option_map_or, option_or, other_faults, refl, same, same-is, same-true, schema_begun_faults, schema_extensions, schema_faults, slice_get, sym, true, true≢false, ℕ}
+use Rattle.apollo_rearrangement.proofs.Words.{DefinitionsOf, DirectiveDefinitionsOf, ExtensionsOf, Group, IsOwn, IsTest, SchemaDefinitions, SchemaExtensions, chosen-wider, directive_faults, directive_of, directive_part, filter-wider, filter_map-wider, find-first, has_text, is_handed_in, is_in, last_or, lookup-keyed, type_begun_faults}
 use Rattle.graphql_ast.specs.declared.definition.Definition.TheVariants as ast
 use Rattle.apollo_meaning.specs.declared.build_error.BuildError.TheVariants as errors
-use Rattle.apollo_rearrangement.proofs.BySubject.{filter-filter_map, filter-wider, filter_map-takes, find-filter, IsTest, IsOwn}
 
 pub data Subject : Type 0 where
   TypeNamed : List ℕ → Subject
@@ -71,12 +67,13 @@ in-subject g x e = absurd (true≢false (sym e))
 abbrev pub definitions_of : List ListItem → List ℕ → List TypePart
 definitions_of xs n = filter (λ p. same n (key_of p)) (filter_map defined_part xs)
 
-lookup-first : (n : List ℕ) (ps : List TypePart) → lookup (same n) (named ps) ≡ slice_get (filter (λ p. same n (key_of p)) ps) 0
-lookup-first n [] = refl
-lookup-first n (p ∷ ps) = grind (arith, lookup-first n ps)
-
 pub first-is : (xs : List ListItem) (n : List ℕ) → first xs n ≡ slice_get (definitions_of xs n) 0
-first-is xs n = lookup-first n (filter_map defined_part xs)
+first-is xs n = lookup-keyed (same n) key_of (filter_map defined_part xs) ∙ find-first (λ p. same n (key_of p)) (filter_map defined_part xs)
+
+-- the first that passes two tests is, of those that pass one, the first that passes the other
+find-filter : {X : Type 0} (p q : X → Bool) (xs : List X) → find (λ x. p x && q x) xs ≡ find q (filter p xs)
+find-filter p q [] = refl
+find-filter p q (x ∷ xs) = grind (arith, find-filter p q xs)
 
 -- the fault of something else than a type or the schema, with a directive's name or without
 other_faults-is : (ds : Directives) (d : Definition) → other_faults ds d ≡ option_map_or (directive_faults ds) (directive_part (Other d)) (other_faults [] d)
@@ -88,28 +85,32 @@ module _ (xs ys : List ListItem) where
   abbrev pub Agree : Group → Type 0
   Agree g = filter (is_in g) xs ≡ filter (is_in g) ys
 
+  chosen-agree : {P : Type 0} (which : ListItem → Option P) (q : P → Bool) → filter (λ x. option_map_or q (which x) false) xs ≡ filter (λ x. option_map_or q (which x) false) ys → filter q (filter_map which xs) ≡ filter q (filter_map which ys)
+  chosen-agree which q a = sym (chosen-wider which _ q (λ x e. e) xs) ∙ ap (λ l. filter q (filter_map which l)) a ∙ chosen-wider which _ q (λ x e. e) ys
+
+  all-agree : {P : Type 0} (which : ListItem → Option P) → filter (λ x. is_some (which x)) xs ≡ filter (λ x. is_some (which x)) ys → filter_map which xs ≡ filter_map which ys
+  all-agree which a = sym (filter_map-wider which _ (λ x e. e) xs) ∙ ap (filter_map which) a ∙ filter_map-wider which _ (λ x e. e) ys
+
   pub definitions-agree : (n : List ℕ) → Agree (DefinitionsOf n) → definitions_of xs n ≡ definitions_of ys n
-  definitions-agree n a =
-      filter-filter_map defined_part (λ p. same n (key_of p)) xs ∙ ap (filter_map defined_part) a ∙ sym (filter-filter_map defined_part (λ p. same n (key_of p)) ys)
+  definitions-agree n = chosen-agree defined_part (λ p. same n (key_of p))
 
   pub first-agree : (n : List ℕ) → Agree (DefinitionsOf n) → first xs n ≡ first ys n
   first-agree n a = first-is xs n ∙ ap (λ l. slice_get l 0) (definitions-agree n a) ∙ sym (first-is ys n)
 
   pub extensions-agree : (n : List ℕ) → Agree (ExtensionsOf n) → extensions_of xs n ≡ extensions_of ys n
-  extensions-agree n a =
-      filter-filter_map extended_part (λ p. same n (key_of p)) xs ∙ ap (filter_map extended_part) a ∙ sym (filter-filter_map extended_part (λ p. same n (key_of p)) ys)
+  extensions-agree n = chosen-agree extended_part (λ p. same n (key_of p))
 
   directives-agree : (n : List ℕ) → Agree (DirectiveDefinitionsOf n) → filter (has_text n) (directive_definitions xs) ≡ filter (has_text n) (directive_definitions ys)
-  directives-agree n a = filter-filter_map directive_part (has_text n) xs ∙ ap (filter_map directive_part) a ∙ sym (filter-filter_map directive_part (has_text n) ys)
+  directives-agree n = chosen-agree directive_part (has_text n)
 
   pub schema_definitions-agree : Agree SchemaDefinitions → filter_map defined_schema xs ≡ filter_map defined_schema ys
-  schema_definitions-agree a = filter_map-takes defined_schema xs ∙ ap (filter_map defined_schema) a ∙ sym (filter_map-takes defined_schema ys)
+  schema_definitions-agree = all-agree defined_schema
 
   pub first_schema-agree : Agree SchemaDefinitions → first_schema xs ≡ first_schema ys
   first_schema-agree a = ap (λ l. slice_get l 0) (schema_definitions-agree a)
 
   pub schema_extensions-agree : Agree SchemaExtensions → schema_extensions xs ≡ schema_extensions ys
-  schema_extensions-agree a = filter_map-takes extended_schema xs ∙ ap (filter_map extended_schema) a ∙ sym (filter_map-takes extended_schema ys)
+  schema_extensions-agree = all-agree extended_schema
 
   -- the first directive definition of a name that is handed in
   handed_in-agree : (n : List ℕ) → Agree (DirectiveDefinitionsOf n)
@@ -140,5 +141,8 @@ module _ (xs ys : List ListItem) where
 
 -- what is found at an item is decided by those of its subject before it
 pub found_at-own : IsOwn same_subject subject_laws subject found_at
-found_at-own p respects before x e =
-    found_at-agree (filter p before) before x (λ g is. filter-wider p (is_in g) (λ y h. respects y x (sym (in-subject g y h) ∙ is) ∙ e) before)
+found_at-own before x =
+    found_at-agree before (filter own before) x (λ g is. sym (filter-wider own (is_in g) (λ y h. ap (same_subject (subject x)) (sym (in-subject g y h) ∙ is) ∙ subject_laws.itself (subject x)) before))
+  where
+    own : ListItem → Bool
+    own y = same_subject (subject x) (subject y)

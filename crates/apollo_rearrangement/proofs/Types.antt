@@ -1,9 +1,7 @@
 -- The types and the schema definitions that rearranged lists mean are equal: what `==` compares of them is decided by the parts
 -- that they are made of, without the origins of their components.
-use Rattle.apollo_rearrangement.proofs.Words.Lists.{◌≡◌, ℕ, Bool, ◌||◌, List, [], ◌∷◌, ◌++◌, Option, Some, None, map, refl, sym, ap, ◌∙◌, true, false, cond, flat_map, list_any, find, lookup, option_map, map-append}
-use Rattle.apollo_rearrangement.proofs.Words.Syntax.{NameView, NodeView, by_text, same_text, first_of_each, same_key, first_of_each-map, Query, Mutation, Subscription}
-use Rattle.apollo_rearrangement.proofs.Words.Meaning.{TypePart, TypeBody, ScalarBody, ObjectBody, InterfaceBody, UnionBody, EnumBody, InputObjectBody, SchemaPart, SourcedSchema, root_in, roots_of, same_operation, schema_definition_of, schema_directives_of, ListItem, extensions_of}
-use Rattle.apollo_rearrangement.proofs.Words.Meaning.{first, of_kind, first_schema, schema_extensions, kind_of, folding_order, AreRearranged, DefinitionsOf, ExtensionsOf, type_meant, SchemaDefinitions, SchemaExtensions, schema_meant, schema_from, schema_parts, schema_sourced}
+use Rattle.apollo_meaning.proofs.Prelude.{◌++◌, ◌∙◌, ◌∷◌, ◌≡◌, Bool, EnumBody, InputObjectBody, InterfaceBody, List, ListItem, Mutation, NameView, NodeView, ObjectBody, Option, Query, ScalarBody, SchemaPart, Some, SourcedSchema, Subscription, TypeBody, TypePart, UnionBody, [], ap, by_text, cond, extensions_of, false, find, first, first_of_each, first_schema, flat_map, folding_order, kind_of, list_any, lookup, map, map-append, of_kind, option_map, refl, same_key, same_text, schema_definition_of, schema_extensions, schema_from, sym, true, ℕ}
+use Rattle.apollo_rearrangement.proofs.Words.{AreRearranged, DefinitionsOf, ExtensionsOf, SchemaDefinitions, SchemaExtensions, first_of_each-map, list_any-map, option_cases, option_map_id, root_in, roots_of, same_operation, schema_directives_of, schema_meant, schema_parts, schema_sourced, type_meant}
 use Rattle.std.proofs.lemmas.Map.Made.{lookup-map_values}
 use Rattle.graphql_nodes.specs.Comparing.{bare_name, entries_by_text, members_by_text}
 use Rattle.graphql_nodes.specs.declared.operation_type.OperationType.{OperationType}
@@ -18,15 +16,10 @@ use Rattle.apollo_types.specs.BareTypes.{BareType, bare_extended_type, BareSchem
 use Rattle.apollo_meaning.specs.Types.Components.{Sourced, body_fields, body_input_fields, body_interfaces, body_members, body_values, component, component_name, sourced_directives, distinct_entries, distinct_names}
 use Rattle.apollo_meaning.specs.Types.Meaning.{type_at, type_from, parts, sourced}
 use Rattle.apollo_rearrangement.proofs.Subjects.{extensions-agree, first-agree, first_schema-agree, schema_extensions-agree}
-use Rattle.apollo_rearrangement.proofs.BySubject.{option_cases}
 
 -- parts without the origins of their components
 abbrev pub parts_of : {P : Type 0} → List (ComponentOrigin × P) → List P
 parts_of = map (λ s. s.1)
-
-any-through : {X Y : Type 0} (test : Y → Bool) (f : X → Y) (xs : List X) → list_any (λ x. test (f x)) xs ≡ list_any test (map f xs)
-any-through test f [] = refl
-any-through test f (x ∷ xs) = λ i. test (f x) || any-through test f xs i
 
 -- what parts hold, seen through a function that forgets origins
 module _ {A B C : Type 0} (seen : A → B) (sourced : ComponentOrigin → C → A) (plain : C → B) (forgets : (o : ComponentOrigin) (c : C) → seen (sourced o c) ≡ plain c) where
@@ -55,7 +48,7 @@ module _ (held : TypePart → List NameView) where
 
   forget-names : (ps : List Sourced) → members_by_text (λ c. c.name) (distinct_names (names_of ps)) ≡ plain_names (parts_of ps)
   forget-names ps = λ i. λ text. (
-      any-through (by_text text) (λ c. c.name) (distinct_names (names_of ps))
+      sym (list_any-map (by_text text) (λ c. c.name) (distinct_names (names_of ps)))
       ∙ ap (list_any (by_text text)) (first_of_each-map same_text (λ c. c.name) (names_of ps) ∙ ap (first_of_each same_text) (forget (λ c. c.name) component_name (λ n. n) (λ o n. refl) held ps))) i
 
 module _ {T B : Type 0} (bare : T → B) (name : NodeView T → NameView) (held : TypePart → List (NodeView T)) where
@@ -78,11 +71,7 @@ module _ {T B : Type 0} (bare : T → B) (name : NodeView T → NameView) (held 
   forget-entries ps = λ i. λ text. (
       sym (lookup-map_values (bare_component bare) (by_text text) (distinct_entries (entries_of ps)))
       ∙ ap (lookup (by_text text)) (first_of_each-map (same_key same_text) bare_entry (entries_of ps) ∙ ap (first_of_each (same_key same_text)) (forget bare_entry entry (λ c. (name c, bare c.value)) (λ o c. refl) held ps))
-      ∙ sym (itself (lookup (by_text text) (first_of_each (same_key same_text) (bare_entries (parts_of ps)))))) i
-    where
-      itself : (o : Option B) → option_map (λ b. b) o ≡ o
-      itself None = refl
-      itself (Some b) = refl
+      ∙ sym (option_map_id (lookup (by_text text) (first_of_each (same_key same_text) (bare_entries (parts_of ps)))))) i
 
 -- parts that are alike but for the origins of their components make equal types
 module _ (head : TypePart) (ps qs : List Sourced) (alike : parts_of ps ≡ parts_of qs) where

@@ -140,8 +140,9 @@ impl SchemaBuilder {
     /// and the first number stay, whatever the answer.
     ///
     /// `Memory` is want of memory; `ExtensionIds` comes only where the extensions that are folded so far, this document's
-    /// included, pass the largest number; `Failed` comes exactly after a refusal, and changes nothing. With another error all
-    /// that was added is dropped, sources too, and the source of numbers stands where it stood before the call.
+    /// included, pass the largest number; `Failed` comes exactly after a refusal, and changes nothing. A document without
+    /// definitions and sources meets `Failed` alone. With another error all that was added is dropped, sources too, and the
+    /// source of numbers stands where it stood before the call.
     pub fn add_ast(&mut self, document: &Document) -> Result<(), BuilderError>
         ensures stands { OnOk result ((start : ℕ) (xs : List Added) → StandsFor start xs self.old → StandsFor start (xs ++ added (ignores self.old) document.now.definitions) self.new) }
         ensures settings { (adopts self.new ≡ adopts self.old) × (ignores self.new ≡ ignores self.old) }
@@ -152,6 +153,7 @@ impl SchemaBuilder {
         ensures failed { HasFailed self.old ↔ (result ≡ Err BuilderError.Failed) }
         ensures unchanged { HasFailed self.old → self.new ≡ self.old }
         ensures spent { result ≡ Err BuilderError.ExtensionIds → (start : ℕ) (xs : List Added) → StandsFor start xs self.old → SpendsIdsSoFar start (xs ++ added (ignores self.old) document.now.definitions) }
+        ensures wants { OnErr result (document.now.definitions ≡ [] → document.now.sources ≡ [] → HasFailed self.old) }
     {
         let ignores = self.ignore_builtin_redefinitions;
         let State::Open(tables) = &mut self.state else {

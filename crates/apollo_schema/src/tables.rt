@@ -1,5 +1,5 @@
 //! What a builder holds.
-ghost use Rattle.std.specs.Prelude.{◌≡◌, false, None, ◌+◌, ◌^◌, ◌≤◌, [], ◌∷◌, ◌++◌, length, OnOk, IfOk, IfErr, Some};
+ghost use Rattle.std.specs.Prelude.{◌≡◌, ◌≢◌, false, None, ◌+◌, ◌^◌, ◌≤◌, [], ◌∷◌, ◌++◌, length, OnOk, OnErr, IfOk, IfErr, Some};
 ghost use Rattle.graphql_nodes.specs.Tables.{insert_entry};
 ghost use Rattle.graphql_nodes.specs.SameText.{same_text};
 ghost use Rattle.graphql_ast.specs.Definitions.{definition_location};
@@ -256,6 +256,7 @@ impl Tables {
         ensures stands { OnOk result (Takes self.old (added_items (added ignores definitions.now)) self.new) }
         ensures refused { IfErr result (λ error. RefusedAs error (SpentBy self.old (added_items (added ignores definitions.now)))) }
         ensures sources { self.new.sources ≡ self.old.sources }
+        ensures wants { OnErr result (definitions.now ≢ []) }
     {
         for definition in definitions {
             self.take_one(definition, ignores)?;
@@ -264,11 +265,13 @@ impl Tables {
     }
 
     /// Takes a document: its definitions, and then its sources. `Memory` is want of memory; `ExtensionIds` comes only where the
-    /// numbers don't suffice for its extensions. After either nothing is said of the tables.
+    /// numbers don't suffice for its extensions. Neither comes of a document without definitions and sources. After either
+    /// nothing is said of the tables.
     pub fn take_document(&mut self, document: &Document, ignores: bool) -> Result<(), BuilderError>
         ensures stands { OnOk result (Takes self.old (added_items (added ignores document.now.definitions)) self.new) }
         ensures refused { IfErr result (λ error. RefusedAs error (SpentBy self.old (added_items (added ignores document.now.definitions)))) }
         ensures sources { OnOk result (self.new.sources ≡ merged self.old.sources document.now.sources) }
+        ensures wants { OnErr result (document.now.definitions ≡ [] → document.now.sources ≢ []) }
     {
         self.take(document.definitions.as_slice(), ignores)?;
         merge_sources(&mut self.sources, &document.sources)?;

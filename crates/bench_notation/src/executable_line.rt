@@ -114,13 +114,13 @@ fn selected(
 fn depth_of_word(word: &str) -> Option<u8>
     ensures { MatchOption result ((depth : ℕ) → IsDepth depth → decimal depth ≢ word.now) (λ depth. IsDepth depth × (decimal depth ≡ word.now)) }
 {
-    if let Some(rest) = after(word, "0") {
+    if let Some(rest) = after(word, b'0') {
         if rest.is_empty() {
             return Some(0);
         }
         return None;
     }
-    let None = after(word, "+") else {
+    let None = after(word, b'+') else {
         return None;
     };
     match word.parse::<u8>() {

@@ -1,5 +1,5 @@
 //! What has been read of the definition or extension that is being read.
-ghost use Rattle.std.specs.Prelude.{◌≡◌, IfOk, OnOk, Some};
+ghost use Rattle.std.specs.Prelude.{◌≡◌, IfOk, OnOk};
 ghost use Rattle.bench_notation.specs.Components.{is_input_object};
 
 use crate::above::Above;
@@ -13,8 +13,9 @@ use bench_selections::selection_line::SelectionLine;
 use graphql_ast::definition::Definition;
 use graphql_ast::definition_parts::{DefinitionPart, DefinitionParts};
 use graphql_ast::directive::{Directive, DirectiveList};
-use graphql_ast::type_system::InputValueDefinition;
+use graphql_ast::type_reference::Type;
 use graphql_nodes::collections::items::Items;
+use graphql_nodes::name::Name;
 use graphql_nodes::node::Node;
 use graphql_nodes::source::SourceSpan;
 use graphql_nodes::type_kind::TypeKind;
@@ -47,7 +48,8 @@ impl Drop for OpenItem {
 }
 
 impl OpenItem {
-    ghost use Rattle.bench_notation.specs.Components.{header_alone, above_below, levels_after, with_component, with_field_directive, with_argument, field_closed, whole_item};
+    ghost use Rattle.bench_notation.specs.Components.{header_alone, above_below, levels_after, with_component, with_field_directive, whole_item};
+    ghost use Rattle.bench_notation.specs.declared.line.Component.TheVariants.{Argument, Field};
 
     /// The item of a header, without components.
     pub fn new(alloc: Global, header: Header, place: SourceSpan) -> OpenItem
@@ -104,17 +106,12 @@ impl OpenItem {
             Component::Implements(name) | Component::Member(name) => {
                 self.parts.push(DefinitionPart::Name(name))
             }
-            Component::Field(name, ty) => {
-                self.open_field(alloc, OpenField::new(alloc, name, ty, place))
-            }
+            Component::Field(name, ty) => self.open_field(alloc, name, ty, place),
             Component::FieldDirective(name) => {
                 let directive = applied_directive(alloc, name, place)?;
                 self.add_field_directive(directive)
             }
-            Component::Argument(name, ty) => {
-                let argument = input_value(alloc, name, ty, DirectiveList::new(alloc), place)?;
-                self.add_argument(argument)
-            }
+            Component::Argument(name, ty) => self.add_argument(alloc, name, ty, place),
             Component::Value(name) => {
                 let value = enum_value(alloc, name, place)?;
                 self.parts.push(DefinitionPart::EnumValue(value))
@@ -147,9 +144,16 @@ impl OpenItem {
     }
 
     /// Adds an argument to the last field, and where there is none, to the directive that is being read.
-    fn add_argument(&mut self, argument: Node<InputValueDefinition>) -> Result<(), AllocError>
-        ensures { OnOk result (self.new ≡ with_argument argument self.old) }
+    fn add_argument(
+        &mut self,
+        alloc: Global,
+        name: Name,
+        ty: Type,
+        place: SourceSpan,
+    ) -> Result<(), AllocError>
+        ensures { OnOk result (self.new ≡ with_component (Argument name ty) place self.old) }
     {
+        let argument = input_value(alloc, name, ty, DirectiveList::new(alloc), place)?;
         match &mut self.last_field {
             Some(field) => field.arguments.push(argument),
             None => self.directive.arguments.push(argument),
@@ -157,9 +161,16 @@ impl OpenItem {
     }
 
     /// Closes the last field, if there is one, after which the next is open.
-    fn open_field(&mut self, alloc: Global, next: OpenField) -> Result<(), AllocError>
-        ensures { OnOk result (self.new ≡ record (field_closed self.old) { last_field = Some next }) }
+    fn open_field(
+        &mut self,
+        alloc: Global,
+        name: Name,
+        ty: Type,
+        place: SourceSpan,
+    ) -> Result<(), AllocError>
+        ensures { OnOk result (self.new ≡ with_component (Field name ty) place self.old) }
     {
+        let next = OpenField::new(alloc, name, ty, place);
         let is_input = is_input_object(&self.header);
         match mem::replace(&mut self.last_field, Some(next)) {
             Some(field) => self.parts.push(field.close_as_part(alloc, is_input)?),

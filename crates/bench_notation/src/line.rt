@@ -5,7 +5,7 @@ ghost use Rattle.graphql_ast.specs.declared.type_reference.Type.{«Type» as Typ
 ghost use Rattle.graphql_nodes.specs.LocationTexts.{location_text};
 ghost use Rattle.graphql_nodes.specs.OperationTexts.{operation_text};
 ghost use Rattle.bench_notation.specs.HeaderWords.{role_word};
-ghost use Rattle.bench_notation.specs.Line.{SayLine, Says, SaysHeader, SaysComponent, AreName, AreNameAndType, AreRoot, texts_of};
+ghost use Rattle.bench_notation.specs.Line.{SayLine, Says, SaysHeader, SaysComponent, AreName, AreNameAndType, AreRoot, texts_of, words_of};
 ghost use Rattle.bench_notation.specs.Places.{stands, StandsBelow};
 ghost use Rattle.bench_notation.specs.Refusals.{SayNoComponent, SayNoLine, SaysNothing, WhenRefused};
 
@@ -17,7 +17,6 @@ use crate::name_words::only_name;
 use crate::names::Names;
 use crate::refusal::{LineError, Reason};
 use crate::type_notation::{MOST_BRACKETS, read_type};
-use crate::words::take_words;
 use bench_selections::selection_line::Selected;
 use graphql_ast::type_reference::Type;
 use graphql_nodes::directive_location::DirectiveLocation;
@@ -78,17 +77,18 @@ pub enum Line {
     Component(Component),
 }
 
-/// Reads a line, which stands at this position. Its names get this location.
+/// Reads a line of these words, which stands at this position. Its names get this location.
 ///
 /// [`Refused`](LineError::Refused) comes only where the line says nothing that may stand there; `Memory` is want of memory, and
-/// says nothing of the line. `words` is room for its words: what it holds afterwards is not said.
-pub fn read_line<'a>(
+/// says nothing of the line.
+pub(crate) fn read_line(
     names: &mut Names,
-    words: &mut Vec<&'a str>,
-    text: &'a str,
+    text: &str,
+    words: &[&str],
     position: Position,
     place: SourceSpan,
 ) -> Result<Line, LineError>
+    requires { texts_of words.now ≡ words_of text.now }
     ensures says { IfOk result (Says place text.now) }
     ensures stands { IfOk result (StandsBelow position) }
     ensures refused { IfErr result (WhenRefused (SaysNothing position place text.now)) }
@@ -96,8 +96,7 @@ pub fn read_line<'a>(
     if text.is_empty() {
         return Ok(Line::Empty);
     }
-    take_words(words, text)?;
-    read_words(names, words.as_slice(), position, place)
+    read_words(names, words, position, place)
 }
 
 /// The words of a line that is not empty.

@@ -10,11 +10,11 @@ use graphql_nodes::source::SourceSpan;
 use std::alloc::{AllocError, Global};
 
 /// How many names are at hand at most: so few that they stay near in memory.
-const MOST_NAMES: usize = 1024;
+const MOST_NAMES: usize = 4096;
 
 /// A name that is at hand, with the hash of its text.
 struct Kept {
-    hash: u32,
+    hash: u64,
     name: Name,
     ghost is_name: { ¬ ¬ IsName name.text },
 }
@@ -103,16 +103,30 @@ fn new_name(alloc: Global, word: &str) -> Result<Name, LineError>
     Ok(Name::new_unchecked(alloc, word)?)
 }
 
-/// A hash of a word (FNV-1a).
-fn hash_of(word: &str) -> u32 {
-    let mut hash: u32 = 0x811c_9dc5;
-    for byte in word.as_bytes() {
-        hash = (hash ^ u32::from(*byte)).wrapping_mul(0x0100_0193);
+/// A hash of a word. Of a long one it takes the length, the first byte and the last four, by which names mostly differ.
+fn hash_of(word: &str) -> u64 {
+    let bytes = word.as_bytes();
+    let mut hash = bytes.len() as u64;
+    match bytes {
+        [first, .., a, b, c, d] => {
+            let last = u32::from_le_bytes([*a, *b, *c, *d]);
+            hash = mixed(hash, u64::from(*first) << 32 | u64::from(last));
+        }
+        _ => {
+            for byte in bytes {
+                hash = mixed(hash, u64::from(*byte));
+            }
+        }
     }
     hash
 }
 
+/// A hash with a number mixed in (Fibonacci hashing).
+fn mixed(hash: u64, number: u64) -> u64 {
+    (hash.rotate_left(5) ^ number).wrapping_mul(0x9e37_79b9_7f4a_7c15)
+}
+
 /// Where a word of this hash has its place among this many.
-fn index_of(hash: u32, count: usize) -> usize {
-    (u64::from(hash).wrapping_mul(count as u64) >> 32) as usize
+fn index_of(hash: u64, count: usize) -> usize {
+    ((hash >> 32).wrapping_mul(count as u64) >> 32) as usize
 }

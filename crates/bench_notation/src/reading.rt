@@ -1,15 +1,16 @@
 //! Reading a whole text of the notation.
-ghost use Rattle.std.specs.Prelude.{◌≡◌, All, IfErr, IfOk, OnOk};
+ghost use Rattle.std.specs.Prelude.{◌≡◌, All, IfErr, IfOk, OnOk, Some};
+ghost use Rattle.bench_notation.specs.Components.{header_alone};
 ghost use Rattle.bench_notation.specs.Documents.{AreDividedDocumentsOf, AreDocumentsOf, IsDividedReadError, IsLinesError, IsReadError, LeadTo};
-ghost use Rattle.bench_notation.specs.Line.{IsLine, lines_of, line_place};
+ghost use Rattle.bench_notation.specs.Line.{IsLine, lines_of, line_place, texts_of, words_of};
 ghost use Rattle.bench_notation.specs.Refusals.{SaysNothing, WhenRefused};
 
 use crate::above::{Above, Position};
 use crate::item::OpenItem;
-use crate::line::{Line, read_line};
+use crate::line::{Header, Line, read_line};
 use crate::names::Names;
 use crate::refusal::{LineError, ReadError, RefusedLine};
-use crate::words::first_piece;
+use crate::words::take_words;
 use graphql_ast::document::Document;
 use graphql_nodes::collections::items::Items;
 use graphql_nodes::source::{FileId, SourceSpan};
@@ -90,19 +91,20 @@ impl DocumentReader {
         }
     }
 
-    /// Takes one more line.
-    fn take_line<'a>(
+    /// Takes one more line, of these words.
+    fn take_line(
         &mut self,
         names: &mut Names,
-        words: &mut Vec<&'a str>,
-        text: &'a str,
+        text: &str,
+        words: &[&str],
         number: usize,
     ) -> Result<(), LineError>
+        requires { texts_of words.now ≡ words_of text.now }
         ensures taken { OnOk result (Takes text.now (line_place number) self.old self.new) }
         ensures refused { IfErr result (WhenRefused (SaysNothing (position_next self.old) (line_place number) text.now)) }
     {
         let place = line_place(number);
-        let line = read_line(names, words, text, self.position(), place)?;
+        let line = read_line(names, text, words, self.position(), place)?;
         Ok(self.add(names.alloc(), line, place)?)
     }
 
@@ -114,14 +116,24 @@ impl DocumentReader {
             Line::Empty => Ok(()),
             Line::Break => self.end_document(alloc),
             Line::Division => self.divide(alloc),
-            Line::Header(header) => {
-                self.end_item(alloc, Some(OpenItem::new(alloc, header, place)))
-            }
+            Line::Header(header) => self.begin_item(alloc, header, place),
             Line::Component(component) => match &mut self.item {
                 Some(item) => item.add(alloc, component, place),
                 None => Ok(()),
             },
         }
+    }
+
+    /// Ends the item that is being read, after which that of this header is read.
+    fn begin_item(
+        &mut self,
+        alloc: Global,
+        header: Header,
+        place: SourceSpan,
+    ) -> Result<(), AllocError>
+        ensures { OnOk result (self.new ≡ record (item_ended self.old) { item = Some (header_alone header place) }) }
+    {
+        self.end_item(alloc, Some(OpenItem::new(alloc, header, place)))
     }
 
     /// Ends the item that is being read, after which the next is read, if there is one.
@@ -180,9 +192,9 @@ fn take_lines<'a>(
     let mut number = 0;
     let mut left = Some(text);
     while let Some(rest) = left {
-        let (line, behind) = first_piece(rest, b'\n');
+        let (line, behind) = take_words(&mut words, rest)?;
         number += 1;
-        match reader.take_line(&mut names, &mut words, line, number) {
+        match reader.take_line(&mut names, line, words.as_slice(), number) {
             Ok(()) => {}
             Err(LineError::Refused(reason)) => {
                 return Err(ReadError::Refused(RefusedLine { number, reason }));

@@ -30,7 +30,7 @@ pub fn read_type(
     ensures refused { IfErr result (WhenRefused (IsNoType brackets word.now)) }
 {
     let (body, is_required) = body_of(word);
-    let Some(opened) = after(body, "[") else {
+    let Some(opened) = after(body, b'[') else {
         let name = names.read(body, place)?;
         return Ok(if is_required {
             Type::NonNullNamed(name)

@@ -1,6 +1,5 @@
 //! The lines of a text, the words of a line, and what a word begins or ends with.
-ghost use Rattle.std.specs.Prelude.{◌≡◌, ◌≢◌, ◌<◌, ◌≤◌, ◌==◌, ◌∷◌, ◌++◌, ℕ, List, length, IfOk, MatchOption, OnOk};
-ghost use Rattle.std.specs.List.{slice_split};
+ghost use Rattle.std.specs.Prelude.{◌≡◌, ◌≢◌, ◌<◌, ◌≤◌, ◌∷◌, ◌++◌, ℕ, List, length, IfOk, MatchOption};
 ghost use Rattle.bench_notation.specs.Line.{bytes_left, lines_of, pieces_left, texts_of, words_of};
 
 use std::alloc::{AllocError, Global};
@@ -11,52 +10,66 @@ pub fn lines_of(alloc: Global, text: &str) -> Result<Vec<&str>, AllocError>
     ensures { IfOk result (λ lines. texts_of lines.items ≡ lines_of text.now) }
 {
     let mut lines = Vec::new(alloc);
-    push_pieces(&mut lines, text, b'\n')?;
+    let mut left = Some(text);
+    while let Some(rest) = left {
+        let (line, behind) = first_line(rest);
+        lines.push(line)?;
+        left = behind;
+    }
     Ok(lines)
 }
 
-/// Takes the words of a line, which stand between its spaces, instead of those that were there. The error is want of memory.
-pub(crate) fn take_words<'a>(words: &mut Vec<&'a str>, line: &'a str) -> Result<(), AllocError>
-    ensures { OnOk result (texts_of words.new.items ≡ words_of line.now) }
-{
-    words.clear();
-    push_pieces(words, line, b' ')
-}
-
-/// Adds the pieces of a text that stand between the bytes of this value, which is an ASCII character.
-fn push_pieces<'a>(pieces: &mut Vec<&'a str>, text: &'a str, between: u8) -> Result<(), AllocError>
-    requires { between < 128 }
-    ensures { OnOk result (texts_of pieces.new.items ≡ texts_of pieces.old.items ++ slice_split (λ b. b == between) text.now) }
-{
-    let mut left = Some(text);
-    while let Some(rest) = left {
-        let (piece, behind) = first_piece(rest, between);
-        pieces.push(piece)?;
-        left = behind;
-    }
-    Ok(())
-}
-
-/// The first piece of a text, up to the first byte of this value, which is an ASCII character, and what stands behind that
-/// byte, if there is one.
-pub(crate) fn first_piece<'a>(text: &'a str, between: u8) -> (&'a str, Option<&'a str>)
-    requires { between < 128 }
-    ensures pieces { slice_split (λ b. b == between) text.now ≡ result.0.now ∷ pieces_left between result.1 }
+/// The first line of a text, and what stands behind its line feed, if it has one.
+fn first_line<'a>(text: &'a str) -> (&'a str, Option<&'a str>)
+    ensures lines { lines_of text.now ≡ result.0.now ∷ pieces_left 10 result.1 }
     ensures shorter { bytes_left result.1 ≤ length text.now }
 {
     for (at, byte) in text.as_bytes().iter().enumerate() {
-        if *byte == between {
+        if *byte == b'\n' {
             return (&text[..at], Some(&text[at + 1..]));
         }
     }
     (text, None)
 }
 
-/// What follows `prefix` in a text that begins with it, and none in any other.
-pub fn after<'a>(text: &'a str, prefix: &str) -> Option<&'a str>
-    ensures { MatchOption result ((rest : List ℕ) → text.now ≢ prefix.now ++ rest) (λ rest. text.now ≡ prefix.now ++ rest.now) }
+/// The first line of a text, and what stands behind its line feed, if it has one. Takes the words of that line, which stand
+/// between its spaces, instead of those that were there. The error is want of memory.
+pub(crate) fn take_words<'a>(
+    words: &mut Vec<&'a str>,
+    text: &'a str,
+) -> Result<(&'a str, Option<&'a str>), AllocError>
+    ensures lines { IfOk result (λ both. lines_of text.now ≡ both.0.now ∷ pieces_left 10 both.1) }
+    ensures words { IfOk result (λ both. texts_of words.new.items ≡ words_of both.0.now) }
+    ensures shorter { IfOk result (λ both. bytes_left both.1 ≤ length text.now) }
 {
-    text.strip_prefix(prefix)
+    words.clear();
+    let mut from = 0;
+    for (at, byte) in text.as_bytes().iter().enumerate() {
+        // A letter ends nothing: it is told by one look.
+        if *byte <= b' ' {
+            if *byte == b'\n' {
+                words.push(&text[from..at])?;
+                return Ok((&text[..at], Some(&text[at + 1..])));
+            }
+            if *byte == b' ' {
+                words.push(&text[from..at])?;
+                from = at + 1;
+            }
+        }
+    }
+    words.push(&text[from..])?;
+    Ok((text, None))
+}
+
+/// What follows a byte, which is an ASCII character, in a text that begins with it, and none in any other.
+pub(crate) fn after<'a>(text: &'a str, first: u8) -> Option<&'a str>
+    requires { first < 128 }
+    ensures { MatchOption result ((rest : List ℕ) → text.now ≢ first ∷ rest) (λ rest. text.now ≡ first ∷ rest.now) }
+{
+    match text.as_bytes() {
+        [byte, ..] if *byte == first => Some(&text[1..]),
+        _ => None,
+    }
 }
 
 /// What comes before `suffix` in a text that ends with it, and none in any other.

@@ -1,13 +1,13 @@
 -- A schema definition that a list means, and the one that what is written of it means.
-use Rattle.apollo_canonical.proofs.Words.Lists.{◌≡◌, ℕ, List, [], ◌∷◌, ◌++◌, None, Option, Some, map, find, flat_map, length, option_map, slice_get, refl, sym, ap, ◌∙◌, ◌==◌, length-map, map-map, AllByRecursion, IsDistinct, IsPermutation}
+use Rattle.apollo_canonical.proofs.Words.Lists.{one-element-permutation, ◌≡◌, ℕ, List, [], ◌∷◌, ◌++◌, None, Option, Some, map, find, flat_map, length, option_map, slice_get, refl, sym, ap, ◌∙◌, ◌==◌, length-map, map-map, AllByRecursion, IsDistinct, IsPermutation, find-first, find-made}
 use Rattle.apollo_canonical.proofs.Words.Syntax.{bare_name, NodeView, OperationType, Query, Mutation, Subscription, bare_directive, DefinitionParts, Directive}
 use Rattle.apollo_canonical.proofs.Words.Types.{bare_component, bare_component_name, extension_location, by_origin, identities, of_extensions, of_origin, origins_in, Component, ComponentName, ComponentOrigin, Definition, Extension, ExtensionId, PartsByOrigin, bare_schema_definition, root_node, schema_components, root_of, SchemaDefinition}
 use Rattle.apollo_canonical.proofs.Words.Meaning.{Root, SchemaPart, root_in, roots_of, same_operation, schema_definition_of, schema_directives_of, schema_extension_source, component, component_name}
 use Rattle.apollo_canonical.proofs.Words.Written.{Sections, in_sections, joined, with_origins, no_components, node_with_origin, placed}
-use Rattle.apollo_canonical.proofs.Lists.{in_order, find-first, find-made, map-flat_map, option_map-twice}
+use Rattle.apollo_canonical.proofs.Lists.{in_order, map-flat_map, option_map-twice}
 use Rattle.apollo_canonical.proofs.Sections.{kept, origins-split, roots-there, HasOrigins, directives-in_order}
 use Rattle.apollo_canonical.proofs.Types.{same-placed, directives_alone, numbered-distinct, numbered-written, numbered_parts, paired, paired-self, renumbered, renumbered-distinct, renumbered-placed, directives-numbered, shown-joined, shown-made, shown_in, IsMadeBy}
-use Rattle.apollo_canonical.proofs.Definitions.SchemaSections.{IsSchemaRow, entries, is_op, roots-origin, roots_for, schema-components, schema-in_order, schema-row, schema_sections, schema_sorts, alone-permuted, filter-joined, from-values, in_operation_order, none-permuted, schema-parts_again}
+use Rattle.apollo_canonical.proofs.Definitions.SchemaSections.{IsSchemaRow, entries, is_op, roots-origin, roots_for, schema-components, schema-in_order, schema-row, schema_sections, schema_sorts, filter-joined, from-values, in_operation_order, schema-parts_again}
 
 -- an extension's identity with what is written of it
 abbrev pub extension_written : SchemaDefinition → ExtensionId → ExtensionId × DefinitionParts
@@ -75,8 +75,8 @@ directives-in_parts head es =
     shown-made node_with_origin component (λ o a. refl) (λ (s : SchemaPart). s.directives) ((Definition, head) ∷ map schema_extension_source es) ∙ directives-numbered (λ p. p.location) (λ p. p.directives) head es
 
 perm-entries : (op : OperationType) (n : Option ComponentName) (ys : List Root) → IsPermutation (map (λ x. x.1) (entries op n)) ys → ys ≡ map (λ x. x.1) (entries op n)
-perm-entries op None ys p = none-permuted ys p
-perm-entries op (Some n) ys p = alone-permuted (root_node (op, n)) ys p
+perm-entries op None ys p = sym (one-element-permutation [] [] ys p tt)
+perm-entries op (Some n) ys p = sym (one-element-permutation (root_node (op, n) ∷ []) (root_node (op, n) ∷ []) ys p (refl, tt))
 
 -- the root that stands for an entry
 abbrev named_entry : ComponentOrigin × Root → OperationType × ComponentName

@@ -1,12 +1,12 @@
 -- The schema definition that a list means: written in it, or implied.
-use Rattle.apollo_canonical.proofs.Words.Lists.{◌≡◌, ℕ, Bool, true, false, cond, List, [], ◌∷◌, ◌++◌, None, Some, map, find, flat_map, option_map, slice_get, refl, sym, ap, subst, ◌∙◌, ◌==◌, append-nil, filter_map-append, map-map, AllByRecursion, IsDistinct, filter_map, option_map_or, option_or, unwrap_or, ◌≢◌}
+use Rattle.apollo_canonical.proofs.Words.Lists.{◌≡◌, ℕ, Bool, true, false, cond, List, [], ◌∷◌, ◌++◌, None, Some, map, find, flat_map, option_map, slice_get, refl, sym, ap, subst, ◌∙◌, ◌==◌, append-nil, filter_map-append, map-map, AllByRecursion, IsDistinct, filter_map, option_map_or, option_or, unwrap_or, ◌≢◌, option_cases}
 use Rattle.apollo_canonical.proofs.Words.Syntax.{NodeView, OperationType, Query}
 use Rattle.apollo_canonical.proofs.Words.Types.{has_own_root, root_of, SchemaDefinition, ComponentName}
 use Rattle.apollo_canonical.proofs.Words.Meaning.{adopted, adopted_by, extended_names, orphans_of, with_adopted, implicit_roots, implied_schema, schema_for, schema_of_roots, ListItem, SchemaDefined, added_items, defined_schema, extended_schema, first_schema}
 use Rattle.apollo_canonical.proofs.Words.Meaning.{schema_extensions, Root, SchemaPart, TypePart, roots_in, folding_order, SourcedSchema, no_schema, roots_of, same_operation, schema_extension_source, schema_from, schema_of, schema_parts, whole, Schema}
 use Rattle.apollo_canonical.proofs.Words.Written.{MeaningLaws, IsMeantByList, with_built_ins}
 use Rattle.apollo_component.specs.declared.extension.ComponentOrigin.TheVariants as origins
-use Rattle.apollo_canonical.proofs.Lists.{both-empty, map-empty, option_cases}
+use Rattle.apollo_canonical.proofs.Lists.{both-empty, map-empty}
 use Rattle.apollo_canonical.proofs.Items.{no-schema_definitions, adopted-split, items, rooted}
 use Rattle.apollo_canonical.proofs.Types.{rising-distinct, schema_numbers, schema_numbers-rise, IsMadeBy}
 use Rattle.apollo_canonical.proofs.Definitions.OneSchema.{made_schema, written_parts_of}

@@ -1,5 +1,5 @@
 -- The components of a schema definition, whose roots stand in the order of the operation types, and the definition that written parts make again.
-use Rattle.apollo_canonical.proofs.Words.Lists.{◌≡◌, Bool, true, false, cond, List, [], ◌∷◌, ◌++◌, None, Option, Some, map, filter, flat_map, option_map, refl, sym, ap, ◌∙◌, length, slice_get, arith, append-nil, nil_from_length, filter-append, All-from_recursion, recursion_from_All, cons_option, list_any, AllByRecursion, IsDistinct, map-map, All-permutation, length_permutation, unwrap_or, IsPermutation, filter-map}
+use Rattle.apollo_canonical.proofs.Words.Lists.{◌≡◌, Bool, true, false, cond, List, [], ◌∷◌, ◌++◌, None, Option, Some, map, filter, flat_map, option_map, refl, sym, ap, ◌∙◌, slice_get, append-nil, filter-append, cons_option, list_any, AllByRecursion, IsDistinct, map-map, unwrap_or, filter-map}
 use Rattle.apollo_canonical.proofs.Words.Syntax.{OperationType, Query, Mutation, Subscription, DefinitionParts}
 use Rattle.apollo_canonical.proofs.Words.Types.{same_id, same_origin, of_origin, of_extensions, SourcedPart, by_origin, ComponentName, ComponentOrigin, Extension, Definition, ExtensionId, of_root, root_node, schema_components, root_of, SchemaDefinition, PartsByOrigin}
 use Rattle.apollo_canonical.proofs.Words.Meaning.{Root, same_operation, component_name}
@@ -170,18 +170,6 @@ from-values op (x ∷ []) (Some n) h =
     let e : x.1 ≡ root_node (op, n) = ap (λ l. unwrap_or (slice_get l 0) x.1) h in
     (ap (λ (y : Root). (x.0, root_node (op, component_name x.0 y.value.1)) ∷ []) e ∙ sym (ap (λ (y : Root). (x.0, y) ∷ []) e), ap (λ (y : Root). Some y.value.1) e)
 from-values op (x ∷ y ∷ xs) (Some n) h = absurd (let g : x.1 ∷ y.1 ∷ map (λ x. x.1) xs ≡ root_node (op, n) ∷ [] = h in cc)
-
--- at most one thing has one order
-pub alone-permuted : {X : Type 0} (x : X) (ys : List X) → IsPermutation (x ∷ []) ys → ys ≡ x ∷ []
-alone-permuted {X} x ys p = by ys (length_permutation (x ∷ []) ys p) (recursion_from_All (λ y. y ≡ x) ys (All-permutation (λ y. y ≡ x) (x ∷ []) ys p (All-from_recursion (λ y. y ≡ x) (x ∷ []) (refl, tt))))
-  where
-    by : (zs : List X) → length zs ≡ 1 → AllByRecursion (λ y. y ≡ x) zs → zs ≡ x ∷ []
-    by [] h a = absurd (omega (arith, h))
-    by (z ∷ []) h a = ap (λ y. y ∷ []) a.0
-    by (z ∷ w ∷ zs) h a = absurd (omega (arith, h))
-
-pub none-permuted : {X : Type 0} (ys : List X) → IsPermutation [] ys → ys ≡ []
-none-permuted ys p = nil_from_length ys (length_permutation [] ys p)
 
 pub filter-joined : {A : Type 0} (q : A → Bool) (sort : DefinitionParts → List A) (gs : List (ComponentOrigin × DefinitionParts)) → filter (λ x. q x.1) (joined sort gs) ≡ joined (λ d. filter q (sort d)) gs
 filter-joined q sort [] = refl

@@ -1,12 +1,12 @@
 -- What a type is written out as is without fault: its components differ, and its extensions have its name and kind.
-use Rattle.apollo_canonical.proofs.Words.Lists.{◌≡◌, Bool, true, false, cond, ◌||◌, List, [], ◌∷◌, ◌++◌, Some, map, map-id, filter, flat_map, refl, sym, ap, subst, ◌∙◌, append_assoc, append-nil, map-append, flat_map-append, IsEquivalence, AllByRecursion, IsDistinct, list_any, option_map_or, each-weaken, filter_map-made, map-map}
+use Rattle.apollo_canonical.proofs.Words.Lists.{◌≡◌, Bool, true, false, cond, ◌||◌, List, [], ◌∷◌, ◌++◌, Some, map, map-id, filter, flat_map, refl, sym, ap, subst, ◌∙◌, append_assoc, append-nil, map-append, flat_map-append, IsEquivalence, AllByRecursion, IsDistinct, list_any, option_map_or, each-weaken, filter_map-made, map-map, find-none, filter-all}
 use Rattle.apollo_canonical.proofs.Words.Syntax.{NameView, same, same_text, TypeKind, same-is}
 use Rattle.apollo_canonical.proofs.Words.Types.{each_after, name_laws}
 use Rattle.apollo_canonical.proofs.Words.Meaning.{Defined, Extended, extended_part, extensions_of, first, of_kind, TypePart, TypeBody, ScalarBody, ObjectBody, InterfaceBody, UnionBody, EnumBody, InputObjectBody, key_of, kind_of, same_kind, body_interfaces, body_members, body_fields, body_values, body_input_fields}
 use Rattle.apollo_canonical.proofs.Words.Faults.{Entry, collision, collision_at, collisions, interface_names, member_names, field_names, value_names, input_field_names, name_entries, body_faults, part_faults, joining_fault, kind_mismatch, found_at}
 use Rattle.apollo_meaning.specs.declared.collision.Collection.{Collection}
 use Rattle.apollo_meaning.specs.declared.collision.Collection.TheVariants as c
-use Rattle.apollo_canonical.proofs.Lists.{each-split, filter-all, find-none}
+use Rattle.apollo_canonical.proofs.Lists.{each-split}
 
 -- an element of a list of which no two are the same is the same as none before it
 pub new-after : {X : Type 0} (same : X → X → Bool) → IsEquivalence same → (xs : List X) (y : X) (ys : List X) → IsDistinct same (xs ++ y ∷ ys) → list_any (same y) xs ≡ false

@@ -1,7 +1,7 @@
 -- The first of each: among joined lists, in the order in which tests take their elements, and of groups by their keys.
-use Rattle.apollo_canonical.proofs.Words.Lists.{◌≡◌, Bool, true, false, cond, not, ◌&&◌, List, [], ◌∷◌, ◌++◌, map, map-id, filter, refl, sym, ap, subst, ◌∙◌, arith, not-true, filter-append, map-map, IsEquivalence, AllByRecursion, IsDistinct, flat_map, list_any, each-filter, each-weaken, filter-fails, filter-map, true≢false, and_parts, map-append, list_any-append, filter-each, find, Some, is_some}
+use Rattle.apollo_canonical.proofs.Words.Lists.{◌≡◌, Bool, true, false, cond, not, ◌&&◌, List, [], ◌∷◌, ◌++◌, map, map-id, filter, refl, sym, ap, subst, ◌∙◌, arith, not-true, filter-append, map-map, IsEquivalence, AllByRecursion, IsDistinct, flat_map, list_any, each-filter, each-weaken, filter-fails, filter-map, true≢false, and_parts, map-append, list_any-append, filter-each, find, Some, is_some, filter-all}
 use Rattle.apollo_canonical.proofs.Words.Types.{first_of_each, first_of_each-distinct, found-any}
-use Rattle.apollo_canonical.proofs.Lists.Kept.{filter-filter, filter-all, each-of, passes, all-first, filter-flat_map, each-both, each-from_map}
+use Rattle.apollo_canonical.proofs.Lists.Kept.{filter-filter, each-of, passes, all-first, filter-flat_map, each-both, each-from_map}
 
 -- whether no element that fails comes before one that passes
 abbrev pub leads : List Bool → Bool

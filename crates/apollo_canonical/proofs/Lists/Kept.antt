@@ -1,24 +1,11 @@
--- Cases, and lists: what tests keep, what is found, and groups of elements by keys that differ.
-use Rattle.apollo_canonical.proofs.Words.Lists.{◌≡◌, Bool, true, false, cond, ◌&&◌, List, [], ◌∷◌, ◌++◌, None, Option, Some, is_some, map, option_map, filter, find, slice_get, refl, sym, ap, ◌∙◌, arith, not, subst, true≢false, ◌+◌, ◌≤◌, length, flat_map, length-append, map-append, filter-append, filter_passes, recursion_from_All, All-from_recursion, filter_agree}
-use Rattle.apollo_canonical.proofs.Words.Lists.{AllByRecursion, filter_map, list_any, IsDistinct, IfSome, filter-each, filter-fails, each-weaken, each-filter, flat_map-each, all-kept, All-permutation, list_any-IsPermutation, IsPermutation-refl, IsPermutation-trans, IsPermutation-append_right, IsPermutation-filter_both, IsEquivalence, IsPermutation}
+-- Lists: what tests keep, what is found, and groups of elements by keys that differ.
+use Rattle.apollo_canonical.proofs.Words.Lists.{◌≡◌, Bool, true, false, cond, ◌&&◌, List, [], ◌∷◌, ◌++◌, None, Option, Some, map, option_map, filter, find, refl, sym, ap, ◌∙◌, arith, not, subst, true≢false, ◌+◌, ◌≤◌, length, flat_map, length-append, map-append, filter-append, filter_passes, recursion_from_All, filter_agree, each-permutation, find-none, filter-all}
+use Rattle.apollo_canonical.proofs.Words.Lists.{AllByRecursion, filter_map, list_any, IsDistinct, IfSome, filter-fails, each-weaken, each-filter, flat_map-each, list_any-IsPermutation, IsPermutation-refl, IsPermutation-trans, IsPermutation-append_right, IsPermutation-filter_both, IsEquivalence, IsPermutation}
 use Rattle.apollo_canonical.proofs.Words.Types.{first_of_each}
-
--- by cases, with the equation of each
-pub option_cases : {X G : Type 0} (o : Option X) → (o ≡ None → G) → ((x : X) → o ≡ Some x → G) → G
-option_cases None none some = none refl
-option_cases (Some x) none some = some x refl
-
-pub bool_cases : {G : Type 0} (b : Bool) → (b ≡ true → G) → (b ≡ false → G) → G
-bool_cases true holds fails = holds refl
-bool_cases false holds fails = fails refl
 
 pub filter-filter : {X : Type 0} (p q : X → Bool) (xs : List X) → filter p (filter q xs) ≡ filter (λ x. q x && p x) xs
 filter-filter p q [] = refl
 filter-filter p q (x ∷ xs) = grind (arith, filter-filter p q xs)
-
--- a test that nothing fails keeps all
-pub filter-all : {X : Type 0} (p : X → Bool) (xs : List X) → AllByRecursion (λ x. p x ≡ true) xs → filter p xs ≡ xs
-filter-all p xs a = filter-each (λ x. p x ≡ true) p (λ _. true) (λ x e. e) xs a ∙ sym (all-kept xs)
 
 -- a test that answers the same at all keeps all or none
 pub filter-alike : {X : Type 0} (p : X → Bool) (b : Bool) (xs : List X) → AllByRecursion (λ x. p x ≡ b) xs → filter p xs ≡ cond b xs []
@@ -75,21 +62,11 @@ pub filter_map-none : {X Y : Type 0} (xs : List X) → filter_map {Y = Y} (λ x.
 filter_map-none [] = refl
 filter_map-none {X} {Y} (x ∷ xs) = filter_map-none {Y = Y} xs
 
--- and one that takes nothing of what is made
-pub filter_map-unmade : {X Y Z : Type 0} (which : X → Option Y) (make : Z → X) → ((z : Z) → which (make z) ≡ None) → (zs : List Z) → filter_map which (map make zs) ≡ []
-filter_map-unmade which make none [] = refl
-filter_map-unmade which make none (z ∷ zs) = rw (none z) (filter_map-unmade which make none zs)
-
 -- what a test keeps passes it
 pub passes : {X : Type 0} (p : X → Bool) (xs : List X) → AllByRecursion (λ x. p x ≡ true) (filter p xs)
 passes p xs = recursion_from_All (λ x. p x ≡ true) (filter p xs) (filter_passes p xs)
 
--- where nothing passes nothing is found
-pub find-none : {X : Type 0} (p : X → Bool) (xs : List X) → list_any p xs ≡ false → find p xs ≡ None
-find-none p [] h = refl
-find-none p (x ∷ xs) h = grind (arith, find-none p xs)
-
--- what holds of all holds of what is found, and what is found passes
+-- what holds of all holds of what is found
 pub if-found : {X : Type 0} (P : X → Type 0) (p : X → Bool) (xs : List X) → AllByRecursion P xs → IfSome (find p xs) P
 if-found P p [] a = tt
 if-found P p (x ∷ xs) a = elim (p x) as (λ b. IfSome (cond b (Some x) (find p xs)) P) [ true ↦ a.0 | false ↦ if-found P p xs a.1 ]
@@ -97,25 +74,9 @@ if-found P p (x ∷ xs) a = elim (p x) as (λ b. IfSome (cond b (Some x) (find p
 pub found-holds : {X : Type 0} (P : X → Type 0) (p : X → Bool) (xs : List X) (y : X) → AllByRecursion P xs → find p xs ≡ Some y → P y
 found-holds P p xs y a e = rw e at (if-found P p xs a)
 
-pub found-passes : {X : Type 0} (p : X → Bool) (xs : List X) (y : X) → find p xs ≡ Some y → p y ≡ true
-found-passes p [] y e = absurd (grind (arith, e))
-found-passes p (x ∷ xs) y e = grind (arith, found-passes p xs y)
-
-pub find-made : {X Y : Type 0} (q : Y → Bool) (f : X → Y) (xs : List X) → find q (map f xs) ≡ option_map f (find (λ x. q (f x)) xs)
-find-made q f [] = refl
-find-made q f (x ∷ xs) = grind (arith, find-made q f xs)
-
-pub find-first : {X : Type 0} (q : X → Bool) (xs : List X) → find q xs ≡ slice_get (filter q xs) 0
-find-first q [] = refl
-find-first q (x ∷ xs) = grind (arith, find-first q xs)
-
 pub option_map-twice : {X Y Z : Type 0} (g : Y → Z) (f : X → Y) (o : Option X) → option_map g (option_map f o) ≡ option_map (λ x. g (f x)) o
 option_map-twice g f None = refl
 option_map-twice g f (Some x) = refl
-
-pub is_some-map : {X Y : Type 0} (f : X → Y) (o : Option X) → is_some (option_map f o) ≡ is_some o
-is_some-map f None = refl
-is_some-map f (Some x) = refl
 
 -- lists that are empty when something is made of each element, and when joined
 pub map-empty : {X Y : Type 0} (f : X → Y) (xs : List X) → map f xs ≡ [] → xs ≡ []
@@ -151,7 +112,7 @@ module _ {K X : Type 0} (same : K → K → Bool) (laws : IsEquivalence same) (k
 
   pub found-permuted : (xs ys : List X) → IsPermutation xs ys → IsDistinct same (map key xs) → find has ys ≡ find has xs
   found-permuted xs ys p d =
-      go ys (recursion_from_All Own ys (All-permutation Own xs ys p (All-from_recursion Own xs (own-found xs d)))) (sym (list_any-IsPermutation has xs ys p))
+      go ys (each-permutation Own xs ys p (own-found xs d)) (sym (list_any-IsPermutation has xs ys p))
     where
       Own : X → Type 0
       Own x = has x ≡ true → find has xs ≡ Some x

@@ -1,5 +1,5 @@
 -- Every schema's write-out means an equal schema, with the same write-out, and there is one that it means.
-use Rattle.apollo_canonical.proofs.Words.Lists.{◌≡◌, ℕ, Bool, true, cond, List, [], ◌++◌, drop, filter, flat_map, option_map, sym, ap, subst, ◌∙◌, ◌∷◌, Option, Some, map, refl, append-nil, filter_map-append, map-map, unwrap_or, arith}
+use Rattle.apollo_canonical.proofs.Words.Lists.{◌≡◌, ℕ, Bool, true, cond, List, [], ◌++◌, drop, filter, flat_map, option_map, sym, ap, subst, ◌∙◌, ◌∷◌, Option, Some, map, refl, append-nil, filter_map-append, map-map, unwrap_or, arith, option_cases}
 use Rattle.apollo_canonical.proofs.Words.Syntax.{is_built_in, NodeView, by_text, keys_of, lookup, values_of, bare_directive_definition, NameView, same-true}
 use Rattle.apollo_canonical.proofs.Words.Types.{name_laws, entries_from_lookups, bare_schema_definition, write_schema_definition, ExtendedType, SchemaDefinition}
 use Rattle.apollo_canonical.proofs.Words.Meaning.{completed, implied_schema, directive_definitions, directive_part, is_handed_in, directive_names, directive_of, ListItem, added, added_items, folding_order, whole, AreOf, MeansSchema, write_directives, write_held_schema_definition, write_held_type, write_schema, Schema, first, parts, type_from, type_of}
@@ -14,7 +14,6 @@ use Rattle.apollo_canonical.proofs.Rebuild.DirectivesAgain.{directives-again, un
 use Rattle.apollo_canonical.proofs.Rebuild.WrittenList.{directives-listed, list-directives, written_list, Y, Z, ends, others, quiet, implied-directives, quiet-implied, with-adopted}
 use Rattle.apollo_canonical.proofs.Rebuild.SameSchema.{same-schema}
 use Rattle.apollo_canonical.proofs.Rebuild.Faultless.{faults-none}
-use Rattle.apollo_canonical.proofs.Lists.{option_cases}
 
 -- the items of a list with a schema's write-out
 pub items-listed : (c : Bool) (schema : Schema)

@@ -1,11 +1,11 @@
 -- The directive definitions of a list with a write-out are those that were written out.
-use Rattle.apollo_canonical.proofs.Words.Lists.{◌≡◌, ℕ, Bool, true, false, cond, not, ◌&&◌, List, [], ◌∷◌, ◌++◌, None, Option, Some, map, filter, find, option_map, refl, sym, ap, subst, ◌∙◌, arith, not-true, append-nil, map-append, filter-append, filter_map-append, find-append, AllByRecursion, IsDistinct, last_or, list_any, option_or, unwrap_or, each-filter, each-weaken}
+use Rattle.apollo_canonical.proofs.Words.Lists.{◌≡◌, ℕ, Bool, true, false, cond, not, ◌&&◌, List, [], ◌∷◌, ◌++◌, None, Option, Some, map, filter, find, option_map, refl, sym, ap, subst, ◌∙◌, arith, not-true, append-nil, map-append, filter-append, filter_map-append, find-append, AllByRecursion, IsDistinct, last_or, list_any, option_or, unwrap_or, each-filter, each-weaken, option_cases, found-passes, find-made, find-none}
 use Rattle.apollo_canonical.proofs.Words.Syntax.{NameView, NodeView, by_text, same, same_text, HasUniqueKeys, keys_of, lookup, values_of, same-true, DirectiveDefinition, built_in_definitions}
 use Rattle.apollo_canonical.proofs.Words.Types.{first_of_each, first_of_each-distinct, first_of_each-map, name_laws}
 use Rattle.apollo_canonical.proofs.Words.Meaning.{AreDirectivesOf, Directives, directive_definitions, directive_names, directive_of, directive_part, has_text, is_handed_in, ListItem, Other, whole, Schema}
 use Rattle.apollo_canonical.proofs.Words.Written.{IsMeantByList, with_built_ins}
 use Rattle.graphql_ast.specs.declared.definition.Definition.TheVariants as ast
-use Rattle.apollo_canonical.proofs.Lists.{first_of_each-again, new_to-same, new_to_these, each-both, each-from_map, find-made, find-none, found-holds, found-passes, passes, option_cases, each-found}
+use Rattle.apollo_canonical.proofs.Lists.{first_of_each-again, new_to-same, new_to_these, each-both, each-from_map, found-holds, passes, each-found}
 use Rattle.apollo_canonical.proofs.Items.{built_ins, IsHandedIn, handed, handed-later, later_items, whole-split, each-entry, lookup-absent}
 
 abbrev pub built_in_directives : Directives

@@ -1,5 +1,5 @@
 -- A list with a write-out is without fault.
-use Rattle.apollo_canonical.proofs.Words.Lists.{◌≡◌, List, [], ◌∷◌, ◌++◌, None, Option, Some, slice_get, map, refl, sym, ap, subst, ◌∙◌, append_assoc, append-nil, map-append, flat_map-append, flat_map-map, IsDistinct-IsPermutation, IsEquivalence, IsDistinct, option_map_or, filter_map-made, ℕ, Bool, true, false, cond, ◌&&◌, filter, find, flat_map, arith, filter_map-append, find-append, map-map, AllByRecursion, list_any, option_or}
+use Rattle.apollo_canonical.proofs.Words.Lists.{◌≡◌, List, [], ◌∷◌, ◌++◌, None, Option, Some, slice_get, map, refl, sym, ap, subst, ◌∙◌, append_assoc, append-nil, map-append, flat_map-append, flat_map-map, IsDistinct-IsPermutation, IsEquivalence, IsDistinct, option_map_or, filter_map-made, ℕ, Bool, true, false, cond, ◌&&◌, filter, find, flat_map, arith, filter_map-append, find-append, map-map, AllByRecursion, list_any, option_or, option_cases, find-none, filter_map-unmade}
 use Rattle.apollo_canonical.proofs.Words.Syntax.{operation_text, Query, Mutation, Subscription, NameView, NodeView, by_text, same, same_text, HasUniqueKeys, keys_of, lookup, values_of, same-true, DirectiveDefinition, built_in_definitions}
 use Rattle.apollo_canonical.proofs.Words.Types.{each_after, by_origin, ComponentName, SchemaDefinition, is_written, ExtendedType, name_laws}
 use Rattle.apollo_canonical.proofs.Words.Meaning.{SchemaDefined, SchemaExtended, defined_schema, extended_schema, first_schema, schema_extensions, Root, SchemaPart, roots_in, extended_names, orphans_of, schema_orphans, adopting_schema, implicit_roots, implied_schema, schema_of_roots, Directives, directive_definitions, directive_part, has_text, is_handed_in, Defined, Extended, ListItem, Other, whole, Schema}
@@ -8,7 +8,7 @@ use Rattle.apollo_canonical.proofs.Words.Written.{joined, with_origins, MeaningL
 use Rattle.graphql_ast.specs.declared.definition.Definition.TheVariants as ast
 use Rattle.apollo_component.proofs.Lists.EachAfter.{each_after-append}
 use Rattle.apollo_meaning.specs.declared.build_error.BuildError.TheVariants as errors
-use Rattle.apollo_canonical.proofs.Lists.{find-none, distinct-filter, option_cases, filter_map-unmade, flat_map-none}
+use Rattle.apollo_canonical.proofs.Lists.{distinct-filter, flat_map-none}
 use Rattle.apollo_canonical.proofs.Sections.{joined-values, written-keeps}
 use Rattle.apollo_canonical.proofs.Items.{distinct-front, new-after, Name, Others, TheSchema, Topic, about, directives-about, faultless-by_topic, built_ins, HaveEachNameOnce, type-faultless, none-added, none-made}
 use Rattle.apollo_canonical.proofs.Types.{once-in_parts, written_parts, once, definition_part, extension_of, written}

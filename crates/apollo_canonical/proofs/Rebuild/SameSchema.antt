@@ -1,10 +1,10 @@
 -- The schema definition that a list with a write-out means is the one that was written out.
-use Rattle.apollo_canonical.proofs.Words.Lists.{◌≡◌, ℕ, Bool, true, false, cond, List, [], ◌∷◌, ◌++◌, None, Option, Some, map, find, flat_map, option_map, refl, sym, ap, subst, ◌∙◌, ◌==◌, true≢false, arith, append-nil, filter_map-append, IsDistinct, filter_map, option_or}
+use Rattle.apollo_canonical.proofs.Words.Lists.{◌≡◌, ℕ, Bool, true, false, cond, List, [], ◌∷◌, ◌++◌, None, Option, Some, map, find, flat_map, option_map, refl, sym, ap, subst, ◌∙◌, ◌==◌, true≢false, arith, append-nil, filter_map-append, IsDistinct, filter_map, option_or, bool_cases}
 use Rattle.apollo_canonical.proofs.Words.Syntax.{NameView, NodeView, default_type_text, by_text, lookup, OperationType, Query, Mutation, Subscription, SourceSpan}
 use Rattle.apollo_canonical.proofs.Words.Types.{ComponentName, BareType, bare_extended_type, bare_schema_definition, has_own_root, implied_name, is_implied, is_some_object, is_written, write_schema_definition, root_of, is_object, ExtendedType, Scalar, SchemaDefinition}
 use Rattle.apollo_canonical.proofs.Words.Meaning.{adopting_schema, implicit_roots, schema_of_roots, ListItem, SchemaDefined, extended_schema, first_schema, schema_extensions, Root, SchemaPart, roots_in, folding_order, roots_of, same_operation, schema_extension_source, AreTypesOf, Schema}
 use Rattle.apollo_canonical.proofs.Words.Written.{MeaningLaws, IsMeantByList}
-use Rattle.apollo_canonical.proofs.Lists.{map-empty, bool_cases}
+use Rattle.apollo_canonical.proofs.Lists.{map-empty}
 use Rattle.apollo_canonical.proofs.Types.{rising-distinct, schema_numbers, schema_numbers-rise}
 use Rattle.apollo_canonical.proofs.Definitions.{has_one, implied-unwritten, left-out, left-out-equal, left-out-written, IsSchemaAgain, IsWrittenHead, equal-again, extension_written, made_schema, schema-again, schema_extension_of, written_parts_of, IsMeantSchema, first_schema-append, meant-schema, node-of, schema_node, schema_numbers-parts, SameImplied, no-own, written-alike, operations-named}
 use Rattle.apollo_canonical.proofs.Rebuild.TypesAgain.{same-seen}

@@ -1,10 +1,10 @@
 -- The types of a list with a write-out are the types that were written out.
-use Rattle.apollo_canonical.proofs.Words.Lists.{◌≡◌, ℕ, Bool, true, false, cond, List, [], ◌∷◌, ◌++◌, None, Option, Some, is_some, map, filter, flat_map, option_map, refl, sym, ap, subst, ◌∙◌, append-nil, filter-append, map-map, AllByRecursion, IsDistinct, filter_map, list_any, option_map_or, option_or, unwrap_or, each-weaken}
+use Rattle.apollo_canonical.proofs.Words.Lists.{◌≡◌, ℕ, Bool, true, false, cond, List, [], ◌∷◌, ◌++◌, None, Option, Some, is_some, map, filter, flat_map, option_map, refl, sym, ap, subst, ◌∙◌, append-nil, filter-append, map-map, AllByRecursion, IsDistinct, filter_map, list_any, option_map_or, option_or, unwrap_or, each-weaken, option_cases, filter-all}
 use Rattle.apollo_canonical.proofs.Words.Syntax.{is_built_in, entries_by_text, NameView, same, same_text, by_text, HasUniqueKeys, keys_of, values_of, lookup, DefinitionParts}
 use Rattle.apollo_canonical.proofs.Words.Types.{first_of_each, ExtensionId, bare_extended_type, type_location, type_name, ExtendedType, name_laws, first_of_each-distinct}
 use Rattle.apollo_canonical.proofs.Words.Meaning.{ListItem, Defined, Extended, defined_part, extended_part, first, extensions_of, of_kind, TypePart, kind_of, folding_order, whole, Sourced, AreTypesOf, extension_part, type_names, type_from, parts, Schema}
 use Rattle.apollo_canonical.proofs.Words.Written.{MeaningLaws, IsMeantByList, with_built_ins}
-use Rattle.apollo_canonical.proofs.Lists.{first_of_each-again, new_to_these, each-both, each-from_map, filter-all, passes, option_cases}
+use Rattle.apollo_canonical.proofs.Lists.{first_of_each-again, new_to_these, each-both, each-from_map, passes}
 use Rattle.apollo_canonical.proofs.Items.{Name, about, is_about, first-about, extensions-about, built_ins, built_in_names, about-built_ins, first-built_in, first-unmarked, handed, later_items, whole-split, each-entry, values-by_keys, defined_names, defined_names-append, names-of_first, among-defined, first-key, Fits, fits-of_kind}
 use Rattle.apollo_canonical.proofs.Types.{numbers_of, numbers-rise, rising-distinct, IsAgain, made, rebuilt, definition-own, written, definition_part, extension_of, kind-body, held_items, extension_items, about-types, defines-types, IsMadeBy}
 

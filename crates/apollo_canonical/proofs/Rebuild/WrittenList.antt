@@ -1,5 +1,5 @@
 -- The list with a write-out, item by item, and what it is completed with.
-use Rattle.apollo_canonical.proofs.Words.Lists.{◌≡◌, Bool, true, false, cond, List, [], ◌∷◌, ◌++◌, None, Option, Some, map, filter, flat_map, slice_get, refl, sym, ap, subst, ◌∙◌, append-nil, filter-append, filter_map-append, AllByRecursion, filter_map, each-append, each-weaken, filter-fails, ℕ, option_map_or, option_or, or-none, map-map, filter_map-made}
+use Rattle.apollo_canonical.proofs.Words.Lists.{◌≡◌, Bool, true, false, cond, List, [], ◌∷◌, ◌++◌, None, Option, Some, map, filter, flat_map, slice_get, refl, sym, ap, subst, ◌∙◌, append-nil, filter-append, filter_map-append, AllByRecursion, filter_map, each-append, each-weaken, filter-fails, ℕ, option_map_or, option_or, or-none, map-map, filter_map-made, option_cases, filter-all, filter_map-unmade}
 use Rattle.apollo_canonical.proofs.Words.Syntax.{is_built_in, NameView, SourceSpan, schema_definition, schema_extension, DefinitionParts, built_in_definitions, NodeView, default_type_text, by_text, lookup, values_of, OperationType, Query, Mutation, Subscription}
 use Rattle.apollo_canonical.proofs.Words.Types.{extension_location, ExtensionId, is_written, write_schema_definition, type_location, ExtendedType, SchemaDefinition, is_some_object, is_object, type_kind, Scalar}
 use Rattle.apollo_canonical.proofs.Words.Meaning.{Directives, directive_definitions, is_handed_in, Defined, Extended, ListItem, Other, SchemaDefined, SchemaExtended, defined_schema, extended_part, extended_schema, first_schema, schema_extensions, SchemaPart, write_directives, adopted, adopted_by}
@@ -7,7 +7,7 @@ use Rattle.apollo_canonical.proofs.Words.Meaning.{extended_names, orphans_of, wi
 use Rattle.apollo_canonical.proofs.Words.Written.{MeaningLaws, IsMeantByList, with_built_ins}
 use Rattle.graphql_nodes.specs.declared.type_kind.TypeKind.TheVariants as kinds
 use Rattle.graphql_ast.specs.declared.definition.Definition.TheVariants as ast
-use Rattle.apollo_canonical.proofs.Lists.{each-map, each-of, filter-all, option_cases, filter_map-unmade, flat_map-none}
+use Rattle.apollo_canonical.proofs.Lists.{each-map, each-of, flat_map-none}
 use Rattle.apollo_canonical.proofs.Items.{Others, TheSchema, Topic, about, directives-about, first_schema-about, is_about, schema_extensions-about, built_ins, no-extensions, Name, extensions-about, first-about, by_implied, items}
 use Rattle.apollo_canonical.proofs.Types.{written, definition_part, extension_of, document_items, document_items-append, extension_items, held_items, kind-body}
 use Rattle.apollo_canonical.proofs.Definitions.{schema_extension_of, written_parts_of, roots_where, schema_node}

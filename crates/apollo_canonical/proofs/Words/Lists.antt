@@ -16,4 +16,7 @@ pub use Rattle.std.proofs.lemmas.List.Sorted.{All-permutation, IsPermutation-app
 pub use Rattle.std.proofs.lemmas.Map.Keys.{IsDistinct-IsPermutation}
 pub use Rattle.std.proofs.lemmas.Simd.{map-map}
 pub use Rattle.apollo_component.proofs.Lists.Each.{each-append, each-filter, each-weaken, filter-each, filter-fails, filter-map, flat_map-each}
-pub use Rattle.apollo_component.proofs.Lists.Ends.{all-kept, filter_map-made, filter_map-numbered, or-none}
+pub use Rattle.apollo_component.proofs.Lists.Ends.{all-kept, filter-all, filter_map-made, filter_map-numbered, filter_map-unmade, or-none}
+pub use Rattle.apollo_component.proofs.Lists.BySubject.{IsOwn, IsTest, chosen-wider, filter_map-wider, none-by_subject}
+pub use Rattle.apollo_component.proofs.Lists.Cases.{bool_cases, find-first, find-made, find-none, found-passes, is_some-map, lookup-keyed, option_cases}
+pub use Rattle.apollo_component.proofs.Lists.Reordered.{each-permutation, one-element-permutation}

@@ -12,7 +12,7 @@ pub use Rattle.apollo_component.specs.declared.extension.ExtensionId.{ExtensionI
 pub use Rattle.apollo_component.specs.declared.parts_by_origin.PartsByOrigin.{PartsByOrigin}
 pub use Rattle.apollo_component.proofs.FirstOfEachLemmas.{each-first, entry_laws, first_of_each-map, list_any-first_of_each, name_laws}
 pub use Rattle.apollo_component.proofs.LaterLemmas.{found-any}
-pub use Rattle.apollo_component.proofs.Tabled.{entries_from_lookups, first_of_each-distinct}
+pub use Rattle.apollo_component.proofs.Tabled.{entries_from_lookups, first_of_each-distinct, given-by_keys}
 pub use Rattle.apollo_types.specs.BareTypes.{BareType, bare_extended_type, bare_schema_definition}
 pub use Rattle.apollo_types.specs.Components.{of_directive, of_name, of_root, root_node}
 pub use Rattle.apollo_types.specs.SchemaDefinitionWriteOut.{has_implied_root, has_own_root, implied_name, is_implied, is_some_object, is_written, schema_components, write_schema_definition}

@@ -1,10 +1,10 @@
 -- What becomes of a list with more elements at its end.
 use Rattle.std.proofs.Common.{◌≡◌, ℕ, ◌+◌, ◌<◌, Bool, true, false, cond, List, [], ◌∷◌, ◌++◌, length, zero, suc, Option, Some, None, filter, slice_get, map, refl, sym, ap, subst, ◌∙◌, append_assoc, arith}
-use Rattle.std.specs.List.{filter_map, cons_option, enumerate_from}
+use Rattle.std.specs.List.{AllByRecursion, filter_map, cons_option, enumerate_from}
 use Rattle.std.specs.Option.{option_map, option_or}
 use Rattle.std.specs.Map.{lookup}
 use Rattle.std.proofs.lemmas.List.{append-nil}
-use Rattle.std.proofs.lemmas.List.Elements.{filter_map-append}
+use Rattle.std.proofs.lemmas.List.Elements.{filter-append, filter_map-append}
 
 -- what holds of the empty list, and of a list with one more element if it holds of the list, holds of each list
 pub snoc_ind : {X : Type 0} (P : List X → Type 0) → P [] → ((xs : List X) (x : X) → P xs → P (xs ++ x ∷ [])) → (xs : List X) → P xs
@@ -35,12 +35,28 @@ filter_map-numbered {X} {Y} which n (x ∷ xs) = by (which x) (filter_map-number
     by None rest = rest
     by (Some y) rest = ap (λ l. y ∷ l) rest
 
+-- an element that passes a test, and one that doesn't
+pub filter-push_kept : {X : Type 0} (p : X → Bool) (xs : List X) (x : X) → p x ≡ true → filter p (xs ++ x ∷ []) ≡ filter p xs ++ x ∷ []
+filter-push_kept p xs x e = filter-append p xs (x ∷ []) ∙ ap (λ b. filter p xs ++ cond b (x ∷ []) []) e
+
+pub filter-push_dropped : {X : Type 0} (p : X → Bool) (xs : List X) (x : X) → p x ≡ false → filter p (xs ++ x ∷ []) ≡ filter p xs
+filter-push_dropped p xs x e = filter-append p xs (x ∷ []) ∙ ap (λ b. filter p xs ++ cond b (x ∷ []) []) e ∙ append-nil (filter p xs)
+
 -- all is chosen of what is made to be chosen
 pub filter_map-made : {X Y : Type 0} (which : X → Option Y) (make : Y → X) → ((y : Y) → which (make y) ≡ Some y) → (ys : List Y) → filter_map which (map make ys) ≡ ys
 filter_map-made which make is [] = refl
 filter_map-made which make is (y ∷ ys) = λ i. cons_option (is y i) (filter_map-made which make is ys i)
 
+-- and nothing of what is made to be left out
+pub filter_map-unmade : {X Y Z : Type 0} (which : X → Option Y) (make : Z → X) → ((z : Z) → which (make z) ≡ None) → (zs : List Z) → filter_map which (map make zs) ≡ []
+filter_map-unmade which make none [] = refl
+filter_map-unmade which make none (z ∷ zs) = rw (none z) (filter_map-unmade which make none zs)
+
 -- a test that all pass keeps all
+pub filter-all : {X : Type 0} (p : X → Bool) (xs : List X) → AllByRecursion (λ x. p x ≡ true) xs → filter p xs ≡ xs
+filter-all p [] a = refl
+filter-all p (x ∷ xs) a = rw a.0 (ap (λ l. x ∷ l) (filter-all p xs a.1))
+
 pub all-kept : {X : Type 0} (xs : List X) → xs ≡ filter (λ _. true) xs
 all-kept [] = refl
 all-kept (x ∷ xs) = ap (λ l. x ∷ l) (all-kept xs)

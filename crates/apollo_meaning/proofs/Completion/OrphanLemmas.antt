@@ -1,11 +1,14 @@
 -- What waits to the end is what has no definition.
-use Rattle.apollo_meaning.proofs.Prelude.{◌≡◌, ℕ, Bool, true, false, cond, not, ◌||◌, ◌==◌, List, [], ◌∷◌, ◌++◌, length, map, Option, Some, None, is_some, filter, refl, sym, ap, subst, ◌∙◌, arith, filter_map, flat_map, list_any, option_map_or, nat_list_eq_equiv, lookup, keys_of, nat_tests, append-nil, map-append, filter-append, filter_map-append, list_any-append, NameView, same_text, same, by_text, Definition, first_of_each, first_of_each-push_new, first_of_each-push_old, is_some-lookup, list_any-first_of_each, name_laws, filter_map-push_none, snoc_ind, TypePart, key_of, ListItem, Defined, Extended, SchemaDefined, SchemaExtended, Other, extended_part, items_of, extended_parts, items_held, first, extensions_of, types, Placed, first_place, extended_names, orphans_of, adopted_by, adopted, waited_at, waited, same-true, same-is, same-flip, flat_map-each}
+use Rattle.apollo_meaning.proofs.Prelude.{◌≡◌, ℕ, Bool, true, false, cond, not, ◌||◌, ◌==◌, List, [], ◌∷◌, ◌++◌, length, map, Option, Some, None, is_some, filter, refl, sym, ap, subst, ◌∙◌, arith, filter_map, flat_map, list_any, option_map_or, nat_list_eq_equiv, lookup, keys_of, nat_tests, append-nil, map-append, filter-append, filter_map-append, list_any-append, NameView, same_text, same, by_text, Definition, first_of_each, first_of_each-push_new, first_of_each-push_old, list_any-first_of_each, name_laws, filter_map-push_none, snoc_ind, TypePart, key_of, ListItem, Defined, Extended, SchemaDefined, SchemaExtended, Other, extended_part, items_of, extended_parts, items_held, first, extensions_of, types, Placed, first_place, extended_names, orphans_of, adopted_by, adopted, waited_at, waited, same-true}
 use Rattle.std.specs.List.{IsDistinct}
 use Rattle.std.specs.Map.{values_of}
+use Rattle.std.proofs.lemmas.Bool.{or_parts}
 use Rattle.std.proofs.lemmas.List.Folds.{flat_map-map}
-use Rattle.std.proofs.lemmas.Map.Keys.{IsDistinct-head, IsDistinct-tail, IsDistinct-push}
-use Rattle.graphql_nodes.specs.Tables.{HasUniqueKeys}
+use Rattle.std.proofs.lemmas.Map.Made.{is_some-lookup}
+use Rattle.std.proofs.lemmas.Map.Keys.{IsDistinct-push}
+use Rattle.apollo_component.proofs.Lists.Cases.{list_any-map}
 use Rattle.apollo_component.proofs.Lists.Ends.{filter_map-made}
+use Rattle.apollo_component.proofs.Tabled.{given-by_keys}
 use Rattle.apollo_meaning.proofs.Items.ItemLemmas.{first-push_undefined, waited-push}
 use Rattle.apollo_meaning.proofs.Order.PlaceLemmas.{first-none, first-some, first_place-stays}
 
@@ -155,16 +158,12 @@ module _ {X : Type 0} (give : List TypePart → List X) (nothing : give [] ≡ [
 waited-extended : (xs : List ListItem) (n : List ℕ) → list_any (same n) (keys xs) ≡ false → list_any (by_text n) (waited xs) ≡ false
 waited-extended = snoc_ind (λ xs. (n : List ℕ) → list_any (same n) (keys xs) ≡ false → list_any (by_text n) (waited xs) ≡ false) (λ n none. refl) step
   where
-    or-false : (a b : Bool) → (a || b) ≡ false → (a ≡ false) × (b ≡ false)
-    or-false false b h = (refl, h)
-    or-false true b h = absurd (let g : true ≡ false = h in cc)
-
     step : (xs : List ListItem) (x : ListItem) → ((n : List ℕ) → list_any (same n) (keys xs) ≡ false → list_any (by_text n) (waited xs) ≡ false)
         → (n : List ℕ) → list_any (same n) (keys (xs ++ x ∷ [])) ≡ false → list_any (by_text n) (waited (xs ++ x ∷ [])) ≡ false
     step xs x before n none = ap (list_any (by_text n)) (waited-push xs x) ∙ list_any-append (by_text n) (waited xs) (waited_at xs x) ∙ ap (λ b. b || list_any (by_text n) (waited_at xs x)) (before n both.0) ∙ own x both.1
       where
         both : (list_any (same n) (keys xs) ≡ false) × (list_any (same n) (keys (x ∷ [])) ≡ false)
-        both = or-false (list_any (same n) (keys xs)) (list_any (same n) (keys (x ∷ []))) (sym (ap (list_any (same n)) (ap (map key_of) (filter_map-append extended_part xs (x ∷ [])) ∙ map-append key_of (filter_map extended_part xs) (filter_map extended_part (x ∷ []))) ∙ list_any-append (same n) (keys xs) (keys (x ∷ []))) ∙ none)
+        both = or_parts (list_any (same n) (keys xs)) (list_any (same n) (keys (x ∷ []))) (sym (ap (list_any (same n)) (ap (map key_of) (filter_map-append extended_part xs (x ∷ [])) ∙ map-append key_of (filter_map extended_part xs) (filter_map extended_part (x ∷ []))) ∙ list_any-append (same n) (keys xs) (keys (x ∷ []))) ∙ none)
 
         own : (y : ListItem) → list_any (same n) (keys (y ∷ [])) ≡ false → list_any (by_text n) (waited_at xs y) ≡ false
         own (Defined d) h = refl
@@ -203,22 +202,12 @@ waited-distinct = snoc_ind (λ xs. IsDistinct same_text (waited xs)) tt step
                 subst (λ l. IsDistinct same_text (waited xs ++ l)) (sym (waited_at-extended xs p None e ∙ ap (λ b. cond b [] (p.name ∷ [])) f))
                 (IsDistinct-push name_laws (waited xs) p.name before (waited-extended xs (key_of p) f))
 
--- what a table gives, entry by entry, is what it gives under its names
-module _ {X : Type 0} (give : NameView → List ListItem → List X) where
-  held-by_name : (W : List (NameView × List Definition)) → HasUniqueKeys same_text W → flat_map (λ e. give e.0 (items_of e.1)) W ≡ flat_map (λ k. give k (items_held (lookup (by_text k.text) W))) (keys_of W)
-  held-by_name [] unique = refl
-  held-by_name (e ∷ es) unique =
-      ap (λ l. give e.0 (items_of e.1) ++ l) (held-by_name es (IsDistinct-tail same_text e.0 (keys_of es) unique)
-      ∙ flat_map-each (λ k. same_text e.0 k ≡ false) (λ k. give k (items_held (lookup (by_text k.text) es))) (λ k. give k (items_held (lookup (by_text k.text) (e ∷ es))))
-      (λ k apart. ap (λ b. give k (items_held (cond b (Some e.1) (lookup (by_text k.text) es)))) (sym (same-flip e.0.text k.text apart))) (keys_of es) (IsDistinct-head same_text e.0 (keys_of es) unique))
-      ∙ ap (λ b. give e.0 (items_held (cond b (Some e.1) (lookup (by_text e.0.text) es))) ++ flat_map (λ k. give k (items_held (lookup (by_text k.text) (e ∷ es)))) (keys_of es)) (sym (same-is e.0.text e.0.text refl))
-
-  -- a table of what waits gives what it does under the names that waited
-  pub held-waited : (xs : List ListItem) (W : List (NameView × List Definition)) → keys_of W ≡ waited xs → ((n : List ℕ) → items_held (lookup (by_text n) W) ≡ map Extended (orphans_of xs n))
-      → flat_map (λ e. give e.0 (items_of e.1)) W ≡ flat_map (λ k. give k (map Extended (orphans_of xs k.text))) (waited xs)
-  held-waited xs W names each =
-      held-by_name W (subst (IsDistinct same_text) (sym names) (waited-distinct xs))
-      ∙ (λ i. flat_map (λ (k : NameView). give k (each k.text i)) (names i))
+-- a table of what waits gives, entry by entry, what it does under the names that waited
+pub held-waited : {X : Type 0} (give : NameView → List ListItem → List X) (xs : List ListItem) (W : List (NameView × List Definition)) → keys_of W ≡ waited xs → ((n : List ℕ) → items_held (lookup (by_text n) W) ≡ map Extended (orphans_of xs n))
+    → flat_map (λ e. give e.0 (items_of e.1)) W ≡ flat_map (λ k. give k (map Extended (orphans_of xs k.text))) (waited xs)
+held-waited give xs W names each =
+    given-by_keys name_laws (λ k o. give k (items_held o)) W (subst (IsDistinct same_text) (sym names) (waited-distinct xs))
+    ∙ (λ i. flat_map (λ (k : NameView). give k (each k.text i)) (names i))
 
 -- a table of what waits gives what the extensions without a definition do, by name
 held-by : {X : Type 0} (give : List TypePart → List X) → give [] ≡ []
@@ -242,13 +231,9 @@ held-adopted xs W names each = flat_map-map (λ held. adopted_by (extended_parts
 -- a name without a definition waited exactly if it was extended
 waited-known : (xs : List ListItem) (n : List ℕ) → first xs n ≡ None → list_any (by_text n) (waited xs) ≡ list_any (same n) (keys xs)
 waited-known xs n none =
-    by_texts (waited xs) ∙ sym (among (texts (waited xs))) ∙ ap (list_any (same n)) (undefined-names xs) ∙ among (extended_names xs)
+    sym (list_any-map (same n) (λ k. k.text) (waited xs)) ∙ sym (among (texts (waited xs))) ∙ ap (list_any (same n)) (undefined-names xs) ∙ among (extended_names xs)
     ∙ list_any-first_of_each same nat_list_eq_equiv n (keys xs)
   where
-    by_texts : (ks : List NameView) → list_any (by_text n) ks ≡ list_any (same n) (texts ks)
-    by_texts [] = refl
-    by_texts (k ∷ ks) = ap (λ b. same n k.text || b) (by_texts ks)
-
     among : (ns : List (List ℕ)) → list_any (same n) (undefined xs ns) ≡ list_any (same n) ns
     among [] = refl
     among (m ∷ ms) = by (same n m) refl (is_undefined xs m) refl (among ms)
@@ -264,14 +249,10 @@ pub waited-early : (xs : List ListItem) (p : TypePart) (W : List (NameView × Li
     → ks ≡ cond (is_some (lookup (by_text (key_of p)) W)) (keys_of W) (keys_of W ++ p.name ∷ []) → ks ≡ waited (xs ++ Extended p ∷ [])
 waited-early xs p W ks none names is =
     let test : is_some (lookup (by_text (key_of p)) W) ≡ list_any (same (key_of p)) (keys xs) =
-    is_some-lookup (by_text (key_of p)) W ∙ by_keys W ∙ ap (list_any (by_text (key_of p))) names ∙ waited-known xs (key_of p) none in
+    is_some-lookup (by_text (key_of p)) W ∙ ap (list_any (by_text (key_of p))) names ∙ waited-known xs (key_of p) none in
     is ∙ (λ i. cond (test i) (names i) (names i ++ p.name ∷ [])) ∙ swap (list_any (same (key_of p)) (keys xs))
     ∙ ap (λ l. waited xs ++ l) (sym (waited_at-extended xs p None none)) ∙ sym (waited-push xs (Extended p))
   where
-    by_keys : (W : List (NameView × List Definition)) → list_any (λ e. by_text (key_of p) e.0) W ≡ list_any (by_text (key_of p)) (keys_of W)
-    by_keys [] = refl
-    by_keys (e ∷ es) = ap (λ b. by_text (key_of p) e.0 || b) (by_keys es)
-
     swap : (b : Bool) → cond b (waited xs) (waited xs ++ p.name ∷ []) ≡ waited xs ++ cond b [] (p.name ∷ [])
     swap true = sym (append-nil (waited xs))
     swap false = refl

@@ -1,8 +1,9 @@
 -- Components that a name before them keeps out, and those that are kept.
-use Rattle.apollo_meaning.proofs.Prelude.{◌≡◌, ◌+◌, ◌<◌, ℕ, Bool, true, false, cond, ◌||◌, List, [], ◌∷◌, ◌++◌, length, map, take, get_or, Some, None, is_some, refl, sym, ap, ◌∙◌, append_assoc, if◌then◌else◌, find, list_any, option_map, keys_of, lookup_key, IsEquivalence, on_equiv, take_more, map-append, insert_entry, NameView, NodeView, same_text, first_of_each, same_key, Component, ComponentName, each_after-push, first_of_each-push_new, first_of_each-push_old, list_any-first_of_each, name_laws, Collection, component, component_name, same_component_name, distinct_names, name_entries, Fault, Entry, collision_at, collisions}
+use Rattle.apollo_meaning.proofs.Prelude.{◌≡◌, ◌+◌, ◌<◌, ℕ, Bool, false, List, [], ◌∷◌, ◌++◌, length, map, take, get_or, Some, None, is_some, refl, sym, ap, ◌∙◌, append_assoc, if◌then◌else◌, find, list_any, option_map, keys_of, lookup_key, IsEquivalence, on_equiv, take_more, map-append, insert_entry, NameView, NodeView, same_text, first_of_each, same_key, Component, ComponentName, each_after-push, first_of_each-push_new, first_of_each-push_old, list_any-first_of_each, name_laws, Collection, component, component_name, same_component_name, distinct_names, name_entries, Fault, Entry, collision_at, collisions}
 use Rattle.apollo_component.specs.declared.extension.ComponentOrigin.{ComponentOrigin}
 use Rattle.apollo_component.proofs.FirstOfEachLemmas.{entry_laws, find-first_of_each, keys_of-first_of_each, lookup_key-find, insert_entry-last}
 use Rattle.apollo_component.proofs.LaterLemmas.{found-any}
+use Rattle.apollo_component.proofs.Lists.Cases.{find-made, list_any-map}
 
 pub component_name_laws : IsEquivalence same_component_name
 component_name_laws = on_equiv (λ c. c.name) name_laws
@@ -21,18 +22,9 @@ module _ {X : Type 0} (same : X → X → Bool) (laws : IsEquivalence same) (xs 
   kept-put none =
       ap (λ b. if b then first_of_each same xs else first_of_each same xs ++ x ∷ []) (sym (found-any (same x) (first_of_each same xs)) ∙ ap is_some none) ∙ kept-new none
 
-find-name : (n : NameView) (ks : List ComponentName) → find (same_text n) (map (λ k. k.name) ks) ≡ option_map (λ k. k.name) (find (λ k. same_text n k.name) ks)
-find-name n [] = refl
-find-name n (k ∷ ks) = by (same_text n k.name) (find-name n ks)
-  where
-    by : (b : Bool) → find (same_text n) (map (λ k. k.name) ks) ≡ option_map (λ k. k.name) (find (λ k. same_text n k.name) ks)
-        → cond b (Some k.name) (find (same_text n) (map (λ k. k.name) ks)) ≡ option_map (λ (k : ComponentName). k.name) (cond b (Some k) (find (λ k. same_text n k.name) ks))
-    by true rest = refl
-    by false rest = rest
-
 -- the name that is found among names that are left is the first among all
 pub found-name : (k : ComponentName) (ks : List ComponentName) → find (same_text k.name) (map (λ k. k.name) ks) ≡ option_map (λ k. k.name) (find (same_component_name k) (distinct_names ks))
-found-name k ks = find-name k.name ks ∙ ap (option_map (λ (k : ComponentName). k.name)) (sym (find-first_of_each same_component_name component_name_laws k ks))
+found-name k ks = find-made (same_text k.name) (λ (k : ComponentName). k.name) ks ∙ ap (option_map (λ (k : ComponentName). k.name)) (sym (find-first_of_each same_component_name component_name_laws k ks))
 
 -- and so with the names of entries
 pub found-key : {V : Type 0} (n : NameView) (es : List (NameView × V)) → find (same_text n) (keys_of es) ≡ lookup_key (same_text n) (first_of_each (same_key same_text) es)
@@ -40,13 +32,7 @@ found-key n es = sym (lookup_key-find (same_text n) (first_of_each (same_key sam
 
 -- a name is found where some entry has it
 pub key-any : {V : Type 0} (n : NameView) (es : List (NameView × V)) → is_some (find (same_text n) (keys_of es)) ≡ list_any (λ e. same_text n e.0) es
-key-any n [] = refl
-key-any {V} n (e ∷ es) = by (same_text n e.0) (key-any n es)
-  where
-    by : (b : Bool) → is_some (find (same_text n) (keys_of es)) ≡ list_any (λ e. same_text n e.0) es
-        → is_some (cond b (Some e.0) (find (same_text n) (keys_of es))) ≡ (b || list_any (λ e. same_text n e.0) es)
-    by true rest = refl
-    by false rest = rest
+key-any n es = found-any (same_text n) (keys_of es) ∙ list_any-map (same_text n) (λ e. e.0) es
 
 -- an entry whose name is found is not added
 pub entry-old : {V : Type 0} (es : List (NameView × V)) (n : NameView) (v : V) (kept : NameView)

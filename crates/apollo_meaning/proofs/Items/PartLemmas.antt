@@ -1,15 +1,15 @@
 -- The parts of a name are its first definition and the extensions of its kind, rising.
 use Rattle.apollo_meaning.proofs.Prelude.{◌≡◌, ℕ, Bool, true, false, cond, List, [], ◌∷◌, ◌++◌, Option, Some, None, filter, refl, sym, ap, subst, ◌∙◌, filter_map, option_or, unwrap_or, append-nil, filter-append, snoc_ind, TypePart, kind_of, key_of, same_kind, ListItem, Defined, Extended, SchemaDefined, SchemaExtended, Other, defined_part, extended_part, same, first, extensions_of, of_kind, types_folded_at, folded, same-true, same-is}
+use Rattle.apollo_component.proofs.Lists.Each.{filter-fails}
+use Rattle.apollo_component.proofs.Lists.Ends.{filter-all}
 use Rattle.apollo_meaning.proofs.Items.ItemLemmas.{first-push_definition, first-push_undefined, extensions_of-push_extension, extensions_of-push_unextended}
 use Rattle.apollo_meaning.proofs.Types.TypeLemmas.{Own, Apart, type_foldings, type_foldings-push, Own-named, Own-of_kind, Apart-own, Apart-folded, types_folded_at-new, types_folded_at-again, types_folded_at-early, types_folded_at-late}
 
 filter-own : (n : List ℕ) (ps : List TypePart) → Own n ps → filter (λ p. same n (key_of p)) ps ≡ ps
-filter-own n [] own = refl
-filter-own n (p ∷ ps) own = rw own.0 (ap (λ l. p ∷ l) (filter-own n ps own.1))
+filter-own n = filter-all (λ p. same n (key_of p))
 
 filter-apart : (n : List ℕ) (ps : List TypePart) → Apart n ps → filter (λ p. same n (key_of p)) ps ≡ []
-filter-apart n [] apart = refl
-filter-apart n (p ∷ ps) apart = rw apart.0 (filter-apart n ps apart.1)
+filter-apart n = filter-fails (λ p. same n (key_of p) ≡ false) (λ p. same n (key_of p)) (λ p e. e)
 
 abbrev pub OfName : List ListItem → Type 0
 OfName xs = (n : List ℕ) (d : TypePart) → first xs n ≡ Some d → filter (λ p. same n (key_of p)) (type_foldings (folded xs)) ≡ of_kind (kind_of d) (extensions_of xs n)

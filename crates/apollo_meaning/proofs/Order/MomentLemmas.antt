@@ -1,9 +1,9 @@
 -- The order of folding by places is the order in which the code folds: moment by moment.
-use Rattle.apollo_meaning.proofs.Prelude.{◌≡◌, ℕ, ◌<◌, Bool, true, false, cond, ◌==◌, List, [], ◌∷◌, ◌++◌, length, map, Option, Some, None, filter, refl, sym, ap, ◌∙◌, arith, AllByRecursion, option_map_or, option_or, nat_tests, append-nil, filter-append, or-none, snoc_ind, TypePart, SchemaPart, kind_of, key_of, same_kind, ListItem, Defined, Extended, SchemaDefined, SchemaExtended, Other, Folding, OfType, OfSchema, extended_part, extended_schema, same, extensions_of, of_kind, schema_extensions, types_folded_at, schemas_folded_at, folded_at, folded, Family, types, schemas, Placed, extension_places, first_place, folding_order, same-true, same-is, same-flip, each-weaken, each-filter, max}
+use Rattle.apollo_meaning.proofs.Prelude.{◌≡◌, ℕ, ◌<◌, Bool, true, false, cond, ◌==◌, List, [], ◌∷◌, ◌++◌, length, map, Option, Some, None, filter, refl, sym, ap, ◌∙◌, arith, AllByRecursion, option_map_or, option_or, nat_tests, append-nil, filter-append, or-none, snoc_ind, TypePart, SchemaPart, kind_of, key_of, same_kind, ListItem, Defined, Extended, SchemaDefined, SchemaExtended, Other, OfType, OfSchema, extended_part, extended_schema, same, extensions_of, of_kind, schema_extensions, types_folded_at, schemas_folded_at, folded_at, folded, Family, types, schemas, Placed, extension_places, first_place, folding_order, same-true, same-is, same-flip, each-weaken, each-filter, max, map-map}
 use Rattle.std.proofs.lemmas.Bool.{eq-eqb}
 use Rattle.apollo_component.proofs.Lists.Ends.{filter_map-numbered}
 use Rattle.apollo_meaning.specs.Order.Places.{is_folded, is_met, met_when, folded_when}
-use Rattle.apollo_component.proofs.Lists.Each.{filter-each, filter-fails, moments-push}
+use Rattle.apollo_component.proofs.Lists.Each.{filter-each, filter-fails, filter-map, moments-push}
 use Rattle.apollo_meaning.proofs.Items.ItemLemmas.{folded-push}
 use Rattle.apollo_meaning.proofs.Order.PlaceLemmas.{IsBelow, at_place, placed-push, extensions-below, own_place, first_place-below, first_place-push, first_place-stays, first_place-new, first-none, first-some, first_schema-none, first_schema-some, filter-schemas}
 
@@ -196,15 +196,6 @@ folded_when-push xs x i lt =
     ap (λ l. map (λ (e : Placed TypePart). OfType e.1) l ++ map (λ e. OfSchema e.1) (met_when schemas (xs ++ x ∷ []) i)) (types_when-push xs x i lt)
     ∙ ap (λ l. map (λ e. OfType e.1) (types_when xs i) ++ map (λ (e : Placed SchemaPart). OfSchema e.1) l) (met_when-push schemas xs x i lt)
 
-map-filter : (q : TypePart → Bool) (es : List (Placed TypePart)) → map (λ e. e.1) (filter (λ e. q e.1) es) ≡ filter q (map (λ e. e.1) es)
-map-filter q [] = refl
-map-filter q (e ∷ es) = by (q e.1) (map-filter q es)
-  where
-    by : (b : Bool) → map (λ e. e.1) (filter (λ e. q e.1) es) ≡ filter q (map (λ e. e.1) es)
-        → map (λ e. e.1) (cond b (e ∷ filter (λ e. q e.1) es) (filter (λ e. q e.1) es)) ≡ cond b (e.1 ∷ filter q (map (λ e. e.1) es)) (filter q (map (λ e. e.1) es))
-    by true rest = ap (λ l. e.1 ∷ l) rest
-    by false rest = rest
-
 -- at its own moment an item folds what the code folds
 types_when-now : (xs : List ListItem) (x : ListItem) → map (λ e. e.1) (types_when (xs ++ x ∷ []) (length xs)) ≡ types_folded_at xs x
 types_when-now xs (SchemaDefined s) = ap (λ l. map (λ e. e.1) (filter (is_folded (xs ++ SchemaDefined s ∷ [])) l)) (met_when-other types xs (SchemaDefined s) refl refl)
@@ -239,7 +230,7 @@ types_when-now xs (Defined d) = by (first_place types xs (key_of d)) refl
         λ a both. ap (λ o. option_map_or (λ z. same_kind (kind_of z.1) (kind_of a.1)) o false) (ap (first_place types ys) (sym (same-true (key_of d) (key_of a.1) both.1)) ∙ first_place-new types xs (Defined d) d refl e) in
         ap (λ l. map (λ e. e.1) (filter (is_folded ys) l)) (met_when-new types types-apart xs (Defined d) d refl e)
         ∙ ap (map (λ (a : Placed TypePart). a.1)) (filter-each (λ a. IsBelow (length xs) a × (own a ≡ true)) (is_folded ys) (λ a. kind a.1) agree (filter own (extension_places types xs)) (each-filter (IsBelow (length xs)) own (extension_places types xs) (extensions-below types xs)))
-        ∙ map-filter kind (filter own (extension_places types xs)) ∙ ap (filter kind) (map-filter (λ p. same (key_of d) (key_of p)) (extension_places types xs) ∙ ap (filter (λ p. same (key_of d) (key_of p))) (filter_map-numbered extended_part 0 xs))
+        ∙ sym (filter-map kind (λ (a : Placed TypePart). a.1) (filter own (extension_places types xs))) ∙ ap (filter kind) (sym (filter-map (λ p. same (key_of d) (key_of p)) (λ (a : Placed TypePart). a.1) (extension_places types xs)) ∙ ap (filter (λ p. same (key_of d) (key_of p))) (filter_map-numbered extended_part 0 xs))
         ∙ sym (ap (λ o. option_map_or (λ _. []) o (of_kind (kind_of d) (extensions_of xs (key_of d)))) (first-none xs (key_of d) e))
 
 schemas_when-now : (xs : List ListItem) (x : ListItem) → map (λ e. e.1) (met_when schemas (xs ++ x ∷ []) (length xs)) ≡ schemas_folded_at xs x
@@ -268,12 +259,8 @@ schemas_when-now xs (SchemaDefined s) = by (first_place schemas xs []) refl
 
 folded_when-now : (xs : List ListItem) (x : ListItem) → folded_when (xs ++ x ∷ []) (length xs) ≡ folded_at xs x
 folded_when-now xs x =
-    ap (λ l. l ++ map (λ e. OfSchema e.1) (met_when schemas (xs ++ x ∷ []) (length xs))) (forget OfType (types_when (xs ++ x ∷ []) (length xs)) ∙ ap (map OfType) (types_when-now xs x))
-    ∙ ap (λ l. map OfType (types_folded_at xs x) ++ l) (forget OfSchema (met_when schemas (xs ++ x ∷ []) (length xs)) ∙ ap (map OfSchema) (schemas_when-now xs x))
-  where
-    forget : {P : Type 0} (of : P → Folding) (es : List (Placed P)) → map (λ e. of e.1) es ≡ map of (map (λ e. e.1) es)
-    forget of [] = refl
-    forget of (e ∷ es) = ap (λ l. of e.1 ∷ l) (forget of es)
+    ap (λ l. l ++ map (λ e. OfSchema e.1) (met_when schemas (xs ++ x ∷ []) (length xs))) (sym (map-map OfType (λ (e : Placed TypePart). e.1) (types_when (xs ++ x ∷ []) (length xs))) ∙ ap (map OfType) (types_when-now xs x))
+    ∙ ap (λ l. map OfType (types_folded_at xs x) ++ l) (sym (map-map OfSchema (λ (e : Placed SchemaPart). e.1) (met_when schemas (xs ++ x ∷ []) (length xs))) ∙ ap (map OfSchema) (schemas_when-now xs x))
 
 -- the order of folding by places is that of the definitions by prefixes
 pub folding_order-forget : (xs : List ListItem) → folding_order xs ≡ folded xs

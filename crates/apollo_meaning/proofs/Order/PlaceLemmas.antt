@@ -2,8 +2,9 @@
 use Rattle.apollo_meaning.proofs.Prelude.{◌≡◌, ℕ, ◌+◌, ◌<◌, Bool, true, false, cond, List, [], ◌∷◌, ◌++◌, length, map, take, Option, Some, None, filter, slice_get, refl, sym, ap, subst, ◌∙◌, append_assoc, length-append, arith, AllByRecursion, filter_map, flat_map, option_map, option_map_or, option_or, lookup, append-nil, map-append, filter-append, filter_map-append, each_after, enumerate_from-append, or-none, snoc_ind, TypePart, SchemaPart, ListItem, defined_schema, same, first, first_schema, Family, types, schemas, Placed, extension_places, first_place, same-is, each-weaken}
 use Rattle.std.specs.List.{enumerate_from}
 use Rattle.std.proofs.Math.Seq.{take-append_seam}
-use Rattle.apollo_component.proofs.Lists.Ends.{filter_map-numbered, lookup-append}
+use Rattle.apollo_component.proofs.Lists.Ends.{all-kept, filter_map-numbered, lookup-append}
 use Rattle.apollo_meaning.specs.Order.Places.{placed_by, definition_places}
+use Rattle.apollo_component.proofs.Lists.Cases.{find-made, lookup-keyed}
 use Rattle.apollo_component.proofs.Lists.Each.{each-append}
 
 -- a place below n
@@ -91,13 +92,9 @@ own_place f i o n = option_map_or (λ d. cond (same n (f.key d)) (Some (i, d)) N
 
 module _ {P : Type 0} (f : Family P) where
   lookup-forget : (n : List ℕ) (es : List (Placed P)) → option_map (λ e. e.1) (lookup (same n) (under f es)) ≡ lookup (same n) (keyed f (map (λ e. e.1) es))
-  lookup-forget n [] = refl
-  lookup-forget n (e ∷ es) = by (same n (f.key e.1)) (lookup-forget n es)
-    where
-      by : (b : Bool) → option_map (λ e. e.1) (lookup (same n) (under f es)) ≡ lookup (same n) (keyed f (map (λ e. e.1) es))
-          → option_map (λ e. e.1) (cond b (Some e) (lookup (same n) (under f es))) ≡ cond b (Some e.1) (lookup (same n) (keyed f (map (λ e. e.1) es)))
-      by true rest = refl
-      by false rest = rest
+  lookup-forget n es =
+      ap (option_map (λ (e : Placed P). e.1)) (lookup-keyed (same n) (λ (e : Placed P). f.key e.1) es)
+      ∙ sym (lookup-keyed (same n) f.key (map (λ (e : Placed P). e.1) es) ∙ find-made (λ p. same n (f.key p)) (λ (e : Placed P). e.1) es)
 
   -- the first definition of a key, with its place and without
   pub first-forget : (xs : List ListItem) (n : List ℕ) → option_map (λ e. e.1) (first_place f xs n) ≡ lookup (same n) (keyed f (filter_map f.defined xs))
@@ -162,5 +159,4 @@ module _ (xs : List ListItem) where
   first_schema-some z e = sym first_schema-forget ∙ ap (option_map (λ (z : Placed SchemaPart). z.1)) e
 
 pub filter-schemas : (es : List (Placed SchemaPart)) → filter (λ e. same [] (schemas.key e.1)) es ≡ es
-filter-schemas [] = refl
-filter-schemas (e ∷ es) = ap (λ l. e ∷ l) (filter-schemas es)
+filter-schemas es = sym (all-kept es)

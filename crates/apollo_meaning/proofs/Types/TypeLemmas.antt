@@ -1,18 +1,19 @@
 -- The type of a name with one more item.
-use Rattle.apollo_meaning.proofs.Prelude.{◌≡◌, ℕ, ◌+◌, Bool, true, false, cond, List, [], ◌∷◌, ◌++◌, length, map, Option, Some, None, filter, refl, sym, ap, subst, ◌∙◌, append_assoc, filter_map, option_map, option_or, append-nil, filter_map-append, TypeKind, each_after, TypePart, SchemaPart, kind_of, key_of, same_kind, ListItem, Defined, Extended, SchemaDefined, SchemaExtended, Other, Folding, OfType, OfSchema, extended_part, same, first, extensions_of, of_kind, types_folded_at, schemas_folded_at, folded_at, folded, Sourced, type_from, extension_part, numbered, sourced, parts, same-true, same-is}
+use Rattle.apollo_meaning.proofs.Prelude.{◌≡◌, ℕ, ◌+◌, Bool, true, false, List, [], ◌∷◌, ◌++◌, length, map, Option, Some, None, filter, refl, sym, ap, subst, ◌∙◌, append_assoc, filter_map, option_map, option_or, append-nil, filter_map-append, TypeKind, each_after, TypePart, SchemaPart, kind_of, key_of, same_kind, ListItem, Defined, Extended, SchemaDefined, SchemaExtended, Other, Folding, OfType, OfSchema, extended_part, same, first, extensions_of, of_kind, types_folded_at, schemas_folded_at, folded_at, folded, Sourced, type_from, extension_part, numbered, sourced, parts, same-true, same-is, AllByRecursion, each-filter, each-weaken}
+use Rattle.std.proofs.lemmas.List.Elements.{filter_passes, recursion_from_All}
 use Rattle.apollo_component.specs.declared.extension.ComponentOrigin.TheVariants as origins
+use Rattle.apollo_component.proofs.Lists.Each.{each-append}
+use Rattle.apollo_component.proofs.Lists.Ends.{filter_map-made, filter_map-unmade}
 use Rattle.apollo_meaning.specs.Types.Meaning.{type_of}
 use Rattle.apollo_meaning.proofs.Items.ItemLemmas.{first-push_definition, folded-push, sourced-append, first-append}
 
 -- each part has the name
 abbrev pub Own : List ℕ → List TypePart → Type 0
-Own n [] = Unit {0}
-Own n (p ∷ ps) = (same n (key_of p) ≡ true) × Own n ps
+Own n = AllByRecursion (λ p. same n (key_of p) ≡ true)
 
 -- no part has the name
 abbrev pub Apart : List ℕ → List TypePart → Type 0
-Apart n [] = Unit {0}
-Apart n (p ∷ ps) = (same n (key_of p) ≡ false) × Apart n ps
+Apart n = AllByRecursion (λ p. same n (key_of p) ≡ false)
 
 -- the extensions of types among those that are folded
 abbrev pub type_folding : Folding → Option TypePart
@@ -23,12 +24,10 @@ abbrev pub type_foldings : List Folding → List TypePart
 type_foldings fs = filter_map type_folding fs
 
 type_foldings-types : (ps : List TypePart) → type_foldings (map OfType ps) ≡ ps
-type_foldings-types [] = refl
-type_foldings-types (p ∷ ps) = ap (λ l. p ∷ l) (type_foldings-types ps)
+type_foldings-types = filter_map-made type_folding OfType (λ p. refl)
 
 type_foldings-schemas : (ss : List SchemaPart) → type_foldings (map OfSchema ss) ≡ []
-type_foldings-schemas [] = refl
-type_foldings-schemas (s ∷ ss) = type_foldings-schemas ss
+type_foldings-schemas = filter_map-unmade type_folding OfSchema (λ s. refl)
 
 type_foldings-at : (xs : List ListItem) (x : ListItem) → type_foldings (folded_at xs x) ≡ types_folded_at xs x
 type_foldings-at xs x =
@@ -59,28 +58,15 @@ sourced-at n start xs x own =
     ∙ append-nil (map extension_part (numbered start (types_folded_at xs x)))
 
 pub Own-named : (n : List ℕ) (ps : List TypePart) → Own n (filter (λ p. same n (key_of p)) ps)
-Own-named n [] = tt
-Own-named n (p ∷ ps) = by (same n (key_of p)) refl (Own-named n ps)
-  where
-    by : (b : Bool) → same n (key_of p) ≡ b → Own n (filter (λ q. same n (key_of q)) ps) → Own n (cond b (p ∷ filter (λ q. same n (key_of q)) ps) (filter (λ q. same n (key_of q)) ps))
-    by true e rest = (e, rest)
-    by false e rest = rest
+Own-named n ps = recursion_from_All (λ p. same n (key_of p) ≡ true) (filter (λ p. same n (key_of p)) ps) (filter_passes (λ p. same n (key_of p)) ps)
 
 pub Own-of_kind : (n : List ℕ) (k : TypeKind) (ps : List TypePart) → Own n ps → Own n (of_kind k ps)
-Own-of_kind n k [] own = tt
-Own-of_kind n k (p ∷ ps) own = by (same_kind k (kind_of p)) (Own-of_kind n k ps own.1)
-  where
-    by : (b : Bool) → Own n (of_kind k ps) → Own n (cond b (p ∷ of_kind k ps) (of_kind k ps))
-    by true rest = (own.0, rest)
-    by false rest = rest
+Own-of_kind n k ps own =
+    each-weaken (λ p. (same n (key_of p) ≡ true) × (same_kind k (kind_of p) ≡ true)) (λ p. same n (key_of p) ≡ true) (λ p both. both.0) (of_kind k ps)
+    (each-filter (λ p. same n (key_of p) ≡ true) (λ p. same_kind k (kind_of p)) ps own)
 
 pub Apart-own : (n m : List ℕ) (ps : List TypePart) → same n m ≡ false → Own m ps → Apart n ps
-Apart-own n m [] apart own = tt
-Apart-own n m (p ∷ ps) apart own = (subst (λ (q : List ℕ). same n q ≡ false) (same-true m (key_of p) own.0) apart, Apart-own n m ps apart own.1)
-
-pub Apart-append : (n : List ℕ) (ps qs : List TypePart) → Apart n ps → Apart n qs → Apart n (ps ++ qs)
-Apart-append n [] qs a b = b
-Apart-append n (p ∷ ps) qs a b = (a.0, Apart-append n ps qs a.1 b)
+Apart-own n m ps apart = each-weaken (λ p. same m (key_of p) ≡ true) (λ p. same n (key_of p) ≡ false) (λ p e. subst (λ (q : List ℕ). same n q ≡ false) (same-true m (key_of p) e) apart) ps
 
 -- a name that a list doesn't define is not defined in a front of it
 pub first-front : (n : List ℕ) (xs ys : List ListItem) → first (xs ++ ys) n ≡ None → first xs n ≡ None
@@ -134,7 +120,7 @@ Apart-folded_after n before (x ∷ xs) none =
     let split : type_foldings (folded_at before x ++ rest) ≡ types_folded_at before x ++ type_foldings rest =
     filter_map-append type_folding (folded_at before x) rest ∙ ap (λ l. l ++ type_foldings rest) (type_foldings-at before x) in
     subst (Apart n) (sym split)
-    (Apart-append n (types_folded_at before x) (type_foldings rest) (Apart-types n before x (first-front n (before ++ x ∷ []) xs all)) (Apart-folded_after n (before ++ x ∷ []) xs all))
+    (each-append (λ p. same n (key_of p) ≡ false) (types_folded_at before x) (type_foldings rest) (Apart-types n before x (first-front n (before ++ x ∷ []) xs all)) (Apart-folded_after n (before ++ x ∷ []) xs all))
 
 pub Apart-folded : (n : List ℕ) (xs : List ListItem) → first xs n ≡ None → Apart n (type_foldings (folded xs))
 Apart-folded n xs none = Apart-folded_after n [] xs none

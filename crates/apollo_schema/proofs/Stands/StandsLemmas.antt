@@ -6,6 +6,7 @@ use Rattle.apollo_schema.specs.declared.tables.Tables.{Tables}
 use Rattle.apollo_meaning.specs.Types.Meaning.{type_of}
 use Rattle.apollo_meaning.specs.Directives.{directive_part}
 use Rattle.apollo_schema.specs.Stands.{Stands}
+use Rattle.apollo_component.proofs.Lists.Cases.{is_some-map}
 use Rattle.apollo_component.proofs.Lists.Ends.{filter_map-made}
 use Rattle.apollo_folding.proofs.KeptNames.{none-of}
 use Rattle.apollo_folding.proofs.NameTables.{lookup-put, keys-put, lookup-write}
@@ -28,10 +29,6 @@ counted start xs x ps ss before was types schemas =
     ∙ (λ i. length (types i) + length (schemas i)) in
     let all : length (folded (xs ++ x ∷ [])) ≡ length (folded xs) + length (folded_at xs x) = ap length (folded-push xs x) ∙ length-append (folded xs) (folded_at xs x) in
     omega (arith, here, all, was)
-
-is_some-map : {A B : Type 0} (f : A → B) (o : Option A) → is_some (option_map f o) ≡ is_some o
-is_some-map f None = refl
-is_some-map f (Some x) = refl
 
 -- extensions that are taken out under a name, or get one more, as items
 none_if : (b : Bool) (ps : List TypePart) → cond b [] (map Extended ps) ≡ map Extended (cond b [] ps)

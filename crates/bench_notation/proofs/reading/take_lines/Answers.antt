@@ -4,7 +4,7 @@ use Rattle.std.proofs.lemmas.List.{drop_more, length-take-le, take-append-drop, 
 use Rattle.std.proofs.lemmas.Grind.{common_steps}
 use Rattle.std.proofs.lemmas.List.Elements.{All-more}
 use Rattle.graphql_nodes.specs.declared.source.SourceSpan.{SourceSpan}
-use Rattle.bench_notation.specs.Line.{IsLine, bytes_left, line_place, lines_of, pieces_left}
+use Rattle.bench_notation.specs.Line.{IsLine, bytes_left, line_place, lines_of, pieces_left, texts_of}
 use Rattle.bench_notation.specs.Documents.{LeadTo, Takes}
 use Rattle.bench_notation.specs.declared.reading.DocumentReader.{DocumentReader}
 use Rattle.bench_notation.proofs.reading.take_lines.Goals as goal
@@ -56,13 +56,13 @@ loop-left-init c = record {
 pub loop-left-preserved : goal.loop-left-preserved
 loop-left-preserved c =
     let lines : List (List ℕ) = lines_of c.args.text.now in
-    let next : IsNext lines c.loop-left.number c.first_piece.result.0.now (pieces_left 10 c.first_piece.result.1) = next_line lines c.loop-left.number c.first_piece.result.0.now (pieces_left 10 c.first_piece.result.1) (c.loop-left.invariant.rest ∙ ap (pieces_left 10) c.in-Some.is ∙ c.first_piece.ensures.pieces) in
+    let next : IsNext lines c.loop-left.number c.in_ok-line.line.now (pieces_left 10 c.in_ok-line.behind) = next_line lines c.loop-left.number c.in_ok-line.line.now (pieces_left 10 c.in_ok-line.behind) (c.loop-left.invariant.rest ∙ ap (pieces_left 10) c.in-Some.is ∙ c.in_ok-line.ensures.lines) in
     let takes : Takes (get_or lines c.loop-left.number []) (line_place (c.loop-left.number + 1)) c.loop-left.reader c.take_line.new.self = rw next.here c.in-Ok.ensures.taken in
     record {
       read = All-more IsLine lines c.loop-left.number [] next.within c.loop-left.invariant.read (is_line takes);
       led = led_to lines c.loop-left.number c.args.reader.now c.loop-left.reader c.take_line.new.self next.within c.loop-left.invariant.led takes;
       rest = next.behind;
-      fits = omega (arith, c.loop-left.invariant.fits, ap bytes_left c.in-Some.is, c.first_piece.ensures.shorter);
+      fits = omega (arith, c.loop-left.invariant.fits, ap bytes_left c.in-Some.is, c.in_ok-line.ensures.shorter);
     }
 
 all_taken : (lines : List (List ℕ)) (i : ℕ) → drop i lines ≡ [] → take i lines ≡ lines
@@ -72,3 +72,6 @@ pub returns-clause-leads : goal.returns-clause-leads
 returns-clause-leads c =
     let none : drop c.loop-left.number (lines_of c.args.text.now) ≡ [] = c.loop-left.invariant.rest ∙ ap (pieces_left 10) c.in_default.is in
     subst (λ (lines : List (List ℕ)). LeadTo 1 lines c.args.reader.now c.loop-left.reader) (all_taken (lines_of c.args.text.now) c.loop-left.number none) c.loop-left.invariant.led
+
+pub take_line-requires : goal.take_line-requires
+take_line-requires c = ap texts_of c.as_slice.ensures.value ∙ c.in_ok-line.ensures.words
