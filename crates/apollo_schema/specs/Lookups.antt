@@ -1,6 +1,6 @@
 -- What lookups in a schema answer, over the maps of any schema value alone: GraphQL specification of October 2021, sections
 -- 2, 3.6 to 3.8, 4.1 and 4.2.
-use Rattle.std.specs.Prelude.{◌≡◌, Bool, true, false, List, [], ◌∷◌, ◌++◌, Option, None, Some, if◌then◌else◌}
+use Rattle.std.specs.Prelude.{◌≡◌, Bool, false, List, [], ◌∷◌, ◌++◌, Option, None, Some, if◌then◌else◌}
 use Rattle.std.specs.List.{find}
 use Rattle.std.specs.Option.{option_map_or, option_or}
 use Rattle.graphql_nodes.specs.KeySets.{has_key}

@@ -5,7 +5,6 @@ use Rattle.graphql_nodes.specs.NodeView.{NodeView}
 use Rattle.apollo_executable.specs.Walks.Introspection.{IsMetaName}
 use Rattle.apollo_executable.specs.Walks.NextItem.{GivesFirst}
 use Rattle.apollo_executable.specs.declared.selection.Field.{Field}
-use Rattle.apollo_executable.specs.declared.selection.SelectionSet.{SelectionSet}
 use Rattle.apollo_executable.proofs.Walking.IntrospectionLemmas.{AreMeta, meta-introspection, introspection-meta}
 use Rattle.apollo_executable.proofs.Walking.NestingLemmas.{refused-opens}
 use Rattle.apollo_executable.proofs.operation.Operation.is_introspection.Goals as goal

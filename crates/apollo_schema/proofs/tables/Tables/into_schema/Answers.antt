@@ -1,4 +1,4 @@
-use Rattle.apollo_meaning.proofs.Prelude.{◌≡◌, ℕ, ◌==◌, Bool, true, List, length, sym, ap, subst, ◌∙◌, true≢false, unwrap_or, Folding, Added, added_items, AreTypesOf, directive_definitions, AreDirectivesOf, folded, whole}
+use Rattle.apollo_meaning.proofs.Prelude.{◌≡◌, ℕ, ◌==◌, Bool, List, length, sym, ap, subst, ◌∙◌, true≢false, unwrap_or, Folding, Added, added_items, AreTypesOf, directive_definitions, AreDirectivesOf, folded, whole}
 use Rattle.std.proofs.lemmas.Bool.{eqb-true}
 use Rattle.std.proofs.lemmas.List.{nil_from_length}
 use Rattle.apollo_schema.specs.declared.schema.Schema.{Schema}
