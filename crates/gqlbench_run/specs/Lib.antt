@@ -8,6 +8,7 @@ pub mod LookupQuestions
 pub mod Memory
 pub mod PhaseLines
 pub mod Phases
+pub mod Rebuilds
 pub mod ReportTexts
 pub mod Reports
 pub mod Summaries

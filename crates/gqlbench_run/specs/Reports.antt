@@ -16,6 +16,7 @@ use Rattle.gqlbench_run.specs.DocumentReports.{IsDocumentReport}
 use Rattle.gqlbench_run.specs.LeafReports.{IsLeafReport}
 use Rattle.gqlbench_run.specs.WalkReports.{IsWalkReport}
 use Rattle.gqlbench_run.specs.Phases.{ArePhases}
+use Rattle.gqlbench_run.specs.Rebuilds.{TellsOfRebuilds}
 use Rattle.gqlbench_run.specs.ReportTexts.{report_text}
 use Rattle.gqlbench_run.specs.declared.command.Command.{Command}
 use Rattle.gqlbench_run.specs.declared.command.Work.{Work}
@@ -41,6 +42,11 @@ pub record HaveTimes (n : ℕ) (times : SchemaTimes) : Type 0 where
   pub rebuild : length times.rebuild.items ≡ n
   pub free : length times.free.items ≡ n
 
+-- the same of the documents, and it is told of the rebuilds whether all are equal
+pub record HaveBuilt (options : CompileOptions) (documents : List Document) (n : ℕ) (times : SchemaTimes) : Type 0 where
+  pub taken : HaveTimes n times
+  pub told : TellsOfRebuilds options documents n times.all_equal
+
 -- each lookup has so many times
 abbrev pub HaveLookupTimes : ℕ → LookupTimes → Type 0
 HaveLookupTimes n times = (length times.type_field.items ≡ n) × (length times.is_subtype.items ≡ n)
@@ -61,12 +67,13 @@ pub record AreSchemaSizes (options : CompileOptions) (documents : List Document)
   pub definitions : sizes.definitions ≡ length (write_schema schema)
   pub faults : sizes.faults ≡ length (faults_of options.adopt_orphan_extensions (schema_list options documents))
 
--- the report counts what the documents mean, says of what was built again from write-outs whether it equals what was written
+-- the report counts what the documents mean, tells of what was built again from write-outs whether it equals what was written
 -- out, and has each phase
 pub record IsSchemaReport (command : Command) (documents : List Document) (report : Report) : Type 0 where
   pub sizes : SchemaSizes
   pub are : AreSchemaSizes command.options documents sizes
   pub equal : Bool
+  pub told : TellsOfRebuilds command.options documents command.repeat equal
   pub counts : report.counts ≡ c.Schema sizes.types sizes.definitions sizes.faults equal
   pub timed : ArePhases schema_phases command.repeat report.phases.items
 

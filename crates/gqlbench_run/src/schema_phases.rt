@@ -1,6 +1,10 @@
 //! The phases of the command `schema`: a schema built, written out, built again from that, and freed.
-ghost use Rattle.std.specs.Prelude.{◌≡◌, ◌+◌, ℕ, IfOk, OnOk, length};
+ghost use Rattle.std.specs.Prelude.{◌≡◌, ◌+◌, ℕ, IfOk, IsTrue, OnOk, length};
 ghost use Rattle.graphql_ast.specs.declared.definition.Definition.{Definition};
+ghost use Rattle.apollo_compiler.specs.Lists.{schema_list};
+ghost use Rattle.apollo_schema.specs.MeantSchema.{MeansSchema};
+ghost use Rattle.apollo_schema.specs.SchemaWriteOut.{write_schema};
+ghost use Rattle.gqlbench_run.specs.Rebuilds.{TellsOfBuild};
 ghost use Rattle.gqlbench_run.specs.Reports.{AreSchemaSizes, IsSchemaReport};
 
 use crate::command::Command;
@@ -12,6 +16,7 @@ use crate::report::Report;
 use apollo_compiler::building::build_schema;
 use apollo_compiler::compile_options::CompileOptions;
 use apollo_meaning::build_error::Faults;
+use apollo_schema::laws::equality_of_schemas;
 use apollo_schema::schema::Schema;
 use graphql_ast::definition::Definition;
 use graphql_ast::document::Document;
@@ -59,7 +64,8 @@ pub(crate) fn time_build<C: Clock>(
     documents: &[Document],
     times: &mut Vec<u64>,
 ) -> Result<(Schema, Faults), Failure>
-    ensures { OnOk result (length times.new.items ≡ length times.old.items + 1) }
+    ensures times { OnOk result (length times.new.items ≡ length times.old.items + 1) }
+    ensures means { IfOk result (λ built. MeansSchema 0 options.adopt_orphan_extensions (schema_list options documents.now) built.0) }
 {
     let began = Instant::now(clock)?;
     let built = build_schema(alloc, keys, options, documents)?;
@@ -74,7 +80,8 @@ pub(crate) fn time_write_out<C: Clock>(
     schema: &Schema,
     times: &mut Vec<u64>,
 ) -> Result<Vec<Definition>, Failure>
-    ensures { OnOk result (length times.new.items ≡ length times.old.items + 1) }
+    ensures times { OnOk result (length times.new.items ≡ length times.old.items + 1) }
+    ensures written { IfOk result (λ written. written.items ≡ write_schema schema.now) }
 {
     let began = Instant::now(clock)?;
     let written = schema.to_ast(alloc)?;
@@ -82,7 +89,7 @@ pub(crate) fn time_write_out<C: Clock>(
     Ok(written)
 }
 
-/// Times the build of a write-out, with whether it equals the schema that was written out.
+/// Times the build of a write-out, and answers whether what comes of it equals the schema that was written out.
 fn time_rebuild<C: Clock>(
     alloc: Global,
     clock: &C,
@@ -91,8 +98,10 @@ fn time_rebuild<C: Clock>(
     written: &Document,
     times: &mut Vec<u64>,
 ) -> Result<bool, Failure>
-    ensures { OnOk result (length times.new.items ≡ length times.old.items + 1) }
+    ensures times { OnOk result (length times.new.items ≡ length times.old.items + 1) }
+    ensures told { IfOk result (TellsOfBuild written.now.definitions schema.now) }
 {
+    equality_of_schemas();
     let began = Instant::now(clock)?;
     let (again, _faults) = build_schema(alloc, keys, REBUILDING, slice::from_ref(written))?;
     let is_equal = again == *schema;
@@ -120,7 +129,8 @@ impl SchemaTimes {
     ghost use Rattle.gqlbench_run.specs.Phases.{ArePhases};
 
     fn new(alloc: Global) -> SchemaTimes
-        ensures { HaveTimes 0 result }
+        ensures times { HaveTimes 0 result }
+        ensures equal { IsTrue result.all_equal }
     {
         SchemaTimes {
             build: Vec::new(alloc),
@@ -153,11 +163,11 @@ struct SchemaWork<'a> {
 }
 
 impl Timed for SchemaWork<'_> {
-    ghost use Rattle.gqlbench_run.specs.Reports.{HaveTimes};
+    ghost use Rattle.gqlbench_run.specs.Reports.{HaveBuilt};
 
     type Times = SchemaTimes;
 
-    ghost have = { λ _ n times. HaveTimes n times };
+    ghost have = { λ work n times. HaveBuilt work.options work.documents.now n times };
 
     fn repetition<C: Clock>(
         &self,
