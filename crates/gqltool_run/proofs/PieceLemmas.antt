@@ -63,8 +63,12 @@ said-cut old new held left was whole =
       ),
     )
 
--- where nothing goes out, what was said is all there is
-pub said-kept : {P : List ℕ → Type 0} (text : List ℕ) → IsSaid P (Some []) (Some []) [] text → P text
-said-kept {P = P} text is =
+-- where nothing goes out, what was said stands behind what was held
+pub said-behind : {P : List ℕ → Type 0} (held text : List ℕ) → IsSaid P (Some []) (Some []) held text → (said : List ℕ) × ((text ≡ held ++ said) × P said)
+said-behind held text is =
     let nothing : is.1.1.0 ≡ [] = sym is.1.1.1.0 in
-    subst P (is.1.1.1.1 ∙ ap (λ went. went ++ text) nothing) is.1.0
+    (is.0, (sym (is.1.1.1.1 ∙ ap (λ went. went ++ text) nothing), is.1.0))
+
+-- and it is all there is, where nothing was held
+pub said-kept : {P : List ℕ → Type 0} (text : List ℕ) → IsSaid P (Some []) (Some []) [] text → P text
+said-kept {P = P} text is = let whole = said-behind {P = P} [] text is in subst P (sym whole.1.0) whole.1.1

@@ -3,7 +3,7 @@ ghost use Rattle.std.specs.Prelude.{◌≡◌, ℕ, List, ◌++◌, OnErr, OnOk,
 ghost use Rattle.gqltool_run.specs.FaultLines.{AreFaultLines, fault_line, place_text};
 ghost use Rattle.gqltool_run.specs.Pieces.{IsCutShort, IsSaid};
 
-use crate::outlet::{CutShort, Outlet};
+use crate::outlet::{CutShort, Kept, Outlet};
 use graphql_nodes::source::SourceSpan;
 use std::alloc::{AllocError, Global};
 use std::fmt::Display;
@@ -16,10 +16,11 @@ pub fn push_faults<E: Display>(
 ) -> Result<(), AllocError>
     ensures { OnOk result ((lines : List ℕ) × ((string_bytes text.new ≡ string_bytes text.old ++ lines) × AreFaultLines faults.now lines)) }
 {
-    for fault in faults {
-        push_fault(alloc, text, fault.0, &fault.1)?;
+    match say_faults(alloc, text, &mut Kept, faults) {
+        Ok(()) => Ok(()),
+        // Nothing goes out, so memory is all that can be wanting.
+        Err(_) => Err(AllocError),
     }
-    Ok(())
 }
 
 /// Adds the same lines, and lets the text out where it has grown long. The error is want of memory, or the outlet's.

@@ -1,5 +1,5 @@
 //! The command `walk`.
-ghost use Rattle.std.specs.Prelude.{◌≡◌, ◌++◌, ℕ, Bool, List, [], false, map, true, IfErr, IfOk, OnErr, OnOk, codes, string_bytes};
+ghost use Rattle.std.specs.Prelude.{◌≡◌, ◌++◌, ℕ, Bool, List, [], map, IfErr, IfOk, OnErr, OnOk, codes, string_bytes};
 ghost use Rattle.bench_notation.specs.HeaderWords.{name_word};
 ghost use Rattle.apollo_executable.specs.Operations.{all_operations};
 ghost use Rattle.apollo_executable.specs.Walks.WalkView.{TakesAllTurns};
@@ -13,6 +13,7 @@ use crate::answer::Answer;
 use crate::document_building::has_faults;
 use crate::failure::Failure;
 use crate::fault_printing::say_faults;
+use crate::field_walk::FieldWalk;
 use crate::leaving::leave;
 use crate::outlet::{CutShort, Kept, Outlet};
 use crate::output_line::push_line;
@@ -20,6 +21,8 @@ use apollo_compiler::compiled::Compiled;
 use apollo_executable::document::ExecutableDocument;
 use apollo_executable::operation::Operation;
 use apollo_executable::selection::{Field, SelectionSet};
+use apollo_executable::walks::all_fields::AllFields;
+use apollo_executable::walks::root_fields::RootFields;
 use apollo_walks::laws::{walks_reach_each_field_once, walks_take_few_turns};
 use graphql_nodes::node::Node;
 use std::alloc::{AllocError, Global};
@@ -175,46 +178,29 @@ fn push_set<O: Outlet>(
     ensures begun { OnErr result (IsCutShort (IsSetText document.now set.now) (O.sent outlet.old) (O.sent outlet.new) (string_bytes text.old)) }
 {
     walks_have_texts();
-    push_root_walk(alloc, text, outlet, document, set)?;
-    push_whole_walk(alloc, text, outlet, document, set)
+    push_walk::<RootFields<'_>, O>(alloc, text, outlet, document, set, "root ", "root-turns ")?;
+    push_walk::<AllFields<'_>, O>(alloc, text, outlet, document, set, "all ", "all-turns ")
 }
 
-/// Adds the lines of the walk over root fields of a set.
-fn push_root_walk<O: Outlet>(
+/// Adds the lines of a walk over a set: `word` stands before the key of each field, and `turns_word` before the turns.
+fn push_walk<'doc, W: FieldWalk<'doc>, O: Outlet>(
     alloc: Global,
     text: &mut String,
     outlet: &mut O,
-    document: &ExecutableDocument,
-    set: &SelectionSet,
+    document: &'doc ExecutableDocument,
+    set: &'doc SelectionSet,
+    word: &str,
+    turns_word: &str,
 ) -> Result<(), CutShort>
-    ensures said { OnOk result (IsSaid (IsWalkText false (codes "root ") (codes "root-turns ") document.now set.now) (O.sent outlet.old) (O.sent outlet.new) (string_bytes text.old) (string_bytes text.new)) }
-    ensures begun { OnErr result (IsCutShort (IsWalkText false (codes "root ") (codes "root-turns ") document.now set.now) (O.sent outlet.old) (O.sent outlet.new) (string_bytes text.old)) }
+    ensures said { OnOk result (IsSaid (IsWalkText W.deep word.now turns_word.now document.now set.now) (O.sent outlet.old) (O.sent outlet.new) (string_bytes text.old) (string_bytes text.new)) }
+    ensures begun { OnErr result (IsCutShort (IsWalkText W.deep word.now turns_word.now document.now set.now) (O.sent outlet.old) (O.sent outlet.new) (string_bytes text.old)) }
 {
     walks_have_texts();
-    let mut walk = set.root_fields(alloc, document);
-    while let Some(field) = walk.next() {
-        say_line(text, outlet, "root ", field?.response_key().as_str())?;
+    let mut walk = W::over(alloc, document, set);
+    while let Some(field) = walk.next_field() {
+        say_line(text, outlet, word, field?.response_key().as_str())?;
     }
-    say_turns(alloc, text, outlet, "root-turns ", walk.turns())
-}
-
-/// Adds the lines of the walk over all fields of a set.
-fn push_whole_walk<O: Outlet>(
-    alloc: Global,
-    text: &mut String,
-    outlet: &mut O,
-    document: &ExecutableDocument,
-    set: &SelectionSet,
-) -> Result<(), CutShort>
-    ensures said { OnOk result (IsSaid (IsWalkText true (codes "all ") (codes "all-turns ") document.now set.now) (O.sent outlet.old) (O.sent outlet.new) (string_bytes text.old) (string_bytes text.new)) }
-    ensures begun { OnErr result (IsCutShort (IsWalkText true (codes "all ") (codes "all-turns ") document.now set.now) (O.sent outlet.old) (O.sent outlet.new) (string_bytes text.old)) }
-{
-    walks_have_texts();
-    let mut walk = set.all_fields(alloc, document);
-    while let Some(field) = walk.next() {
-        say_line(text, outlet, "all ", field?.response_key().as_str())?;
-    }
-    say_turns(alloc, text, outlet, "all-turns ", walk.turns())
+    say_turns(alloc, text, outlet, turns_word, walk.turns_so_far())
 }
 
 /// Adds the line of a number of turns, and lets the text out where it has grown long.
