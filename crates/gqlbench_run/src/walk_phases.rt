@@ -1,5 +1,5 @@
 //! The phases of the command `walk`: walks over each operation and fragment of a typed document that is built once.
-ghost use Rattle.std.specs.Prelude.{◌≡◌, ◌+◌, ℕ, IfOk, OnOk, length, true, false};
+ghost use Rattle.std.specs.Prelude.{◌≡◌, ◌+◌, ℕ, IfOk, OnOk, length};
 ghost use Rattle.apollo_executable.specs.Operations.{all_operations};
 ghost use Rattle.gqlbench_run.specs.WalkReports.{IsCountedOn, IsCountOver, IsWalkReport, sets_of};
 ghost use Rattle.gqlbench_run.specs.declared.counts.Counts.TheVariants as counted;
@@ -13,70 +13,45 @@ use crate::report::Report;
 use crate::typed_building::build_typed;
 use apollo_executable::document::ExecutableDocument;
 use apollo_executable::selection::SelectionSet;
+use apollo_executable::walks::all_fields::AllFields;
+use apollo_executable::walks::root_fields::RootFields;
 use bench_notation::reading::DividedDocuments;
+use gqltool_run::field_walk::FieldWalk;
 use graphql_nodes::collections::hash_keys::HashKeys;
 use std::alloc::{AllocError, Global};
 use std::io::Write;
 use std::time::{Clock, Instant};
 
-/// Counts the root fields that a walk over a set gives on from this number, as far as they can be counted.
-fn count_root_of(
+/// Counts the fields that a walk over a set gives on from this number, as far as they can be counted.
+fn count_on<'doc, W: FieldWalk<'doc>>(
     alloc: Global,
-    document: &ExecutableDocument,
-    set: &SelectionSet,
+    document: &'doc ExecutableDocument,
+    set: &'doc SelectionSet,
     mut count: u64,
 ) -> Result<u64, AllocError>
-    ensures { IfOk result (IsCountedOn false document.now set.now count) }
+    ensures { IfOk result (IsCountedOn W.deep document.now set.now count) }
 {
-    let mut walk = set.root_fields(alloc, document);
-    while let Some(field) = walk.next() {
+    let mut walk = W::over(alloc, document, set);
+    while let Some(field) = walk.next_field() {
         let _field = field?;
         count = count.saturating_add(1);
-    }
-    Ok(count)
-}
-
-/// Counts all fields that a walk over a set gives on from this number, as far as they can be counted.
-fn count_all_of(
-    alloc: Global,
-    document: &ExecutableDocument,
-    set: &SelectionSet,
-    mut count: u64,
-) -> Result<u64, AllocError>
-    ensures { IfOk result (IsCountedOn true document.now set.now count) }
-{
-    let mut walk = set.all_fields(alloc, document);
-    while let Some(field) = walk.next() {
-        let _field = field?;
-        count = count.saturating_add(1);
-    }
-    Ok(count)
-}
-
-/// How many root fields walks over all operations and fragments give, as far as they can be counted.
-fn count_root(alloc: Global, document: &ExecutableDocument) -> Result<u64, AllocError>
-    ensures { IfOk result (IsCountOver false document.now (sets_of document.now)) }
-{
-    let mut count = 0;
-    for operation in document.operations.iter() {
-        count = count_root_of(alloc, document, &operation.selection_set, count)?;
-    }
-    for fragment in document.fragments.values() {
-        count = count_root_of(alloc, document, &fragment.selection_set, count)?;
     }
     Ok(count)
 }
 
 /// How many fields walks over all operations and fragments give, as far as they can be counted.
-fn count_all(alloc: Global, document: &ExecutableDocument) -> Result<u64, AllocError>
-    ensures { IfOk result (IsCountOver true document.now (sets_of document.now)) }
+fn count_fields<'doc, W: FieldWalk<'doc>>(
+    alloc: Global,
+    document: &'doc ExecutableDocument,
+) -> Result<u64, AllocError>
+    ensures { IfOk result (IsCountOver W.deep document.now (sets_of document.now)) }
 {
     let mut count = 0;
     for operation in document.operations.iter() {
-        count = count_all_of(alloc, document, &operation.selection_set, count)?;
+        count = count_on::<W>(alloc, document, &operation.selection_set, count)?;
     }
     for fragment in document.fragments.values() {
-        count = count_all_of(alloc, document, &fragment.selection_set, count)?;
+        count = count_on::<W>(alloc, document, &fragment.selection_set, count)?;
     }
     Ok(count)
 }
@@ -100,34 +75,18 @@ impl Drop for WalkTimes {
     }
 }
 
-/// Times the walks over root fields.
-fn time_root<C: Clock>(
+/// Times the walks over all operations and fragments, and counts the fields that they give.
+fn time_walks<'doc, W: FieldWalk<'doc>, C: Clock>(
     alloc: Global,
     clock: &C,
-    document: &ExecutableDocument,
+    document: &'doc ExecutableDocument,
     times: &mut Vec<u64>,
 ) -> Result<u64, Failure>
     ensures times { OnOk result (length times.new.items ≡ length times.old.items + 1) }
-    ensures counted { IfOk result (IsCountOver false document.now (sets_of document.now)) }
+    ensures counted { IfOk result (IsCountOver W.deep document.now (sets_of document.now)) }
 {
     let began = Instant::now(clock)?;
-    let count = count_root(alloc, document)?;
-    push_time(clock, began, times)?;
-    Ok(count)
-}
-
-/// Times the walks over all fields.
-fn time_all<C: Clock>(
-    alloc: Global,
-    clock: &C,
-    document: &ExecutableDocument,
-    times: &mut Vec<u64>,
-) -> Result<u64, Failure>
-    ensures times { OnOk result (length times.new.items ≡ length times.old.items + 1) }
-    ensures counted { IfOk result (IsCountOver true document.now (sets_of document.now)) }
-{
-    let began = Instant::now(clock)?;
-    let count = count_all(alloc, document)?;
+    let count = count_fields::<W>(alloc, document)?;
     push_time(clock, began, times)?;
     Ok(count)
 }
@@ -143,8 +102,8 @@ impl WalkTimes {
         Ok(WalkTimes {
             root: Vec::new(alloc),
             all: Vec::new(alloc),
-            root_fields: count_root(alloc, document)?,
-            all_fields: count_all(alloc, document)?,
+            root_fields: count_fields::<RootFields<'_>>(alloc, document)?,
+            all_fields: count_fields::<AllFields<'_>>(alloc, document)?,
         })
     }
 
@@ -178,8 +137,18 @@ impl Timed for WalkWork<'_> {
         clock: &C,
         times: &mut WalkTimes,
     ) -> Result<(), Failure> {
-        times.root_fields = time_root(alloc, clock, self.document, &mut times.root)?;
-        times.all_fields = time_all(alloc, clock, self.document, &mut times.all)?;
+        times.root_fields = time_walks::<RootFields<'_>, C>(
+            alloc,
+            clock,
+            self.document,
+            &mut times.root,
+        )?;
+        times.all_fields = time_walks::<AllFields<'_>, C>(
+            alloc,
+            clock,
+            self.document,
+            &mut times.all,
+        )?;
         Ok(())
     }
 }

@@ -1,4 +1,5 @@
 pub mod AnswerLemmas
+pub mod BuiltLemmas
 pub mod CauseLemmas
 pub mod EndLemmas
 pub mod FaultLineLemmas

@@ -7,9 +7,11 @@ use Rattle.gqltool_run.specs.declared.prepared.Prepared.TheVariants as prepared
 use Rattle.gqltool_run.specs.declared.task.Task.{Task}
 use Rattle.gqltool_run.specs.declared.task.Task.TheVariants as tasks
 use Rattle.gqltool_run.specs.Commands.{IsAnswerOf, IsAnswerTo, IsPrintTo}
-use Rattle.gqltool_run.specs.Prepared.{AreLinesOf, IsCompiledTo, IsReadyOf, IsReadyTo, has_fault}
+use Rattle.gqltool_run.specs.DocumentBuilding.{IsCompiledDivided}
+use Rattle.gqltool_run.specs.Prepared.{AreLinesOf, IsReadyOf, IsReadyTo, has_fault}
 use Rattle.gqltool_run.specs.Tasks.{AreWalkWords, Ask}
 use Rattle.gqltool_run.proofs.AnswerLemmas.{faultless_print, faultless_walks}
+use Rattle.gqltool_run.proofs.BuiltLemmas.{built-document}
 
 -- what is ready for a text that was read is ready for the input
 pub ready_to : (words : List (List ℕ)) (held : Option (List ℕ)) (task : Task) (text : List ℕ) (ready : Prepared) → Ask words task → IfSome held (λ input. text ≡ input) → IsReadyOf task text ready → IsReadyTo words held ready
@@ -20,14 +22,14 @@ ready_to words held task text (prepared.Answer answer) asked is given = (
 )
 ready_to words held task text (prepared.Walks compiled) asked is given = (
   subst (Ask words) given.0 asked,
-  IfSome_then held {P = λ input. text ≡ input} {Q = λ input. IsCompiledTo input compiled} is (λ input same. subst (λ (t : List ℕ). IsCompiledTo t compiled) same given.1),
+  IfSome_then held {P = λ input. text ≡ input} {Q = λ input. IsCompiledDivided input compiled} is (λ input same. subst (λ (t : List ℕ). IsCompiledDivided t compiled) same given.1),
 )
 
 -- what `walk` says of what an input is compiled to is its answer
-pub walks_answer : (words : List (List ℕ)) (held : Option (List ℕ)) (compiled : Compiled) (text : List ℕ) (has_faults : Bool) → AreWalkWords words → IfSome held (λ input. IsCompiledTo input compiled) → AreLinesOf compiled text → has_faults ≡ has_fault compiled
+pub walks_answer : (words : List (List ℕ)) (held : Option (List ℕ)) (compiled : Compiled) (text : List ℕ) (has_faults : Bool) → AreWalkWords words → IfSome held (λ input. IsCompiledDivided input compiled) → AreLinesOf compiled text → has_faults ≡ has_fault compiled
     → IfSome held (λ input. IsAnswerTo words input text has_faults)
 walks_answer words held compiled text has_faults asked is lines any =
-    IfSome_then held {P = λ input. IsCompiledTo input compiled} {Q = λ input. IsAnswerTo words input text has_faults} is
+    IfSome_then held {P = λ input. IsCompiledDivided input compiled} {Q = λ input. IsAnswerTo words input text has_faults} is
     (λ input means. (
       tasks.Walk,
       (
@@ -37,7 +39,7 @@ walks_answer words held compiled text has_faults asked is lines any =
           document = compiled.document;
           schema_faults = compiled.schema_faults.items;
           faults = compiled.document_faults.items;
-          means = means;
+          means = built-document input compiled means;
           says = lines;
           any = any;
         },

@@ -26,9 +26,10 @@ pub record IsBuiltDocument (input : List ℕ) (schema : Schema) (document : Exec
   pub executable_documents : List Document
   pub says : AreDividedDocumentsOf input schema_documents executable_documents
   pub means : MeansSchema 0 false (schema_list no_options schema_documents) schema
+  pub schema_sources : schema.sources ≡ all_sources schema_documents
   pub schema_are : schema_faults ≡ faults_of false (schema_list no_options schema_documents)
   pub typed : IsDocumentOf (Some schema) (executable_list true executable_documents) document
-  pub sources : document.sources ≡ all_sources executable_documents
+  pub document_sources : document.sources ≡ all_sources executable_documents
   pub are : faults ≡ document_faults (Some schema) (executable_list true executable_documents)
 
 -- what the documents before the division of the input and those behind it are compiled to, without options

@@ -6,13 +6,9 @@ use Rattle.gqltool_run.specs.declared.prepared.Prepared.TheVariants as prepared
 use Rattle.gqltool_run.specs.declared.task.Task.{Task}
 use Rattle.gqltool_run.specs.declared.task.Task.TheVariants as tasks
 use Rattle.gqltool_run.specs.Commands.{IsAnswerOf, IsAnswerTo, IsPrintTo}
-use Rattle.gqltool_run.specs.DocumentBuilding.{IsBuiltDocument}
+use Rattle.gqltool_run.specs.DocumentBuilding.{IsCompiledDivided}
 use Rattle.gqltool_run.specs.Tasks.{AreWalkWords}
 use Rattle.gqltool_run.specs.WalkCommand.{AreLines, any_fault}
-
--- the input is compiled to this
-abbrev pub IsCompiledTo : List ℕ → Compiled → Type 0
-IsCompiledTo input compiled = IsBuiltDocument input compiled.schema compiled.document compiled.schema_faults.items compiled.document_faults.items
 
 -- the text is what `walk` says of this, with faults or without
 abbrev pub AreLinesOf : Compiled → List ℕ → Type 0
@@ -24,9 +20,9 @@ has_fault compiled = any_fault compiled.schema_faults.items compiled.document_fa
 -- this is ready for what was asked and an input: the answer, or what `walk` says its answer of
 abbrev pub IsReadyOf : Task → List ℕ → Prepared → Type 0
 IsReadyOf task input (prepared.Answer answer) = IsAnswerOf task input (string_bytes answer.text) answer.has_faults
-IsReadyOf task input (prepared.Walks compiled) = (task ≡ tasks.Walk) × IsCompiledTo input compiled
+IsReadyOf task input (prepared.Walks compiled) = (task ≡ tasks.Walk) × IsCompiledDivided input compiled
 
 -- this is ready for these words and an input that holds `held`, if its bytes are known
 abbrev pub IsReadyTo : List (List ℕ) → Option (List ℕ) → Prepared → Type 0
 IsReadyTo words held (prepared.Answer answer) = IfSome held (λ input. IsAnswerTo words input (string_bytes answer.text) answer.has_faults) × (answer.has_faults ≡ false → IsPrintTo words (string_bytes answer.text))
-IsReadyTo words held (prepared.Walks compiled) = AreWalkWords words × IfSome held (λ input. IsCompiledTo input compiled)
+IsReadyTo words held (prepared.Walks compiled) = AreWalkWords words × IfSome held (λ input. IsCompiledDivided input compiled)

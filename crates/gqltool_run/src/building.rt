@@ -1,6 +1,5 @@
 //! What the commands build: the schema of the documents of an input, and its faults; and what they are compiled to.
-ghost use Rattle.std.specs.Prelude.{◌≡◌, All, IfOk, IfErr, OnOk};
-ghost use Rattle.apollo_schema.specs.SchemaWriteOut.{write_schema};
+ghost use Rattle.std.specs.Prelude.{All, IfOk, IfErr, OnOk};
 ghost use Rattle.bench_notation.specs.Line.{IsLine, lines_of};
 ghost use Rattle.gqltool_run.specs.Building.{IsBuilt, IsCause, IsCompiledInput};
 
@@ -49,8 +48,6 @@ pub fn compile_input(
     input: &str,
 ) -> Result<Compiled, Failure>
     ensures read { OnOk result (All IsLine (lines_of input.now)) }
-    ensures means { IfOk result (λ compiled. IsBuilt options input.now compiled.schema compiled.schema_faults.items) }
-    ensures ast { IfOk result (λ compiled. compiled.ast.items ≡ write_schema compiled.schema) }
     ensures compiled { IfOk result (IsCompiledInput options input.now) }
     ensures causes { IfErr result (IsCause options input.now) }
 {

@@ -1,9 +1,8 @@
 //! What the commands on executable documents build: what an input is compiled to, with its typed document over its schema, and
 //! the faults of both.
 ghost use Rattle.std.specs.Prelude.{◌≡◌, ◌==◌, ◌&&◌, not, length, All, IfOk, IfErr, OnOk};
-ghost use Rattle.apollo_executable.specs.Erasure.{erased_document};
 ghost use Rattle.bench_notation.specs.Line.{IsLine, lines_of};
-ghost use Rattle.gqltool_run.specs.DocumentBuilding.{IsBuiltDocument, IsCompiledDivided, IsDocumentCause};
+ghost use Rattle.gqltool_run.specs.DocumentBuilding.{IsCompiledDivided, IsDocumentCause};
 
 use crate::failure::Failure;
 use crate::leaving::leave;
@@ -30,8 +29,6 @@ pub fn has_faults(compiled: &Compiled) -> bool
 /// There is no other error. Without an error the documents that were read are left to the end of the process.
 pub fn compile_documents(alloc: Global, keys: HashKeys, input: &str) -> Result<Compiled, Failure>
     ensures read { OnOk result (All IsLine (lines_of input.now)) }
-    ensures means { IfOk result (λ compiled. IsBuiltDocument input.now compiled.schema compiled.document compiled.schema_faults.items compiled.document_faults.items) }
-    ensures erased { IfOk result (λ compiled. compiled.erased ≡ erased_document compiled.document) }
     ensures compiled { IfOk result (IsCompiledDivided input.now) }
     ensures causes { IfErr result (IsDocumentCause input.now) }
 {

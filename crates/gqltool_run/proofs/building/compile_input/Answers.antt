@@ -7,27 +7,11 @@ use Rattle.apollo_compiler.specs.Lists.{schema_list}
 use Rattle.gqltool_run.proofs.CauseLemmas.{compiling-cause}
 use Rattle.gqltool_run.proofs.building.compile_input.Goals as goal
 
-pub returns-clause-means : goal.returns-clause-means
-returns-clause-means c =
-    let compiled = c.in_ok-compiled.compiled in
-    let documents = c.in_ok-documents.documents.items in
-    let is : IsCompiled c.args.options documents [] true compiled = subst (λ (ds : List Document). IsCompiled c.args.options ds [] true compiled) c.as_slice.ensures.value c.in_ok-compiled.ensures.compiled in
-    record {
-      documents = documents;
-      says = c.in_ok-documents.ensures.said;
-      means = is.schema;
-      sources = is.schema_sources;
-      are = is.schema_faults;
-    }
-
 pub returns-clause-compiled : goal.returns-clause-compiled
 returns-clause-compiled c =
     let is : IsCompiled c.args.options c.in_ok-documents.documents.items [] true c.in_ok-compiled.compiled =
     subst (λ (ds : List Document). IsCompiled c.args.options ds [] true c.in_ok-compiled.compiled) c.as_slice.ensures.value c.in_ok-compiled.ensures.compiled in
     (c.in_ok-documents.documents.items, (c.in_ok-documents.ensures.said, is))
-
-pub returns-clause-ast : goal.returns-clause-ast
-returns-clause-ast c = c.in_ok-compiled.ensures.compiled.ast
 
 pub returns-in_err-compiled-clause-causes : goal.returns-in_err-compiled-clause-causes
 returns-in_err-compiled-clause-causes c =

@@ -3,6 +3,7 @@ use Rattle.apollo_meaning.specs.Faults.Collisions.{Fault}
 use Rattle.apollo_elaboration.specs.Typable.{Fault as DocumentFault}
 use Rattle.bench_notation.specs.Text.{definitions_text}
 use Rattle.gqltool_run.specs.FaultLines.{AreFaultLines}
+use Rattle.gqltool_run.proofs.BuiltLemmas.{built-document}
 use Rattle.gqltool_run.proofs.doc_command.doc_answer.Goals as goal
 
 pub returns-clause-means : goal.returns-clause-means
@@ -10,14 +11,14 @@ returns-clause-means c =
     let compiled = c.in_ok-compiled.compiled in
     let schema_lines = c.in_ok-push_faults.ensures.0 in
     let lines = c.in_ok-push_faults-2.ensures.0 in
-    let print = c.in_ok-text.ensures ∙ ap definitions_text (c.as_slice.ensures ∙ ap (λ d. d.definitions) c.in_ok-compiled.ensures.erased) in
+    let print = c.in_ok-text.ensures ∙ ap definitions_text (c.as_slice.ensures ∙ ap (λ d. d.definitions) c.in_ok-compiled.ensures.compiled.1.1.1.erased) in
     let first = c.in_ok-push_faults.ensures.1.0 ∙ ap (λ l. l ++ schema_lines) print in
     record {
       schema = compiled.schema;
       document = compiled.document;
       schema_faults = compiled.schema_faults.items;
       faults = compiled.document_faults.items;
-      means = c.in_ok-compiled.ensures.means;
+      means = built-document c.args.input.now compiled c.in_ok-compiled.ensures.compiled;
       schema_lines = schema_lines;
       lines = lines;
       prints = c.in_ok-push_faults-2.ensures.1.0 ∙ ap (λ l. l ++ lines) first ∙ append_assoc _ schema_lines lines;

@@ -8,27 +8,6 @@ use Rattle.apollo_compiler.specs.declared.compile_options.CompileOptions.{Compil
 use Rattle.gqltool_run.proofs.CauseLemmas.{compiling-document_cause}
 use Rattle.gqltool_run.proofs.document_building.compile_documents.Goals as goal
 
-pub returns-clause-means : goal.returns-clause-means
-returns-clause-means c =
-    let compiled = c.in_ok-compiled.compiled in
-    let documents = c.in_ok-documents.documents in
-    let before = c.as_slice.result.now in
-    let behind = c.as_slice-2.result.now in
-    let is : IsCompiled no_options documents.schema.items documents.executable.items true compiled =
-    subst (λ (ds : List Document). IsCompiled no_options ds documents.executable.items true compiled) c.as_slice.ensures.value
-    (subst (λ (ds : List Document). IsCompiled no_options before ds true compiled) c.as_slice-2.ensures.value
-    (subst (λ (o : CompileOptions). IsCompiled o before behind true compiled) c.none.ensures c.in_ok-compiled.ensures.compiled)) in
-    record {
-      schema_documents = documents.schema.items;
-      executable_documents = documents.executable.items;
-      says = c.in_ok-documents.ensures.said;
-      means = is.schema;
-      schema_are = is.schema_faults;
-      typed = is.document;
-      sources = is.document_sources;
-      are = is.document_faults;
-    }
-
 pub returns-clause-compiled : goal.returns-clause-compiled
 returns-clause-compiled c =
     let compiled = c.in_ok-compiled.compiled in
@@ -40,9 +19,6 @@ returns-clause-compiled c =
     (subst (λ (ds : List Document). IsCompiled no_options before ds true compiled) c.as_slice-2.ensures.value
     (subst (λ (o : CompileOptions). IsCompiled o before behind true compiled) c.none.ensures c.in_ok-compiled.ensures.compiled)) in
     (documents.schema.items, (documents.executable.items, (c.in_ok-documents.ensures.said, is)))
-
-pub returns-clause-erased : goal.returns-clause-erased
-returns-clause-erased c = c.in_ok-compiled.ensures.compiled.erased
 
 pub returns-in_err-compiled-clause-causes : goal.returns-in_err-compiled-clause-causes
 returns-in_err-compiled-clause-causes c =

@@ -6,6 +6,7 @@ use Rattle.apollo_meaning.specs.Faults.Collisions.{Fault}
 use Rattle.apollo_elaboration.specs.Typable.{Fault as DocumentFault}
 use Rattle.gqltool_run.specs.FaultLines.{AreFaultLines}
 use Rattle.gqltool_run.specs.LeafCommand.{leaf_line}
+use Rattle.gqltool_run.proofs.BuiltLemmas.{built-document}
 use Rattle.gqltool_run.proofs.leaf_command.leaf_answer.Goals as goal
 
 pub returns-clause-means : goal.returns-clause-means
@@ -24,7 +25,7 @@ returns-clause-means c =
       document = compiled.document;
       schema_faults = compiled.schema_faults.items;
       faults = compiled.document_faults.items;
-      means = c.in_ok-compiled.ensures.means;
+      means = built-document c.args.input.now compiled c.in_ok-compiled.ensures.compiled;
       schema_lines = schema_lines;
       lines = lines;
       prints = c.in_ok-push_faults-2.ensures.1.0 ∙ ap (λ l. l ++ lines) first ∙ append_assoc leaf_lines schema_lines lines;

@@ -4,6 +4,7 @@ use Rattle.std.proofs.lemmas.Result.{err_from_is_err_and}
 use Rattle.apollo_meaning.specs.Faults.Collisions.{Fault}
 use Rattle.apollo_schema.specs.SchemaWriteOut.{write_schema}
 use Rattle.gqltool_run.specs.FaultLines.{AreFaultLines}
+use Rattle.gqltool_run.proofs.BuiltLemmas.{built}
 use Rattle.gqltool_run.proofs.FaultLineLemmas.{no-lines, not-false}
 use Rattle.bench_notation.specs.Text.{definitions_text}
 use Rattle.gqltool_run.proofs.schema_command.schema_answer.Goals as goal
@@ -17,9 +18,9 @@ returns-clause-means c =
     record {
       schema = compiled.schema;
       faults = compiled.schema_faults.items;
-      means = c.in_ok-compiled.ensures.means;
+      means = built c.args.options c.args.input.now compiled c.in_ok-compiled.ensures.compiled;
       lines = lines;
-      prints = c.in_ok-push_faults.ensures.1.0 ∙ ap (λ l. l ++ lines) (c.in_ok-text.ensures ∙ ap definitions_text (c.as_slice.ensures.value ∙ c.in_ok-compiled.ensures.ast));
+      prints = c.in_ok-push_faults.ensures.1.0 ∙ ap (λ l. l ++ lines) (c.in_ok-text.ensures ∙ ap definitions_text (c.as_slice.ensures.value ∙ c.in_ok-compiled.ensures.compiled.1.1.ast));
       tells = subst (λ (l : List Fault). AreFaultLines l lines) faults c.in_ok-push_faults.ensures.1.1;
       any = ap not (c.is_empty.ensures ∙ ap (λ (n : ℕ). n == 0) len ∙ ap (λ (l : List Fault). length l == 0) faults);
     }
@@ -32,7 +33,7 @@ returns-clause-printed c = λ none.
     let empty : (length c.as_slice-2.result.now == 0) ≡ true = ap (λ (n : ℕ). n == 0) (sym len) ∙ sym c.is_empty.ensures ∙ not-false c.is_empty.result none in (
       write_schema compiled.schema,
       c.in_ok-push_faults.ensures.1.0
-          ∙ (λ i. (c.in_ok-text.ensures ∙ ap definitions_text (c.as_slice.ensures.value ∙ c.in_ok-compiled.ensures.ast)) i
+          ∙ (λ i. (c.in_ok-text.ensures ∙ ap definitions_text (c.as_slice.ensures.value ∙ c.in_ok-compiled.ensures.compiled.1.1.ast)) i
           ++ no-lines c.as_slice-2.result.now lines empty c.in_ok-push_faults.ensures.1.1 i)
           ∙ append-nil (definitions_text (write_schema compiled.schema)),
     )
