@@ -1,4 +1,4 @@
-//! What documents are compiled to.
+//! What documents are compiled to: GraphQL specification of October 2021, sections 2.2 to 2.8 and 3.
 
 use apollo_document::Faults as DocumentFaults;
 use apollo_executable::document::ExecutableDocument;

@@ -1,4 +1,4 @@
-//! Components of types, and names that are components.
+//! Components of types, and names that are components: GraphQL specification of October 2021, sections 3.4 and 3.4.3.
 ghost use Rattle.std.specs.Prelude.{◌≡◌, IfOk, Some, nat_eq};
 ghost use Rattle.std.specs.Borrow.{sem};
 ghost use Rattle.std.specs.Cmp;

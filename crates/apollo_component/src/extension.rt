@@ -1,4 +1,4 @@
-//! Identities of extensions.
+//! Identities of extensions: GraphQL specification of October 2021, sections 3.3.2 and 3.4.3.
 ghost use Rattle.std.specs.Prelude.{◌≡◌, ◌+◌, ◌-◌, ◌^◌, IfOk, OnErr, None, Some, nat_eq};
 ghost use Rattle.std.specs.Cmp.{on_equiv, on_per};
 ghost use Rattle.std.specs.Cmp.Rules.{hashing};

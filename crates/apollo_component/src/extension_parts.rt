@@ -1,4 +1,5 @@
-//! The parts of the extensions of a type or of a schema's definition.
+//! The parts of the extensions of a type or of a schema's definition: GraphQL specification of October 2021, sections 3.3.2 and
+//! 3.4.3.
 ghost use Rattle.std.specs.Prelude.{◌≡◌, [], ◌∷◌, ◌++◌, map, IfOk, OnOk};
 ghost use Rattle.graphql_ast.specs.DefinitionParts.{no_parts, with_part, type_extension, schema_extension};
 ghost use Rattle.apollo_component.specs.Beginnings.{Begins};

@@ -1,4 +1,4 @@
-//! The directives of one name.
+//! The directives of one name: GraphQL specification of October 2021, section 2.12.
 ghost use Rattle.std.specs.Prelude.{◌≡◌, filter, length};
 ghost use Rattle.std.specs.Iterator.{at_most};
 ghost use Rattle.std.specs.Map.Iter.{TakesFirst, deref};

@@ -1,4 +1,4 @@
-//! The fields of a selection set, one by one.
+//! The fields of a selection set, one by one: GraphQL specification of October 2021, section 2.5.
 ghost use Rattle.std.specs.Prelude.{◌≡◌, length, filter_map};
 ghost use Rattle.std.specs.Iterator.{at_most};
 ghost use Rattle.std.specs.Map.Iter.{TakesFirst, deref};

@@ -1,4 +1,4 @@
-//! Why a field isn't made.
+//! Why a field isn't made: GraphQL specification of October 2021, section 2.5.
 
 use apollo_schema::field_lookup_error::FieldLookupError;
 use std::alloc::AllocError;

@@ -1,4 +1,4 @@
-//! The operations of a document, one by one.
+//! The operations of a document, one by one: GraphQL specification of October 2021, section 2.3.
 ghost use Rattle.std.specs.Prelude.{◌≡◌, length};
 ghost use Rattle.std.specs.Iterator.{at_most};
 ghost use Rattle.std.specs.Map.Iter.{TakesFirst, deref};

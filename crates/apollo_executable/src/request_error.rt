@@ -1,4 +1,4 @@
-//! Why no operation is answered for a request.
+//! Why no operation is answered for a request: GraphQL specification of October 2021, section 6.1.
 
 use graphql_nodes::name::Name;
 use std::alloc::AllocError;

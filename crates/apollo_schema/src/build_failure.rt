@@ -1,4 +1,4 @@
-//! What a build answers where it has no schema without faults.
+//! What a build answers where it has no schema without faults: GraphQL specification of October 2021, section 3.
 
 use crate::schema::Schema;
 use apollo_meaning::build_error::Faults;

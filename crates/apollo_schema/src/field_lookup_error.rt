@@ -1,4 +1,4 @@
-//! Why a field isn't found.
+//! Why a field isn't found: GraphQL specification of October 2021, sections 3.6, 3.7 and 4.1.
 
 use apollo_types::extended_type::ExtendedType;
 use graphql_nodes::name::NamedType;

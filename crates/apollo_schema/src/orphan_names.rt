@@ -1,4 +1,4 @@
-//! The names that are extended and not defined.
+//! The names that are extended and not defined: GraphQL specification of October 2021, section 3.4.3.
 ghost use Rattle.std.specs.Prelude.{◌≡◌, []};
 ghost use Rattle.std.specs.Iterator.{YieldsFirstRef, item_count};
 ghost use Rattle.std.specs.Map.Iter.{TakesFirst, deref};

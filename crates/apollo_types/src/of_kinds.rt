@@ -1,4 +1,4 @@
-//! Types of any kind, made of a type of one kind.
+//! Types of any kind, made of a type of one kind: GraphQL specification of October 2021, section 3.4.
 ghost use Rattle.std.specs.Prelude.{◌≡◌, IfOk, None};
 ghost use Rattle.apollo_types.specs.declared.extended_type.ExtendedType.TheVariants.{Scalar, Object, Interface, Union, Enum, InputObject};
 

@@ -1,4 +1,5 @@
-//! The origins of the components of a type or of a schema's definition.
+//! The origins of the components of a type or of a schema's definition: GraphQL specification of October 2021, sections 3.3.2
+//! and 3.4.3.
 ghost use Rattle.std.specs.Prelude.{◌≡◌, length, IfSome};
 ghost use Rattle.std.specs.Iterator.{UpTo, at_most};
 ghost use Rattle.std.specs.Iterator.SizeHint.{IsWithinCount, IsExactHint};

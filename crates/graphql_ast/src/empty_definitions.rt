@@ -1,5 +1,5 @@
 //! Definitions and extensions of the type system made by calls: each has what it can't be without, and is else empty. None
-//! takes memory.
+//! takes memory. GraphQL specification of October 2021, section 3.
 ghost use Rattle.std.specs.Prelude.{◌≡◌, [], None, false};
 
 use crate::directive::DirectiveList;
