@@ -9,17 +9,16 @@ use Rattle.apollo_meaning.specs.Types.Meaning.{parts, sourced, type_from, type_o
 use Rattle.apollo_compiler.specs.Headline.{IsFolded}
 
 -- a type of a list is folded of its name's first definition, where all extensions of that one's kind are folded for a name
-pub type-folded : (start : ℕ) (xs : List ListItem) (n : List ℕ) (t : ExtendedType)
-    → ((d : TypePart) → first xs n ≡ Some d → map (λ s. s.1) (sourced n start (folding_order xs)) ≡ of_kind (kind_of d) (extensions_of xs n))
-    → type_of start (folding_order xs) xs n ≡ Some t → IsFolded xs n t
-type-folded start xs n t all is = by (first xs n) refl is
+pub type-folded : (xs : List ListItem) (n : List ℕ) (t : ExtendedType)
+    → ((d : TypePart) → first xs n ≡ Some d → map (λ s. s.1) (sourced n 0 (folding_order xs)) ≡ of_kind (kind_of d) (extensions_of xs n))
+    → type_of 0 (folding_order xs) xs n ≡ Some t → IsFolded xs n t
+type-folded xs n t all is = by (first xs n) refl is
   where
-    by : (o : Option TypePart) → first xs n ≡ o → option_map (λ d. type_from d (parts start (folding_order xs) n d)) o ≡ Some t → IsFolded xs n t
+    by : (o : Option TypePart) → first xs n ≡ o → option_map (λ d. type_from d (parts 0 (folding_order xs) n d)) o ≡ Some t → IsFolded xs n t
     by None e h = cc
     by (Some d) e h = record {
       definition = d;
       is_first = e;
-      extensions = sourced n start (folding_order xs);
       are_all = all d e;
       is = sym (ap (λ (o : Option ExtendedType). unwrap_or o t) h);
     }

@@ -1,5 +1,5 @@
 -- The words of the headline: GraphQL specification of October 2021, sections 2.2 to 2.8, 3, 3.4.3 and 6.3.2.
-use Rattle.std.specs.Prelude.{◌≡◌, ℕ, Bool, List, ◌∷◌, ◌++◌, map, Option, Some, option_map}
+use Rattle.std.specs.Prelude.{◌≡◌, ℕ, Bool, List, ◌++◌, map, Option, Some, option_map}
 use Rattle.std.specs.List.{filter_map}
 use Rattle.graphql_nodes.specs.NameView.{NameView}
 use Rattle.graphql_nodes.specs.NodeView.{NodeView}
@@ -9,14 +9,13 @@ use Rattle.graphql_ast.specs.declared.definition.Definition as ast
 use Rattle.graphql_ast.specs.declared.definition.Definition.TheVariants as d
 use Rattle.graphql_ast.specs.declared.operation.FragmentDefinition.{FragmentDefinition}
 use Rattle.graphql_ast.specs.declared.operation.OperationDefinition.{OperationDefinition}
-use Rattle.apollo_component.specs.declared.extension.ComponentOrigin.TheVariants.{Definition}
 use Rattle.apollo_types.specs.declared.extended_type.ExtendedType.{ExtendedType}
 use Rattle.apollo_meaning.specs.Items.ListItems.{ListItem}
 use Rattle.apollo_meaning.specs.Items.Named.{extensions_of, first, of_kind}
 use Rattle.apollo_meaning.specs.Items.Parts.{TypePart, kind_of}
+use Rattle.apollo_meaning.specs.Order.Places.{folding_order}
 use Rattle.apollo_meaning.specs.Schema.Whole.{whole}
-use Rattle.apollo_meaning.specs.Types.Components.{Sourced}
-use Rattle.apollo_meaning.specs.Types.Meaning.{type_from}
+use Rattle.apollo_meaning.specs.Types.Meaning.{parts, sourced, type_from}
 use Rattle.apollo_schema.specs.declared.schema.Schema.{Schema}
 use Rattle.apollo_executable.specs.Erasure.{at_place}
 use Rattle.apollo_executable.specs.Listed.{listed}
@@ -39,14 +38,13 @@ all_items c = whole c.options.adopt_orphan_extensions (schema_list c.options c.s
 abbrev pub type_named : Compilation → List ℕ → Option ExtendedType
 type_named c name = lookup (by_text name) c.compiled.schema.types
 
--- a type of this name: the first definition with all extensions of that one's kind, wherever they stand, in order. Which
--- extension a component is of, is said by its origin
+-- a type of this name: the first definition with all extensions of that one's kind, wherever they stand, in order. What is of an
+-- extension has its identity: its location, and its number, by which it is told apart from all others that are folded
 pub record IsFolded (items : List ListItem) (name : List ℕ) (t : ExtendedType) : Type 0 where
   pub definition : TypePart
   pub is_first : first items name ≡ Some definition
-  pub extensions : List Sourced
-  pub are_all : map (λ e. e.1) extensions ≡ of_kind (kind_of definition) (extensions_of items name)
-  pub is : t ≡ type_from definition ((Definition, definition) ∷ extensions)
+  pub are_all : map (λ e. e.1) (sourced name 0 (folding_order items)) ≡ of_kind (kind_of definition) (extensions_of items name)
+  pub is : t ≡ type_from definition (parts 0 (folding_order items) name definition)
 
 -- the operations that a document keeps of a list: the anonymous one, then the named ones
 abbrev pub kept_operations : Option Schema → List DocumentItem → List (NodeView OperationDefinition)

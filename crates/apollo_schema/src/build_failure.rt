@@ -2,6 +2,8 @@
 
 use crate::schema::Schema;
 use apollo_meaning::build_error::Faults;
+use apollo_meaning::laws::clones_are_exact;
+use std::alloc::AllocError;
 
 /// What could be built, and the faults, of which there is at least one. `{:?}` prints the faults alone.
 #[derive(Drop)]
@@ -10,6 +12,21 @@ pub struct WithErrors<T> {
     #[derive_where(skip)]
     pub partial: T,
     pub errors: Faults,
+}
+
+/// A copy has a copy of what could be built, and the same faults in the same order, with their locations. The error is want of
+/// memory.
+impl<T: Clone + Drop> Clone for WithErrors<T> {
+    ghost use Rattle.std.specs.Prelude.{◌≡◌};
+
+    ghost is_clone = { λ a b. T.is_clone a.partial b.partial × (b.errors.items ≡ a.errors.items) };
+
+    fn clone(&self) -> Result<WithErrors<T>, AllocError> {
+        clones_are_exact();
+        let partial = self.partial.clone()?;
+        let errors = self.errors.clone()?;
+        Ok(WithErrors { partial, errors })
+    }
 }
 
 /// Why a build answers no schema without faults.

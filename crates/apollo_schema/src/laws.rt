@@ -14,6 +14,7 @@ ghost use Rattle.graphql_nodes.specs.NameView.{NameView};
 ghost use Rattle.graphql_nodes.specs.SameText.{same_text};
 ghost use Rattle.graphql_nodes.specs.Tables.{HasUniqueKeys};
 
+use crate::build_failure::WithErrors;
 use crate::field_lookup_error::FieldLookupError;
 use crate::implementers::Implementers;
 use crate::schema::Schema;
@@ -47,6 +48,12 @@ pub fn equality_of_builder_errors()
 /// Each clone of a schema is the original, with its sources and every location and origin.
 pub fn clones_of_schemas_are_exact()
     ensures { IsExact ⟦<Schema as Clone>⟧.is_clone }
+{}
+
+/// Each clone of what could be built with its faults has that schema, as exactly, and these faults, in the same order.
+pub fn clones_of_partial_schemas_are_exact()
+    ensures partial { (a b : WithErrors Schema) → ⟦<WithErrors<Schema> as Clone>⟧.is_clone a b → b.partial ≡ a.partial }
+    ensures errors { (a b : WithErrors Schema) → ⟦<WithErrors<Schema> as Clone>⟧.is_clone a b → b.errors.items ≡ a.errors.items }
 {}
 
 /// Each clone of an error of a field is the original, with the key and the type that it names.

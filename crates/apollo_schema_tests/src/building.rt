@@ -3,7 +3,7 @@
 use crate::accounts::{push_faults, push_schema};
 use apollo_component::extension::ExtensionSource;
 use apollo_meaning::build_error::Fault;
-use apollo_schema::build_failure::BuildFailure;
+use apollo_schema::build_failure::{BuildFailure, WithErrors};
 use apollo_schema::schema::Schema;
 use apollo_schema::schema_builder::SchemaBuilder;
 use apollo_types::extended_type::ExtendedType;
@@ -195,9 +195,17 @@ impl<'a> Account<'a> {
         write!(self.text, "faults copied equal: {are_copied}\n")
     }
 
+    /// Adds the faults that a copy of what was found has, and whether its schema is equal.
+    fn push_found(&mut self, found: &WithErrors<Schema>) -> Result<(), AllocError> {
+        let copy = found.clone()?;
+        let is_equal = copy.partial == found.partial;
+        self.push_faults(copy.errors.as_slice())?;
+        write!(self.text, "partial schema copied equal: {is_equal}\n")
+    }
+
     fn push_failure(&mut self, failure: &BuildFailure) -> Result<(), AllocError> {
         match failure {
-            BuildFailure::Faults(found) => self.push_faults(found.errors.as_slice()),
+            BuildFailure::Faults(found) => self.push_found(found),
             BuildFailure::Failed => self.text.push_str("failed\n"),
             BuildFailure::ExtensionIds => self.text.push_str("no number is left\n"),
             BuildFailure::Memory => self.text.push_str("not built\n"),

@@ -39,12 +39,12 @@ fn types_of_each_kind_are_written_out_and_copied(rt: HostRuntime) -> Result<(), 
 fn names_wait_in_order_until_they_are_defined(rt: HostRuntime) -> Result<(), Fail> {
     let input = "ext scalar B\next scalar A\next scalar B\next scalar C\ndef scalar C";
     let account =
-        "B waits\nA waits\n1:1-1 type extension for undefined type `B`\n1:3-3 type extension for undefined type `B`\n1:2-2 type extension for undefined type `A`\nfaults copied equal: true\ndef scalar C\nrebuilt equal: true\ncopied equal: true, true, true\n1 is next\n";
+        "B waits\nA waits\n1:1-1 type extension for undefined type `B`\n1:3-3 type extension for undefined type `B`\n1:2-2 type extension for undefined type `A`\nfaults copied equal: true\npartial schema copied equal: true\ndef scalar C\nrebuilt equal: true\ncopied equal: true, true, true\n1 is next\n";
     expect(&rt, PLAIN, input, account)?;
     let input =
         "ext scalar B\next scalar A\next scalar B\next scalar C\ndef scalar C\ndef scalar B";
     let account =
-        "A waits\n1:2-2 type extension for undefined type `A`\nfaults copied equal: true\ndef scalar C\ndef scalar B\nrebuilt equal: true\ncopied equal: true, true, true\n3 is next\n";
+        "A waits\n1:2-2 type extension for undefined type `A`\nfaults copied equal: true\npartial schema copied equal: true\ndef scalar C\ndef scalar B\nrebuilt equal: true\ncopied equal: true, true, true\n3 is next\n";
     expect(&rt, PLAIN, input, account)
 }
 
@@ -54,7 +54,7 @@ fn adopted_extensions_of_types_are_numbered_first(rt: HostRuntime) -> Result<(),
     let input =
         "ext-schema\n@ d\nroot query A\next-schema\nroot query B\next interface B\nfield x Int\next object A\nfield y Int";
     let account =
-        "B waits\nA waits\n1:5-5 duplicate definitions for the `query` root operation type\nfaults copied equal: true\nd in extension 2 of line 1\nA in extension 2 of line 1\nquery is A, an object type: true\nx in extension 0 of line 6\ny in extension 1 of line 8\next-schema\n@ d\nroot query A\ndef interface B\next interface B\nfield x Int\ndef object A\next object A\nfield y Int\nrebuilt equal: true\ncopied equal: true, true, true\n4 is next\n";
+        "B waits\nA waits\n1:5-5 duplicate definitions for the `query` root operation type\nfaults copied equal: true\npartial schema copied equal: true\nd in extension 2 of line 1\nA in extension 2 of line 1\nquery is A, an object type: true\nx in extension 0 of line 6\ny in extension 1 of line 8\next-schema\n@ d\nroot query A\ndef interface B\next interface B\nfield x Int\ndef object A\next object A\nfield y Int\nrebuilt equal: true\ncopied equal: true, true, true\n4 is next\n";
     expect(&rt, ADOPTING, input, account)?;
     let input =
         "ext-schema\n@ d\nroot query A\next-schema\nroot mutation B\next interface B\nfield x Int\next object A\nfield y Int";

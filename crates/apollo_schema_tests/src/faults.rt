@@ -12,14 +12,14 @@ use std::test::Fail;
 fn a_second_root_and_a_second_schema_definition(rt: HostRuntime) -> Result<(), Fail> {
     let input = "schema\nroot mutation M\nroot mutation N\nschema\nroot query Q";
     let account =
-        "1:3-3 duplicate definitions for the `mutation` root operation type\n1:4-4 must not have multiple `schema` definitions\nfaults copied equal: true\nM in the definition\nmutation is M, an object type: false\nschema\nroot mutation M\nrebuilt equal: true\ncopied equal: true, true, true\n0 is next\n";
+        "1:3-3 duplicate definitions for the `mutation` root operation type\n1:4-4 must not have multiple `schema` definitions\nfaults copied equal: true\npartial schema copied equal: true\nM in the definition\nmutation is M, an object type: false\nschema\nroot mutation M\nrebuilt equal: true\ncopied equal: true, true, true\n0 is next\n";
     expect(&rt, PLAIN, input, account)
 }
 
 #[test]
 fn a_schema_extension_alone(rt: HostRuntime) -> Result<(), Fail> {
     let account =
-        "1:1-1 schema extension without a schema definition\nfaults copied equal: true\nrebuilt equal: true\ncopied equal: true, true, true\n0 is next\n";
+        "1:1-1 schema extension without a schema definition\nfaults copied equal: true\npartial schema copied equal: true\nrebuilt equal: true\ncopied equal: true, true, true\n0 is next\n";
     expect(&rt, PLAIN, "ext-schema\n@ d", account)
 }
 
@@ -85,10 +85,10 @@ fn after_the_last_number_none_is_drawn(rt: HostRuntime) -> Result<(), Fail> {
 #[test]
 fn an_extension_that_is_not_folded_takes_no_number(rt: HostRuntime) -> Result<(), Fail> {
     let account =
-        "T waits\n1:1-1 type extension for undefined type `T`\nfaults copied equal: true\nrebuilt equal: true\ncopied equal: true, true, true\n18446744073709551615 is next\n";
+        "T waits\n1:1-1 type extension for undefined type `T`\nfaults copied equal: true\npartial schema copied equal: true\nrebuilt equal: true\ncopied equal: true, true, true\n18446744073709551615 is next\n";
     expect(&rt, SPENT, "ext object T", account)?;
     let account =
-        "1:1-1 adding an enum type extension, but `T` is an object type\nfaults copied equal: true\nx in the definition\ndef object T\nfield x Int\nrebuilt equal: true\ncopied equal: true, true, true\n18446744073709551615 is next\n";
+        "1:1-1 adding an enum type extension, but `T` is an object type\nfaults copied equal: true\npartial schema copied equal: true\nx in the definition\ndef object T\nfield x Int\nrebuilt equal: true\ncopied equal: true, true, true\n18446744073709551615 is next\n";
     expect(
         &rt,
         SPENT,

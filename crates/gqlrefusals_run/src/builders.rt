@@ -6,7 +6,7 @@ use crate::tell::faults::push_schema_faults;
 use crate::tell::{Tell, push_name};
 use apollo_component::extension::ExtensionSource;
 use apollo_folding::builder_error::BuilderError;
-use apollo_schema::build_failure::BuildFailure;
+use apollo_schema::build_failure::{BuildFailure, WithErrors};
 use apollo_schema::schema::Schema;
 use apollo_schema::schema_builder::SchemaBuilder;
 use graphql_ast::document::Document;
@@ -36,14 +36,19 @@ fn refused(builder: SchemaBuilder, document: &Document, error: BuilderError) -> 
     Stop::from(error)
 }
 
+/// Tells a copy of what could be built, and of its faults: `WithErrors::clone`.
+fn tell_found(text: &mut String, found: &WithErrors<Schema>) -> Told {
+    let copy = found.clone()?;
+    expect(copy.partial == found.partial, "a copy differs")?;
+    copy.partial.tell(text)?;
+    Ok(push_schema_faults(text, copy.errors.as_slice())?)
+}
+
 /// Tells the schema that was built, and its faults.
 fn tell_built(text: &mut String, built: Result<Schema, BuildFailure>) -> Told {
     match built {
         Ok(schema) => Ok(schema.tell(text)?),
-        Err(BuildFailure::Faults(found)) => {
-            found.partial.tell(text)?;
-            Ok(push_schema_faults(text, found.errors.as_slice())?)
-        }
+        Err(BuildFailure::Faults(found)) => tell_found(text, &found),
         Err(BuildFailure::Memory) => Err(Stop::Memory),
         Err(_) => Err(Stop::Wrong("nothing was built")),
     }

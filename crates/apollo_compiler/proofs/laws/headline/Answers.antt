@@ -17,7 +17,7 @@ use Rattle.apollo_compiler.proofs.laws.headline.Goals as goal
 
 pub returns-clause-folds : goal.returns-clause-folds
 returns-clause-folds c = λ m name t there.
-    type-folded 0 (all_items m) name t (c.folded_extensions.ensures 0 (all_items m) name) (sym (m.is.schema.types.each name) ∙ there)
+    type-folded (all_items m) name t (c.folded_extensions.ensures 0 (all_items m) name) (sym (m.is.schema.types.each name) ∙ there)
 
 pub returns-clause-defined : goal.returns-clause-defined
 returns-clause-defined c = λ m name.
