@@ -8,7 +8,7 @@ use Rattle.apollo_elaboration.specs.Typable.{Fault as DocumentFault}
 use Rattle.apollo_executable.specs.Erasure.{erased_definitions}
 use Rattle.apollo_executable.specs.declared.document.ExecutableDocument.{ExecutableDocument}
 use Rattle.leafcheck.specs.LeafFaults.{leaf_faults}
-use Rattle.apollo_coordinate.specs.CoordinateText.{IsCoordinateText, Says}
+use Rattle.apollo_coordinate.specs.CoordinateText.{IsCoordinateText, SaysCoordinate}
 use Rattle.apollo_coordinate.specs.declared.coordinates.SchemaCoordinate.{SchemaCoordinate}
 use Rattle.apollo_coordinate.specs.declared.lookup_answers.SchemaCoordinateLookup.{SchemaCoordinateLookup}
 use Rattle.apollo_meaning.specs.Faults.Collisions.{Fault}
@@ -73,7 +73,7 @@ other_letters : ◌≡◌ {A = ℕ} 99 115 → ⊥
 other_letters e = omega arith
 
 -- words that ask for something have no refused text, since a text that says a coordinate is in the grammar
-pub asked_apart : ((text : List ℕ) (c : SchemaCoordinate) → Says text c → IsCoordinateText text) → (words : List (List ℕ)) (task : Task) → Ask words task → AskNoCoordinate words → ⊥
+pub asked_apart : ((text : List ℕ) (c : SchemaCoordinate) → SaysCoordinate text c → IsCoordinateText text) → (words : List (List ℕ)) (task : Task) → Ask words task → AskNoCoordinate words → ⊥
 asked_apart in_grammar words (tasks.Schema options) asked refused =
     let first : codes "coord" ≡ codes "schema" = (subst (λ (w : List (List ℕ)). AreSchemaWords w options) refused.1.0 asked).0 in
     let letter : ◌≡◌ {A = ℕ} 99 115 = cc in
