@@ -1,5 +1,5 @@
 -- What the headline says of the types of a schema, by what its list means.
-use Rattle.std.proofs.Common.{◌≡◌, ap, sym, ℕ, List, map, Option, None, Some, is_some, option_map, unwrap_or, refl}
+use Rattle.std.proofs.Common.{◌≡◌, ap, sym, ℕ, List, map, Option, None, Some, option_map, unwrap_or, refl}
 use Rattle.apollo_types.specs.declared.extended_type.ExtendedType.{ExtendedType}
 use Rattle.apollo_meaning.specs.Items.ListItems.{ListItem}
 use Rattle.apollo_meaning.specs.Items.Named.{extensions_of, first, of_kind}
@@ -22,7 +22,3 @@ type-folded xs n t all is = by (first xs n) refl is
       are_all = all d e;
       is = sym (ap (λ (o : Option ExtendedType). unwrap_or o t) h);
     }
-
-pub some-mapped : {A B : Type 0} (f : A → B) (o : Option A) → is_some (option_map f o) ≡ is_some o
-some-mapped f None = refl
-some-mapped f (Some a) = refl

@@ -5,7 +5,7 @@ use Rattle.graphql_nodes.specs.Comparing.{bare_name}
 use Rattle.graphql_nodes.specs.NameSyntax.{IsName}
 use Rattle.graphql_nodes.specs.NameView.{NameView}
 use Rattle.graphql_nodes.proofs.Comparisons.{tail_same}
-use Rattle.apollo_coordinate.specs.CoordinateText.{IsAttributeText, IsFieldArgumentText, IsDirectiveText, IsDirectiveArgumentText, IsCoordinateText, HasNames, Says, text, parts, bare}
+use Rattle.apollo_coordinate.specs.CoordinateText.{IsAttributeText, IsFieldArgumentText, IsDirectiveText, IsDirectiveArgumentText, IsCoordinateText, HasNames, SaysCoordinate, coordinate_text, coordinate_parts, bare_coordinate}
 use Rattle.apollo_coordinate.specs.Refusals.{Lacks}
 use Rattle.apollo_coordinate.specs.Readings.{IsReadingOf, IsReadBack}
 use Rattle.apollo_coordinate.specs.declared.coordinates.FieldArgumentCoordinate.{FieldArgumentCoordinate}
@@ -16,13 +16,13 @@ use Rattle.apollo_coordinate.specs.declared.parse_error.SchemaCoordinateParseErr
 use Rattle.apollo_coordinate.proofs.MarkLemmas.{one_cut}
 use Rattle.apollo_coordinate.proofs.GrammarLemmas.{BeginsAt, point, bracket, colon, name_lacks, type_begins, attribute_begins, field_argument_begins, attribute_lacks, directive_lacks, attribute_cut, argument_cut}
 
-field_argument_form : (c : FieldArgumentCoordinate) → IsName c.ty.text → IsName c.field.text → IsName c.argument.text → IsFieldArgumentText (text (FieldArgument c))
+field_argument_form : (c : FieldArgumentCoordinate) → IsName c.ty.text → IsName c.field.text → IsName c.argument.text → IsFieldArgumentText (coordinate_text (FieldArgument c))
 field_argument_form c ty field argument =
     let head : IsAttributeText (c.ty.text ++ (codes "." ++ c.field.text)) = (c.ty.text, c.field.text, refl, ty, field) in
     (c.ty.text ++ (codes "." ++ c.field.text), c.argument.text, sym (append_assoc c.ty.text (codes "." ++ c.field.text) (codes "(" ++ (c.argument.text ++ codes ":)"))), head, argument)
 
 -- the text in the grammar
-pub in_grammar : (c : SchemaCoordinate) → HasNames c → IsCoordinateText (text c)
+pub in_grammar : (c : SchemaCoordinate) → HasNames c → IsCoordinateText (coordinate_text c)
 in_grammar (Ty c) names = inl names.0
 in_grammar (TypeAttribute c) names = inr (inl (c.ty.text, c.attribute.text, refl, names.0, names.1.0))
 in_grammar (FieldArgument c) names = inr (inr (inl (field_argument_form c names.0 names.1.0 names.1.1.0)))
@@ -37,20 +37,20 @@ HasMarks (FieldArgument c) t = (BeginsAt t → ⊥) × (Lacks 40 t → ⊥) × U
 HasMarks (Directive c) t = BeginsAt t × Lacks 40 t × Unit {0}
 HasMarks (DirectiveArgument c) t = BeginsAt t × (Lacks 40 t → ⊥) × Unit {0}
 
-pub marks : (c : SchemaCoordinate) → HasNames c → HasMarks c (text c)
+pub marks : (c : SchemaCoordinate) → HasNames c → HasMarks c (coordinate_text c)
 marks (Ty c) names = (type_begins c.ty.text names.0, name_lacks 40 bracket c.ty.text names.0, name_lacks 46 point c.ty.text names.0)
 marks (TypeAttribute c) names =
-    let form : IsAttributeText (text (TypeAttribute c)) = (c.ty.text, c.attribute.text, refl, names.0, names.1.0) in
+    let form : IsAttributeText (coordinate_text (TypeAttribute c)) = (c.ty.text, c.attribute.text, refl, names.0, names.1.0) in
     (attribute_begins _ form, attribute_lacks _ form, attribute_cut _ form)
 marks (FieldArgument c) names =
     let form = field_argument_form c names.0 names.1.0 names.1.1.0 in
     (field_argument_begins _ form, argument_cut IsAttributeText _ form, tt)
 marks (Directive c) names =
-    let form : IsDirectiveText (text (Directive c)) = (c.directive.text, refl, names.0) in
+    let form : IsDirectiveText (coordinate_text (Directive c)) = (c.directive.text, refl, names.0) in
     ((c.directive.text, refl), directive_lacks _ form, tt)
 marks (DirectiveArgument c) names =
     let head : IsDirectiveText (codes "@" ++ c.directive.text) = (c.directive.text, refl, names.0) in
-    let form : IsDirectiveArgumentText (text (DirectiveArgument c)) = (codes "@" ++ c.directive.text, c.argument.text, refl, head, names.1.0) in
+    let form : IsDirectiveArgumentText (coordinate_text (DirectiveArgument c)) = (codes "@" ++ c.directive.text, c.argument.text, refl, head, names.1.0) in
     ((c.directive.text ++ (codes "(" ++ (c.argument.text ++ codes ":)")), refl), argument_cut IsDirectiveText _ form, tt)
 
 bare_same : (n m : NameView) → n.text ≡ m.text → bare_name n ≡ bare_name m
@@ -60,7 +60,7 @@ argument_same : (a b : NameView) → IsName a.text → IsName b.text → a.text 
 argument_same a b m n h = bare_same a b (one_cut 58 a.text (codes ")") b.text (codes ")") (name_lacks 58 colon a.text m) (name_lacks 58 colon b.text n) h).0
 
 -- a text, with the marks that two coordinates have in it
-same_form : (c d : SchemaCoordinate) → HasNames c → HasNames d → text c ≡ text d → HasMarks c (text c) → HasMarks d (text c) → bare c ≡ bare d
+same_form : (c d : SchemaCoordinate) → HasNames c → HasNames d → coordinate_text c ≡ coordinate_text d → HasMarks c (coordinate_text c) → HasMarks d (coordinate_text c) → bare_coordinate c ≡ bare_coordinate d
 same_form (Ty c) (Ty d) m n h u v = let n = bare_same c.ty d.ty h in λ i. Ty (record { ty = n i })
 same_form (Ty c) (TypeAttribute d) m n h u v = absurd (v.2 u.2)
 same_form (Ty c) (FieldArgument d) m n h u v = absurd (v.1 u.1)
@@ -101,7 +101,7 @@ same_form (DirectiveArgument c) (DirectiveArgument d) m n h u v =
     let second = argument_same c.argument d.argument m.1.0 n.1.0 cut.1 in
     λ i. DirectiveArgument (record { directive = first i; argument = second i })
 
-pub apart : (c d : SchemaCoordinate) → HasNames c → HasNames d → text c ≡ text d → bare c ≡ bare d
+pub apart : (c d : SchemaCoordinate) → HasNames c → HasNames d → coordinate_text c ≡ coordinate_text d → bare_coordinate c ≡ bare_coordinate d
 apart c d m n h = same_form c d m n h (marks c m) (subst (HasMarks d) (sym h) (marks d n))
 
 abbrev Stands : NameView → Type 0
@@ -111,14 +111,14 @@ bare_stands : (n : NameView) → Stands n → bare_name n ≡ n
 bare_stands n s = let e = s.1 in λ i. record { text = n.text; location = sym e i }
 
 -- a coordinate that a text says has valid names, at no place
-said_names : (d : SchemaCoordinate) → AllByRecursion Stands (parts d) → HasNames d
+said_names : (d : SchemaCoordinate) → AllByRecursion Stands (coordinate_parts d) → HasNames d
 said_names (Ty d) s = (s.0.0, tt)
 said_names (TypeAttribute d) s = (s.0.0, (s.1.0.0, tt))
 said_names (FieldArgument d) s = (s.0.0, (s.1.0.0, (s.1.1.0.0, tt)))
 said_names (Directive d) s = (s.0.0, tt)
 said_names (DirectiveArgument d) s = (s.0.0, (s.1.0.0, tt))
 
-said_bare : (d : SchemaCoordinate) → AllByRecursion Stands (parts d) → bare d ≡ d
+said_bare : (d : SchemaCoordinate) → AllByRecursion Stands (coordinate_parts d) → bare_coordinate d ≡ d
 said_bare (Ty d) s = let a = bare_stands d.ty s.0 in λ i. Ty (record { ty = a i })
 said_bare (TypeAttribute d) s = let a = bare_stands d.ty s.0 in let b = bare_stands d.attribute s.1.0 in λ i. TypeAttribute (record { ty = a i; attribute = b i })
 said_bare (FieldArgument d) s = let a = bare_stands d.ty s.0 in let b = bare_stands d.field s.1.0 in let c = bare_stands d.argument s.1.1.0 in λ i. FieldArgument (record { ty = a i; field = b i; argument = c i })
@@ -126,11 +126,11 @@ said_bare (Directive d) s = let a = bare_stands d.directive s.0 in λ i. Directi
 said_bare (DirectiveArgument d) s = let a = bare_stands d.directive s.0 in let b = bare_stands d.argument s.1.0 in λ i. DirectiveArgument (record { directive = a i; argument = b i })
 
 -- what says a coordinate is in the grammar
-pub said_in_grammar : (t : List ℕ) (c : SchemaCoordinate) → Says t c → IsCoordinateText t
+pub said_in_grammar : (t : List ℕ) (c : SchemaCoordinate) → SaysCoordinate t c → IsCoordinateText t
 said_in_grammar t c said = subst IsCoordinateText said.0 (in_grammar c (said_names c said.1))
 
 -- whatever reads the text of a coordinate of valid names answers it, or want of memory
-pub reads : (c : SchemaCoordinate) (result : Result SchemaCoordinate SchemaCoordinateParseError) → HasNames c → IsReadingOf (text c) result → IsReadBack c result
+pub reads : (c : SchemaCoordinate) (result : Result SchemaCoordinate SchemaCoordinateParseError) → HasNames c → IsReadingOf (coordinate_text c) result → IsReadBack c result
 reads c (Ok d) names reading = sym (said_bare d reading.0.1) ∙ apart d c (said_names d reading.0.1) names reading.0.0
 reads c (Err Memory) names reading = refl
 reads c (Err InvalidFormat) names reading = absurd (reading.1.0 (in_grammar c names))

@@ -52,16 +52,16 @@ abbrev pub directive_at : Schema → NameView → Option (NodeView DirectiveDefi
 directive_at s d = lookup (same_text d) s.directive_definitions
 
 -- a type of a kind that declares fields
-abbrev pub has_fields : ExtendedType → Bool
-has_fields (Object n) = true
-has_fields (Interface n) = true
-has_fields _ = false
+abbrev pub declares_fields : ExtendedType → Bool
+declares_fields (Object n) = true
+declares_fields (Interface n) = true
+declares_fields _ = false
 
 -- a type of a kind that declares attributes: fields, input fields or enum values
-abbrev pub has_attributes : ExtendedType → Bool
-has_attributes (Scalar n) = false
-has_attributes (Union n) = false
-has_attributes _ = true
+abbrev pub declares_attributes : ExtendedType → Bool
+declares_attributes (Scalar n) = false
+declares_attributes (Union n) = false
+declares_attributes _ = true
 
 -- neither an enum value nor an input field has the name in the type
 abbrev pub IsFieldName : Schema → NameView → NameView → Type 0
@@ -98,18 +98,18 @@ IsMissingHere declares type a _ = ⊥
 
 -- there is no type of the name; or it is of a kind that declares what is looked for, but has none of the name; or it is of
 -- another kind
-abbrev pub IsMissingIn : (ExtendedType → Bool) → Types → NameView → NameView → SchemaLookupError → Type 0
-IsMissingIn declares types t a (MissingType n) = (n.now ≡ t) × (type_at types t ≡ None)
-IsMissingIn declares types t a (MissingAttribute n) = (n.now ≡ a) × (option_map declares (type_at types t) ≡ Some true)
-IsMissingIn declares types t a (InvalidType type) = (type_at types t ≡ Some type.now) × (declares type.now ≡ false)
-IsMissingIn declares types t a _ = ⊥
+abbrev pub IsMissingAttribute : (ExtendedType → Bool) → Types → NameView → NameView → SchemaLookupError → Type 0
+IsMissingAttribute declares types t a (MissingType n) = (n.now ≡ t) × (type_at types t ≡ None)
+IsMissingAttribute declares types t a (MissingAttribute n) = (n.now ≡ a) × (option_map declares (type_at types t) ≡ Some true)
+IsMissingAttribute declares types t a (InvalidType type) = (type_at types t ≡ Some type.now) × (declares type.now ≡ false)
+IsMissingAttribute declares types t a _ = ⊥
 
 -- an argument: the attribute is an enum value or an input field; or the field has no argument of the name; or there is no
 -- attribute of the name, as in its own lookup
 abbrev pub IsMissingFieldArgument : Schema → NameView → NameView → NameView → SchemaLookupError → Type 0
 IsMissingFieldArgument s t f a (InvalidArgumentAttribute n) = (n.now ≡ f) × (IsSome (enum_value_at s.types t f) ⊎ IsSome (input_field_at s.types t f))
 IsMissingFieldArgument s t f a (MissingArgument n) = (n.now ≡ a) × IsFieldName s t f × (field_argument_at s t f a ≡ Some None)
-IsMissingFieldArgument s t f a e = HasNoAttribute s t f × IsMissingIn has_attributes s.types t f e
+IsMissingFieldArgument s t f a e = HasNoAttribute s t f × IsMissingAttribute declares_attributes s.types t f e
 
 -- there is no directive of the name, which is said in the words for a type
 abbrev pub IsMissingDirective : Schema → NameView → SchemaLookupError → Type 0
@@ -135,7 +135,7 @@ PointsTo s _ _ = ⊥
 -- why a coordinate points to nothing
 abbrev pub PointsToNothing : Schema → SchemaCoordinate → SchemaLookupError → Type 0
 PointsToNothing s (coordinates.Ty c) e = IsMissingType s.types c.ty e
-PointsToNothing s (coordinates.TypeAttribute c) e = HasNoAttribute s c.ty c.attribute × IsMissingIn has_attributes s.types c.ty c.attribute e
+PointsToNothing s (coordinates.TypeAttribute c) e = HasNoAttribute s c.ty c.attribute × IsMissingAttribute declares_attributes s.types c.ty c.attribute e
 PointsToNothing s (coordinates.FieldArgument c) e = IsMissingFieldArgument s c.ty c.field c.argument e
 PointsToNothing s (coordinates.Directive c) e = IsMissingDirective s c.directive e
 PointsToNothing s (coordinates.DirectiveArgument c) e = IsMissingDirectiveArgument s c.directive c.argument e

@@ -42,63 +42,63 @@ abbrev pub IsCoordinateText : List ℕ → Type 0
 IsCoordinateText t = IsTypeText t ⊎ IsAttributeText t ⊎ IsFieldArgumentText t ⊎ IsDirectiveText t ⊎ IsDirectiveArgumentText t
 
 -- the text of a coordinate
-abbrev pub type_text : TypeCoordinate → List ℕ
-type_text c = c.ty.text
+abbrev pub type_coordinate_text : TypeCoordinate → List ℕ
+type_coordinate_text c = c.ty.text
 
-abbrev pub attribute_text : TypeAttributeCoordinate → List ℕ
-attribute_text c = c.ty.text ++ (codes "." ++ c.attribute.text)
+abbrev pub attribute_coordinate_text : TypeAttributeCoordinate → List ℕ
+attribute_coordinate_text c = c.ty.text ++ (codes "." ++ c.attribute.text)
 
-abbrev pub field_argument_text : FieldArgumentCoordinate → List ℕ
-field_argument_text c = c.ty.text ++ (codes "." ++ (c.field.text ++ (codes "(" ++ (c.argument.text ++ codes ":)"))))
+abbrev pub field_argument_coordinate_text : FieldArgumentCoordinate → List ℕ
+field_argument_coordinate_text c = c.ty.text ++ (codes "." ++ (c.field.text ++ (codes "(" ++ (c.argument.text ++ codes ":)"))))
 
-abbrev pub directive_text : DirectiveCoordinate → List ℕ
-directive_text c = codes "@" ++ c.directive.text
+abbrev pub directive_coordinate_text : DirectiveCoordinate → List ℕ
+directive_coordinate_text c = codes "@" ++ c.directive.text
 
-abbrev pub directive_argument_text : DirectiveArgumentCoordinate → List ℕ
-directive_argument_text c = codes "@" ++ (c.directive.text ++ (codes "(" ++ (c.argument.text ++ codes ":)")))
+abbrev pub directive_argument_coordinate_text : DirectiveArgumentCoordinate → List ℕ
+directive_argument_coordinate_text c = codes "@" ++ (c.directive.text ++ (codes "(" ++ (c.argument.text ++ codes ":)")))
 
-abbrev pub text : SchemaCoordinate → List ℕ
-text (Ty c) = type_text c
-text (TypeAttribute c) = attribute_text c
-text (FieldArgument c) = field_argument_text c
-text (Directive c) = directive_text c
-text (DirectiveArgument c) = directive_argument_text c
+abbrev pub coordinate_text : SchemaCoordinate → List ℕ
+coordinate_text (Ty c) = type_coordinate_text c
+coordinate_text (TypeAttribute c) = attribute_coordinate_text c
+coordinate_text (FieldArgument c) = field_argument_coordinate_text c
+coordinate_text (Directive c) = directive_coordinate_text c
+coordinate_text (DirectiveArgument c) = directive_argument_coordinate_text c
 
 -- the parts of a coordinate, from the left
-abbrev pub parts : SchemaCoordinate → List NameView
-parts (Ty c) = c.ty ∷ []
-parts (TypeAttribute c) = c.ty ∷ c.attribute ∷ []
-parts (FieldArgument c) = c.ty ∷ c.field ∷ c.argument ∷ []
-parts (Directive c) = c.directive ∷ []
-parts (DirectiveArgument c) = c.directive ∷ c.argument ∷ []
+abbrev pub coordinate_parts : SchemaCoordinate → List NameView
+coordinate_parts (Ty c) = c.ty ∷ []
+coordinate_parts (TypeAttribute c) = c.ty ∷ c.attribute ∷ []
+coordinate_parts (FieldArgument c) = c.ty ∷ c.field ∷ c.argument ∷ []
+coordinate_parts (Directive c) = c.directive ∷ []
+coordinate_parts (DirectiveArgument c) = c.directive ∷ c.argument ∷ []
 
 -- each part is a name by the grammar
 abbrev pub HasNames : SchemaCoordinate → Type 0
-HasNames c = AllByRecursion (λ n. IsName n.text) (parts c)
+HasNames c = AllByRecursion (λ n. IsName n.text) (coordinate_parts c)
 
 -- a text says a coordinate: it is its text, and each part is a name, at no location
-abbrev pub Says : List ℕ → SchemaCoordinate → Type 0
-Says t c = (text c ≡ t) × AllByRecursion (λ n. IsName n.text × (n.location ≡ None)) (parts c)
+abbrev pub SaysCoordinate : List ℕ → SchemaCoordinate → Type 0
+SaysCoordinate t c = (coordinate_text c ≡ t) × AllByRecursion (λ n. IsName n.text × (n.location ≡ None)) (coordinate_parts c)
 
 -- a coordinate without the locations of its names
-abbrev pub bare_type : TypeCoordinate → TypeCoordinate
-bare_type c = record { ty = bare_name c.ty }
+abbrev pub bare_type_coordinate : TypeCoordinate → TypeCoordinate
+bare_type_coordinate c = record { ty = bare_name c.ty }
 
-abbrev pub bare_attribute : TypeAttributeCoordinate → TypeAttributeCoordinate
-bare_attribute c = record { ty = bare_name c.ty; attribute = bare_name c.attribute }
+abbrev pub bare_attribute_coordinate : TypeAttributeCoordinate → TypeAttributeCoordinate
+bare_attribute_coordinate c = record { ty = bare_name c.ty; attribute = bare_name c.attribute }
 
-abbrev pub bare_field_argument : FieldArgumentCoordinate → FieldArgumentCoordinate
-bare_field_argument c = record { ty = bare_name c.ty; field = bare_name c.field; argument = bare_name c.argument }
+abbrev pub bare_field_argument_coordinate : FieldArgumentCoordinate → FieldArgumentCoordinate
+bare_field_argument_coordinate c = record { ty = bare_name c.ty; field = bare_name c.field; argument = bare_name c.argument }
 
-abbrev pub bare_directive : DirectiveCoordinate → DirectiveCoordinate
-bare_directive c = record { directive = bare_name c.directive }
+abbrev pub bare_directive_coordinate : DirectiveCoordinate → DirectiveCoordinate
+bare_directive_coordinate c = record { directive = bare_name c.directive }
 
-abbrev pub bare_directive_argument : DirectiveArgumentCoordinate → DirectiveArgumentCoordinate
-bare_directive_argument c = record { directive = bare_name c.directive; argument = bare_name c.argument }
+abbrev pub bare_directive_argument_coordinate : DirectiveArgumentCoordinate → DirectiveArgumentCoordinate
+bare_directive_argument_coordinate c = record { directive = bare_name c.directive; argument = bare_name c.argument }
 
-abbrev pub bare : SchemaCoordinate → SchemaCoordinate
-bare (Ty c) = Ty (bare_type c)
-bare (TypeAttribute c) = TypeAttribute (bare_attribute c)
-bare (FieldArgument c) = FieldArgument (bare_field_argument c)
-bare (Directive c) = Directive (bare_directive c)
-bare (DirectiveArgument c) = DirectiveArgument (bare_directive_argument c)
+abbrev pub bare_coordinate : SchemaCoordinate → SchemaCoordinate
+bare_coordinate (Ty c) = Ty (bare_type_coordinate c)
+bare_coordinate (TypeAttribute c) = TypeAttribute (bare_attribute_coordinate c)
+bare_coordinate (FieldArgument c) = FieldArgument (bare_field_argument_coordinate c)
+bare_coordinate (Directive c) = Directive (bare_directive_coordinate c)
+bare_coordinate (DirectiveArgument c) = DirectiveArgument (bare_directive_argument_coordinate c)

@@ -2,7 +2,7 @@
 //! lookups answer.
 ghost use Rattle.std.specs.Prelude.{◌≡◌, ℕ, List, Result};
 ghost use Rattle.apollo_coordinate.specs.BareLookups.{bare_attribute_lookup, bare_lookup};
-ghost use Rattle.apollo_coordinate.specs.CoordinateText.{IsTypeText, IsAttributeText, IsFieldArgumentText, IsDirectiveText, IsDirectiveArgumentText, IsCoordinateText, HasNames, Says, text, bare, bare_type, bare_attribute, bare_field_argument, bare_directive, bare_directive_argument};
+ghost use Rattle.apollo_coordinate.specs.CoordinateText.{IsTypeText, IsAttributeText, IsFieldArgumentText, IsDirectiveText, IsDirectiveArgumentText, IsCoordinateText, HasNames, SaysCoordinate, coordinate_text, bare_coordinate, bare_type_coordinate, bare_attribute_coordinate, bare_field_argument_coordinate, bare_directive_coordinate, bare_directive_argument_coordinate};
 ghost use Rattle.apollo_coordinate.specs.Refusals.{IsNoName, IsNoAttribute, IsNoFieldArgument, IsNoDirective, IsNoDirectiveArgument};
 ghost use Rattle.apollo_coordinate.specs.Readings.{IsReadingOf, IsReadBack};
 ghost use Rattle.graphql_nodes.specs.Clones.{IsExact};
@@ -21,9 +21,9 @@ use graphql_ast::laws::equality_of_the_type_system;
 /// coordinate, without the locations of its names, or want of memory; no text belongs to two such coordinates; and each text
 /// that says a coordinate is in the grammar.
 pub fn coordinates()
-    ensures read { (c : SchemaCoordinate) (result : Result SchemaCoordinate SchemaCoordinateParseError) → HasNames c → IsReadingOf (text c) result → IsReadBack c result }
-    ensures apart { (c d : SchemaCoordinate) → HasNames c → HasNames d → text c ≡ text d → bare c ≡ bare d }
-    ensures said { (t : List ℕ) (c : SchemaCoordinate) → Says t c → IsCoordinateText t }
+    ensures read { (c : SchemaCoordinate) (result : Result SchemaCoordinate SchemaCoordinateParseError) → HasNames c → IsReadingOf (coordinate_text c) result → IsReadBack c result }
+    ensures apart { (c d : SchemaCoordinate) → HasNames c → HasNames d → coordinate_text c ≡ coordinate_text d → bare_coordinate c ≡ bare_coordinate d }
+    ensures said { (t : List ℕ) (c : SchemaCoordinate) → SaysCoordinate t c → IsCoordinateText t }
 {}
 
 /// What one form refuses, other than for want of memory, is no text of that form.
@@ -37,12 +37,12 @@ pub fn refused_texts()
 
 /// Coordinates are equal exactly where they are one without the locations of their names.
 pub fn equality_of_coordinates()
-    ensures ty { ComparesBy ⟦<TypeCoordinate as PartialEq>⟧.eq bare_type }
-    ensures attribute { ComparesBy ⟦<TypeAttributeCoordinate as PartialEq>⟧.eq bare_attribute }
-    ensures field_argument { ComparesBy ⟦<FieldArgumentCoordinate as PartialEq>⟧.eq bare_field_argument }
-    ensures directive { ComparesBy ⟦<DirectiveCoordinate as PartialEq>⟧.eq bare_directive }
-    ensures directive_argument { ComparesBy ⟦<DirectiveArgumentCoordinate as PartialEq>⟧.eq bare_directive_argument }
-    ensures coordinate { ComparesBy ⟦<SchemaCoordinate as PartialEq>⟧.eq bare }
+    ensures ty { ComparesBy ⟦<TypeCoordinate as PartialEq>⟧.eq bare_type_coordinate }
+    ensures attribute { ComparesBy ⟦<TypeAttributeCoordinate as PartialEq>⟧.eq bare_attribute_coordinate }
+    ensures field_argument { ComparesBy ⟦<FieldArgumentCoordinate as PartialEq>⟧.eq bare_field_argument_coordinate }
+    ensures directive { ComparesBy ⟦<DirectiveCoordinate as PartialEq>⟧.eq bare_directive_coordinate }
+    ensures directive_argument { ComparesBy ⟦<DirectiveArgumentCoordinate as PartialEq>⟧.eq bare_directive_argument_coordinate }
+    ensures coordinate { ComparesBy ⟦<SchemaCoordinate as PartialEq>⟧.eq bare_coordinate }
 {}
 
 /// What lookups answer is equal exactly where both answers are of one sort, and what is found is one without locations, origins

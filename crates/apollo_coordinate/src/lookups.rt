@@ -4,7 +4,7 @@ ghost use Rattle.std.specs.Prelude.{◌≡◌, Some, None, IfOk, IfErr, OnErr};
 ghost use Rattle.std.specs.Option.{option_copied};
 ghost use Rattle.apollo_types.specs.TypeKinds.{is_enum, is_input_object};
 ghost use Rattle.apollo_schema.specs.Lookups.{type_at, field_at};
-ghost use Rattle.apollo_coordinate.specs.CoordinateLookups.{declared_enum_value, declared_input_field, enum_value_at, input_field_at, directive_at, has_fields, has_attributes, IsFieldName, IsAttribute, HasNoAttribute, field_argument_at, directive_argument_at, IsMissingHere, IsMissingType, IsMissingIn, IsMissingFieldArgument, IsMissingDirective, IsMissingDirectiveArgument, PointsTo, PointsToNothing};
+ghost use Rattle.apollo_coordinate.specs.CoordinateLookups.{declared_enum_value, declared_input_field, enum_value_at, input_field_at, directive_at, declares_fields, declares_attributes, IsFieldName, IsAttribute, HasNoAttribute, field_argument_at, directive_argument_at, IsMissingHere, IsMissingType, IsMissingAttribute, IsMissingFieldArgument, IsMissingDirective, IsMissingDirectiveArgument, PointsTo, PointsToNothing};
 
 use crate::coordinates::{
     DirectiveArgumentCoordinate, DirectiveCoordinate, FieldArgumentCoordinate, SchemaCoordinate,
@@ -48,15 +48,15 @@ fn declared_input_field<'a>(
 }
 
 /// Whether the type is of a kind that declares fields.
-fn has_fields(ty: &ExtendedType) -> bool
-    ensures { result ≡ has_fields ty.now }
+fn declares_fields(ty: &ExtendedType) -> bool
+    ensures { result ≡ declares_fields ty.now }
 {
     matches!(ty, ExtendedType::Object(_) | ExtendedType::Interface(_))
 }
 
 /// Whether the type is of a kind that declares fields, input fields or values.
-fn has_attributes(ty: &ExtendedType) -> bool
-    ensures { result ≡ has_attributes ty.now }
+fn declares_attributes(ty: &ExtendedType) -> bool
+    ensures { result ≡ declares_attributes ty.now }
 {
     !matches!(ty, ExtendedType::Scalar(_) | ExtendedType::Union(_))
 }
@@ -98,7 +98,7 @@ fn find_attribute<'coord, 'schema>(
 ) -> Result<TypeAttributeLookup<'schema>, SchemaLookupError<'coord, 'schema>>
     ensures found { IfOk result (IsAttribute schema.now ty.now attribute.now) }
     ensures none { OnErr result (HasNoAttribute schema.now ty.now attribute.now) }
-    ensures missing { IfErr result (IsMissingIn has_attributes schema.now.types ty.now attribute.now) }
+    ensures missing { IfErr result (IsMissingAttribute declares_attributes schema.now.types ty.now attribute.now) }
 {
     let found = find_type(ty, schema)?;
     if let Some(value) = declared_enum_value(found, attribute) {
@@ -109,7 +109,7 @@ fn find_attribute<'coord, 'schema>(
     }
     match schema.type_field(ty, attribute) {
         Ok(field) => Ok(TypeAttributeLookup::Field(field)),
-        Err(_) => Err(missing(has_attributes(found), found, attribute)),
+        Err(_) => Err(missing(declares_attributes(found), found, attribute)),
     }
 }
 
@@ -153,7 +153,7 @@ impl TypeAttributeCoordinate {
     ) -> Result<TypeAttributeLookup<'schema>, SchemaLookupError<'coord, 'schema>>
         ensures found { IfOk result (IsAttribute schema.now self.now.ty self.now.attribute) }
         ensures none { OnErr result (HasNoAttribute schema.now self.now.ty self.now.attribute) }
-        ensures missing { IfErr result (IsMissingIn has_attributes schema.now.types self.now.ty self.now.attribute) }
+        ensures missing { IfErr result (IsMissingAttribute declares_attributes schema.now.types self.now.ty self.now.attribute) }
     {
         find_attribute(&self.ty, &self.attribute, schema)
     }
@@ -169,13 +169,13 @@ impl TypeAttributeCoordinate {
     ) -> Result<&'schema Component<FieldDefinition>, SchemaLookupError<'coord, 'schema>>
         ensures found { IfOk result (λ field. field_at schema.now self.now.ty self.now.attribute ≡ Some field.now) }
         ensures none { OnErr result (field_at schema.now self.now.ty self.now.attribute ≡ None) }
-        ensures missing { IfErr result (IsMissingIn has_fields schema.now.types self.now.ty self.now.attribute) }
+        ensures missing { IfErr result (IsMissingAttribute declares_fields schema.now.types self.now.ty self.now.attribute) }
     {
         match schema.type_field(&self.ty, &self.attribute) {
             Ok(field) => Ok(field),
             Err(FieldLookupError::NoSuchType) => Err(SchemaLookupError::MissingType(&self.ty)),
             Err(FieldLookupError::NoSuchField(_, ty)) => {
-                Err(missing(has_fields(ty), ty, &self.attribute))
+                Err(missing(declares_fields(ty), ty, &self.attribute))
             }
         }
     }
@@ -191,7 +191,7 @@ impl TypeAttributeCoordinate {
     ) -> Result<&'schema Component<InputValueDefinition>, SchemaLookupError<'coord, 'schema>>
         ensures found { IfOk result (λ field. input_field_at schema.now.types self.now.ty self.now.attribute ≡ Some field.now) }
         ensures none { OnErr result (input_field_at schema.now.types self.now.ty self.now.attribute ≡ None) }
-        ensures missing { IfErr result (IsMissingIn is_input_object schema.now.types self.now.ty self.now.attribute) }
+        ensures missing { IfErr result (IsMissingAttribute is_input_object schema.now.types self.now.ty self.now.attribute) }
     {
         let ty = find_type(&self.ty, schema)?;
         match declared_input_field(ty, &self.attribute) {
@@ -211,7 +211,7 @@ impl TypeAttributeCoordinate {
     ) -> Result<&'schema Component<EnumValueDefinition>, SchemaLookupError<'coord, 'schema>>
         ensures found { IfOk result (λ value. enum_value_at schema.now.types self.now.ty self.now.attribute ≡ Some value.now) }
         ensures none { OnErr result (enum_value_at schema.now.types self.now.ty self.now.attribute ≡ None) }
-        ensures missing { IfErr result (IsMissingIn is_enum schema.now.types self.now.ty self.now.attribute) }
+        ensures missing { IfErr result (IsMissingAttribute is_enum schema.now.types self.now.ty self.now.attribute) }
     {
         let ty = find_type(&self.ty, schema)?;
         match declared_enum_value(ty, &self.attribute) {

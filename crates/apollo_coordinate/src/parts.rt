@@ -2,7 +2,7 @@
 ghost use Rattle.std.specs.Prelude.{◌≡◌, ◌≢◌, ◌++◌, ◌<◌, ℕ, List, IfOk, IfErr, OnOk, IsOk, MatchOption, codes};
 ghost use Rattle.graphql_nodes.specs.NameSyntax.{IsName};
 ghost use Rattle.graphql_nodes.specs.NameView.{plain_name};
-ghost use Rattle.apollo_coordinate.specs.CoordinateText.{IsCoordinateText, IsAttributeText, IsDirectiveText, Says};
+ghost use Rattle.apollo_coordinate.specs.CoordinateText.{IsCoordinateText, IsAttributeText, IsDirectiveText, SaysCoordinate};
 ghost use Rattle.apollo_coordinate.specs.Parts.{attribute_of, field_argument_of, directive_argument_of, coordinate_of, error_of};
 ghost use Rattle.apollo_coordinate.specs.Refusals.{Lacks, IsCut, IsNoName, IsNoNames, IsNoAttribute, IsNoDirective, IsNoArgument, IsNoPair, IsNoFieldArgument, IsNoDirectiveArgument, IsNoCoordinate, without_at};
 ghost use Rattle.apollo_coordinate.specs.declared.coordinates.SchemaCoordinate.TheVariants as any;
@@ -91,7 +91,7 @@ fn argument_part<'a>(text: &'a str) -> Result<&'a str, Refusal<'a>>
 
 /// The directive of `@directive`.
 pub(crate) fn directive_part<'a>(text: &'a str) -> Result<&'a str, Refusal<'a>>
-    ensures says { IfOk result (λ name. Says text.now (any.Directive (record { directive = plain_name name.now }))) }
+    ensures says { IfOk result (λ name. SaysCoordinate text.now (any.Directive (record { directive = plain_name name.now }))) }
     ensures refused { IfErr result (λ refusal. IsNoDirective text.now (error_of refusal)) }
 {
     match after_at(text) {
@@ -103,7 +103,7 @@ pub(crate) fn directive_part<'a>(text: &'a str) -> Result<&'a str, Refusal<'a>>
 impl<'a> AttributeParts<'a> {
     /// The parts that stand before and after the `.`.
     fn new(ty: &'a str, attribute: &'a str) -> Result<AttributeParts<'a>, Refusal<'a>>
-        ensures says { IfOk result (λ parts. Says (ty.now ++ (codes "." ++ attribute.now)) (any.TypeAttribute (attribute_of parts))) }
+        ensures says { IfOk result (λ parts. SaysCoordinate (ty.now ++ (codes "." ++ attribute.now)) (any.TypeAttribute (attribute_of parts))) }
         ensures refused { IfErr result (λ refusal. IsNoNames ty.now attribute.now (error_of refusal)) }
     {
         Ok(AttributeParts {
@@ -114,7 +114,7 @@ impl<'a> AttributeParts<'a> {
 
     /// The parts of a text of this form.
     pub(crate) fn read(text: &'a str) -> Result<AttributeParts<'a>, Refusal<'a>>
-        ensures says { IfOk result (λ parts. Says text.now (any.TypeAttribute (attribute_of parts))) }
+        ensures says { IfOk result (λ parts. SaysCoordinate text.now (any.TypeAttribute (attribute_of parts))) }
         ensures refused { IfErr result (λ refusal. IsNoAttribute text.now (error_of refusal)) }
     {
         match cut(text, '.') {
@@ -127,7 +127,7 @@ impl<'a> AttributeParts<'a> {
 impl<'a> FieldArgumentParts<'a> {
     /// The parts of what stands before and after the `(`.
     fn new(field: &'a str, argument: &'a str) -> Result<FieldArgumentParts<'a>, Refusal<'a>>
-        ensures says { IfOk result (λ parts. Says (field.now ++ (codes "(" ++ argument.now)) (any.FieldArgument (field_argument_of parts))) }
+        ensures says { IfOk result (λ parts. SaysCoordinate (field.now ++ (codes "(" ++ argument.now)) (any.FieldArgument (field_argument_of parts))) }
         ensures refused { IfErr result (λ refusal. IsNoPair IsAttributeText IsNoAttribute field.now argument.now (error_of refusal)) }
     {
         Ok(FieldArgumentParts {
@@ -138,7 +138,7 @@ impl<'a> FieldArgumentParts<'a> {
 
     /// The parts of a text of this form.
     pub(crate) fn read(text: &'a str) -> Result<FieldArgumentParts<'a>, Refusal<'a>>
-        ensures says { IfOk result (λ parts. Says text.now (any.FieldArgument (field_argument_of parts))) }
+        ensures says { IfOk result (λ parts. SaysCoordinate text.now (any.FieldArgument (field_argument_of parts))) }
         ensures refused { IfErr result (λ refusal. IsNoFieldArgument text.now (error_of refusal)) }
     {
         match cut(text, '(') {
@@ -151,7 +151,7 @@ impl<'a> FieldArgumentParts<'a> {
 impl<'a> DirectiveArgumentParts<'a> {
     /// The parts of what stands before and after the `(`.
     fn new(directive: &'a str, argument: &'a str) -> Result<DirectiveArgumentParts<'a>, Refusal<'a>>
-        ensures says { IfOk result (λ parts. Says (directive.now ++ (codes "(" ++ argument.now)) (any.DirectiveArgument (directive_argument_of parts))) }
+        ensures says { IfOk result (λ parts. SaysCoordinate (directive.now ++ (codes "(" ++ argument.now)) (any.DirectiveArgument (directive_argument_of parts))) }
         ensures refused { IfErr result (λ refusal. IsNoPair IsDirectiveText IsNoDirective directive.now argument.now (error_of refusal)) }
     {
         Ok(DirectiveArgumentParts {
@@ -162,7 +162,7 @@ impl<'a> DirectiveArgumentParts<'a> {
 
     /// The parts of a text of this form.
     pub(crate) fn read(text: &'a str) -> Result<DirectiveArgumentParts<'a>, Refusal<'a>>
-        ensures says { IfOk result (λ parts. Says text.now (any.DirectiveArgument (directive_argument_of parts))) }
+        ensures says { IfOk result (λ parts. SaysCoordinate text.now (any.DirectiveArgument (directive_argument_of parts))) }
         ensures refused { IfErr result (λ refusal. IsNoDirectiveArgument text.now (error_of refusal)) }
     {
         match cut(text, '(') {
@@ -175,7 +175,7 @@ impl<'a> DirectiveArgumentParts<'a> {
 impl<'a> Parts<'a> {
     /// The parts by the one form that the text's marks allow.
     fn by_marks(text: &'a str) -> Result<Parts<'a>, Refusal<'a>>
-        ensures says { IfOk result (λ parts. Says text.now (coordinate_of parts)) }
+        ensures says { IfOk result (λ parts. SaysCoordinate text.now (coordinate_of parts)) }
         ensures complete { IsCoordinateText text.now → IsOk result }
     {
         Ok(match (after_at(text), cut(text, '(')) {
@@ -197,7 +197,7 @@ impl<'a> Parts<'a> {
 
     /// The parts of a text of any form. A text of none is refused whole, but for the `@` that it may begin with.
     pub(crate) fn read(text: &'a str) -> Result<Parts<'a>, Refusal<'a>>
-        ensures says { IfOk result (λ parts. Says text.now (coordinate_of parts)) }
+        ensures says { IfOk result (λ parts. SaysCoordinate text.now (coordinate_of parts)) }
         ensures grammar { OnOk result (IsCoordinateText text.now) }
         ensures refused { IfErr result (λ refusal. IsNoCoordinate text.now (error_of refusal)) }
     {

@@ -1,6 +1,6 @@
 //! Coordinates as texts: the Schema Coordinates RFC of GraphQL.
 ghost use Rattle.std.specs.Prelude.{Some};
-ghost use Rattle.apollo_coordinate.specs.CoordinateText.{type_text, attribute_text, field_argument_text, directive_text, directive_argument_text, text};
+ghost use Rattle.apollo_coordinate.specs.CoordinateText.{type_coordinate_text, attribute_coordinate_text, field_argument_coordinate_text, directive_coordinate_text, directive_argument_coordinate_text, coordinate_text};
 
 use crate::coordinates::{
     DirectiveArgumentCoordinate, DirectiveCoordinate, FieldArgumentCoordinate, SchemaCoordinate,
@@ -9,7 +9,7 @@ use crate::coordinates::{
 use std::fmt;
 
 impl fmt::Display for TypeCoordinate {
-    ghost output = { λ c. Some (type_text c) };
+    ghost output = { λ c. Some (type_coordinate_text c) };
 
     fn fmt<W: fmt::Write>(&self, f: &mut fmt::Formatter<W>) -> fmt::Result {
         let Self { ty } = self;
@@ -18,7 +18,7 @@ impl fmt::Display for TypeCoordinate {
 }
 
 impl fmt::Display for TypeAttributeCoordinate {
-    ghost output = { λ c. Some (attribute_text c) };
+    ghost output = { λ c. Some (attribute_coordinate_text c) };
 
     fn fmt<W: fmt::Write>(&self, f: &mut fmt::Formatter<W>) -> fmt::Result {
         let Self { ty, attribute } = self;
@@ -27,7 +27,7 @@ impl fmt::Display for TypeAttributeCoordinate {
 }
 
 impl fmt::Display for FieldArgumentCoordinate {
-    ghost output = { λ c. Some (field_argument_text c) };
+    ghost output = { λ c. Some (field_argument_coordinate_text c) };
 
     fn fmt<W: fmt::Write>(&self, f: &mut fmt::Formatter<W>) -> fmt::Result {
         let Self {
@@ -40,7 +40,7 @@ impl fmt::Display for FieldArgumentCoordinate {
 }
 
 impl fmt::Display for DirectiveCoordinate {
-    ghost output = { λ c. Some (directive_text c) };
+    ghost output = { λ c. Some (directive_coordinate_text c) };
 
     fn fmt<W: fmt::Write>(&self, f: &mut fmt::Formatter<W>) -> fmt::Result {
         let Self { directive } = self;
@@ -49,7 +49,7 @@ impl fmt::Display for DirectiveCoordinate {
 }
 
 impl fmt::Display for DirectiveArgumentCoordinate {
-    ghost output = { λ c. Some (directive_argument_text c) };
+    ghost output = { λ c. Some (directive_argument_coordinate_text c) };
 
     fn fmt<W: fmt::Write>(&self, f: &mut fmt::Formatter<W>) -> fmt::Result {
         let Self {
@@ -61,7 +61,7 @@ impl fmt::Display for DirectiveArgumentCoordinate {
 }
 
 impl fmt::Display for SchemaCoordinate {
-    ghost output = { λ c. Some (text c) };
+    ghost output = { λ c. Some (coordinate_text c) };
 
     fn fmt<W: fmt::Write>(&self, f: &mut fmt::Formatter<W>) -> fmt::Result {
         match self {

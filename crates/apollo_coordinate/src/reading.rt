@@ -4,7 +4,7 @@
 //! that is read takes memory for its names alone. A refused text takes memory for the one text that `InvalidName` carries,
 //! and for `InvalidFormat` none. `Memory` says nothing of the text.
 ghost use Rattle.std.specs.Prelude.{◌≡◌, IfOk, IfErr, OnOk};
-ghost use Rattle.apollo_coordinate.specs.CoordinateText.{IsCoordinateText, Says};
+ghost use Rattle.apollo_coordinate.specs.CoordinateText.{IsCoordinateText, SaysCoordinate};
 ghost use Rattle.apollo_coordinate.specs.Parts.{attribute_of, field_argument_of, directive_argument_of, coordinate_of};
 ghost use Rattle.apollo_coordinate.specs.Refusals.{WhenRefused, IsNoName, IsNoAttribute, IsNoDirective, IsNoFieldArgument, IsNoDirectiveArgument, IsNoCoordinate};
 ghost use Rattle.apollo_coordinate.specs.declared.coordinates.SchemaCoordinate.TheVariants as any;
@@ -81,7 +81,7 @@ impl TypeCoordinate {
     /// A text that is no name is refused with [`InvalidName`](SchemaCoordinateParseError::InvalidName) of the text;
     /// [`Memory`](SchemaCoordinateParseError::Memory) is want of memory. `InvalidFormat` doesn't come.
     pub fn from_str(alloc: Global, text: &str) -> Result<TypeCoordinate, SchemaCoordinateParseError>
-        ensures says { IfOk result (λ c. Says text.now (any.Ty c)) }
+        ensures says { IfOk result (λ c. SaysCoordinate text.now (any.Ty c)) }
         ensures refused { IfErr result (WhenRefused (IsNoName text.now)) }
     {
         match name_part(text) {
@@ -104,7 +104,7 @@ impl TypeAttributeCoordinate {
         alloc: Global,
         text: &str,
     ) -> Result<TypeAttributeCoordinate, SchemaCoordinateParseError>
-        ensures says { IfOk result (λ c. Says text.now (any.TypeAttribute c)) }
+        ensures says { IfOk result (λ c. SaysCoordinate text.now (any.TypeAttribute c)) }
         ensures refused { IfErr result (WhenRefused (IsNoAttribute text.now)) }
     {
         match AttributeParts::read(text) {
@@ -126,7 +126,7 @@ impl FieldArgumentCoordinate {
         alloc: Global,
         text: &str,
     ) -> Result<FieldArgumentCoordinate, SchemaCoordinateParseError>
-        ensures says { IfOk result (λ c. Says text.now (any.FieldArgument c)) }
+        ensures says { IfOk result (λ c. SaysCoordinate text.now (any.FieldArgument c)) }
         ensures refused { IfErr result (WhenRefused (IsNoFieldArgument text.now)) }
     {
         match FieldArgumentParts::read(text) {
@@ -147,7 +147,7 @@ impl DirectiveCoordinate {
         alloc: Global,
         text: &str,
     ) -> Result<DirectiveCoordinate, SchemaCoordinateParseError>
-        ensures says { IfOk result (λ c. Says text.now (any.Directive c)) }
+        ensures says { IfOk result (λ c. SaysCoordinate text.now (any.Directive c)) }
         ensures refused { IfErr result (WhenRefused (IsNoDirective text.now)) }
     {
         match directive_part(text) {
@@ -171,7 +171,7 @@ impl DirectiveArgumentCoordinate {
         alloc: Global,
         text: &str,
     ) -> Result<DirectiveArgumentCoordinate, SchemaCoordinateParseError>
-        ensures says { IfOk result (λ c. Says text.now (any.DirectiveArgument c)) }
+        ensures says { IfOk result (λ c. SaysCoordinate text.now (any.DirectiveArgument c)) }
         ensures refused { IfErr result (WhenRefused (IsNoDirectiveArgument text.now)) }
     {
         match DirectiveArgumentParts::read(text) {
@@ -191,7 +191,7 @@ impl SchemaCoordinate {
         alloc: Global,
         text: &str,
     ) -> Result<SchemaCoordinate, SchemaCoordinateParseError>
-        ensures says { IfOk result (Says text.now) }
+        ensures says { IfOk result (SaysCoordinate text.now) }
         ensures grammar { OnOk result (IsCoordinateText text.now) }
         ensures refused { IfErr result (WhenRefused (IsNoCoordinate text.now)) }
     {

@@ -20,7 +20,7 @@ use Rattle.apollo_executable.specs.declared.operation.Operation.{Operation}
 use Rattle.apollo_elaboration.specs.Typable.{has_type, is_bare}
 use Rattle.apollo_elaboration.specs.declared.build_error.BuildError.TheVariants as e
 use Rattle.apollo_elaboration.specs.declared.selection_path.ExecutableDefinitionName.TheVariants.{AnonymousOperation, NamedOperation}
-use Rattle.apollo_document.specs.AddedDefinitions.{DocumentItem, operation_of, fragment_of, operation_in, fragment_in, operations, fragments}
+use Rattle.apollo_document.specs.AddedDefinitions.{DocumentItem, as_operation, as_fragment, operation_in, fragment_in, operations, fragments}
 use Rattle.apollo_document.specs.KeptDefinitions.{root_type_of, is_rooted, kept_anonymous, kept_named, is_on_type, fragment_under_name, kept_fragments, is_repeated}
 use Rattle.apollo_document.specs.DocumentFaults.{ambiguous, ambiguous_if, unless_taken, faults_in_operation, after_anonymous, unless_named, anonymous_faults, anonymous_location, fragment_faults, type_system_faults, operation_faults, definition_faults, faults_at, document_faults}
 use Rattle.apollo_document.specs.Stands.{operation_from, typed_operation, typed_fragment, entries_by, put_unless_taken, Stands}
@@ -204,21 +204,21 @@ stands-fragment s xs b n old new was kept fragments repeated faults =
     }
 
 -- a definition that is no operation, and one that is no fragment
-pub no_operation : (x : Definition) → ((n : NodeView OperationDefinition) → x ≡ d.OperationDefinition n → ⊥) → operation_of x ≡ None
+pub no_operation : (x : Definition) → ((n : NodeView OperationDefinition) → x ≡ d.OperationDefinition n → ⊥) → as_operation x ≡ None
 no_operation (d.OperationDefinition n) other = absurd (other n refl)
 no_operation x other = refl
 
-pub no_fragment : (x : Definition) → ((n : NodeView FragmentDefinition) → x ≡ d.FragmentDefinition n → ⊥) → fragment_of x ≡ None
+pub no_fragment : (x : Definition) → ((n : NodeView FragmentDefinition) → x ≡ d.FragmentDefinition n → ⊥) → as_fragment x ≡ None
 no_fragment (d.FragmentDefinition n) other = absurd (other n refl)
 no_fragment x other = refl
 
-other_faults : (s : Option Schema) (xs : List DocumentItem) (b : Bool) (x : Definition) → operation_of x ≡ None → fragment_of x ≡ None → definition_faults s xs b x ≡ type_system_faults b x
+other_faults : (s : Option Schema) (xs : List DocumentItem) (b : Bool) (x : Definition) → as_operation x ≡ None → as_fragment x ≡ None → definition_faults s xs b x ≡ type_system_faults b x
 other_faults s xs b (d.OperationDefinition n) h g = cc
 other_faults s xs b (d.FragmentDefinition n) h g = cc
 other_faults s xs b x h g = refl
 
 -- one that is neither
-pub stands-other : (s : Option Schema) (xs : List DocumentItem) (b : Bool) (x : Definition) (old new : Tables) → operation_of x ≡ None → fragment_of x ≡ None → Stands s xs old
+pub stands-other : (s : Option Schema) (xs : List DocumentItem) (b : Bool) (x : Definition) (old new : Tables) → as_operation x ≡ None → as_fragment x ≡ None → Stands s xs old
     → new ≡ record old { faults = old.faults ++ type_system_faults b x } → Stands s (xs ++ (b, x) ∷ []) new
 stands-other s xs b x old new h g was is =
     let none : operations xs ≡ operations (xs ++ (b, x) ∷ []) = sym (same_operations s xs (b, x) h) in

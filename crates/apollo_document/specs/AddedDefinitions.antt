@@ -14,19 +14,19 @@ abbrev pub document_list : Bool → List Definition → List DocumentItem
 document_list errors ds = map (λ d. (errors, d)) ds
 
 -- the operation or the fragment that a definition is
-abbrev pub operation_of : Definition → Option (NodeView OperationDefinition)
-operation_of (d.OperationDefinition n) = Some n
-operation_of _ = None
+abbrev pub as_operation : Definition → Option (NodeView OperationDefinition)
+as_operation (d.OperationDefinition n) = Some n
+as_operation _ = None
 
-abbrev pub fragment_of : Definition → Option (NodeView FragmentDefinition)
-fragment_of (d.FragmentDefinition n) = Some n
-fragment_of _ = None
+abbrev pub as_fragment : Definition → Option (NodeView FragmentDefinition)
+as_fragment (d.FragmentDefinition n) = Some n
+as_fragment _ = None
 
 abbrev pub operation_in : DocumentItem → Option (NodeView OperationDefinition)
-operation_in x = operation_of x.1
+operation_in x = as_operation x.1
 
 abbrev pub fragment_in : DocumentItem → Option (NodeView FragmentDefinition)
-fragment_in x = fragment_of x.1
+fragment_in x = as_fragment x.1
 
 -- the operations and the fragments of a list, in order
 abbrev pub operations : List DocumentItem → List (NodeView OperationDefinition)

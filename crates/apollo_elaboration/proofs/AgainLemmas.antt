@@ -23,8 +23,8 @@ use Rattle.apollo_executable.specs.declared.selection.InlineFragment.{InlineFrag
 use Rattle.apollo_executable.specs.declared.selection.SelectionSet.{SelectionSet, roll-SelectionSet}
 use Rattle.apollo_elaboration.specs.Typable.{child_of, is_bare, typable_field, if_typable}
 use Rattle.apollo_elaboration.specs.Stripped.{in_place_of, stripped}
-use Rattle.apollo_elaboration.specs.Elaborated.{set_of, field_of, fragment_of, elaborated_selection, elaborated_field, elaborated_fragment, elaborated}
-use Rattle.apollo_elaboration.specs.SelectionFaults.{FS, FN, faults_step, field_faults_step, fragment_faults_step, found, inside, faults_of_selections, faults_of_selection, faults_of_field, faults_of_fragment}
+use Rattle.apollo_elaboration.specs.Elaborated.{set_of, typed_field, typed_inline_fragment, elaborated_selection, elaborated_field, elaborated_fragment, elaborated}
+use Rattle.apollo_elaboration.specs.SelectionFaults.{FS, FN, faults_step, field_faults_step, fragment_faults_step, below_or_wrong, inside, faults_of_selections, faults_of_selection, faults_of_field, faults_of_fragment}
 use Rattle.apollo_elaboration.specs.TypedSelections.{IsTyped, IsTypedField, IsTypedFragment, IsTypedSet}
 use Rattle.apollo_elaboration.specs.declared.selection_path.SelectionPath.{SelectionPath}
 use Rattle.apollo_elaboration.proofs.Equations.{is_bare-map, typed_in, elaborated-field, elaborated-fragment, faults-field, faults-fragment}
@@ -85,10 +85,10 @@ field_again s y ty h =
     let c : typable_field s ty y.name (is_bare (erased_set y.selection_set.0)) ≡ Ok y.definition = ap (typable_field s ty y.name) bare ∙ t.0 in
     let b = y.selection_set.1 (child_of y.definition) t.1 in
     let within : SelectionPath → SelectionPath = λ path. inside path (response_key_of y.alias y.name) in (
-      ap (elaborated_field s ty) r ∙ elaborated-field s ty z ∙ ap (if_typable (field_of y.alias y.name y.arguments y.directives (typed_in s (erased_set y.selection_set.0)))) c
+      ap (elaborated_field s ty) r ∙ elaborated-field s ty z ∙ ap (if_typable (typed_field y.alias y.name y.arguments y.directives (typed_in s (erased_set y.selection_set.0)))) c
           ∙ (λ i. Some (roll-Field (record { definition = y.definition; alias = y.alias; name = y.name; arguments = y.arguments; directives = y.directives; selection_set = b.0 i }))),
       λ place path. ap (faults_of_field s ty place path) r ∙ faults-field s ty place path z
-          ∙ ap (found (λ (d : NodeView FieldDefinition). faults_of_selections s (child_of d) (within path) (erased_set y.selection_set.0)) place (within path)) c ∙ b.1 (within path),
+          ∙ ap (below_or_wrong (λ (d : NodeView FieldDefinition). faults_of_selections s (child_of d) (within path) (erased_set y.selection_set.0)) place (within path)) c ∙ b.1 (within path),
     )
 
 fragment_again : (s : Option Schema) (y : typed_layer.InlineFragment-F (WS s) (WF s) (WI s) (WL s)) → PI s (roll-InlineFragment (typed_folds.map-InlineFragment (WS s) (WF s) (WI s) (WL s) Selection Field InlineFragment SelectionSet (λ e. e.0) (λ e. e.0) (λ e. e.0) (λ e. e.0) y))
@@ -98,10 +98,10 @@ fragment_again s y ty h =
     let z : ast_inline.InlineFragment = ast_inline.roll-InlineFragment (record { type_condition = y.type_condition; directives = y.directives; selection_set = erased_set y.selection_set.0 }) in
     let r : erased_inline_fragment (roll-InlineFragment x) ≡ z = typed_folds.fold-roll-InlineFragment ES EF EI EL e.selection_step e.field_step e.inline_step e.set_step x in
     let b = y.selection_set.1 t.0 t.1.1 in (
-      ap (elaborated_fragment s ty) r ∙ elaborated-fragment s ty z ∙ ap (if_typable (fragment_of y.type_condition y.directives (typed_in s (erased_set y.selection_set.0)))) t.1.0
+      ap (elaborated_fragment s ty) r ∙ elaborated-fragment s ty z ∙ ap (if_typable (typed_inline_fragment y.type_condition y.directives (typed_in s (erased_set y.selection_set.0)))) t.1.0
           ∙ (λ i. Some (roll-InlineFragment (record { type_condition = y.type_condition; directives = y.directives; selection_set = b.0 i }))),
       λ place path. ap (faults_of_fragment s ty place path) r ∙ faults-fragment s ty place path z
-          ∙ ap (found (λ (child : NameView). faults_of_selections s child path (erased_set y.selection_set.0)) place path) t.1.0 ∙ b.1 path,
+          ∙ ap (below_or_wrong (λ (child : NameView). faults_of_selections s child path (erased_set y.selection_set.0)) place path) t.1.0 ∙ b.1 path,
     )
 
 selection_again : (s : Option Schema) (y : typed_layer.Selection-F (WS s) (WF s) (WI s) (WL s)) → PS s (roll-Selection (typed_folds.map-Selection (WS s) (WF s) (WI s) (WL s) Selection Field InlineFragment SelectionSet (λ e. e.0) (λ e. e.0) (λ e. e.0) (λ e. e.0) y))

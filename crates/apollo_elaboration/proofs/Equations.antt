@@ -19,8 +19,8 @@ use Rattle.apollo_executable.specs.declared.selection.Field.{Field, roll-Field}
 use Rattle.apollo_executable.specs.declared.selection.InlineFragment.{InlineFragment, roll-InlineFragment}
 use Rattle.apollo_executable.specs.declared.selection.SelectionSet.{SelectionSet}
 use Rattle.apollo_elaboration.specs.Typable.{Fault, Wrong, child_of, field_judged, is_bare, typable_field, typable_fragment, if_typable}
-use Rattle.apollo_elaboration.specs.SelectionFaults.{FS, FN, faults_step, field_faults_step, fragment_faults_step, faults_below, found, inside, faults_of_selections, faults_of_field, faults_of_fragment}
-use Rattle.apollo_elaboration.specs.Elaborated.{TS, TF, TI, selection_step, field_step, fragment_step, typed_below, set_of, field_of, fragment_of, elaborated_selection, elaborated_field, elaborated_fragment, elaborated}
+use Rattle.apollo_elaboration.specs.SelectionFaults.{FS, FN, faults_step, field_faults_step, fragment_faults_step, faults_below, below_or_wrong, inside, faults_of_selections, faults_of_field, faults_of_fragment}
+use Rattle.apollo_elaboration.specs.Elaborated.{TS, TF, TI, selection_step, field_step, fragment_step, typed_below, set_of, typed_field, typed_inline_fragment, elaborated_selection, elaborated_field, elaborated_fragment, elaborated}
 use Rattle.apollo_elaboration.specs.Within.{faults_within}
 use Rattle.apollo_elaboration.specs.declared.selection_path.SelectionPath.{SelectionPath}
 
@@ -39,47 +39,47 @@ each_typed : Option Schema → ast.Selection → TS
 each_typed s = folds.fold-Selection TS TF TI selection_step (field_step s) (fragment_step s)
 
 pub elaborated-field : (s : Option Schema) (ty : NameView) (f : ast_field.Field)
-    → elaborated_field s ty f ≡ if_typable (field_of f.alias f.name f.arguments f.directives (typed_in s f.selection_set)) (typable_field s ty f.name (is_bare f.selection_set))
+    → elaborated_field s ty f ≡ if_typable (typed_field f.alias f.name f.arguments f.directives (typed_in s f.selection_set)) (typable_field s ty f.name (is_bare f.selection_set))
 unfolding each_typed
 elaborated-field s ty f =
     let e = ap (λ (u : TF). u ty) (folds.fold_out-Field TS TF TI selection_step (field_step s) (fragment_step s) f) in
     let b : typed_below (map (each_typed s) f.selection_set) ≡ typed_in s f.selection_set = λ i t. filter_map-map (each_typed s) (λ (u : TS). u t) f.selection_set i in
-    e ∙ (λ i. if_typable (field_of f.alias f.name f.arguments f.directives (b i)) (typable_field s ty f.name (is_bare-map (each_typed s) f.selection_set i)))
+    e ∙ (λ i. if_typable (typed_field f.alias f.name f.arguments f.directives (b i)) (typable_field s ty f.name (is_bare-map (each_typed s) f.selection_set i)))
 
 pub elaborated-fragment : (s : Option Schema) (ty : NameView) (f : ast_inline.InlineFragment)
-    → elaborated_fragment s ty f ≡ if_typable (fragment_of f.type_condition f.directives (typed_in s f.selection_set)) (typable_fragment s ty f.type_condition)
+    → elaborated_fragment s ty f ≡ if_typable (typed_inline_fragment f.type_condition f.directives (typed_in s f.selection_set)) (typable_fragment s ty f.type_condition)
 unfolding each_typed
 elaborated-fragment s ty f =
     let e = ap (λ (u : TI). u ty) (folds.fold_out-InlineFragment TS TF TI selection_step (field_step s) (fragment_step s) f) in
     let b : typed_below (map (each_typed s) f.selection_set) ≡ typed_in s f.selection_set = λ i t. filter_map-map (each_typed s) (λ (u : TS). u t) f.selection_set i in
-    e ∙ (λ i. if_typable (fragment_of f.type_condition f.directives (b i)) (typable_fragment s ty f.type_condition))
+    e ∙ (λ i. if_typable (typed_inline_fragment f.type_condition f.directives (b i)) (typable_fragment s ty f.type_condition))
 
 each_fault : Option Schema → ast.Selection → FS
 each_fault s = folds.fold-Selection FS FN FN faults_step (field_faults_step s) (fragment_faults_step s)
 
 pub faults-field : (s : Option Schema) (ty : NameView) (place : Option SourceSpan) (path : SelectionPath) (f : ast_field.Field)
-    → faults_of_field s ty place path f ≡ found (λ d. faults_of_selections s (child_of d) (inside path (response_key_of f.alias f.name)) f.selection_set) place (inside path (response_key_of f.alias f.name)) (typable_field s ty f.name (is_bare f.selection_set))
+    → faults_of_field s ty place path f ≡ below_or_wrong (λ d. faults_of_selections s (child_of d) (inside path (response_key_of f.alias f.name)) f.selection_set) place (inside path (response_key_of f.alias f.name)) (typable_field s ty f.name (is_bare f.selection_set))
 unfolding each_fault
 faults-field s ty place path f =
     let within = inside path (response_key_of f.alias f.name) in
     let e = ap (λ (u : FN). u ty place path) (folds.fold_out-Field FS FN FN faults_step (field_faults_step s) (fragment_faults_step s) f) in
     let b : (t : NameView) (p : SelectionPath) → faults_below (map (each_fault s) f.selection_set) t p ≡ faults_of_selections s t p f.selection_set = λ t p. flat_map-map (λ (u : FS). u t p) (each_fault s) f.selection_set in
-    e ∙ (λ i. found (λ (d : NodeView FieldDefinition). b (child_of d) within i) place within (typable_field s ty f.name (is_bare-map (each_fault s) f.selection_set i)))
+    e ∙ (λ i. below_or_wrong (λ (d : NodeView FieldDefinition). b (child_of d) within i) place within (typable_field s ty f.name (is_bare-map (each_fault s) f.selection_set i)))
 
 pub faults-fragment : (s : Option Schema) (ty : NameView) (place : Option SourceSpan) (path : SelectionPath) (f : ast_inline.InlineFragment)
-    → faults_of_fragment s ty place path f ≡ found (λ child. faults_of_selections s child path f.selection_set) place path (typable_fragment s ty f.type_condition)
+    → faults_of_fragment s ty place path f ≡ below_or_wrong (λ child. faults_of_selections s child path f.selection_set) place path (typable_fragment s ty f.type_condition)
 unfolding each_fault
 faults-fragment s ty place path f =
     let e = ap (λ (u : FN). u ty place path) (folds.fold_out-InlineFragment FS FN FN faults_step (field_faults_step s) (fragment_faults_step s) f) in
     let b : (t : NameView) (p : SelectionPath) → faults_below (map (each_fault s) f.selection_set) t p ≡ faults_of_selections s t p f.selection_set = λ t p. flat_map-map (λ (u : FS). u t p) (each_fault s) f.selection_set in
-    e ∙ (λ i. found (λ (t : NameView). b t path i) place path (typable_fragment s ty f.type_condition))
+    e ∙ (λ i. below_or_wrong (λ (t : NameView). b t path i) place path (typable_fragment s ty f.type_condition))
 
 -- the code finds what is typable as an option, and pushes what is wrong
 pub is_ok : {A E : Type 0} (r : Result A E) (a : A) → Some a ≡ if_typable (λ x. x) r → r ≡ Ok a
 is_ok {A} (Ok b) a h = ap Ok (sym (ap (λ (o : Option A). unwrap_or o b) h))
 is_ok (Err wrong) a h = cc
 
-pub none_found : {A : Type 0} (below : A → List Fault) (place : Option SourceSpan) (path : SelectionPath) (r : Result A Wrong) → None ≡ if_typable (λ x. x) r → found (λ _. []) place path r ≡ found below place path r
+pub none_found : {A : Type 0} (below : A → List Fault) (place : Option SourceSpan) (path : SelectionPath) (r : Result A Wrong) → None ≡ if_typable (λ x. x) r → below_or_wrong (λ _. []) place path r ≡ below_or_wrong below place path r
 none_found below place path (Ok b) h = cc
 none_found below place path (Err wrong) h = refl
 
@@ -87,32 +87,32 @@ abbrev fragment_judged : Option Schema → NameView → ast_inline.InlineFragmen
 fragment_judged s ty f = typable_fragment s ty f.type_condition
 
 pub field_stands : (s : Option Schema) (ty : NameView) (f : ast_field.Field) (d : NodeView FieldDefinition) → Some d ≡ if_typable (λ d. d) (field_judged s ty f)
-    → elaborated_field s ty f ≡ Some (field_of f.alias f.name f.arguments f.directives (typed_in s f.selection_set) d)
-field_stands s ty f d h = elaborated-field s ty f ∙ ap (if_typable (field_of f.alias f.name f.arguments f.directives (typed_in s f.selection_set))) (is_ok (field_judged s ty f) d h)
+    → elaborated_field s ty f ≡ Some (typed_field f.alias f.name f.arguments f.directives (typed_in s f.selection_set) d)
+field_stands s ty f d h = elaborated-field s ty f ∙ ap (if_typable (typed_field f.alias f.name f.arguments f.directives (typed_in s f.selection_set))) (is_ok (field_judged s ty f) d h)
 
 pub field_stands_faults : (s : Option Schema) (ty : NameView) (place : Option SourceSpan) (path : SelectionPath) (f : ast_field.Field) (d : NodeView FieldDefinition) (before : List Fault) → Some d ≡ if_typable (λ d. d) (field_judged s ty f)
-    → (before ++ found (λ _. []) place path (field_judged s ty f)) ++ faults_of_selections s (child_of d) path f.selection_set ≡ before ++ faults_within s ty place path f
+    → (before ++ below_or_wrong (λ _. []) place path (field_judged s ty f)) ++ faults_of_selections s (child_of d) path f.selection_set ≡ before ++ faults_within s ty place path f
 field_stands_faults s ty place path f d before h =
     let r = is_ok (field_judged s ty f) d h in
-    (λ i. (before ++ found (λ _. []) place path (r i)) ++ faults_of_selections s (child_of d) path f.selection_set)
+    (λ i. (before ++ below_or_wrong (λ _. []) place path (r i)) ++ faults_of_selections s (child_of d) path f.selection_set)
     ∙ ap (λ l. l ++ faults_of_selections s (child_of d) path f.selection_set) (append-nil before)
-    ∙ (λ i. before ++ found (λ (d : NodeView FieldDefinition). faults_of_selections s (child_of d) path f.selection_set) place path (sym r i))
+    ∙ (λ i. before ++ below_or_wrong (λ (d : NodeView FieldDefinition). faults_of_selections s (child_of d) path f.selection_set) place path (sym r i))
 
 pub fragment_stands : (s : Option Schema) (ty : NameView) (f : ast_inline.InlineFragment) (t : NameView) → Some t ≡ if_typable (λ t. t) (fragment_judged s ty f)
-    → elaborated_fragment s ty f ≡ Some (fragment_of f.type_condition f.directives (typed_in s f.selection_set) t)
-fragment_stands s ty f t h = elaborated-fragment s ty f ∙ ap (if_typable (fragment_of f.type_condition f.directives (typed_in s f.selection_set))) (is_ok (fragment_judged s ty f) t h)
+    → elaborated_fragment s ty f ≡ Some (typed_inline_fragment f.type_condition f.directives (typed_in s f.selection_set) t)
+fragment_stands s ty f t h = elaborated-fragment s ty f ∙ ap (if_typable (typed_inline_fragment f.type_condition f.directives (typed_in s f.selection_set))) (is_ok (fragment_judged s ty f) t h)
 
 pub fragment_falls_faults : (s : Option Schema) (ty : NameView) (place : Option SourceSpan) (path : SelectionPath) (f : ast_inline.InlineFragment) → None ≡ if_typable (λ t. t) (fragment_judged s ty f)
-    → found (λ _. []) place path (fragment_judged s ty f) ≡ faults_of_fragment s ty place path f
+    → below_or_wrong (λ _. []) place path (fragment_judged s ty f) ≡ faults_of_fragment s ty place path f
 fragment_falls_faults s ty place path f h = none_found (λ t. faults_of_selections s t path f.selection_set) place path (fragment_judged s ty f) h ∙ sym (faults-fragment s ty place path f)
 
 pub fragment_stands_faults : (s : Option Schema) (ty : NameView) (place : Option SourceSpan) (path : SelectionPath) (f : ast_inline.InlineFragment) (t : NameView) (before : List Fault) → Some t ≡ if_typable (λ t. t) (fragment_judged s ty f)
-    → (before ++ found (λ _. []) place path (fragment_judged s ty f)) ++ faults_of_selections s t path f.selection_set ≡ before ++ faults_of_fragment s ty place path f
+    → (before ++ below_or_wrong (λ _. []) place path (fragment_judged s ty f)) ++ faults_of_selections s t path f.selection_set ≡ before ++ faults_of_fragment s ty place path f
 fragment_stands_faults s ty place path f t before h =
     let r = is_ok (fragment_judged s ty f) t h in
-    (λ i. (before ++ found (λ _. []) place path (r i)) ++ faults_of_selections s t path f.selection_set)
+    (λ i. (before ++ below_or_wrong (λ _. []) place path (r i)) ++ faults_of_selections s t path f.selection_set)
     ∙ ap (λ l. l ++ faults_of_selections s t path f.selection_set) (append-nil before)
-    ∙ (λ i. before ++ found (λ (t : NameView). faults_of_selections s t path f.selection_set) place path (sym r i))
+    ∙ (λ i. before ++ below_or_wrong (λ (t : NameView). faults_of_selections s t path f.selection_set) place path (sym r i))
     ∙ ap (λ l. before ++ l) (sym (faults-fragment s ty place path f))
 
 -- what the code makes of a field and of an inline fragment that are typable

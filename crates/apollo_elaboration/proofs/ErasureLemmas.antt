@@ -21,8 +21,8 @@ use Rattle.apollo_executable.specs.declared.selection.FragmentSpread.{FragmentSp
 use Rattle.apollo_executable.specs.Erasure as e
 use Rattle.apollo_executable.specs.Erasure.{ES, EF, EI, EL, erased, erased_field, erased_inline_fragment, erased_set}
 use Rattle.apollo_elaboration.specs.Typable.{child_of, is_bare, typable_field, typable_fragment, if_typable}
-use Rattle.apollo_elaboration.specs.Stripped.{SS, SF, SI, in_place_of, strip_step, strip_field_step, strip_fragment_step, left_in, kept_field, kept_fragment, stripped_selection, stripped_field, stripped_fragment, stripped}
-use Rattle.apollo_elaboration.specs.Elaborated.{TS, TF, TI, typed_spread, selection_step, field_step, fragment_step, set_of, field_of, fragment_of, elaborated_selection, elaborated_field, elaborated_fragment, elaborated}
+use Rattle.apollo_elaboration.specs.Stripped.{SS, SF, SI, in_place_of, strip_step, strip_field_step, strip_fragment_step, stripped_below, kept_field, kept_fragment, stripped_selection, stripped_field, stripped_inline_fragment, stripped}
+use Rattle.apollo_elaboration.specs.Elaborated.{TS, TF, TI, typed_spread, selection_step, field_step, fragment_step, set_of, typed_field, typed_inline_fragment, elaborated_selection, elaborated_field, elaborated_fragment, elaborated}
 use Rattle.apollo_elaboration.proofs.Equations.{filter_map-map, is_bare-map, typed_in, elaborated-field, elaborated-fragment}
 
 -- what is left below a field or a fragment
@@ -37,30 +37,30 @@ stripped-field : (s : Option Schema) (ty : NameView) (f : ast_field.Field)
 unfolding each_stripped
 stripped-field s ty f =
     let e = ap (λ (u : SF). u ty) (folds.fold_out-Field SS SF SI strip_step (strip_field_step s) (strip_fragment_step s) f) in
-    let b : left_in (map (each_stripped s) f.selection_set) ≡ kept_in s f.selection_set = λ i t. filter_map-map (each_stripped s) (λ (u : SS). u t) f.selection_set i in
+    let b : stripped_below (map (each_stripped s) f.selection_set) ≡ kept_in s f.selection_set = λ i t. filter_map-map (each_stripped s) (λ (u : SS). u t) f.selection_set i in
     e ∙ (λ i. if_typable (kept_field f.alias f.name f.arguments f.directives (b i)) (typable_field s ty f.name (is_bare-map (each_stripped s) f.selection_set i)))
 
 stripped-fragment : (s : Option Schema) (ty : NameView) (f : ast_inline.InlineFragment)
-    → stripped_fragment s ty f ≡ if_typable (kept_fragment f.type_condition f.directives (kept_in s f.selection_set)) (typable_fragment s ty f.type_condition)
+    → stripped_inline_fragment s ty f ≡ if_typable (kept_fragment f.type_condition f.directives (kept_in s f.selection_set)) (typable_fragment s ty f.type_condition)
 unfolding each_stripped
 stripped-fragment s ty f =
     let e = ap (λ (u : SI). u ty) (folds.fold_out-InlineFragment SS SF SI strip_step (strip_field_step s) (strip_fragment_step s) f) in
-    let b : left_in (map (each_stripped s) f.selection_set) ≡ kept_in s f.selection_set = λ i t. filter_map-map (each_stripped s) (λ (u : SS). u t) f.selection_set i in
+    let b : stripped_below (map (each_stripped s) f.selection_set) ≡ kept_in s f.selection_set = λ i t. filter_map-map (each_stripped s) (λ (u : SS). u t) f.selection_set i in
     e ∙ (λ i. if_typable (kept_fragment f.type_condition f.directives (b i)) (typable_fragment s ty f.type_condition))
 
 -- a set, a field and an inline fragment, made and erased
 pub erased-set_of : (ty : NameView) (xs : List Selection) → erased_set (set_of ty xs) ≡ map erased xs
 erased-set_of ty xs = typed_folds.fold-roll-SelectionSet ES EF EI EL e.selection_step e.field_step e.inline_step e.set_step (record { ty = ty; selections = xs })
 
-erased-field_of : (alias : Option NameView) (name : NameView) (arguments : List (NodeView Argument)) (directives : DirectiveList) (below : NameView → List Selection) (d : NodeView FieldDefinition)
-    → erased_field (field_of alias name arguments directives below d) ≡ kept_field alias name arguments directives (λ t. map erased (below t)) d
-erased-field_of alias name arguments directives below d =
+erased-typed_field : (alias : Option NameView) (name : NameView) (arguments : List (NodeView Argument)) (directives : DirectiveList) (below : NameView → List Selection) (d : NodeView FieldDefinition)
+    → erased_field (typed_field alias name arguments directives below d) ≡ kept_field alias name arguments directives (λ t. map erased (below t)) d
+erased-typed_field alias name arguments directives below d =
     typed_folds.fold-roll-Field ES EF EI EL e.selection_step e.field_step e.inline_step e.set_step (record { definition = d; alias = alias; name = name; arguments = arguments; directives = directives; selection_set = set_of (child_of d) (below (child_of d)) })
     ∙ ap (λ (xs : List ast.Selection). kept_field alias name arguments directives (λ t. xs) d) (erased-set_of (child_of d) (below (child_of d)))
 
-erased-fragment_of : (condition : Option NameView) (directives : DirectiveList) (below : NameView → List Selection) (t : NameView)
-    → erased_inline_fragment (fragment_of condition directives below t) ≡ kept_fragment condition directives (λ t. map erased (below t)) t
-erased-fragment_of condition directives below t =
+erased-typed_inline_fragment : (condition : Option NameView) (directives : DirectiveList) (below : NameView → List Selection) (t : NameView)
+    → erased_inline_fragment (typed_inline_fragment condition directives below t) ≡ kept_fragment condition directives (λ t. map erased (below t)) t
+erased-typed_inline_fragment condition directives below t =
     typed_folds.fold-roll-InlineFragment ES EF EI EL e.selection_step e.field_step e.inline_step e.set_step (record { type_condition = condition; directives = directives; selection_set = set_of t (below t) })
     ∙ ap (λ (xs : List ast.Selection). kept_fragment condition directives (λ t. xs) t) (erased-set_of t (below t))
 
@@ -79,7 +79,7 @@ abbrev PF : Option Schema → ast_field.Field → Type 0
 PF s f = (ty : NameView) → option_map erased_field (elaborated_field s ty f) ≡ stripped_field s ty f
 
 abbrev PI : Option Schema → ast_inline.InlineFragment → Type 0
-PI s f = (ty : NameView) → option_map erased_inline_fragment (elaborated_fragment s ty f) ≡ stripped_fragment s ty f
+PI s f = (ty : NameView) → option_map erased_inline_fragment (elaborated_fragment s ty f) ≡ stripped_inline_fragment s ty f
 
 abbrev WS : Option Schema → Type 0
 WS s = (x : ast.Selection) × PS s x
@@ -98,16 +98,16 @@ below_same s (y ∷ ys) t = map-cons_option erased (elaborated_selection s t y.0
 field_same : (s : Option Schema) (ty : NameView) (f : ast_field.Field) → ((t : NameView) → map erased (typed_in s f.selection_set t) ≡ stripped s t f.selection_set) → option_map erased_field (elaborated_field s ty f) ≡ stripped_field s ty f
 field_same s ty f h =
     ap (option_map erased_field) (elaborated-field s ty f)
-    ∙ map-if_typable erased_field (field_of f.alias f.name f.arguments f.directives (typed_in s f.selection_set)) (typable_field s ty f.name (is_bare f.selection_set))
-    ∙ (λ i. if_typable (λ (d : NodeView FieldDefinition). erased-field_of f.alias f.name f.arguments f.directives (typed_in s f.selection_set) d i) (typable_field s ty f.name (is_bare f.selection_set)))
+    ∙ map-if_typable erased_field (typed_field f.alias f.name f.arguments f.directives (typed_in s f.selection_set)) (typable_field s ty f.name (is_bare f.selection_set))
+    ∙ (λ i. if_typable (λ (d : NodeView FieldDefinition). erased-typed_field f.alias f.name f.arguments f.directives (typed_in s f.selection_set) d i) (typable_field s ty f.name (is_bare f.selection_set)))
     ∙ (λ i. if_typable (kept_field f.alias f.name f.arguments f.directives (λ (t : NameView). h t i)) (typable_field s ty f.name (is_bare f.selection_set)))
     ∙ sym (stripped-field s ty f)
 
-fragment_same : (s : Option Schema) (ty : NameView) (f : ast_inline.InlineFragment) → ((t : NameView) → map erased (typed_in s f.selection_set t) ≡ stripped s t f.selection_set) → option_map erased_inline_fragment (elaborated_fragment s ty f) ≡ stripped_fragment s ty f
+fragment_same : (s : Option Schema) (ty : NameView) (f : ast_inline.InlineFragment) → ((t : NameView) → map erased (typed_in s f.selection_set t) ≡ stripped s t f.selection_set) → option_map erased_inline_fragment (elaborated_fragment s ty f) ≡ stripped_inline_fragment s ty f
 fragment_same s ty f h =
     ap (option_map erased_inline_fragment) (elaborated-fragment s ty f)
-    ∙ map-if_typable erased_inline_fragment (fragment_of f.type_condition f.directives (typed_in s f.selection_set)) (typable_fragment s ty f.type_condition)
-    ∙ (λ i. if_typable (λ (t : NameView). erased-fragment_of f.type_condition f.directives (typed_in s f.selection_set) t i) (typable_fragment s ty f.type_condition))
+    ∙ map-if_typable erased_inline_fragment (typed_inline_fragment f.type_condition f.directives (typed_in s f.selection_set)) (typable_fragment s ty f.type_condition)
+    ∙ (λ i. if_typable (λ (t : NameView). erased-typed_inline_fragment f.type_condition f.directives (typed_in s f.selection_set) t i) (typable_fragment s ty f.type_condition))
     ∙ (λ i. if_typable (kept_fragment f.type_condition f.directives (λ (t : NameView). h t i)) (typable_fragment s ty f.type_condition))
     ∙ sym (stripped-fragment s ty f)
 
@@ -129,7 +129,7 @@ pub elaborated-roll : (s : Option Schema) (ty : NameView) (x : layer.Selection-F
 elaborated-roll s ty x = ap (λ (u : TS). u ty) (folds.fold-roll-Selection TS TF TI selection_step (field_step s) (fragment_step s) x)
 
 stripped-roll : (s : Option Schema) (ty : NameView) (x : layer.Selection-F ast.Selection ast_field.Field ast_inline.InlineFragment)
-    → stripped_selection s ty (ast.roll-Selection x) ≡ strip_step (folds.map-Selection ast.Selection ast_field.Field ast_inline.InlineFragment SS SF SI (λ y t. stripped_selection s t y) (λ y t. stripped_field s t y) (λ y t. stripped_fragment s t y) x) ty
+    → stripped_selection s ty (ast.roll-Selection x) ≡ strip_step (folds.map-Selection ast.Selection ast_field.Field ast_inline.InlineFragment SS SF SI (λ y t. stripped_selection s t y) (λ y t. stripped_field s t y) (λ y t. stripped_inline_fragment s t y) x) ty
 stripped-roll s ty x = ap (λ (u : SS). u ty) (folds.fold-roll-Selection SS SF SI strip_step (strip_field_step s) (strip_fragment_step s) x)
 
 abbrev plain : (s : Option Schema) → layer.Selection-F (WS s) (WF s) (WI s) → layer.Selection-F ast.Selection ast_field.Field ast_inline.InlineFragment

@@ -20,8 +20,8 @@ use Rattle.apollo_executable.specs.declared.selection.InlineFragment.{InlineFrag
 use Rattle.apollo_executable.specs.declared.selection.SelectionSet.{SelectionSet, roll-SelectionSet}
 use Rattle.apollo_elaboration.specs.Typable.{Wrong, child_of, is_bare, leaf_at, unless_leaf, with_subselections, defined_in, typable_field, typable_fragment, if_typable}
 use Rattle.apollo_elaboration.specs.Stripped.{in_place_of}
-use Rattle.apollo_elaboration.specs.Elaborated.{typed_spread, set_of, field_of, fragment_of, elaborated_selection, elaborated_field, elaborated_fragment, elaborated}
-use Rattle.apollo_elaboration.specs.TypedSelections.{In, selection_in, typed_field_in, fragment_in, set_in, IsTyped, IsTypedField, IsTypedFragment, IsTypedSet}
+use Rattle.apollo_elaboration.specs.Elaborated.{typed_spread, set_of, typed_field, typed_inline_fragment, elaborated_selection, elaborated_field, elaborated_fragment, elaborated}
+use Rattle.apollo_elaboration.specs.TypedSelections.{In, selection_in, typed_field_in, typed_fragment_in, set_in, IsTyped, IsTypedField, IsTypedFragment, IsTypedSet}
 use Rattle.apollo_elaboration.proofs.Equations.{typed_in, elaborated-field, elaborated-fragment}
 use Rattle.apollo_elaboration.proofs.ErasureLemmas.{elaborated-roll}
 
@@ -43,7 +43,7 @@ pub selection-roll : (s : Option Schema) (ty : NameView) (x : typed_layer.Select
 selection-roll s ty x = ap (λ (u : In). u ty) (typed_folds.rec-roll-Selection In In In In
     (λ X X' X'' X3 v v' v'' v3 k k' k'' k3. selection_in X X' X'' X3 k' k'')
     (λ X X' X'' X3 v v' v'' v3 k k' k'' k3. typed_field_in s X X' X'' X3 v3 k3)
-    (λ X X' X'' X3 v v' v'' v3 k k' k'' k3. fragment_in s X X' X'' X3 k3)
+    (λ X X' X'' X3 v v' v'' v3 k k' k'' k3. typed_fragment_in s X X' X'' X3 k3)
     (λ X X' X'' X3 v v' v'' v3 k k' k'' k3. set_in X X' X'' X3 k)
     (λ X X' X'' X3 v v' v'' v3 k k' k'' k3. selection_natural X X' X'' X3 v v' v'' v3 k' k'') x)
 
@@ -51,15 +51,15 @@ pub field-roll : (s : Option Schema) (ty : NameView) (x : typed_layer.Field-F Se
 field-roll s ty x = ap (λ (u : In). u ty) (typed_folds.rec-roll-Field In In In In
     (λ X X' X'' X3 v v' v'' v3 k k' k'' k3. selection_in X X' X'' X3 k' k'')
     (λ X X' X'' X3 v v' v'' v3 k k' k'' k3. typed_field_in s X X' X'' X3 v3 k3)
-    (λ X X' X'' X3 v v' v'' v3 k k' k'' k3. fragment_in s X X' X'' X3 k3)
+    (λ X X' X'' X3 v v' v'' v3 k k' k'' k3. typed_fragment_in s X X' X'' X3 k3)
     (λ X X' X'' X3 v v' v'' v3 k k' k'' k3. set_in X X' X'' X3 k)
     (λ X X' X'' X3 v v' v'' v3 k k' k'' k3 x. refl) x)
 
-pub fragment-roll : (s : Option Schema) (ty : NameView) (x : typed_layer.InlineFragment-F Selection Field InlineFragment SelectionSet) → IsTypedFragment s ty (roll-InlineFragment x) ≡ fragment_in s Selection Field InlineFragment SelectionSet (λ y t. IsTypedSet s t y) x ty
+pub fragment-roll : (s : Option Schema) (ty : NameView) (x : typed_layer.InlineFragment-F Selection Field InlineFragment SelectionSet) → IsTypedFragment s ty (roll-InlineFragment x) ≡ typed_fragment_in s Selection Field InlineFragment SelectionSet (λ y t. IsTypedSet s t y) x ty
 fragment-roll s ty x = ap (λ (u : In). u ty) (typed_folds.rec-roll-InlineFragment In In In In
     (λ X X' X'' X3 v v' v'' v3 k k' k'' k3. selection_in X X' X'' X3 k' k'')
     (λ X X' X'' X3 v v' v'' v3 k k' k'' k3. typed_field_in s X X' X'' X3 v3 k3)
-    (λ X X' X'' X3 v v' v'' v3 k k' k'' k3. fragment_in s X X' X'' X3 k3)
+    (λ X X' X'' X3 v v' v'' v3 k k' k'' k3. typed_fragment_in s X X' X'' X3 k3)
     (λ X X' X'' X3 v v' v'' v3 k k' k'' k3. set_in X X' X'' X3 k)
     (λ X X' X'' X3 v v' v'' v3 k k' k'' k3 x. refl) x)
 
@@ -67,7 +67,7 @@ pub set-roll : (s : Option Schema) (ty : NameView) (x : typed_layer.SelectionSet
 set-roll s ty x = ap (λ (u : In). u ty) (typed_folds.rec-roll-SelectionSet In In In In
     (λ X X' X'' X3 v v' v'' v3 k k' k'' k3. selection_in X X' X'' X3 k' k'')
     (λ X X' X'' X3 v v' v'' v3 k k' k'' k3. typed_field_in s X X' X'' X3 v3 k3)
-    (λ X X' X'' X3 v v' v'' v3 k k' k'' k3. fragment_in s X X' X'' X3 k3)
+    (λ X X' X'' X3 v v' v'' v3 k k' k'' k3. typed_fragment_in s X X' X'' X3 k3)
     (λ X X' X'' X3 v v' v'' v3 k k' k'' k3. set_in X X' X'' X3 k)
     (λ X X' X'' X3 v v' v'' v3 k k' k'' k3. set_natural X X' X'' X3 v v' v'' v3 k) x)
 
@@ -136,7 +136,7 @@ below_typed s (y ∷ ys) t = all_cons (λ (x : Selection). IsTyped s t x) (elabo
 
 field_holds : (s : Option Schema) (ty : NameView) (f : ast_field.Field) → ((t : NameView) → AllByRecursion (λ (x : Selection). IsTyped s t x) (typed_in s f.selection_set t)) → Holds (λ (t : Field). IsTypedField s ty t) (elaborated_field s ty f)
 field_holds s ty f h = subst (Holds (λ (t : Field). IsTypedField s ty t)) (sym (elaborated-field s ty f))
-    (holds_typable (λ (t : Field). IsTypedField s ty t) (field_of f.alias f.name f.arguments f.directives (typed_in s f.selection_set)) (typable_field s ty f.name (is_bare f.selection_set)) (λ d e.
+    (holds_typable (λ (t : Field). IsTypedField s ty t) (typed_field f.alias f.name f.arguments f.directives (typed_in s f.selection_set)) (typable_field s ty f.name (is_bare f.selection_set)) (λ d e.
     along (sym (field-roll s ty (record { definition = d; alias = f.alias; name = f.name; arguments = f.arguments; directives = f.directives; selection_set = set_of (child_of d) (typed_in s f.selection_set (child_of d)) }))) (
       typable-more s ty f.name (is_bare f.selection_set) (is_bare (typed_in s f.selection_set (child_of d))) d (bare_kept (elaborated_selection s (child_of d)) f.selection_set) e,
       set-typed s (child_of d) (typed_in s f.selection_set (child_of d)) (h (child_of d)),
@@ -144,7 +144,7 @@ field_holds s ty f h = subst (Holds (λ (t : Field). IsTypedField s ty t)) (sym 
 
 fragment_holds : (s : Option Schema) (ty : NameView) (f : ast_inline.InlineFragment) → ((t : NameView) → AllByRecursion (λ (x : Selection). IsTyped s t x) (typed_in s f.selection_set t)) → Holds (λ (t : InlineFragment). IsTypedFragment s ty t) (elaborated_fragment s ty f)
 fragment_holds s ty f h = subst (Holds (λ (t : InlineFragment). IsTypedFragment s ty t)) (sym (elaborated-fragment s ty f))
-    (holds_typable (λ (t : InlineFragment). IsTypedFragment s ty t) (fragment_of f.type_condition f.directives (typed_in s f.selection_set)) (typable_fragment s ty f.type_condition) (λ c e.
+    (holds_typable (λ (t : InlineFragment). IsTypedFragment s ty t) (typed_inline_fragment f.type_condition f.directives (typed_in s f.selection_set)) (typable_fragment s ty f.type_condition) (λ c e.
     along (sym (fragment-roll s ty (record { type_condition = f.type_condition; directives = f.directives; selection_set = set_of c (typed_in s f.selection_set c) })))
     (c, (e, set-typed s c (typed_in s f.selection_set c) (h c)))))
 

@@ -42,8 +42,8 @@ set_of ty xs = roll-SelectionSet (record { ty = ty; selections = xs })
 abbrev pub field_over : ast_field.Field → NodeView FieldDefinition → SelectionSet → Field
 field_over f d set = roll-Field (record { definition = d; alias = f.alias; name = f.name; arguments = f.arguments; directives = f.directives; selection_set = set })
 
-abbrev pub field_of : Option NameView → NameView → List (NodeView Argument) → DirectiveList → (NameView → List Selection) → NodeView FieldDefinition → Field
-field_of alias name arguments directives below d = roll-Field (record {
+abbrev pub typed_field : Option NameView → NameView → List (NodeView Argument) → DirectiveList → (NameView → List Selection) → NodeView FieldDefinition → Field
+typed_field alias name arguments directives below d = roll-Field (record {
   definition = d;
   alias = alias;
   name = name;
@@ -52,8 +52,8 @@ field_of alias name arguments directives below d = roll-Field (record {
   selection_set = set_of (child_of d) (below (child_of d));
 })
 
-abbrev pub fragment_of : Option NameView → DirectiveList → (NameView → List Selection) → NameView → InlineFragment
-fragment_of condition directives below child = roll-InlineFragment (record { type_condition = condition; directives = directives; selection_set = set_of child (below child) })
+abbrev pub typed_inline_fragment : Option NameView → DirectiveList → (NameView → List Selection) → NameView → InlineFragment
+typed_inline_fragment condition directives below child = roll-InlineFragment (record { type_condition = condition; directives = directives; selection_set = set_of child (below child) })
 
 -- one level of a selection
 abbrev pub selection_step : layer.Selection-F TS TF TI → TS
@@ -66,10 +66,10 @@ typed_below ss ty = filter_map (λ (s : TS). s ty) ss
 
 -- one level of a field, and of an inline fragment
 abbrev pub field_step : Option Schema → layer.Field-F TS TF TI → TF
-field_step s f ty = if_typable (field_of f.alias f.name f.arguments f.directives (typed_below f.selection_set)) (typable_field s ty f.name (is_bare f.selection_set))
+field_step s f ty = if_typable (typed_field f.alias f.name f.arguments f.directives (typed_below f.selection_set)) (typable_field s ty f.name (is_bare f.selection_set))
 
 abbrev pub fragment_step : Option Schema → layer.InlineFragment-F TS TF TI → TI
-fragment_step s f ty = if_typable (fragment_of f.type_condition f.directives (typed_below f.selection_set)) (typable_fragment s ty f.type_condition)
+fragment_step s f ty = if_typable (typed_inline_fragment f.type_condition f.directives (typed_below f.selection_set)) (typable_fragment s ty f.type_condition)
 
 abbrev pub elaborated_selection : Option Schema → NameView → ast.Selection → Option Selection
 elaborated_selection s ty x = folds.fold-Selection TS TF TI selection_step (field_step s) (fragment_step s) x ty

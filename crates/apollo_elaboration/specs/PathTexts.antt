@@ -7,10 +7,10 @@ use Rattle.apollo_elaboration.specs.declared.selection_path.SelectionPath.{Selec
 use Rattle.apollo_elaboration.specs.declared.selection_path.ExecutableDefinitionName.TheVariants.{AnonymousOperation, NamedOperation, Fragment}
 
 -- `query`, `query N` or `fragment F`
-abbrev pub root_text : ExecutableDefinitionName → List ℕ
-root_text (AnonymousOperation kind) = operation_text kind
-root_text (NamedOperation kind name) = operation_text kind ++ (codes " " ++ name.text)
-root_text (Fragment name) = codes "fragment " ++ name.text
+abbrev pub definition_name_text : ExecutableDefinitionName → List ℕ
+definition_name_text (AnonymousOperation kind) = operation_text kind
+definition_name_text (NamedOperation kind name) = operation_text kind ++ (codes " " ++ name.text)
+definition_name_text (Fragment name) = codes "fragment " ++ name.text
 
 -- ` → `, whose arrow is U+2192, in UTF-8
 abbrev pub arrow : List ℕ
@@ -23,4 +23,4 @@ keys_text (key ∷ keys) = arrow ++ (key.text ++ keys_text keys)
 
 -- `query Q → user → id`
 abbrev pub path_text : SelectionPath → List ℕ
-path_text path = root_text path.root ++ keys_text path.nested_fields
+path_text path = definition_name_text path.root ++ keys_text path.nested_fields

@@ -38,17 +38,17 @@ abbrev pub faults_below : List FS → FS
 faults_below ss ty path = flat_map (λ (s : FS). s ty path) ss
 
 -- those below what is typable, or what is wrong
-abbrev pub found : {A : Type 0} → (A → List Fault) → Option SourceSpan → SelectionPath → Result A Wrong → List Fault
-found below place path (Ok a) = below a
-found below place path (Err wrong) = wrong place path
+abbrev pub below_or_wrong : {A : Type 0} → (A → List Fault) → Option SourceSpan → SelectionPath → Result A Wrong → List Fault
+below_or_wrong below place path (Ok a) = below a
+below_or_wrong below place path (Err wrong) = wrong place path
 
 -- one level of a field, and of an inline fragment
 abbrev pub field_faults_step : Option Schema → Field-F FS FN FN → FN
 field_faults_step s f ty place path =
-    found (λ d. faults_below f.selection_set (child_of d) (inside path (response_key_of f.alias f.name))) place (inside path (response_key_of f.alias f.name)) (typable_field s ty f.name (is_bare f.selection_set))
+    below_or_wrong (λ d. faults_below f.selection_set (child_of d) (inside path (response_key_of f.alias f.name))) place (inside path (response_key_of f.alias f.name)) (typable_field s ty f.name (is_bare f.selection_set))
 
 abbrev pub fragment_faults_step : Option Schema → InlineFragment-F FS FN FN → FN
-fragment_faults_step s f ty place path = found (λ child. faults_below f.selection_set child path) place path (typable_fragment s ty f.type_condition)
+fragment_faults_step s f ty place path = below_or_wrong (λ child. faults_below f.selection_set child path) place path (typable_fragment s ty f.type_condition)
 
 abbrev pub faults_of_selection : Option Schema → NameView → SelectionPath → Selection → List Fault
 faults_of_selection s ty path x = folds.fold-Selection FS FN FN faults_step (field_faults_step s) (fragment_faults_step s) x ty path

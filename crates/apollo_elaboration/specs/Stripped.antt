@@ -36,8 +36,8 @@ strip_step (Selection-F.FragmentSpread n) ty = Some (roll-Selection (Selection-F
 strip_step (Selection-F.InlineFragment n) ty = option_map (λ (f : InlineFragment). roll-Selection (Selection-F.InlineFragment (in_place_of n f))) (n.value ty)
 
 -- what selections leave in a type
-abbrev pub left_in : List SS → NameView → List Selection
-left_in ss ty = filter_map (λ (s : SS). s ty) ss
+abbrev pub stripped_below : List SS → NameView → List Selection
+stripped_below ss ty = filter_map (λ (s : SS). s ty) ss
 
 -- a field of this definition, and an inline fragment with this child type, with what is left below
 abbrev pub kept_field : Option NameView → NameView → List (NodeView Argument) → DirectiveList → (NameView → List Selection) → NodeView FieldDefinition → Field
@@ -48,10 +48,10 @@ kept_fragment condition directives below child = roll-InlineFragment (record { t
 
 -- one level of a field, and of an inline fragment
 abbrev pub strip_field_step : Option Schema → Field-F SS SF SI → SF
-strip_field_step s f ty = if_typable (kept_field f.alias f.name f.arguments f.directives (left_in f.selection_set)) (typable_field s ty f.name (is_bare f.selection_set))
+strip_field_step s f ty = if_typable (kept_field f.alias f.name f.arguments f.directives (stripped_below f.selection_set)) (typable_field s ty f.name (is_bare f.selection_set))
 
 abbrev pub strip_fragment_step : Option Schema → InlineFragment-F SS SF SI → SI
-strip_fragment_step s f ty = if_typable (kept_fragment f.type_condition f.directives (left_in f.selection_set)) (typable_fragment s ty f.type_condition)
+strip_fragment_step s f ty = if_typable (kept_fragment f.type_condition f.directives (stripped_below f.selection_set)) (typable_fragment s ty f.type_condition)
 
 abbrev pub stripped_selection : Option Schema → NameView → Selection → Option Selection
 stripped_selection s ty x = folds.fold-Selection SS SF SI strip_step (strip_field_step s) (strip_fragment_step s) x ty
@@ -59,8 +59,8 @@ stripped_selection s ty x = folds.fold-Selection SS SF SI strip_step (strip_fiel
 abbrev pub stripped_field : Option Schema → NameView → Field → Option Field
 stripped_field s ty f = folds.fold-Field SS SF SI strip_step (strip_field_step s) (strip_fragment_step s) f ty
 
-abbrev pub stripped_fragment : Option Schema → NameView → InlineFragment → Option InlineFragment
-stripped_fragment s ty f = folds.fold-InlineFragment SS SF SI strip_step (strip_field_step s) (strip_fragment_step s) f ty
+abbrev pub stripped_inline_fragment : Option Schema → NameView → InlineFragment → Option InlineFragment
+stripped_inline_fragment s ty f = folds.fold-InlineFragment SS SF SI strip_step (strip_field_step s) (strip_fragment_step s) f ty
 
 -- a list, in a type
 abbrev pub stripped : Option Schema → NameView → List Selection → List Selection

@@ -27,8 +27,8 @@ selection_in X X' X'' X3 k' k'' (Selection-F.InlineFragment n) ty = k'' n.value 
 abbrev pub typed_field_in : Option Schema → (X X' X'' X3 : Type 0) → (X3 → SelectionSet) → (X3 → In) → Field-F X X' X'' X3 → In
 typed_field_in s X X' X'' X3 v3 k3 f ty = (typable_field s ty f.name (is_bare (v3 f.selection_set).selections) ≡ Ok f.definition) × k3 f.selection_set (child_of f.definition)
 
-abbrev pub fragment_in : Option Schema → (X X' X'' X3 : Type 0) → (X3 → In) → InlineFragment-F X X' X'' X3 → In
-fragment_in s X X' X'' X3 k3 f ty = (child : NameView) × ((typable_fragment s ty f.type_condition ≡ Ok child) × k3 f.selection_set child)
+abbrev pub typed_fragment_in : Option Schema → (X X' X'' X3 : Type 0) → (X3 → In) → InlineFragment-F X X' X'' X3 → In
+typed_fragment_in s X X' X'' X3 k3 f ty = (child : NameView) × ((typable_fragment s ty f.type_condition ≡ Ok child) × k3 f.selection_set child)
 
 abbrev pub set_in : (X X' X'' X3 : Type 0) → (X → In) → SelectionSet-F X X' X'' X3 → In
 set_in X X' X'' X3 k x ty = (x.ty ≡ ty) × AllByRecursion (λ (y : X). k y ty) x.selections
@@ -37,7 +37,7 @@ abbrev pub IsTyped : Option Schema → NameView → Selection → Type 0
 IsTyped s ty x = folds.rec-Selection In In In In
     (λ X X' X'' X3 v v' v'' v3 k k' k'' k3. selection_in X X' X'' X3 k' k'')
     (λ X X' X'' X3 v v' v'' v3 k k' k'' k3. typed_field_in s X X' X'' X3 v3 k3)
-    (λ X X' X'' X3 v v' v'' v3 k k' k'' k3. fragment_in s X X' X'' X3 k3)
+    (λ X X' X'' X3 v v' v'' v3 k k' k'' k3. typed_fragment_in s X X' X'' X3 k3)
     (λ X X' X'' X3 v v' v'' v3 k k' k'' k3. set_in X X' X'' X3 k)
     x ty
 
@@ -45,7 +45,7 @@ abbrev pub IsTypedField : Option Schema → NameView → Field → Type 0
 IsTypedField s ty x = folds.rec-Field In In In In
     (λ X X' X'' X3 v v' v'' v3 k k' k'' k3. selection_in X X' X'' X3 k' k'')
     (λ X X' X'' X3 v v' v'' v3 k k' k'' k3. typed_field_in s X X' X'' X3 v3 k3)
-    (λ X X' X'' X3 v v' v'' v3 k k' k'' k3. fragment_in s X X' X'' X3 k3)
+    (λ X X' X'' X3 v v' v'' v3 k k' k'' k3. typed_fragment_in s X X' X'' X3 k3)
     (λ X X' X'' X3 v v' v'' v3 k k' k'' k3. set_in X X' X'' X3 k)
     x ty
 
@@ -53,7 +53,7 @@ abbrev pub IsTypedFragment : Option Schema → NameView → InlineFragment → T
 IsTypedFragment s ty x = folds.rec-InlineFragment In In In In
     (λ X X' X'' X3 v v' v'' v3 k k' k'' k3. selection_in X X' X'' X3 k' k'')
     (λ X X' X'' X3 v v' v'' v3 k k' k'' k3. typed_field_in s X X' X'' X3 v3 k3)
-    (λ X X' X'' X3 v v' v'' v3 k k' k'' k3. fragment_in s X X' X'' X3 k3)
+    (λ X X' X'' X3 v v' v'' v3 k k' k'' k3. typed_fragment_in s X X' X'' X3 k3)
     (λ X X' X'' X3 v v' v'' v3 k k' k'' k3. set_in X X' X'' X3 k)
     x ty
 
@@ -61,6 +61,6 @@ abbrev pub IsTypedSet : Option Schema → NameView → SelectionSet → Type 0
 IsTypedSet s ty x = folds.rec-SelectionSet In In In In
     (λ X X' X'' X3 v v' v'' v3 k k' k'' k3. selection_in X X' X'' X3 k' k'')
     (λ X X' X'' X3 v v' v'' v3 k k' k'' k3. typed_field_in s X X' X'' X3 v3 k3)
-    (λ X X' X'' X3 v v' v'' v3 k k' k'' k3. fragment_in s X X' X'' X3 k3)
+    (λ X X' X'' X3 v v' v'' v3 k k' k'' k3. typed_fragment_in s X X' X'' X3 k3)
     (λ X X' X'' X3 v v' v'' v3 k k' k'' k3. set_in X X' X'' X3 k)
     x ty

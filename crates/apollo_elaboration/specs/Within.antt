@@ -4,9 +4,9 @@ use Rattle.graphql_nodes.specs.NameView.{NameView}
 use Rattle.graphql_nodes.specs.declared.source.SourceSpan.{SourceSpan}
 use Rattle.graphql_ast.specs.declared.selection.Field.{Field}
 use Rattle.apollo_schema.specs.declared.schema.Schema.{Schema}
-use Rattle.apollo_elaboration.specs.SelectionFaults.{found, faults_of_selections}
+use Rattle.apollo_elaboration.specs.SelectionFaults.{below_or_wrong, faults_of_selections}
 use Rattle.apollo_elaboration.specs.Typable.{Fault, child_of, is_bare, typable_field}
 use Rattle.apollo_elaboration.specs.declared.selection_path.SelectionPath.{SelectionPath}
 
 abbrev pub faults_within : Option Schema → NameView → Option SourceSpan → SelectionPath → Field → List Fault
-faults_within s ty place path f = found (λ d. faults_of_selections s (child_of d) path f.selection_set) place path (typable_field s ty f.name (is_bare f.selection_set))
+faults_within s ty place path f = below_or_wrong (λ d. faults_of_selections s (child_of d) path f.selection_set) place path (typable_field s ty f.name (is_bare f.selection_set))

@@ -1,6 +1,6 @@
 //! Where a selection stands: GraphQL specification of October 2021, sections 2.3 to 2.8.
 ghost use Rattle.std.specs.Prelude.{◌≡◌, Some};
-ghost use Rattle.apollo_elaboration.specs.PathTexts.{root_text, path_text};
+ghost use Rattle.apollo_elaboration.specs.PathTexts.{definition_name_text, path_text};
 
 use graphql_nodes::collections::items::Items;
 use graphql_nodes::name::Name;
@@ -67,7 +67,7 @@ impl Clone for SelectionPath {
 }
 
 impl fmt::Display for ExecutableDefinitionName {
-    ghost output = { λ root. Some (root_text root) };
+    ghost output = { λ root. Some (definition_name_text root) };
 
     fn fmt<W: fmt::Write>(&self, f: &mut fmt::Formatter<W>) -> fmt::Result {
         match self {

@@ -3,7 +3,7 @@
 ghost use Rattle.std.specs.Prelude.{◌≡◌, ◌++◌, [], false, Option, None, Some, IfOk, OnOk};
 ghost use Rattle.std.specs.Option.{option_copied};
 ghost use Rattle.graphql_nodes.specs.declared.source.SourceSpan.{SourceSpan};
-ghost use Rattle.apollo_elaboration.specs.SelectionFaults.{found};
+ghost use Rattle.apollo_elaboration.specs.SelectionFaults.{below_or_wrong};
 ghost use Rattle.apollo_elaboration.specs.Typable as spec;
 ghost use Rattle.apollo_elaboration.specs.Typable.{leaf_at, field_judged, if_typable};
 
@@ -45,7 +45,7 @@ fn definition_in(
     faults: &mut Items<Fault>,
 ) -> Result<Option<Node<FieldDefinition>>, AllocError>
     ensures defined { IfOk result (λ definition. definition ≡ if_typable (λ d. d) (spec.definition_in (option_copied parent.now.schema) parent.now.ty.now name.now)) }
-    ensures faults { OnOk result (faults.new ≡ faults.old ++ found (λ _. []) None path.now (spec.definition_in (option_copied parent.now.schema) parent.now.ty.now name.now)) }
+    ensures faults { OnOk result (faults.new ≡ faults.old ++ below_or_wrong (λ _. []) None path.now (spec.definition_in (option_copied parent.now.schema) parent.now.ty.now name.now)) }
 {
     let Some(schema) = parent.schema else {
         return Ok(Some(unknown_field(alloc, name)?));
@@ -74,7 +74,7 @@ fn unless_leaf(
     faults: &mut Items<Fault>,
 ) -> Result<Option<Node<FieldDefinition>>, AllocError>
     ensures kept { IfOk result (λ kept. kept ≡ if_typable (λ d. d) (spec.unless_leaf false definition (leaf_at schema.now definition))) }
-    ensures faults { OnOk result (faults.new ≡ faults.old ++ found (λ _. []) place path.now (spec.unless_leaf false definition (leaf_at schema.now definition))) }
+    ensures faults { OnOk result (faults.new ≡ faults.old ++ below_or_wrong (λ _. []) place path.now (spec.unless_leaf false definition (leaf_at schema.now definition))) }
 {
     let ty = definition.ty.inner_named_type();
     let error = match schema.types.get(ty) {
@@ -101,7 +101,7 @@ pub(crate) fn typable_field(
     faults: &mut Items<Fault>,
 ) -> Result<Option<Node<FieldDefinition>>, AllocError>
     ensures typable { IfOk result (λ definition. definition ≡ if_typable (λ d. d) (field_judged (option_copied parent.now.schema) parent.now.ty.now node.now.value)) }
-    ensures faults { OnOk result (faults.new ≡ faults.old ++ found (λ _. []) node.now.location path.now (field_judged (option_copied parent.now.schema) parent.now.ty.now node.now.value)) }
+    ensures faults { OnOk result (faults.new ≡ faults.old ++ below_or_wrong (λ _. []) node.now.location path.now (field_judged (option_copied parent.now.schema) parent.now.ty.now node.now.value)) }
 {
     let Some(definition) = definition_in(alloc, parent, &node.name, path, faults)? else {
         return Ok(None);
@@ -135,7 +135,7 @@ pub(crate) fn typable_fragment<'a>(
     faults: &mut Items<Fault>,
 ) -> Result<Option<&'a NamedType>, AllocError>
     ensures typable { IfOk result (λ child. option_copied child ≡ if_typable (λ t. t) (spec.typable_fragment (option_copied schema.entry) ty.now fragment.now.type_condition)) }
-    ensures faults { OnOk result ((place : Option SourceSpan) → faults.new ≡ faults.old ++ found (λ _. []) place path.now (spec.typable_fragment (option_copied schema.entry) ty.now fragment.now.type_condition)) }
+    ensures faults { OnOk result ((place : Option SourceSpan) → faults.new ≡ faults.old ++ below_or_wrong (λ _. []) place path.now (spec.typable_fragment (option_copied schema.entry) ty.now fragment.now.type_condition)) }
 {
     let Some(condition) = &fragment.type_condition else {
         return Ok(Some(ty));

@@ -1,5 +1,5 @@
 -- The pieces of a text between bytes of one value.
-use Rattle.std.proofs.Common.{ℕ, Bor, ◌≡◌, ◌∙◌, ◌==◌, ◌+◌, ◌-◌, ◌<◌, ◌≤◌, ◌≢◌, List, [], ◌∷◌, ◌++◌, false, All, ap, append_assoc, append-nil, arith, drop, get_or, inl, inr, length, refl, slice_range, sym, take}
+use Rattle.std.proofs.Common.{ℕ, Bor, ◌≡◌, ◌∙◌, ◌==◌, ◌+◌, ◌-◌, ◌<◌, ◌≤◌, ◌≢◌, List, [], ◌∷◌, ◌++◌, false, All, ap, append_assoc, append-nil, arith, drop, get_or, inl, inr, length, refl, slice_range, subst, sym, take}
 use Rattle.std.specs.Str.{IsCharBoundary, IsUtf8}
 use Rattle.std.proofs.lemmas.Str.{IsCharBoundary-after_ascii, IsCharBoundary-start}
 use Rattle.std.specs.List.{slice_split}
@@ -8,7 +8,7 @@ use Rattle.std.proofs.lemmas.Bool.Decides.{nat_tests}
 use Rattle.std.proofs.lemmas.Grind.{common_steps}
 use Rattle.std.proofs.lemmas.List.{drop_more, take-append-drop, take_more}
 use Rattle.std.proofs.lemmas.List.Splits.{slice_split_at, slice_split_none}
-use Rattle.bench_notation.specs.Line.{texts_of, words_of}
+use Rattle.bench_notation.specs.Line.{lines_of, texts_of, words_of}
 
 -- no byte of this value stands before a place
 abbrev pub HasNone : ℕ → List ℕ → ℕ → Type 0
@@ -41,6 +41,24 @@ one_piece between text none =
     slice_split_none (λ b. b == between) text (λ i d lt.
     let place : get_or text i d ≡ get_or text i 0 = grind (arith, common_steps) in
     ap (λ (b : ℕ). b == between) place ∙ none i lt)
+
+-- a place of a text, of which these are the bytes
+module _ {text bytes : List ℕ} (same : bytes ≡ text) (at : ℕ) where
+  pub byte_at : get_or bytes at 0 ≡ get_or text at 0
+  byte_at = ap (λ (l : List ℕ). get_or l at 0) same
+
+  pub within_text : at < length bytes → at < length text
+  within_text within = subst (λ (l : List ℕ). at < length l) same within
+
+  -- behind a line feed a character begins
+  pub behind_feed : IsUtf8 text → at < length bytes → get_or bytes at 0 ≡ 10 → IsCharBoundary text (at + 1)
+  behind_feed utf8 within feed = IsCharBoundary-after_ascii text at utf8 (within_text within) (omega (arith, sym byte_at ∙ feed))
+
+  -- the first line feed ends the first line
+  pub line_ended : at < length bytes → HasNone 10 text at → get_or bytes at 0 ≡ 10 → lines_of text ≡ slice_range text 0 at ∷ lines_of (drop (at + 1) text)
+  line_ended within none feed =
+      let front : slice_range text 0 at ≡ take at text = grind (arith, common_steps) in
+      rw front (piece_ends 10 text at (within_text within) none (sym byte_at ∙ feed))
 
 -- no line feed stands before a place, and these are the words before the one that begins at `from` and goes on there
 pub record HasWords (text : List ℕ) (words : List (List ℕ)) (from at : ℕ) : Type 0 where

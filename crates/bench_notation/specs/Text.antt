@@ -75,8 +75,8 @@ abbrev pub field_line_text : NameView → TypeReference → List (NodeView Direc
 field_line_text name ty directives = typed_line (codes "field ") name ty ++ directives_text (codes "field@ ") directives
 
 -- a field, then its directives, then its arguments
-abbrev pub field_text : NodeView FieldDefinition → List ℕ
-field_text field = field_line_text field.value.name field.value.ty field.value.directives.0 ++ arguments_text field.value.arguments
+abbrev pub field_definition_text : NodeView FieldDefinition → List ℕ
+field_definition_text field = field_line_text field.value.name field.value.ty field.value.directives.0 ++ arguments_text field.value.arguments
 
 -- a field of an input object, then its directives
 abbrev pub input_field_text : NodeView InputValueDefinition → List ℕ
@@ -91,12 +91,12 @@ abbrev pub values_text : List (NodeView EnumValueDefinition) → List ℕ
 values_text values = flat_map (λ (value : NodeView EnumValueDefinition). named_line (codes "value ") value.value.value) values
 
 -- the header of a type, then the directives of the type
-abbrev pub head_text : Role → TypeKind → NameView → List (NodeView Directive) → List ℕ
-head_text role kind name directives = role_word role ++ codes " " ++ named_line (kind_word kind ++ codes " ") name ++ directives_text (codes "@ ") directives
+abbrev pub type_head_text : Role → TypeKind → NameView → List (NodeView Directive) → List ℕ
+type_head_text role kind name directives = role_word role ++ codes " " ++ named_line (kind_word kind ++ codes " ") name ++ directives_text (codes "@ ") directives
 
 -- interfaces, then fields
 abbrev pub fields_text : List NameView → List (NodeView FieldDefinition) → List ℕ
-fields_text interfaces fields = names_text (codes "implements ") interfaces ++ flat_map field_text fields
+fields_text interfaces fields = names_text (codes "implements ") interfaces ++ flat_map field_definition_text fields
 
 -- the line that says that a directive may be repeated
 abbrev pub repeatable_text : Bool → List ℕ
@@ -137,19 +137,19 @@ header_text (d.OperationDefinition n) = operation_head_text n.value
 header_text (d.FragmentDefinition n) = fragment_head_text n.value
 header_text (d.DirectiveDefinition n) = named_line (codes "directive ") n.value.name
 header_text (d.SchemaDefinition n) = schema_head_text r.Definition n.value.directives.0
-header_text (d.ScalarTypeDefinition n) = head_text r.Definition k.Scalar n.value.name n.value.directives.0
-header_text (d.ObjectTypeDefinition n) = head_text r.Definition k.Object n.value.name n.value.directives.0
-header_text (d.InterfaceTypeDefinition n) = head_text r.Definition k.Interface n.value.name n.value.directives.0
-header_text (d.UnionTypeDefinition n) = head_text r.Definition k.Union n.value.name n.value.directives.0
-header_text (d.EnumTypeDefinition n) = head_text r.Definition k.Enum n.value.name n.value.directives.0
-header_text (d.InputObjectTypeDefinition n) = head_text r.Definition k.InputObject n.value.name n.value.directives.0
+header_text (d.ScalarTypeDefinition n) = type_head_text r.Definition k.Scalar n.value.name n.value.directives.0
+header_text (d.ObjectTypeDefinition n) = type_head_text r.Definition k.Object n.value.name n.value.directives.0
+header_text (d.InterfaceTypeDefinition n) = type_head_text r.Definition k.Interface n.value.name n.value.directives.0
+header_text (d.UnionTypeDefinition n) = type_head_text r.Definition k.Union n.value.name n.value.directives.0
+header_text (d.EnumTypeDefinition n) = type_head_text r.Definition k.Enum n.value.name n.value.directives.0
+header_text (d.InputObjectTypeDefinition n) = type_head_text r.Definition k.InputObject n.value.name n.value.directives.0
 header_text (d.SchemaExtension n) = schema_head_text r.Extension n.value.directives.0
-header_text (d.ScalarTypeExtension n) = head_text r.Extension k.Scalar n.value.name n.value.directives.0
-header_text (d.ObjectTypeExtension n) = head_text r.Extension k.Object n.value.name n.value.directives.0
-header_text (d.InterfaceTypeExtension n) = head_text r.Extension k.Interface n.value.name n.value.directives.0
-header_text (d.UnionTypeExtension n) = head_text r.Extension k.Union n.value.name n.value.directives.0
-header_text (d.EnumTypeExtension n) = head_text r.Extension k.Enum n.value.name n.value.directives.0
-header_text (d.InputObjectTypeExtension n) = head_text r.Extension k.InputObject n.value.name n.value.directives.0
+header_text (d.ScalarTypeExtension n) = type_head_text r.Extension k.Scalar n.value.name n.value.directives.0
+header_text (d.ObjectTypeExtension n) = type_head_text r.Extension k.Object n.value.name n.value.directives.0
+header_text (d.InterfaceTypeExtension n) = type_head_text r.Extension k.Interface n.value.name n.value.directives.0
+header_text (d.UnionTypeExtension n) = type_head_text r.Extension k.Union n.value.name n.value.directives.0
+header_text (d.EnumTypeExtension n) = type_head_text r.Extension k.Enum n.value.name n.value.directives.0
+header_text (d.InputObjectTypeExtension n) = type_head_text r.Extension k.InputObject n.value.name n.value.directives.0
 
 -- the lines below that
 abbrev pub body_text : Definition → List ℕ
@@ -172,9 +172,9 @@ body_text (d.EnumTypeExtension n) = values_text n.value.values
 body_text (d.InputObjectTypeExtension n) = input_fields_text n.value.fields
 
 -- a definition or extension: its header, then the lines below it
-abbrev pub definition_text : Definition → List ℕ
-definition_text definition = header_text definition ++ body_text definition
+abbrev pub printed_definition : Definition → List ℕ
+printed_definition definition = header_text definition ++ body_text definition
 
 -- definitions, in order
-abbrev pub definitions_text : List Definition → List ℕ
-definitions_text definitions = flat_map definition_text definitions
+abbrev pub printed_definitions : List Definition → List ℕ
+printed_definitions definitions = flat_map printed_definition definitions

@@ -1,7 +1,7 @@
 //! Definitions as text.
 ghost use Rattle.std.specs.Prelude.{◌≡◌, ◌++◌, OnOk, IfOk, codes, string_bytes};
 ghost use Rattle.bench_notation.specs.declared.kind_words.Role.{Role};
-ghost use Rattle.bench_notation.specs.Text.{word_line, named_line, typed_line, directives_text, names_text, arguments_text, field_line_text, field_text, fields_text, input_fields_text, values_text, head_text, schema_head_text, operation_head_text, fragment_head_text, header_text, body_text, directive_body_text, root_text, roots_text, definition_text, definitions_text};
+ghost use Rattle.bench_notation.specs.Text.{word_line, named_line, typed_line, directives_text, names_text, arguments_text, field_line_text, field_definition_text, fields_text, input_fields_text, values_text, type_head_text, schema_head_text, operation_head_text, fragment_head_text, header_text, body_text, directive_body_text, root_text, roots_text, printed_definition, printed_definitions};
 
 use crate::kind_words::{Role, kind_word};
 use crate::type_notation::push_type;
@@ -23,7 +23,7 @@ use std::alloc::{AllocError, Global};
 /// The text of definitions and extensions, in order. What the notation has no line for is left out. The error is want of
 /// memory.
 pub fn print(alloc: Global, definitions: &[Definition]) -> Result<String, AllocError>
-    ensures { IfOk result (λ text. string_bytes text ≡ definitions_text definitions.now) }
+    ensures { IfOk result (λ text. string_bytes text ≡ printed_definitions definitions.now) }
 {
     let mut text = String::new(alloc);
     for definition in definitions {
@@ -37,7 +37,7 @@ fn push_definition(
     text: &mut String,
     definition: &Definition,
 ) -> Result<(), AllocError>
-    ensures { OnOk result (string_bytes text.new ≡ string_bytes text.old ++ definition_text definition.now) }
+    ensures { OnOk result (string_bytes text.new ≡ string_bytes text.old ++ printed_definition definition.now) }
 {
     push_header(text, definition)?;
     push_body(alloc, text, definition)
@@ -142,7 +142,7 @@ fn push_definition_head(
     name: &Name,
     directives: &DirectiveList,
 ) -> Result<(), AllocError>
-    ensures { OnOk result (string_bytes text.new ≡ string_bytes text.old ++ head_text Role.Definition kind name.now directives.now.0) }
+    ensures { OnOk result (string_bytes text.new ≡ string_bytes text.old ++ type_head_text Role.Definition kind name.now directives.now.0) }
 {
     push_head(text, Role::Definition, kind, name, directives)
 }
@@ -153,7 +153,7 @@ fn push_extension_head(
     name: &Name,
     directives: &DirectiveList,
 ) -> Result<(), AllocError>
-    ensures { OnOk result (string_bytes text.new ≡ string_bytes text.old ++ head_text Role.Extension kind name.now directives.now.0) }
+    ensures { OnOk result (string_bytes text.new ≡ string_bytes text.old ++ type_head_text Role.Extension kind name.now directives.now.0) }
 {
     push_head(text, Role::Extension, kind, name, directives)
 }
@@ -166,7 +166,7 @@ fn push_head(
     name: &Name,
     directives: &DirectiveList,
 ) -> Result<(), AllocError>
-    ensures { OnOk result (string_bytes text.new ≡ string_bytes text.old ++ head_text role kind name.now directives.now.0) }
+    ensures { OnOk result (string_bytes text.new ≡ string_bytes text.old ++ type_head_text role kind name.now directives.now.0) }
 {
     text.push_str(role.word())?;
     text.push_str(" ")?;
@@ -310,7 +310,7 @@ fn push_names(text: &mut String, word: &str, names: &[Name]) -> Result<(), Alloc
 }
 
 fn push_field(text: &mut String, field: &Node<FieldDefinition>) -> Result<(), AllocError>
-    ensures { OnOk result (string_bytes text.new ≡ string_bytes text.old ++ field_text field.now) }
+    ensures { OnOk result (string_bytes text.new ≡ string_bytes text.old ++ field_definition_text field.now) }
 {
     push_field_line(text, &field.name, &field.ty, field.directives.as_slice())?;
     push_arguments(text, field.arguments.as_slice())

@@ -23,9 +23,9 @@ line_end [] = codes "\n"
 line_end (next ∷ lines) = if mark_of next == 92 then [] else codes "\n"
 
 -- the lines of this mark as one text
-abbrev pub joined : ℕ → List (List ℕ) → List ℕ
-joined mark [] = []
-joined mark (line ∷ lines) = if mark_of line == mark then text_of line ++ line_end lines ++ joined mark lines else joined mark lines
+abbrev pub marked_text : ℕ → List (List ℕ) → List ℕ
+marked_text mark [] = []
+marked_text mark (line ∷ lines) = if mark_of line == mark then text_of line ++ line_end lines ++ marked_text mark lines else marked_text mark lines
 
 -- the digit of the first `?` line, and 0 where there is none
 abbrev pub status_in : List (List ℕ) → ℕ
@@ -34,7 +34,7 @@ status_in (line ∷ lines) = if mark_of line == 63 then get_or (text_of line) 0 
 
 -- the row of a title line and the lines that belong to it
 abbrev pub row_of : List ℕ → List (List ℕ) → RowView
-row_of title lines = record { title = text_of title; words = texts 36 lines; input = joined 60 lines; output = joined 62 lines; errors = joined 33 lines; status = status_in lines }
+row_of title lines = record { title = text_of title; words = texts 36 lines; input = marked_text 60 lines; output = marked_text 62 lines; errors = marked_text 33 lines; status = status_in lines }
 
 -- the lines before the next title
 abbrev pub up_to_title : List (List ℕ) → List (List ℕ)

@@ -1,6 +1,6 @@
 //! The rows of a file, each of a title line and the lines up to the next title.
 ghost use Rattle.std.specs.Prelude.{◌≡◌, ◌-◌, IfOk, get_or, map, string_bytes};
-ghost use Rattle.gqlrows_run.specs.Rows.{texts, line_end, joined, status_in, row_of, row_view, up_to_title};
+ghost use Rattle.gqlrows_run.specs.Rows.{texts, line_end, marked_text, status_in, row_of, row_view, up_to_title};
 
 use crate::line::{mark, text};
 use std::alloc::{AllocError, Global};
@@ -52,8 +52,8 @@ fn line_end(lines: &[&str]) -> &'static str
 }
 
 /// The lines of a mark as one text.
-fn joined(alloc: Global, lines: &[&str], wanted: u8) -> Result<String, AllocError>
-    ensures { IfOk result (λ found. string_bytes found ≡ joined wanted (map (λ line. line.now) lines.now)) }
+fn marked_text(alloc: Global, lines: &[&str], wanted: u8) -> Result<String, AllocError>
+    ensures { IfOk result (λ found. string_bytes found ≡ marked_text wanted (map (λ line. line.now) lines.now)) }
 {
     let mut found = String::new(alloc);
     for (index, line) in lines.iter().enumerate() {
@@ -94,9 +94,9 @@ pub fn read_row<'a>(alloc: Global, title: &'a str, lines: &[&'a str]) -> Result<
     Ok(Row {
         title: text(title),
         words: texts(alloc, lines, b'$')?,
-        input: joined(alloc, lines, b'<')?,
-        output: joined(alloc, lines, b'>')?,
-        errors: joined(alloc, lines, b'!')?,
+        input: marked_text(alloc, lines, b'<')?,
+        output: marked_text(alloc, lines, b'>')?,
+        errors: marked_text(alloc, lines, b'!')?,
         status: status_in(lines),
     })
 }

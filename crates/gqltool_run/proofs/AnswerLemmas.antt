@@ -8,13 +8,13 @@ use Rattle.apollo_elaboration.specs.Typable.{Fault as DocumentFault}
 use Rattle.apollo_executable.specs.Erasure.{erased_definitions}
 use Rattle.apollo_executable.specs.declared.document.ExecutableDocument.{ExecutableDocument}
 use Rattle.leafcheck.specs.LeafFaults.{leaf_faults}
-use Rattle.apollo_coordinate.specs.CoordinateText.{IsCoordinateText, Says}
+use Rattle.apollo_coordinate.specs.CoordinateText.{IsCoordinateText, SaysCoordinate}
 use Rattle.apollo_coordinate.specs.declared.coordinates.SchemaCoordinate.{SchemaCoordinate}
 use Rattle.apollo_coordinate.specs.declared.lookup_answers.SchemaCoordinateLookup.{SchemaCoordinateLookup}
 use Rattle.apollo_meaning.specs.Faults.Collisions.{Fault}
 use Rattle.apollo_schema.specs.declared.schema.Schema.{Schema}
 use Rattle.apollo_schema.specs.SchemaWriteOut.{write_schema}
-use Rattle.bench_notation.specs.Text.{definitions_text}
+use Rattle.bench_notation.specs.Text.{printed_definitions}
 use Rattle.gqltool_run.specs.declared.task.Task.{Task}
 use Rattle.gqltool_run.specs.declared.task.Task.TheVariants as tasks
 use Rattle.gqltool_run.specs.Commands.{IsAnswerOf, IsPrintOf}
@@ -54,12 +54,12 @@ faultless_walks document fs gs text says none =
 pub faultless_print : (task : Task) (input text : List ℕ) (has_faults : Bool) → IsAnswerOf task input text has_faults → has_faults ≡ false → IsPrintOf task text
 faultless_print (tasks.Schema options) input text has_faults is none =
     let no : is.lines ≡ [] = no-lines is.faults is.lines (not-false (length is.faults == 0) (sym is.any ∙ none)) is.tells in
-    (write_schema is.schema, is.prints ∙ ap (λ l. definitions_text (write_schema is.schema) ++ l) no ∙ append-nil (definitions_text (write_schema is.schema)))
+    (write_schema is.schema, is.prints ∙ ap (λ l. printed_definitions (write_schema is.schema) ++ l) no ∙ append-nil (printed_definitions (write_schema is.schema)))
 faultless_print (tasks.Coord c) input text has_faults is none =
     found_print is.schema c is.is_found is.finding is.lines text is.faults is.finds is.tells is.prints (sym is.any ∙ none)
 faultless_print tasks.Doc input text has_faults is none =
     let empty = both-true (length is.schema_faults == 0) (length is.faults == 0) (sym is.any ∙ none) in
-    (erased_definitions is.document, is.prints ∙ no_fault_lines (definitions_text (erased_definitions is.document)) is.schema_faults is.faults is.schema_lines is.lines empty.0 empty.1 is.schema_tells is.tells)
+    (erased_definitions is.document, is.prints ∙ no_fault_lines (printed_definitions (erased_definitions is.document)) is.schema_faults is.faults is.schema_lines is.lines empty.0 empty.1 is.schema_tells is.tells)
 faultless_print tasks.Walk input text has_faults is none = (is.document, faultless_walks is.document is.schema_faults is.faults text is.says (sym is.any ∙ none))
 faultless_print tasks.Leaf input text has_faults is none =
     let leaves = leaf_faults is.schema is.document in
@@ -73,7 +73,7 @@ other_letters : ◌≡◌ {A = ℕ} 99 115 → ⊥
 other_letters e = omega arith
 
 -- words that ask for something have no refused text, since a text that says a coordinate is in the grammar
-pub asked_apart : ((text : List ℕ) (c : SchemaCoordinate) → Says text c → IsCoordinateText text) → (words : List (List ℕ)) (task : Task) → Ask words task → AskNoCoordinate words → ⊥
+pub asked_apart : ((text : List ℕ) (c : SchemaCoordinate) → SaysCoordinate text c → IsCoordinateText text) → (words : List (List ℕ)) (task : Task) → Ask words task → AskNoCoordinate words → ⊥
 asked_apart in_grammar words (tasks.Schema options) asked refused =
     let first : codes "coord" ≡ codes "schema" = (subst (λ (w : List (List ℕ)). AreSchemaWords w options) refused.1.0 asked).0 in
     let letter : ◌≡◌ {A = ℕ} 99 115 = cc in

@@ -2,7 +2,7 @@
 use Rattle.std.specs.Prelude.{◌≡◌, ◌++◌, ℕ, Bool, List, [], Option}
 use Rattle.std.specs.Io.KnownBytes.{Appends}
 use Rattle.graphql_ast.specs.declared.definition.Definition.{Definition}
-use Rattle.bench_notation.specs.Text.{definitions_text}
+use Rattle.bench_notation.specs.Text.{printed_definitions}
 use Rattle.apollo_executable.specs.declared.document.ExecutableDocument.{ExecutableDocument}
 use Rattle.apollo_coordinate.specs.declared.lookup_answers.SchemaCoordinateLookup.{SchemaCoordinateLookup}
 use Rattle.gqltool_run.specs.declared.failure.Failure.{Failure}
@@ -29,9 +29,9 @@ IsAnswerOf tasks.Leaf input text has_faults = IsLeafAnswer input text has_faults
 -- the text is such as is answered where nothing is at fault: of `schema` and `doc` the print of definitions, of `coord` the lines
 -- of the coordinate and of something found, of `walk` the walks over a document, of `leaf` nothing
 abbrev pub IsPrintOf : Task → List ℕ → Type 0
-IsPrintOf (tasks.Schema options) text = (definitions : List Definition) × (text ≡ definitions_text definitions)
+IsPrintOf (tasks.Schema options) text = (definitions : List Definition) × (text ≡ printed_definitions definitions)
 IsPrintOf (tasks.Coord coordinate) text = (found : SchemaCoordinateLookup) × (text ≡ coordinate_line coordinate ++ found_line found)
-IsPrintOf tasks.Doc text = (definitions : List Definition) × (text ≡ definitions_text definitions)
+IsPrintOf tasks.Doc text = (definitions : List Definition) × (text ≡ printed_definitions definitions)
 IsPrintOf tasks.Walk text = (document : ExecutableDocument) × AreWalksText document text
 IsPrintOf tasks.Leaf text = text ≡ []
 

@@ -1,7 +1,7 @@
 -- What the command `coord` answers.
 use Rattle.std.specs.Prelude.{◌≡◌, ℕ, Bool, true, false, not, ◌&&◌, List, ◌++◌, ◌==◌, codes, length}
 use Rattle.apollo_coordinate.specs.CoordinateLookups.{PointsTo, PointsToNothing}
-use Rattle.apollo_coordinate.specs.CoordinateText.{text}
+use Rattle.apollo_coordinate.specs.CoordinateText.{coordinate_text}
 use Rattle.apollo_coordinate.specs.declared.coordinates.SchemaCoordinate.{SchemaCoordinate}
 use Rattle.apollo_coordinate.specs.declared.coordinates.SchemaCoordinate.TheVariants as coordinates
 use Rattle.apollo_coordinate.specs.declared.lookup_answers.SchemaCoordinateLookup.{SchemaCoordinateLookup}
@@ -32,7 +32,7 @@ found_word (answers.Argument found) = codes "argument"
 
 -- the line of a coordinate: its form, and its text
 abbrev pub coordinate_line : SchemaCoordinate → List ℕ
-coordinate_line c = form_word c ++ (codes " " ++ (text c ++ codes "\n"))
+coordinate_line c = form_word c ++ (codes " " ++ (coordinate_text c ++ codes "\n"))
 
 -- the line of what is found
 abbrev pub found_line : SchemaCoordinateLookup → List ℕ

@@ -5,7 +5,7 @@ use Rattle.apollo_executable.specs.declared.document.ExecutableDocument.{Executa
 use Rattle.apollo_meaning.specs.Faults.Collisions.{Fault}
 use Rattle.apollo_schema.specs.declared.schema.Schema.{Schema}
 use Rattle.apollo_elaboration.specs.Typable.{Fault as DocumentFault}
-use Rattle.bench_notation.specs.Text.{definitions_text}
+use Rattle.bench_notation.specs.Text.{printed_definitions}
 use Rattle.gqltool_run.specs.DocumentBuilding.{IsBuiltDocument}
 use Rattle.gqltool_run.specs.FaultLines.{AreFaultLines}
 
@@ -18,7 +18,7 @@ pub record IsDocAnswer (input text : List ℕ) (has_faults : Bool) : Type 0 wher
   pub means : IsBuiltDocument input schema document schema_faults faults
   pub schema_lines : List ℕ
   pub lines : List ℕ
-  pub prints : text ≡ definitions_text (erased_document document).definitions ++ (schema_lines ++ lines)
+  pub prints : text ≡ printed_definitions (erased_document document).definitions ++ (schema_lines ++ lines)
   pub schema_tells : AreFaultLines schema_faults schema_lines
   pub tells : AreFaultLines faults lines
   pub any : has_faults ≡ not ((length schema_faults == 0) && (length faults == 0))

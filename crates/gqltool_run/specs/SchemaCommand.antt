@@ -3,7 +3,7 @@ use Rattle.std.specs.Prelude.{◌≡◌, ℕ, Bool, not, List, ◌++◌, ◌==�
 use Rattle.apollo_schema.specs.declared.schema.Schema.{Schema}
 use Rattle.apollo_schema.specs.SchemaWriteOut.{write_schema}
 use Rattle.apollo_meaning.specs.Faults.Collisions.{Fault}
-use Rattle.bench_notation.specs.Text.{definitions_text}
+use Rattle.bench_notation.specs.Text.{printed_definitions}
 use Rattle.apollo_compiler.specs.declared.compile_options.CompileOptions.{CompileOptions}
 use Rattle.gqltool_run.specs.Building.{IsBuilt}
 use Rattle.gqltool_run.specs.FaultLines.{AreFaultLines}
@@ -14,6 +14,6 @@ pub record IsAnswer (options : CompileOptions) (input text : List ℕ) (has_faul
   pub faults : List Fault
   pub means : IsBuilt options input schema faults
   pub lines : List ℕ
-  pub prints : text ≡ definitions_text (write_schema schema) ++ lines
+  pub prints : text ≡ printed_definitions (write_schema schema) ++ lines
   pub tells : AreFaultLines faults lines
   pub any : has_faults ≡ not (length faults == 0)

@@ -1,6 +1,6 @@
 -- What the words of the command line ask for: docs/NOTATION.md.
 use Rattle.std.specs.Prelude.{◌≡◌, ◌⊎◌, ℕ, List, [], ◌∷◌, None, codes}
-use Rattle.apollo_coordinate.specs.CoordinateText.{IsCoordinateText, Says}
+use Rattle.apollo_coordinate.specs.CoordinateText.{IsCoordinateText, SaysCoordinate}
 use Rattle.apollo_coordinate.specs.Refusals.{without_at}
 use Rattle.apollo_compiler.specs.declared.compile_options.CompileOptions.{CompileOptions}
 use Rattle.gqltool_run.specs.declared.failure.Failure.{Failure}
@@ -32,7 +32,7 @@ pub record AreNoDocumentWords (words : List (List ℕ)) : Type 0 where
 -- these words ask for this
 abbrev pub Ask : List (List ℕ) → Task → Type 0
 Ask words (tasks.Schema options) = AreSchemaWords words options
-Ask words (tasks.Coord coordinate) = (text : List ℕ) × (AreCoordWords words text × Says text coordinate)
+Ask words (tasks.Coord coordinate) = (text : List ℕ) × (AreCoordWords words text × SaysCoordinate text coordinate)
 Ask words tasks.Doc = AreDocWords words
 Ask words tasks.Walk = AreWalkWords words
 Ask words tasks.Leaf = AreLeafWords words

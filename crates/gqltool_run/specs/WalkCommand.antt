@@ -55,17 +55,17 @@ abbrev pub AreSetsText : ExecutableDocument → List (List ℕ × SelectionSet) 
 AreSetsText document [] text = text ≡ []
 AreSetsText document (set ∷ sets) text = (said : List ℕ) × (IsSetText document set.1 said × ((rest : List ℕ) × (AreSetsText document sets rest × (text ≡ set.0 ++ (said ++ rest)))))
 
-abbrev pub operation_set : NodeView Operation → List ℕ × SelectionSet
-operation_set operation = (operation_line operation.value, operation.value.selection_set)
+abbrev pub operation_with_line : NodeView Operation → List ℕ × SelectionSet
+operation_with_line operation = (operation_line operation.value, operation.value.selection_set)
 
-abbrev pub fragment_set : NameView × NodeView Fragment → List ℕ × SelectionSet
-fragment_set entry = (fragment_line entry.0, entry.1.value.selection_set)
+abbrev pub fragment_with_line : NameView × NodeView Fragment → List ℕ × SelectionSet
+fragment_with_line entry = (fragment_line entry.0, entry.1.value.selection_set)
 
 -- the operations, the anonymous one first, and then the fragments
 abbrev pub AreWalksText : ExecutableDocument → List ℕ → Type 0
 AreWalksText document text =
-    (operations : List ℕ) × (AreSetsText document (map operation_set (all_operations document.operations)) operations
-    × ((fragments : List ℕ) × (AreSetsText document (map fragment_set document.fragments) fragments × (text ≡ operations ++ fragments))))
+    (operations : List ℕ) × (AreSetsText document (map operation_with_line (all_operations document.operations)) operations
+    × ((fragments : List ℕ) × (AreSetsText document (map fragment_with_line document.fragments) fragments × (text ≡ operations ++ fragments))))
 
 -- the text is that of the walks over a document, and then of the faults of its schema and its own
 pub record AreLines (document : ExecutableDocument) (schema_faults : List Fault) (faults : List DocumentFault) (text : List ℕ) : Type 0 where

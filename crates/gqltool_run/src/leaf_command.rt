@@ -3,7 +3,7 @@ ghost use Rattle.std.specs.Prelude.{◌≡◌, ◌==◌, ◌&&◌, ◌++◌, not
 ghost use Rattle.std.specs.List.{flat_map};
 ghost use Rattle.bench_notation.specs.Line.{IsLine, lines_of};
 ghost use Rattle.gqltool_run.specs.DocumentBuilding.{IsDocumentCause};
-ghost use Rattle.gqltool_run.specs.LeafCommand.{IsLeafAnswer, kind_word, leaf_line};
+ghost use Rattle.gqltool_run.specs.LeafCommand.{IsLeafAnswer, leaf_kind_word, leaf_line};
 
 use crate::answer::Answer;
 use crate::document_building::{compile_documents, has_faults};
@@ -69,13 +69,13 @@ fn push_leaf_fault(alloc: Global, text: &mut String, fault: &LeafFault) -> Resul
     text.push_str(" ")?;
     text.push_str(fault.response_key.as_str())?;
     text.push_str(" ")?;
-    text.push_str(kind_word(fault.kind))?;
+    text.push_str(leaf_kind_word(fault.kind))?;
     text.push_str("\n")
 }
 
 /// The word of the way in which a field is at fault.
-fn kind_word(kind: LeafKind) -> &'static str
-    ensures { result.now ≡ kind_word kind }
+fn leaf_kind_word(kind: LeafKind) -> &'static str
+    ensures { result.now ≡ leaf_kind_word kind }
 {
     match kind {
         LeafKind::SubselectionOnLeaf => "subselection-on-leaf",

@@ -2,7 +2,7 @@
 ghost use Rattle.std.specs.Prelude.{◌≡◌, All, List, false, IfOk, IfErr, OnOk, string_bytes};
 ghost use Rattle.graphql_ast.specs.declared.definition.Definition.{Definition};
 ghost use Rattle.bench_notation.specs.Line.{IsLine, lines_of};
-ghost use Rattle.bench_notation.specs.Text.{definitions_text};
+ghost use Rattle.bench_notation.specs.Text.{printed_definitions};
 ghost use Rattle.gqltool_run.specs.Building.{IsCause};
 ghost use Rattle.gqltool_run.specs.SchemaCommand.{IsAnswer};
 
@@ -27,7 +27,7 @@ pub fn schema_answer(
 ) -> Result<Answer, Failure>
     ensures read { OnOk result (All IsLine (lines_of input.now)) }
     ensures means { IfOk result (λ answer. IsAnswer options input.now (string_bytes answer.text) answer.has_faults) }
-    ensures printed { IfOk result (λ answer. answer.has_faults ≡ false → (definitions : List Definition) × (string_bytes answer.text ≡ definitions_text definitions)) }
+    ensures printed { IfOk result (λ answer. answer.has_faults ≡ false → (definitions : List Definition) × (string_bytes answer.text ≡ printed_definitions definitions)) }
     ensures causes { IfErr result (IsCause options input.now) }
 {
     let compiled = compile_input(alloc, keys, options, input)?;

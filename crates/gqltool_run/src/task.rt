@@ -2,7 +2,7 @@
 ghost use Rattle.std.specs.Prelude.{◌≡◌, ℕ, List, Err, IfErr, IfOk, MatchOption, OnOk};
 ghost use Rattle.bench_notation.specs.Line.{texts_of};
 ghost use Rattle.apollo_compiler.specs.declared.compile_options.CompileOptions.{CompileOptions};
-ghost use Rattle.apollo_coordinate.specs.CoordinateText.{IsCoordinateText, Says};
+ghost use Rattle.apollo_coordinate.specs.CoordinateText.{IsCoordinateText, SaysCoordinate};
 ghost use Rattle.gqltool_run.specs.SchemaOptions.{AreSchemaWords};
 ghost use Rattle.gqltool_run.specs.Tasks.{AreCoordWords, AreNoCommand, AreNoDocumentWords, Ask, IsRefusalOf, IsTextRefusal};
 
@@ -87,7 +87,7 @@ fn coordinate_text<'a>(words: &[&'a str]) -> Option<&'a str>
 
 /// The coordinate of a text.
 fn read_coordinate(alloc: Global, text: &str) -> Result<SchemaCoordinate, Failure>
-    ensures says { IfOk result (Says text.now) }
+    ensures says { IfOk result (SaysCoordinate text.now) }
     ensures grammar { OnOk result (IsCoordinateText text.now) }
     ensures refused { IfErr result (IsTextRefusal text.now) }
 {

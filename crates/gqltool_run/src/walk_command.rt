@@ -7,7 +7,7 @@ ghost use Rattle.apollo_executable.specs.declared.document.ExecutableDocument.{E
 ghost use Rattle.apollo_executable.specs.declared.selection.SelectionSet.{SelectionSet};
 ghost use Rattle.gqltool_run.specs.Pieces.{GoesOut, IsBegun, IsCutShort, IsSaid};
 ghost use Rattle.gqltool_run.specs.Prepared.{AreLinesOf, has_fault};
-ghost use Rattle.gqltool_run.specs.WalkCommand.{AreSetsText, AreWalksText, IsSetText, IsWalkText, fragment_set, operation_line, operation_set, turns_line};
+ghost use Rattle.gqltool_run.specs.WalkCommand.{AreSetsText, AreWalksText, IsSetText, IsWalkText, fragment_with_line, operation_line, operation_with_line, turns_line};
 
 use crate::answer::Answer;
 use crate::document_building::has_faults;
@@ -118,8 +118,8 @@ fn push_operations<O: Outlet>(
     outlet: &mut O,
     document: &ExecutableDocument,
 ) -> Result<(), CutShort>
-    ensures said { OnOk result (IsSaid (AreSetsText document.now (map operation_set (all_operations document.now.operations))) (O.sent outlet.old) (O.sent outlet.new) (string_bytes text.old) (string_bytes text.new)) }
-    ensures begun { OnErr result (IsCutShort (AreSetsText document.now (map operation_set (all_operations document.now.operations))) (O.sent outlet.old) (O.sent outlet.new) (string_bytes text.old)) }
+    ensures said { OnOk result (IsSaid (AreSetsText document.now (map operation_with_line (all_operations document.now.operations))) (O.sent outlet.old) (O.sent outlet.new) (string_bytes text.old) (string_bytes text.new)) }
+    ensures begun { OnErr result (IsCutShort (AreSetsText document.now (map operation_with_line (all_operations document.now.operations))) (O.sent outlet.old) (O.sent outlet.new) (string_bytes text.old)) }
 {
     walks_have_texts();
     for operation in document.operations.iter() {
@@ -136,8 +136,8 @@ fn push_fragments<O: Outlet>(
     outlet: &mut O,
     document: &ExecutableDocument,
 ) -> Result<(), CutShort>
-    ensures said { OnOk result (IsSaid (AreSetsText document.now (map fragment_set document.now.fragments)) (O.sent outlet.old) (O.sent outlet.new) (string_bytes text.old) (string_bytes text.new)) }
-    ensures begun { OnErr result (IsCutShort (AreSetsText document.now (map fragment_set document.now.fragments)) (O.sent outlet.old) (O.sent outlet.new) (string_bytes text.old)) }
+    ensures said { OnOk result (IsSaid (AreSetsText document.now (map fragment_with_line document.now.fragments)) (O.sent outlet.old) (O.sent outlet.new) (string_bytes text.old) (string_bytes text.new)) }
+    ensures begun { OnErr result (IsCutShort (AreSetsText document.now (map fragment_with_line document.now.fragments)) (O.sent outlet.old) (O.sent outlet.new) (string_bytes text.old)) }
 {
     walks_have_texts();
     for (name, fragment) in document.fragments.iter() {

@@ -16,7 +16,7 @@ use Rattle.apollo_executable.specs.Walks.FieldsIn.{fields_in}
 use Rattle.apollo_executable.specs.declared.selection.Field.{Field}
 use Rattle.apollo_executable.specs.declared.selection.Selection.{Selection}
 use Rattle.apollo_executable.specs.declared.selection.SelectionSet.{SelectionSet}
-use Rattle.leafcheck.specs.LeafFaults.{fault_at, faults_in, leaf_faults}
+use Rattle.leafcheck.specs.LeafFaults.{fault_at, leaf_faults_in, leaf_faults}
 use Rattle.leafcheck.specs.declared.leaf_fault.LeafFault.{LeafFault}
 
 -- what the law of fields that stand in selections says of those behind others
@@ -37,26 +37,26 @@ filled-at f (y ∷ ys) zero x at some none = let is : y ≡ x = cc in some (ap f
 filled-at f (y ∷ ys) (suc k) x at some none = filled-at f ys k x at some (both-none (f y) (flat_map f ys) none).1
 
 -- the faults of selections behind others
-apart : Joined → (s : Schema) (xs ys : List Selection) → faults_in s (xs ++ ys) ≡ faults_in s xs ++ faults_in s ys
+apart : Joined → (s : Schema) (xs ys : List Selection) → leaf_faults_in s (xs ++ ys) ≡ leaf_faults_in s xs ++ leaf_faults_in s ys
 apart joined s xs ys = ap (filter_map (fault_at s)) (joined xs ys) ∙ filter_map-append (fault_at s) (fields xs) (fields ys)
 
 -- the faults of one selection more
-pub faults-more : Joined → (s : Schema) (old now new : List LeafFault) (xs : List Selection) (x : Selection) → now ≡ old ++ faults_in s xs → new ≡ now ++ faults_in s (x ∷ []) → new ≡ old ++ faults_in s (xs ++ x ∷ [])
+pub faults-more : Joined → (s : Schema) (old now new : List LeafFault) (xs : List Selection) (x : Selection) → now ≡ old ++ leaf_faults_in s xs → new ≡ now ++ leaf_faults_in s (x ∷ []) → new ≡ old ++ leaf_faults_in s (xs ++ x ∷ [])
 faults-more joined s old now new xs x was more =
-    more ∙ ap (λ (l : List LeafFault). l ++ faults_in s (x ∷ [])) was ∙ append_assoc old (faults_in s xs) (faults_in s (x ∷ [])) ∙ ap (λ (l : List LeafFault). old ++ l) (sym (apart joined s xs (x ∷ [])))
+    more ∙ ap (λ (l : List LeafFault). l ++ leaf_faults_in s (x ∷ [])) was ∙ append_assoc old (leaf_faults_in s xs) (leaf_faults_in s (x ∷ [])) ∙ ap (λ (l : List LeafFault). old ++ l) (sym (apart joined s xs (x ∷ [])))
 
 -- selections have a fault where one of them has
-pub faults-at : Joined → (s : Schema) (xs : List Selection) (n : ℕ) (x : Selection) → (n < length xs) × (x ≡ get_or xs n x) → faults_in s (x ∷ []) ≢ [] → faults_in s xs ≢ []
+pub faults-at : Joined → (s : Schema) (xs : List Selection) (n : ℕ) (x : Selection) → (n < length xs) × (x ≡ get_or xs n x) → leaf_faults_in s (x ∷ []) ≢ [] → leaf_faults_in s xs ≢ []
 faults-at joined s xs n x at some none =
     let rest = drop (suc n) xs in
     let here : xs ≡ take n xs ++ (x ∷ rest) = sym (take-append-drop n xs) ∙ ap (λ (l : List Selection). take n xs ++ l) (drop-cons xs n x at.0 ∙ ap (λ (y : Selection). y ∷ rest) (sym at.1)) in
-    let parts = ap (faults_in s) here ∙ apart joined s (take n xs) (x ∷ rest) ∙ ap (λ (l : List LeafFault). faults_in s (take n xs) ++ l) (apart joined s (x ∷ []) rest) in
-    some (both-none (faults_in s (x ∷ [])) (faults_in s rest) (both-none (faults_in s (take n xs)) _ (sym parts ∙ none)).1).0
+    let parts = ap (leaf_faults_in s) here ∙ apart joined s (take n xs) (x ∷ rest) ∙ ap (λ (l : List LeafFault). leaf_faults_in s (take n xs) ++ l) (apart joined s (x ∷ []) rest) in
+    some (both-none (leaf_faults_in s (x ∷ [])) (leaf_faults_in s rest) (both-none (leaf_faults_in s (take n xs)) _ (sym parts ∙ none)).1).0
 
 -- and nodes where the set of one of them has
-nodes-faults : {A : Type 0} (s : Schema) (set : NodeView A → SelectionSet) (ns : List (NodeView A)) (k : ℕ) (n : NodeView A) → slice_get ns k ≡ Some n → faults_in s (set n).selections ≢ []
-    → flat_map (λ set. faults_in s set.selections) (map set ns) ≢ []
-nodes-faults s set ns k n at some none = filled-at (λ n. faults_in s (set n).selections) ns k n at some (sym (flat_map-map (λ set. faults_in s set.selections) set ns) ∙ none)
+nodes-faults : {A : Type 0} (s : Schema) (set : NodeView A → SelectionSet) (ns : List (NodeView A)) (k : ℕ) (n : NodeView A) → slice_get ns k ≡ Some n → leaf_faults_in s (set n).selections ≢ []
+    → flat_map (λ set. leaf_faults_in s set.selections) (map set ns) ≢ []
+nodes-faults s set ns k n at some none = filled-at (λ n. leaf_faults_in s (set n).selections) ns k n at some (sym (flat_map-map (λ set. leaf_faults_in s set.selections) set ns) ∙ none)
 
 -- and a document where one of its operations has, or one of its fragments
 module _ (s : Schema) (document : ExecutableDocument) where
@@ -67,13 +67,13 @@ module _ (s : Schema) (document : ExecutableDocument) where
   fragment_set n = n.value.selection_set
 
   abbrev faults_of : SelectionSet → List LeafFault
-  faults_of set = faults_in s set.selections
+  faults_of set = leaf_faults_in s set.selections
 
   without-faults : leaf_faults s document ≡ [] → (flat_map faults_of (map operation_set (all_operations document.operations)) ≡ []) × (flat_map faults_of (map fragment_set (values_of document.fragments)) ≡ [])
   without-faults none = both-none _ _ (sym (flat_map-append faults_of (map operation_set (all_operations document.operations)) (map fragment_set (values_of document.fragments))) ∙ none)
 
-  pub operation-faults : (k : ℕ) (n : NodeView Operation) → slice_get (all_operations document.operations) k ≡ Some n → faults_in s n.value.selection_set.selections ≢ [] → leaf_faults s document ≢ []
+  pub operation-faults : (k : ℕ) (n : NodeView Operation) → slice_get (all_operations document.operations) k ≡ Some n → leaf_faults_in s n.value.selection_set.selections ≢ [] → leaf_faults s document ≢ []
   operation-faults k n at some none = nodes-faults s operation_set (all_operations document.operations) k n at some (without-faults none).0
 
-  pub fragment-faults : (k : ℕ) (n : NodeView Fragment) → slice_get (values_of document.fragments) k ≡ Some n → faults_in s n.value.selection_set.selections ≢ [] → leaf_faults s document ≢ []
+  pub fragment-faults : (k : ℕ) (n : NodeView Fragment) → slice_get (values_of document.fragments) k ≡ Some n → leaf_faults_in s n.value.selection_set.selections ≢ [] → leaf_faults s document ≢ []
   fragment-faults k n at some none = nodes-faults s fragment_set (values_of document.fragments) k n at some (without-faults none).1

@@ -34,8 +34,8 @@ abbrev pub fault_at : Schema → NodeView Field → Option LeafFault
 fault_at s n = option_map (λ kind. record { location = n.location; response_key = response_key n.value; kind = kind }) (kind_over s n.value)
 
 -- the faults of the fields that stand in selections
-abbrev pub faults_in : Schema → List Selection → List LeafFault
-faults_in s selections = filter_map (fault_at s) (fields_in true selections)
+abbrev pub leaf_faults_in : Schema → List Selection → List LeafFault
+leaf_faults_in s selections = filter_map (fault_at s) (fields_in true selections)
 
 -- the sets of a document: of each operation, the anonymous one first, and then of each fragment
 abbrev pub sets_of : ExecutableDocument → List SelectionSet
@@ -43,4 +43,4 @@ sets_of document = map (λ n. n.value.selection_set) (all_operations document.op
 
 -- the faults of a document
 abbrev pub leaf_faults : Schema → ExecutableDocument → List LeafFault
-leaf_faults s document = flat_map (λ set. faults_in s set.selections) (sets_of document)
+leaf_faults s document = flat_map (λ set. leaf_faults_in s set.selections) (sets_of document)

@@ -4,7 +4,7 @@
 ghost use Rattle.std.specs.Prelude.{◌≡◌, ◌≢◌, ◌∷◌, ◌++◌, [], IfOk, None, OnOk, OnErr};
 ghost use Rattle.std.specs.List.{cons_option};
 ghost use Rattle.leafcheck.specs.LeafFaults as spec;
-ghost use Rattle.leafcheck.specs.LeafFaults.{faults_in};
+ghost use Rattle.leafcheck.specs.LeafFaults.{leaf_faults_in};
 
 use crate::leaf_fault::{LeafFault, LeafKind};
 use apollo_executable::document::ExecutableDocument;
@@ -51,8 +51,8 @@ fn note_set(
     set: &SelectionSet,
     faults: &mut Items<LeafFault>,
 ) -> Result<(), AllocError>
-    ensures noted { OnOk result (faults.new ≡ faults.old ++ faults_in schema.now set.now.selections) }
-    ensures memory { OnErr result (faults_in schema.now set.now.selections ≢ []) }
+    ensures noted { OnOk result (faults.new ≡ faults.old ++ leaf_faults_in schema.now set.now.selections) }
+    ensures memory { OnErr result (leaf_faults_in schema.now set.now.selections ≢ []) }
 {
     fields_by_kind_of_selection();
     for selection in &set.selections {
@@ -68,8 +68,8 @@ fn note_selection(
     selection: &Selection,
     faults: &mut Items<LeafFault>,
 ) -> Result<(), AllocError>
-    ensures noted { OnOk result (faults.new ≡ faults.old ++ faults_in schema.now (selection.now ∷ [])) }
-    ensures memory { OnErr result (faults_in schema.now (selection.now ∷ []) ≢ []) }
+    ensures noted { OnOk result (faults.new ≡ faults.old ++ leaf_faults_in schema.now (selection.now ∷ [])) }
+    ensures memory { OnErr result (leaf_faults_in schema.now (selection.now ∷ []) ≢ []) }
 {
     fields_by_kind_of_selection();
     match selection {
@@ -86,8 +86,8 @@ fn note_field(
     node: &Node<Field>,
     faults: &mut Items<LeafFault>,
 ) -> Result<(), AllocError>
-    ensures noted { OnOk result (faults.new ≡ faults.old ++ cons_option (spec.fault_at schema.now node.now) (faults_in schema.now node.now.value.selection_set.selections)) }
-    ensures memory { OnErr result (cons_option (spec.fault_at schema.now node.now) (faults_in schema.now node.now.value.selection_set.selections) ≢ []) }
+    ensures noted { OnOk result (faults.new ≡ faults.old ++ cons_option (spec.fault_at schema.now node.now) (leaf_faults_in schema.now node.now.value.selection_set.selections)) }
+    ensures memory { OnErr result (cons_option (spec.fault_at schema.now node.now) (leaf_faults_in schema.now node.now.value.selection_set.selections) ≢ []) }
 {
     if let Some(fault) = fault_at(schema, node)? {
         faults.push(fault)?;

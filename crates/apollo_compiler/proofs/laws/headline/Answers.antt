@@ -1,5 +1,6 @@
 use Rattle.std.proofs.Common.{◌≡◌, ◌∙◌, ap, false, Option, Some, is_some, sym}
 use Rattle.graphql_ast.specs.declared.document.Document.{Document}
+use Rattle.apollo_component.proofs.Lists.Cases.{is_some-map}
 use Rattle.apollo_types.specs.declared.extended_type.ExtendedType.{ExtendedType}
 use Rattle.apollo_meaning.specs.Items.Named.{first}
 use Rattle.apollo_meaning.specs.Items.Parts.{TypePart}
@@ -11,7 +12,7 @@ use Rattle.apollo_walks.specs.Course.{course}
 use Rattle.apollo_walks.specs.Selections.{no_names}
 use Rattle.apollo_compiler.specs.Headline.{all_items, type_named}
 use Rattle.apollo_compiler.specs.Lists.{executable_list, handed_in, schema_list}
-use Rattle.apollo_compiler.proofs.HeadlineLemmas.{some-mapped, type-folded}
+use Rattle.apollo_compiler.proofs.HeadlineLemmas.{type-folded}
 use Rattle.apollo_compiler.proofs.KeptLemmas.{document-kept}
 use Rattle.apollo_compiler.proofs.laws.headline.Goals as goal
 
@@ -23,7 +24,7 @@ pub returns-clause-defined : goal.returns-clause-defined
 returns-clause-defined c = λ m name.
     let xs = all_items m in
     let same : is_some (type_named m name) ≡ is_some (first xs name) =
-    ap (λ (o : Option ExtendedType). is_some o) (m.is.schema.types.each name) ∙ some-mapped (λ (d : TypePart). type_from d (parts 0 (folding_order xs) name d)) (first xs name) in
+    ap (λ (o : Option ExtendedType). is_some o) (m.is.schema.types.each name) ∙ is_some-map (λ (d : TypePart). type_from d (parts 0 (folding_order xs) name d)) (first xs name) in
     (λ there. sym same ∙ there, λ there. same ∙ there)
 
 pub returns-clause-rebuilds : goal.returns-clause-rebuilds

@@ -4,7 +4,7 @@ use Rattle.graphql_nodes.specs.NameView.{NameView}
 use Rattle.graphql_ast.specs.TypeReferences.{inner_name}
 use Rattle.apollo_executable.specs.SelectionParts.{response_key_of}
 use Rattle.apollo_elaboration.specs.Typable.{Fault, child_of, typable_fragment, if_typable}
-use Rattle.apollo_elaboration.specs.SelectionFaults.{found, faults_of_selections, faults_of_selection, faults_of_fragment}
+use Rattle.apollo_elaboration.specs.SelectionFaults.{below_or_wrong, faults_of_selections, faults_of_selection, faults_of_fragment}
 use Rattle.apollo_elaboration.specs.Elaborated.{elaborated_selection}
 use Rattle.apollo_elaboration.specs.Stripped.{in_place_of}
 use Rattle.apollo_elaboration.specs.Within.{faults_within}
@@ -59,8 +59,8 @@ elaborate_fragment-returns-clause-faults t c =
     let child = c.in-Some.child.now in
     let some : Some child ≡ if_typable (λ (t : NameView). t) (typable_fragment s ty f.type_condition) =
     sym (ap option_copied c.in-Some.is) ∙ c.in_ok-child.ensures.typable ∙ (λ i. if_typable (λ (t : NameView). t) (typable_fragment s ty (c.deref.ensures i).type_condition)) in
-    let so_far : c.typable_fragment.new.faults ≡ faults ++ found (λ _. []) place path (typable_fragment s ty f.type_condition) =
-    c.in_ok-child.ensures.faults place ∙ (λ i. faults ++ found (λ _. []) place path (typable_fragment s ty (c.deref.ensures i).type_condition)) in
+    let so_far : c.typable_fragment.new.faults ≡ faults ++ below_or_wrong (λ _. []) place path (typable_fragment s ty f.type_condition) =
+    c.in_ok-child.ensures.faults place ∙ (λ i. faults ++ below_or_wrong (λ _. []) place path (typable_fragment s ty (c.deref.ensures i).type_condition)) in
     let below : c.as_slice.result.now ≡ f.selection_set = c.as_slice.ensures ∙ (λ i. (c.deref-2.ensures i).selection_set) in
     c.in_ok-set.ensures.faults ∙ (λ i. so_far i ++ faults_of_selections s child path (below i)) ∙ fragment_stands_faults s ty place path f child faults some
 

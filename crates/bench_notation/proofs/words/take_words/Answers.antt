@@ -1,9 +1,8 @@
 -- A line feed ends the line, and the last of its words; a space ends a word.
-use Rattle.std.proofs.Common.{◌≡◌, ◌∙◌, ◌<◌, ◌++◌, ◌∷◌, [], ℕ, List, ap, arith, drop, get_or, length, slice_range, subst, sym, take}
-use Rattle.std.proofs.lemmas.Str.{IsCharBoundary-after_ascii}
+use Rattle.std.proofs.Common.{◌≡◌, ◌∙◌, ◌++◌, ◌∷◌, [], ℕ, List, ap, arith, drop, length, slice_range, subst, sym, take}
 use Rattle.std.proofs.lemmas.Grind.{common_steps}
 use Rattle.bench_notation.specs.Line.{texts_of, words_of}
-use Rattle.bench_notation.proofs.PieceWords.{HasNone, line_ends, no_words_yet, one_piece, piece_ends, texts_of_pushed, word_ends, word_goes_on}
+use Rattle.bench_notation.proofs.PieceWords.{HasNone, behind_feed, byte_at, line_ended, line_ends, no_words_yet, one_piece, texts_of_pushed, within_text, word_ends, word_goes_on}
 use Rattle.bench_notation.proofs.words.take_words.Goals as goal
 use Rattle.bench_notation.proofs.words.take_words.Goals.{then-byte-le32+else-byte-eq10+then-byte-eq32+in_ok-push-2, then-byte-le32+else-byte-eq10+else-byte-eq32, else-byte-le32}
 
@@ -11,21 +10,15 @@ pub loop-at-init : goal.loop-at-init
 loop-at-init c = no_words_yet c.args.text.now (texts_of c.clear.new.self.items) c.utf8.text (ap texts_of c.clear.ensures.items)
 
 pub range_from-requires : goal.range_from-requires
-range_from-requires c =
-    let byte : get_or c.as_bytes-byte-items.result.now c.loop-at.at 0 ≡ get_or c.args.text.now c.loop-at.at 0 = ap (λ (l : List ℕ). get_or l c.loop-at.at 0) c.as_bytes-byte-items.ensures.value in
-    let within : c.loop-at.at < length c.args.text.now = subst (λ (l : List ℕ). c.loop-at.at < length l) c.as_bytes-byte-items.ensures.value c.loop-at-test.true in
-    λ _. IsCharBoundary-after_ascii c.args.text.now c.loop-at.at c.utf8.text within (omega (arith, sym byte ∙ c.if-byte-eq10.true))
+range_from-requires c = λ _. behind_feed c.as_bytes-byte-items.ensures.value c.loop-at.at c.utf8.text c.loop-at-test.true c.if-byte-eq10.true
 
 pub returns-then-byte-eq10-clause-lines : goal.returns-then-byte-eq10-clause-lines
 returns-then-byte-eq10-clause-lines c =
-    let byte : get_or c.as_bytes-byte-items.result.now c.loop-at.at 0 ≡ get_or c.args.text.now c.loop-at.at 0 = ap (λ (l : List ℕ). get_or l c.loop-at.at 0) c.as_bytes-byte-items.ensures.value in
-    let within : c.loop-at.at < length c.args.text.now = subst (λ (l : List ℕ). c.loop-at.at < length l) c.as_bytes-byte-items.ensures.value c.loop-at-test.true in
-    let front : slice_range c.args.text.now 0 c.loop-at.at ≡ take c.loop-at.at c.args.text.now = grind (arith, common_steps) in
-    rw c.range-then-byte-eq10.ensures.value (rw c.range_from.ensures.value (rw front (piece_ends 10 c.args.text.now c.loop-at.at within c.loop-at.invariant.feedless (sym byte ∙ c.if-byte-eq10.true))))
+    rw c.range-then-byte-eq10.ensures.value (rw c.range_from.ensures.value (line_ended c.as_bytes-byte-items.ensures.value c.loop-at.at c.loop-at-test.true c.loop-at.invariant.feedless c.if-byte-eq10.true))
 
 pub returns-then-byte-eq10-clause-words : goal.returns-then-byte-eq10-clause-words
 returns-then-byte-eq10-clause-words c =
-    let within : c.loop-at.at < length c.args.text.now = subst (λ (l : List ℕ). c.loop-at.at < length l) c.as_bytes-byte-items.ensures.value c.loop-at-test.true in
+    let within = within_text c.as_bytes-byte-items.ensures.value c.loop-at.at c.loop-at-test.true in
     let front : slice_range c.args.text.now 0 c.loop-at.at ≡ take c.loop-at.at c.args.text.now = grind (arith, common_steps) in
     ap texts_of c.in_ok-push.ensures.items
     ∙ texts_of_pushed c.loop-at.words.items c.range.result
@@ -35,8 +28,8 @@ returns-then-byte-eq10-clause-words c =
 
 pub loop-at-preserved : goal.loop-at-preserved
 loop-at-preserved c =
-    let byte : get_or c.as_bytes-byte-items.result.now c.loop-at.at 0 ≡ get_or c.args.text.now c.loop-at.at 0 = ap (λ (l : List ℕ). get_or l c.loop-at.at 0) c.as_bytes-byte-items.ensures.value in
-    let within : c.loop-at.at < length c.args.text.now = subst (λ (l : List ℕ). c.loop-at.at < length l) c.as_bytes-byte-items.ensures.value c.loop-at-test.true in
+    let byte = byte_at c.as_bytes-byte-items.ensures.value c.loop-at.at in
+    let within = within_text c.as_bytes-byte-items.ensures.value c.loop-at.at c.loop-at-test.true in
     let words : List (List ℕ) = texts_of c.loop-at.words.items in
     elim c.if-byte-le32.branch [
       | then-byte-le32+else-byte-eq10+then-byte-eq32+in_ok-push-2 w ↦ rw w.words-is (rw w.from-is (rw w.in_ok-push-2.ensures.items (rw (texts_of_pushed c.loop-at.words.items w.range-then-byte-eq32.result) (rw w.range-then-byte-eq32.ensures.value

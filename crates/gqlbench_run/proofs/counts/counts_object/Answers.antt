@@ -1,4 +1,3 @@
-use Rattle.std.proofs.Common.{◌≡◌}
 use Rattle.gqlbench_run.proofs.counts.counts_object.Goals as goal
 
 pub returns-in-Schema : goal.returns-in-Schema

@@ -1,7 +1,7 @@
 use Rattle.std.proofs.Common.{List, ◌++◌, ap, subst, ◌∙◌, append_assoc}
 use Rattle.apollo_meaning.specs.Faults.Collisions.{Fault}
 use Rattle.apollo_elaboration.specs.Typable.{Fault as DocumentFault}
-use Rattle.bench_notation.specs.Text.{definitions_text}
+use Rattle.bench_notation.specs.Text.{printed_definitions}
 use Rattle.gqltool_run.specs.FaultLines.{AreFaultLines}
 use Rattle.gqltool_run.proofs.BuiltLemmas.{built-document}
 use Rattle.gqltool_run.proofs.doc_command.doc_answer.Goals as goal
@@ -11,7 +11,7 @@ returns-clause-means c =
     let compiled = c.in_ok-compiled.compiled in
     let schema_lines = c.in_ok-push_faults.ensures.0 in
     let lines = c.in_ok-push_faults-2.ensures.0 in
-    let print = c.in_ok-text.ensures ∙ ap definitions_text (c.as_slice.ensures ∙ ap (λ d. d.definitions) c.in_ok-compiled.ensures.compiled.1.1.1.erased) in
+    let print = c.in_ok-text.ensures ∙ ap printed_definitions (c.as_slice.ensures ∙ ap (λ d. d.definitions) c.in_ok-compiled.ensures.compiled.1.1.1.erased) in
     let first = c.in_ok-push_faults.ensures.1.0 ∙ ap (λ l. l ++ schema_lines) print in
     record {
       schema = compiled.schema;

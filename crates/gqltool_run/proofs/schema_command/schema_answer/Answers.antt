@@ -6,7 +6,7 @@ use Rattle.apollo_schema.specs.SchemaWriteOut.{write_schema}
 use Rattle.gqltool_run.specs.FaultLines.{AreFaultLines}
 use Rattle.gqltool_run.proofs.BuiltLemmas.{built}
 use Rattle.gqltool_run.proofs.FaultLineLemmas.{no-lines, not-false}
-use Rattle.bench_notation.specs.Text.{definitions_text}
+use Rattle.bench_notation.specs.Text.{printed_definitions}
 use Rattle.gqltool_run.proofs.schema_command.schema_answer.Goals as goal
 
 pub returns-clause-means : goal.returns-clause-means
@@ -20,7 +20,7 @@ returns-clause-means c =
       faults = compiled.schema_faults.items;
       means = built c.args.options c.args.input.now compiled c.in_ok-compiled.ensures.compiled;
       lines = lines;
-      prints = c.in_ok-push_faults.ensures.1.0 ∙ ap (λ l. l ++ lines) (c.in_ok-text.ensures ∙ ap definitions_text (c.as_slice.ensures.value ∙ c.in_ok-compiled.ensures.compiled.1.1.ast));
+      prints = c.in_ok-push_faults.ensures.1.0 ∙ ap (λ l. l ++ lines) (c.in_ok-text.ensures ∙ ap printed_definitions (c.as_slice.ensures.value ∙ c.in_ok-compiled.ensures.compiled.1.1.ast));
       tells = subst (λ (l : List Fault). AreFaultLines l lines) faults c.in_ok-push_faults.ensures.1.1;
       any = ap not (c.is_empty.ensures ∙ ap (λ (n : ℕ). n == 0) len ∙ ap (λ (l : List Fault). length l == 0) faults);
     }
@@ -33,9 +33,9 @@ returns-clause-printed c = λ none.
     let empty : (length c.as_slice-2.result.now == 0) ≡ true = ap (λ (n : ℕ). n == 0) (sym len) ∙ sym c.is_empty.ensures ∙ not-false c.is_empty.result none in (
       write_schema compiled.schema,
       c.in_ok-push_faults.ensures.1.0
-          ∙ (λ i. (c.in_ok-text.ensures ∙ ap definitions_text (c.as_slice.ensures.value ∙ c.in_ok-compiled.ensures.compiled.1.1.ast)) i
+          ∙ (λ i. (c.in_ok-text.ensures ∙ ap printed_definitions (c.as_slice.ensures.value ∙ c.in_ok-compiled.ensures.compiled.1.1.ast)) i
           ++ no-lines c.as_slice-2.result.now lines empty c.in_ok-push_faults.ensures.1.1 i)
-          ∙ append-nil (definitions_text (write_schema compiled.schema)),
+          ∙ append-nil (printed_definitions (write_schema compiled.schema)),
     )
 
 pub returns-in_err-text-clause-causes : goal.returns-in_err-text-clause-causes

@@ -5,7 +5,7 @@ use Rattle.std.proofs.lemmas.List.{map-append}
 use Rattle.std.proofs.lemmas.Result.{MatchResult-from_err}
 use Rattle.std.specs.Borrow.{Bor}
 use Rattle.apollo_executable.specs.declared.selection.Selection.{Selection}
-use Rattle.leafcheck.specs.LeafFaults.{faults_in}
+use Rattle.leafcheck.specs.LeafFaults.{leaf_faults_in}
 use Rattle.leafcheck.proofs.NotingLemmas.{faults-more, faults-at}
 use Rattle.leafcheck.proofs.checking.+note.Goals as goal
 
@@ -17,7 +17,7 @@ note_set-loop-selection-preserved t c =
     let selection = c.in-Some.selection in
     let now : Bor Selection → Selection = λ s. s.now in
     faults-more (c.fields_by_kind_of_selection.ensures.joined true) s old c.loop-selection.faults c.note_selection.new.faults (map now given) selection.now c.loop-selection.invariant c.in_ok-note_selection.ensures.noted
-    ∙ ap (λ (xs : List Selection). old ++ faults_in s xs) (sym (map-append now given (selection ∷ [])))
+    ∙ ap (λ (xs : List Selection). old ++ leaf_faults_in s xs) (sym (map-append now given (selection ∷ [])))
 
 pub note_set-returns-in_err-note_selection-clause-memory : goal.note_set-returns-in_err-note_selection-clause-memory
 note_set-returns-in_err-note_selection-clause-memory t c =

@@ -1,6 +1,6 @@
 use Rattle.std.proofs.Common.{◌≡◌, ◌++◌, map}
-use Rattle.leafcheck.specs.LeafFaults.{faults_in}
+use Rattle.leafcheck.specs.LeafFaults.{leaf_faults_in}
 use Rattle.leafcheck.proofs.checking.+note.Given as goal
 
 abbrev pub invariant-note_set-loop-selection : goal.invariant-note_set-loop-selection
-invariant-note_set-loop-selection l = l.faults ≡ l.fn.faults ++ faults_in l.schema (map (λ s. s.now) l.yielded)
+invariant-note_set-loop-selection l = l.faults ≡ l.fn.faults ++ leaf_faults_in l.schema (map (λ s. s.now) l.yielded)

@@ -1,11 +1,11 @@
 use Rattle.std.proofs.Common.{refl, rules, arith, ◌++◌}
 use Rattle.std.proofs.Output.{has_written_append, has_written_of_eq}
 use Rattle.std.proofs.lemmas.Grind.{common_steps}
-use Rattle.apollo_elaboration.specs.PathTexts.{arrow, root_text}
+use Rattle.apollo_elaboration.specs.PathTexts.{arrow, definition_name_text}
 use Rattle.apollo_elaboration.proofs.selection_path.SelectionPathDisplay.fmt.Goals as goal
 
 pub loop-key-init : goal.loop-key-init
-loop-key-init g c = λ plain. (root_text c.args.self.now.root, c.in_ok-fmt.ensures.writes plain refl, search rules)
+loop-key-init g c = λ plain. (definition_name_text c.args.self.now.root, c.in_ok-fmt.ensures.writes plain refl, search rules)
 
 pub loop-key-preserved : goal.loop-key-preserved
 loop-key-preserved g c = λ plain.
