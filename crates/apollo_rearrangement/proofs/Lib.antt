@@ -5,4 +5,6 @@ mod Regrouped
 mod Rearranging
 mod Reported
 mod Found
+mod Bare
+mod BareCompletion
 mod Types

@@ -13,7 +13,7 @@ pub use Rattle.apollo_meaning.specs.Directives.{directive_of, directive_part, ha
 pub use Rattle.apollo_meaning.specs.Schema.Definition.{root_in, roots_of, same_operation, schema_directives_of, schema_parts, schema_sourced}
 pub use Rattle.apollo_meaning.proofs.Completion.CompletionLemmas.{faults-completed}
 pub use Rattle.apollo_meaning.proofs.Items.ItemLemmas.{found-push}
-pub use Rattle.apollo_rearrangement.specs.Rearranged.{AreRearranged, DefinitionsOf, DirectiveDefinitionsOf, ExtensionsOf, Group, SchemaDefinitions, SchemaExtensions, is_in, schema_meant, type_meant}
+pub use Rattle.apollo_rearrangement.specs.Rearranged.{AreRearranged, DefinitionsOf, DirectiveDefinitionsOf, ExtensionsOf, Group, SchemaDefinitions, SchemaExtensions, directive_meant, is_in, schema_meant, type_meant}
 pub use Rattle.apollo_meaning.specs.Faults.ListFaults.{faults_in, found_of_schema, found_of_type}
 pub use Rattle.apollo_meaning.specs.Faults.OtherFaults.{directive_faults}
 pub use Rattle.apollo_meaning.specs.Faults.RootFaults.{root_fault, root_faults}
@@ -22,6 +22,6 @@ pub use Rattle.apollo_meaning.specs.Faults.TypeFaults.{input_field_entries, inpu
 pub use Rattle.apollo_meaning.specs.Steps.Joining.{type_begun_faults}
 pub use Rattle.apollo_meaning.specs.declared.build_error.BuildError.{BuildError}
 pub use Rattle.apollo_component.proofs.Lists.BySubject.{IsOwn, IsTest, by_subject, chosen-wider, filter-wider, filter_map-wider, own-kept}
-pub use Rattle.apollo_component.proofs.Lists.Cases.{bool_cases, find-first, list_any-map, lookup-keyed, option_cases}
+pub use Rattle.apollo_component.proofs.Lists.Cases.{bool_cases, find-first, find-made, list_any-map, lookup-keyed, option_cases}
 pub use Rattle.std.proofs.lemmas.Iterator.Adapters.{option_map_id}
 pub use Rattle.apollo_component.proofs.Lists.Reordered.{one-element-permutation}

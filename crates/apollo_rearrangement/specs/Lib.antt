@@ -1,3 +1,4 @@
 pub mod Documents
+pub mod Equal
 pub mod Rearranged
 pub mod Reported

@@ -3,7 +3,9 @@ use Rattle.std.specs.Prelude.{◌≡◌, ℕ, Bool, false, List, Option, filter,
 use Rattle.std.specs.List.Sorted.{IsPermutation}
 use Rattle.std.specs.Option.{option_map_or}
 use Rattle.graphql_nodes.specs.SameText.{same}
-use Rattle.apollo_meaning.specs.Directives.{directive_part, has_text}
+use Rattle.graphql_ast.specs.BareTypeSystem.{bare_directive_definition}
+use Rattle.graphql_ast.specs.declared.type_system.DirectiveDefinition.{DirectiveDefinition}
+use Rattle.apollo_meaning.specs.Directives.{directive_definitions, directive_of, directive_part, has_text}
 use Rattle.apollo_meaning.specs.Items.ListItems.{ListItem, defined_part, defined_schema, extended_part, extended_schema}
 use Rattle.apollo_meaning.specs.Items.Parts.{key_of}
 use Rattle.apollo_meaning.specs.Order.Places.{folding_order}
@@ -40,3 +42,7 @@ type_meant start xs n = option_map bare_extended_type (type_of start (folding_or
 -- the same of the schema definition, if the list means one
 abbrev pub schema_meant : ℕ → List ListItem → Option BareSchemaDefinition
 schema_meant start xs = option_map (λ s. bare_schema_definition s.value) (schema_of start (folding_order xs) xs)
+
+-- the same of the directive definition that a name means
+abbrev pub directive_meant : List ListItem → List ℕ → Option DirectiveDefinition
+directive_meant xs n = option_map (λ d. bare_directive_definition d.value) (directive_of (directive_definitions xs) n)

@@ -1,5 +1,5 @@
-//! Laws of lists of definitions that are rearranged, and of the faults of a list name by name, for those who build on what
-//! such a list means.
+//! Laws of lists of definitions that are equal or rearranged, and of the faults of a list name by name, for those who build on
+//! what such a list means.
 ghost use Rattle.std.specs.Prelude.{◌≡◌, ◌++◌, ◌∷◌, [], ℕ, Bool, List, None, Some, true, false};
 ghost use Rattle.std.specs.List.Sorted.{IsPermutation};
 ghost use Rattle.apollo_meaning.specs.Completion.ImpliedSchema.{completed};
@@ -11,7 +11,8 @@ ghost use Rattle.apollo_meaning.specs.Items.Parts.{SchemaPart, TypePart, key_of}
 ghost use Rattle.apollo_meaning.specs.Order.Places.{Placed, first_place, schemas, types};
 ghost use Rattle.apollo_meaning.specs.Schema.Whole.{whole};
 ghost use Rattle.apollo_rearrangement.specs.Documents.{Documents, added_each, added_joined};
-ghost use Rattle.apollo_rearrangement.specs.Rearranged.{AreRearranged, Group, is_in, schema_meant, type_meant};
+ghost use Rattle.apollo_rearrangement.specs.Equal.{AreEqualLists};
+ghost use Rattle.apollo_rearrangement.specs.Rearranged.{AreRearranged, Group, directive_meant, is_in, schema_meant, type_meant};
 ghost use Rattle.apollo_rearrangement.specs.Reported.{reported_collisions, reported_repeated_roots};
 
 use apollo_meaning::laws::{folded_extensions, folded_schema_extensions};
@@ -98,3 +99,15 @@ pub fn reported_repeated_roots_are_the_dropped_roots()
 pub fn documents_one_by_one()
     ensures { (ignores : Bool) (documents : Documents) → added_each ignores documents ≡ added_joined ignores documents }
 {}
+
+/// Lists whose definitions are equal one by one, whatever their locations, and whose directive definitions are marked built-in
+/// alike, mean equal types and directive definitions under each name, and equal schema definitions or none, whatever numbers
+/// their extensions get. GraphQL specification of October 2021, sections 3, 3.3 and 3.13.
+pub fn equal_lists_mean_equal_definitions()
+    ensures types { (start other : ℕ) (adopts : Bool) (xs ys : List Added) (n : List ℕ) → AreEqualLists xs ys → type_meant start (whole adopts xs) n ≡ type_meant other (whole adopts ys) n }
+    ensures definition { (start other : ℕ) (adopts : Bool) (xs ys : List Added) → AreEqualLists xs ys → schema_meant start (whole adopts xs) ≡ schema_meant other (whole adopts ys) }
+    ensures directives { (adopts : Bool) (xs ys : List Added) (n : List ℕ) → AreEqualLists xs ys → directive_meant (whole adopts xs) n ≡ directive_meant (whole adopts ys) n }
+{
+    folded_extensions();
+    folded_schema_extensions();
+}
