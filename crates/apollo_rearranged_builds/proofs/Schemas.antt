@@ -1,4 +1,4 @@
--- The schemas that rearranged lists mean are equal, and what is built of them, by the laws of rearranged lists.
+-- The schemas that equal and rearranged lists mean are equal, and what is built of them, by the laws of these lists.
 use Rattle.std.proofs.Common.{◌≡◌, ℕ, Bool, List, [], length, Option, Some, None, refl, sym, ap, subst, ◌∙◌}
 use Rattle.std.proofs.lemmas.List.{nil_from_length}
 use Rattle.std.proofs.lemmas.List.Sorted.{length_permutation}
@@ -16,7 +16,7 @@ use Rattle.apollo_meaning.specs.Order.Places.{folding_order}
 use Rattle.apollo_meaning.specs.Schema.Definition.{no_schema, schema_of}
 use Rattle.apollo_meaning.specs.Schema.Whole.{whole}
 use Rattle.apollo_meaning.specs.Completion.ImpliedSchema.{completed}
-use Rattle.apollo_rearrangement.specs.Rearranged.{AreRearranged, schema_meant, type_meant}
+use Rattle.apollo_rearrangement.specs.Rearranged.{AreRearranged, directive_meant, schema_meant, type_meant}
 use Rattle.apollo_rearranged_builds.specs.BuiltAlike.{BuildEqualSchemas, BuildFaultlessTogether, BuildSameFaults, MeanEqualSchemas, StandFor}
 use Rattle.apollo_schema.specs.BuilderStands.{adopts}
 use Rattle.apollo_schema.specs.MeantSchema.{MeansSchema}
@@ -47,38 +47,46 @@ bare-or_none : (o : Option (NodeView SchemaDefinition))
 bare-or_none None = refl
 bare-or_none (Some d) = refl
 
+module _ (adopts : Bool) (xs ys : List Added) where
+  -- the schemas that two lists mean are equal where the lists mean equal schema definitions, types and directives
+  pub schemas-alike : ((start other : ℕ) → schema_meant start (whole adopts xs) ≡ schema_meant other (whole adopts ys))
+      → ((start other : ℕ) (n : List ℕ) → type_meant start (whole adopts xs) n ≡ type_meant other (whole adopts ys) n)
+      → ((n : List ℕ) → directive_meant (whole adopts xs) n ≡ directive_meant (whole adopts ys) n) → MeanEqualSchemas adopts xs ys
+  schemas-alike definitions types directives start other s t a b = λ i. record {
+    definition = same_definition i;
+    directive_definitions = λ n. same_directive n i;
+    types = λ n. same_type n i;
+  }
+    where
+      definition_of : (n : ℕ) (zs : List ListItem)
+          → bare_schema_definition (unwrap_or (schema_of n (folding_order zs) zs) no_schema).value ≡ unwrap_or (schema_meant n zs) (bare_schema_definition no_schema.value)
+      definition_of n zs = bare-or_none (schema_of n (folding_order zs) zs)
+
+      same_definition : bare_schema_definition s.schema_definition.value ≡ bare_schema_definition t.schema_definition.value
+      same_definition =
+          ap (λ d. bare_schema_definition d.value) a.definition ∙ definition_of start (whole adopts xs)
+          ∙ ap (λ o. unwrap_or o (bare_schema_definition no_schema.value)) (definitions start other)
+          ∙ sym (definition_of other (whole adopts ys)) ∙ sym (ap (λ d. bare_schema_definition d.value) b.definition)
+
+      same_type : (n : List ℕ) → entries_by_text bare_extended_type s.types n ≡ entries_by_text bare_extended_type t.types n
+      same_type n = ap (option_map bare_extended_type) (a.types.each n) ∙ types start other n ∙ sym (ap (option_map bare_extended_type) (b.types.each n))
+
+      same_directive : (n : List ℕ) → entries_by_text (λ d. bare_directive_definition d.value) s.directive_definitions n ≡ entries_by_text (λ d. bare_directive_definition d.value) t.directive_definitions n
+      same_directive n =
+          ap (option_map (λ d. bare_directive_definition d.value)) (a.directives.each n) ∙ directives n
+          ∙ sym (ap (option_map (λ d. bare_directive_definition d.value)) (b.directives.each n))
+
 pub schemas-rearranged : CompletedToo → EqualDefinitions → EqualTypes → SameDirectives → EqualSchemas
-schemas-rearranged completes definitions types directives adopts xs ys r start other s t a b = λ i. record {
-  definition = same_definition i;
-  directive_definitions = λ n. same_directive n i;
-  types = λ n. same_type n i;
-}
-  where
-    all : AreRearranged (whole adopts xs) (whole adopts ys)
-    all = completes adopts (added_items xs) (added_items ys) r
+schemas-rearranged completes definitions types directives adopts xs ys r =
+    let all = completes adopts (added_items xs) (added_items ys) r in
+    schemas-alike adopts xs ys (λ start other. definitions start other (whole adopts xs) (whole adopts ys) all)
+    (λ start other n. types start other (whole adopts xs) (whole adopts ys) n all)
+    (λ n. ap (option_map (λ d. bare_directive_definition d.value)) (directives (whole adopts xs) (whole adopts ys) n all))
 
-    definition_of : (n : ℕ) (zs : List ListItem)
-        → bare_schema_definition (unwrap_or (schema_of n (folding_order zs) zs) no_schema).value ≡ unwrap_or (schema_meant n zs) (bare_schema_definition no_schema.value)
-    definition_of n zs = bare-or_none (schema_of n (folding_order zs) zs)
-
-    same_definition : bare_schema_definition s.schema_definition.value ≡ bare_schema_definition t.schema_definition.value
-    same_definition =
-        ap (λ d. bare_schema_definition d.value) a.definition ∙ definition_of start (whole adopts xs)
-        ∙ ap (λ o. unwrap_or o (bare_schema_definition no_schema.value)) (definitions start other (whole adopts xs) (whole adopts ys) all)
-        ∙ sym (definition_of other (whole adopts ys)) ∙ sym (ap (λ d. bare_schema_definition d.value) b.definition)
-
-    same_type : (n : List ℕ) → entries_by_text bare_extended_type s.types n ≡ entries_by_text bare_extended_type t.types n
-    same_type n =
-        ap (option_map bare_extended_type) (a.types.each n) ∙ types start other (whole adopts xs) (whole adopts ys) n all
-        ∙ sym (ap (option_map bare_extended_type) (b.types.each n))
-
-    same_directive : (n : List ℕ) → entries_by_text (λ d. bare_directive_definition d.value) s.directive_definitions n ≡ entries_by_text (λ d. bare_directive_definition d.value) t.directive_definitions n
-    same_directive n =
-        ap (option_map (λ d. bare_directive_definition d.value)) (a.directives.each n ∙ directives (whole adopts xs) (whole adopts ys) n all ∙ sym (b.directives.each n))
-
-pub built-rearranged : EqualSchemas → (xs ys : List Added) → AreRearranged (added_items xs) (added_items ys) → (b c : SchemaBuilder) → StandFor xs ys b c → BuildEqualSchemas b c
-built-rearranged schemas xs ys r b c stand = λ s t m n.
-    schemas (adopts b) xs ys r stand.start stand.other s t (m stand.start xs stand.first)
+-- builders that stand for lists that mean equal schemas are built to equal ones
+pub built-alike : (xs ys : List Added) → ((adopts : Bool) → MeanEqualSchemas adopts xs ys) → (b c : SchemaBuilder) → StandFor xs ys b c → BuildEqualSchemas b c
+built-alike xs ys schemas b c stand = λ s t m n.
+    schemas (adopts b) stand.start stand.other s t (m stand.start xs stand.first)
     (subst (λ (a : Bool). MeansSchema stand.other a ys t) (sym stand.one_setting) (n stand.other ys stand.second))
 
 module _ (same_faults : SameFaults) where
@@ -89,7 +97,7 @@ module _ (same_faults : SameFaults) where
       let same : IsPermutation faults others =
       subst (λ l. IsPermutation l others) (sym first)
       (subst (IsPermutation (faults_of (adopts b) xs)) (sym second) (same_faults (adopts b) xs ys r)) in
-      (same, built-rearranged schemas xs ys r b c stand s t (λ start zs stands. (f start zs stands).0) (λ start zs stands. (g start zs stands).0))
+      (same, built-alike xs ys (λ a. schemas a xs ys r) b c stand s t (λ start zs stands. (f start zs stands).0) (λ start zs stands. (g start zs stands).0))
 
   pub faultless-rearranged : (xs ys : List Added) → AreRearranged (added_items xs) (added_items ys) → (b c : SchemaBuilder) → StandFor xs ys b c → BuildFaultlessTogether b c
   faultless-rearranged xs ys r b c stand = λ faultless t others g.

@@ -1,18 +1,20 @@
-//! Laws of what rearranged lists of definitions are built to, for those who compose schemas or keep registries of them.
+//! Laws of what equal and rearranged lists of definitions are built to, for those who compose schemas or keep registries of them.
 ghost use Rattle.std.specs.Prelude.{◌≡◌, ◌++◌, ℕ, Bool, List};
 ghost use Rattle.std.specs.List.Sorted.{IsPermutation};
 ghost use Rattle.apollo_meaning.specs.Faults.ListFaults.{faults_of};
 ghost use Rattle.apollo_meaning.specs.Items.ListItems.{Added, added_items};
 ghost use Rattle.apollo_rearrangement.specs.Documents.{Documents, added_each, added_joined};
+ghost use Rattle.apollo_rearrangement.specs.Equal.{AreEqualLists};
 ghost use Rattle.apollo_rearrangement.specs.Rearranged.{AreRearranged};
 ghost use Rattle.apollo_rearranged_builds.specs.BuiltAlike.{BuildEqualSchemas, BuildFaultlessTogether, BuildSameFaults, MeanEqualSchemas, StandFor};
 ghost use Rattle.apollo_schema.specs.BuilderStands.{StandsFor};
 ghost use Rattle.apollo_schema.specs.declared.schema_builder.SchemaBuilder.{SchemaBuilder};
 
 use apollo_rearrangement::laws::{
-    completed_lists_are_rearranged, rearranged_directives_are_the_same,
-    rearranged_faults_are_the_same, rearranged_schema_definitions_are_equal,
-    rearranged_types_are_equal, rearranging_is_an_equivalence,
+    completed_lists_are_rearranged, equal_lists_mean_equal_definitions,
+    rearranged_directives_are_the_same, rearranged_faults_are_the_same,
+    rearranged_schema_definitions_are_equal, rearranged_types_are_equal,
+    rearranging_is_an_equivalence,
 };
 
 /// Two lists of the same definitions that keep, for each type name, the order of its definitions and the order of its
@@ -47,4 +49,14 @@ pub fn documents_one_by_one()
     rearranged();
     rearranging_is_an_equivalence();
     apollo_rearrangement::laws::documents_one_by_one();
+}
+
+/// Two lists whose definitions are equal one by one, whatever their locations, and whose directive definitions are marked
+/// built-in alike, mean equal schemas, whatever numbers their extensions get; and builders that stand for them, and both adopt
+/// or both don't, are built to equal schemas. GraphQL specification of October 2021, section 3.
+pub fn equal_lists()
+    ensures schemas { (adopts : Bool) (xs ys : List Added) → AreEqualLists xs ys → MeanEqualSchemas adopts xs ys }
+    ensures built { (xs ys : List Added) → AreEqualLists xs ys → (b c : SchemaBuilder) → StandFor xs ys b c → BuildEqualSchemas b c }
+{
+    equal_lists_mean_equal_definitions();
 }

@@ -1,4 +1,4 @@
-use Rattle.apollo_rearranged_builds.proofs.Schemas.{built-rearranged, faultless-rearranged, found-rearranged, schemas-rearranged}
+use Rattle.apollo_rearranged_builds.proofs.Schemas.{built-alike, faultless-rearranged, found-rearranged, schemas-rearranged}
 use Rattle.apollo_rearranged_builds.proofs.laws.rearranged.Goals as goal
 
 pub returns-clause-schemas : goal.returns-clause-schemas
@@ -9,7 +9,7 @@ pub returns-clause-faults : goal.returns-clause-faults
 returns-clause-faults c = c.rearranged_faults_are_the_same.ensures
 
 pub returns-clause-built : goal.returns-clause-built
-returns-clause-built c = built-rearranged (returns-clause-schemas c)
+returns-clause-built c = λ xs ys r. built-alike xs ys (λ adopts. returns-clause-schemas c adopts xs ys r)
 
 pub returns-clause-found : goal.returns-clause-found
 returns-clause-found c = found-rearranged c.rearranged_faults_are_the_same.ensures (returns-clause-schemas c)
