@@ -5,6 +5,7 @@ pub mod WrittenList
 pub mod SameSchema
 pub mod Faultless
 pub mod Canonical
+pub mod EqualWriteOuts
 pub mod FoldsNoMore
 pub use TypesAgain.*
 pub use DirectivesAgain.*
@@ -12,4 +13,5 @@ pub use WrittenList.*
 pub use SameSchema.*
 pub use Faultless.*
 pub use Canonical.*
+pub use EqualWriteOuts.*
 pub use FoldsNoMore.*

@@ -1,5 +1,5 @@
 //! Laws of the write-out, for those who build on what it says.
-ghost use Rattle.std.specs.Prelude.{◌≡◌, ◌≤◌, ℕ, Bool, List, [], Some, false, true, codes, length, option_map};
+ghost use Rattle.std.specs.Prelude.{◌≡◌, ◌≤◌, ℕ, Bool, List, [], Some, false, true, codes, length, map, option_map};
 ghost use Rattle.apollo_component.specs.WriteOut.{by_origin};
 ghost use Rattle.apollo_component.specs.declared.parts_by_origin.PartsByOrigin.{PartsByOrigin};
 ghost use Rattle.apollo_types.specs.TypeWriteOut.{write_type};
@@ -16,6 +16,7 @@ ghost use Rattle.apollo_schema.specs.EqualSchemas.{AreEqualSchemas};
 ghost use Rattle.apollo_schema.specs.MeantSchema.{MeansSchema};
 ghost use Rattle.apollo_schema.specs.SchemaWriteOut.{write_schema};
 ghost use Rattle.apollo_schema.specs.declared.schema.Schema.{Schema};
+ghost use Rattle.graphql_ast.specs.BareDocuments.{bare_definition};
 ghost use Rattle.graphql_ast.specs.declared.definition.Definition.{Definition};
 ghost use Rattle.apollo_canonical.specs.MeaningLaws.{MeaningLaws};
 ghost use Rattle.apollo_canonical.specs.Sections.{Sections, section_directives, HasDefinitionOf, HasDistinctIdentities, HasExtensionsOf, HasSameComponents, in_sections, sections_of};
@@ -27,6 +28,7 @@ use apollo_meaning::laws::{
     joined_lists_define_first_in_front, later_roots_are_at_fault,
     type_names_are_the_first_of_each_text, types_are_headed_by_their_definitions,
 };
+use apollo_rearranged_builds::laws::equal_lists;
 
 /// What the laws of the write-out take from the laws of lists of definitions.
 fn laws_of_lists()
@@ -118,12 +120,14 @@ pub fn written_twice_is_written_once()
     canonical();
 }
 
-/// Schemas of lists as [`canonical`] takes them are equal where their write-outs are, under whatever settings of both options.
-/// GraphQL specification of October 2021, sections 3 and 3.3.
+/// Schemas of lists as [`canonical`] takes them are equal where their write-outs are equal, definition by definition, whatever
+/// the locations, and under whatever settings of both options. GraphQL specification of October 2021, sections 3 and 3.3.
 pub fn equal_write_outs_have_equal_schemas()
-    ensures { (schema other : Schema) → IsMeantByList schema → IsMeantByList other → write_schema schema ≡ write_schema other → AreEqualSchemas schema other }
+    ensures { (schema other : Schema) → IsMeantByList schema → IsMeantByList other → map bare_definition (write_schema schema) ≡ map bare_definition (write_schema other)
+        → AreEqualSchemas schema other }
 {
     laws_of_lists();
+    equal_lists();
 }
 
 /// A schema's write-out folds no more extensions than the list that the schema is of. It holds for every list of added

@@ -1,12 +1,13 @@
-use Rattle.std.proofs.Common.{true, false, sym, subst, ◌∙◌}
-use Rattle.apollo_meaning.specs.Items.ListItems.{added}
-use Rattle.apollo_schema.specs.MeantSchema.{MeansSchema}
-use Rattle.apollo_canonical.specs.WrittenAgain.{with_built_ins}
-use Rattle.apollo_canonical.proofs.Rebuild.{equal, rebuilds}
+use Rattle.std.proofs.Common.{true, false, sym, ◌∙◌}
+use Rattle.apollo_canonical.specs.WrittenAgain.{written_again}
+use Rattle.apollo_canonical.proofs.Rebuild.{equal, equal-again, rebuilds}
 use Rattle.apollo_canonical.proofs.laws.equal_write_outs_have_equal_schemas.Goals as goal
 
 pub returns : goal.returns
 returns c = λ schema other m o alike.
-    let there = rebuilds c.laws_of_lists.ensures schema m false 0 in
-    sym (equal c.laws_of_lists.ensures schema m false 0 there.0 there.1)
-    ∙ equal c.laws_of_lists.ensures other o false 0 there.0 (subst (λ ds. MeansSchema 0 true (with_built_ins (added false ds)) there.0) alike there.1)
+    let laws = c.laws_of_lists.ensures in
+    let first = rebuilds laws schema m false 0 in
+    let second = rebuilds laws other o false 0 in
+    sym (equal laws schema m false 0 first.0 first.1)
+    ∙ c.equal_lists.ensures.schemas true (written_again false schema) (written_again false other) (equal-again false schema other alike) 0 0 first.0 second.0 first.1 second.1
+    ∙ equal laws other o false 0 second.0 second.1
