@@ -32,8 +32,8 @@ pub use apollo_types::laws as types;
 // order; what is adopted, and which extensions have numbers; worked lists, computed.
 pub use apollo_meaning::laws as meaning;
 
-// Lists whose definitions change places: what each name means is equal, and the faults are the same in some order; and which
-// faults are of what is dropped.
+// Lists of equal definitions: what each name means is equal. Lists whose definitions change places: so it is there, and the
+// faults are the same in some order; and which faults are of what is dropped.
 pub use apollo_rearrangement::laws as rearrangement;
 
 // Schemas and builders: a list means one schema; every builder stands for a list or has failed; subtypes are the implementers.
@@ -44,7 +44,8 @@ pub use apollo_schema::laws::implementers;
 pub use apollo_canonical::laws as write_out;
 pub use apollo_canonical::laws::canonical;
 
-// Builders of rearranged lists build equal schemas with the same faults, and documents one by one what one document would.
+// Builders of equal lists build equal schemas, those of rearranged lists also the same faults, and documents one by one what
+// one document would.
 pub use apollo_rearranged_builds::laws as rearranged_builds;
 pub use apollo_rearranged_builds::laws::{documents_one_by_one, rearranged};
 
