@@ -1,5 +1,5 @@
 -- The lists that documents make: GraphQL specification of October 2021, sections 2.2 and 3.
-use Rattle.std.specs.Prelude.{Bool, false, List, []}
+use Rattle.std.specs.Prelude.{◌≡◌, Bool, false, List, []}
 use Rattle.std.specs.List.{flat_map, fold}
 use Rattle.graphql_nodes.specs.Sources.{Files, merged}
 use Rattle.graphql_ast.specs.declared.definition.Definition.{Definition}
@@ -16,6 +16,10 @@ no_options = record { adopt_orphan_extensions = false; ignore_builtin_redefiniti
 -- the definitions of all documents, in order
 abbrev pub all_definitions : List Document → List Definition
 all_definitions documents = flat_map (λ (document : Document). document.definitions) documents
+
+-- a document without definitions and source files
+abbrev pub IsEmpty : Document → Type 0
+IsEmpty document = (document.definitions ≡ []) × (document.sources ≡ [])
 
 -- the source files of all documents
 abbrev pub with_sources : Files → Document → Files

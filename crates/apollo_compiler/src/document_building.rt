@@ -1,8 +1,8 @@
 //! The build of a typed document from documents, over a schema.
-ghost use Rattle.std.specs.Prelude.{◌≡◌, ◌≢◌, [], Some, IfOk, OnErr};
+ghost use Rattle.std.specs.Prelude.{◌≡◌, All, Some, IfOk, OnErr};
 ghost use Rattle.apollo_document.specs.DocumentFaults.{document_faults};
 ghost use Rattle.apollo_document.specs.Documents.{IsDocumentOf};
-ghost use Rattle.apollo_compiler.specs.Lists.{all_sources, executable_list};
+ghost use Rattle.apollo_compiler.specs.Lists.{IsEmpty, all_sources, executable_list};
 
 use apollo_document::{ExecutableDocumentBuilder, Faults};
 use apollo_executable::document::ExecutableDocument;
@@ -12,8 +12,8 @@ use std::alloc::{AllocError, Global};
 
 /// The typed document of these documents over a schema, and its faults, as [`ExecutableDocumentBuilder::build`] gives them. With
 /// `type_system_definitions_are_errors` definitions of the type system are among the faults. Its tables hash by the keys of the
-/// schema. The error is want of memory, and comes only where there is a document. GraphQL specification of October 2021, sections
-/// 2.2 to 2.8.
+/// schema. The error is want of memory, and comes only where a document has a definition or a source file. GraphQL specification
+/// of October 2021, sections 2.2 to 2.8.
 pub fn build_executable_document(
     alloc: Global,
     schema: &Schema,
@@ -23,7 +23,7 @@ pub fn build_executable_document(
     ensures means { IfOk result (λ built. IsDocumentOf (Some schema.now) (executable_list type_system_definitions_are_errors documents.now) built.0) }
     ensures sources { IfOk result (λ built. built.0.sources ≡ all_sources documents.now) }
     ensures faults { IfOk result (λ built. built.1.items ≡ document_faults (Some schema.now) (executable_list type_system_definitions_are_errors documents.now)) }
-    ensures memory { OnErr result (documents.now ≢ []) }
+    ensures memory { OnErr result (¬ All IsEmpty documents.now) }
 {
     let mut builder = ExecutableDocumentBuilder::new(alloc, Some(schema));
     for document in documents {

@@ -32,7 +32,7 @@ pub record Account {F : Type 0} (fragments : Fragments F) (before : Names) (fiel
 
 module _ {F : Type 0} (fragments : Fragments F) where
   -- nothing is opened
-  pub account-no_course : (before : Names) (t cap : ℕ) → t ≤ cap → Account fragments before [] t cap [] (record { fields = []; due = λ t. []; opened = before; turns = t })
+  pub account-no_course : (before : Names) (t cap : ℕ) → t ≤ cap → Account fragments before [] t cap [] (record { fields = []; due = λ t. []; opening = λ t. []; opened = before; turns = t })
   account-no_course before t cap le = record {
     news = [];
     opened = refl;

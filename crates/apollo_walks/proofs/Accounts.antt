@@ -4,7 +4,7 @@ use Rattle.std.proofs.lemmas.List.Sorted.{IsPermutation-refl, IsPermutation-cons
 use Rattle.apollo_walks.specs.Selections.{Selections, none, field, spread, inline, Fragments, Names, no_names, with_name, fragment_of, occurrences, spread_names}
 use Rattle.apollo_walks.specs.Reachable.{Among, at_fragment, occurrences_in}
 use Rattle.apollo_walks.specs.Turns.{size, lists_below, own_turns, total}
-use Rattle.apollo_walks.specs.Course.{Course, followed_by, a_turn_before, a_field_before, course_below, course_with, course_of_spread, course_of_name, course_within, course}
+use Rattle.apollo_walks.specs.Course.{Course, followed_by, a_turn_before, a_field_before, course_below, just_opened, course_with, course_of_spread, course_of_name, course_within, course}
 use Rattle.apollo_walks.proofs.Names.{with_names, with_name-has, with_names-keeps}
 use Rattle.apollo_walks.proofs.Depth.{unopened, unopened_le-length, fewer, course_with-shrinks, course_of_spread-shrinks, course_within-shrinks}
 use Rattle.apollo_walks.proofs.Account.{Account, account-no_course, account-join, whole_turns}
@@ -21,10 +21,10 @@ module _ {F : Type 0} (fragments : Fragments F) where
   account-below p before (inline inner rest) a = record { news = a.news; opened = a.opened; fresh = a.fresh; gives = a.gives; turns = omega (arith, a.turns); bound = a.bound; sound = a.sound; covers = a.covers; closes = a.closes }
 
   -- the same, with other numbers and one field first
-  account-as : (before : Names) (fs : List F) (a b c d : ℕ) (ms : List (List ℕ)) (x : Course F) (due : ℕ → List ℕ) (t : ℕ) →
+  account-as : (before : Names) (fs : List F) (a b c d : ℕ) (ms : List (List ℕ)) (x : Course F) (due opening : ℕ → List ℕ) (t : ℕ) →
       Account fragments before fs a c ms x → ((s : ℕ) → x.turns ≡ a + s → t ≡ b + s) → ((s : ℕ) → x.turns ≤ c + s → t ≤ d + s) →
-      Account fragments before fs b d ms (record { fields = x.fields; due = due; opened = x.opened; turns = t })
-  account-as before fs a b c d ms x due t p exact least = record {
+      Account fragments before fs b d ms (record { fields = x.fields; due = due; opening = opening; opened = x.opened; turns = t })
+  account-as before fs a b c d ms x due opening t p exact least = record {
     news = p.news;
     opened = p.opened;
     fresh = p.fresh;
@@ -36,9 +36,9 @@ module _ {F : Type 0} (fragments : Fragments F) where
     closes = p.closes;
   }
 
-  account-field : (f : F) (before : Names) (fs : List F) (a c : ℕ) (ms : List (List ℕ)) (x : Course F) (due : ℕ → List ℕ) → Account fragments before fs a c ms x →
-      Account fragments before (f ∷ fs) a c ms (record { fields = f ∷ x.fields; due = due; opened = x.opened; turns = x.turns })
-  account-field f before fs a c ms x due p = record {
+  account-field : (f : F) (before : Names) (fs : List F) (a c : ℕ) (ms : List (List ℕ)) (x : Course F) (due opening : ℕ → List ℕ) → Account fragments before fs a c ms x →
+      Account fragments before (f ∷ fs) a c ms (record { fields = f ∷ x.fields; due = due; opening = opening; opened = x.opened; turns = x.turns })
+  account-field f before fs a c ms x due opening p = record {
     news = p.news;
     opened = p.opened;
     fresh = p.fresh;
@@ -64,8 +64,8 @@ module _ {F : Type 0} (fragments : Fragments F) where
       let x' : Course F = course_below below x in
       let z : Course F = followed_by x' y in
       let both = account-join fragments before (occurrences below) (occurrences rest) (lists_below below + own_turns below) (whole_turns rest) (suc (2 * size below)) (suc (2 * size rest)) (spread_names below) (spread_names rest) x' y first second in
-      account-field f before (occurrences below ++ occurrences rest) (whole_turns (field f below rest)) (suc (2 * size (field f below rest))) (spread_names below ++ spread_names rest) (a_turn_before z) (a_field_before f z).due
-      (account-as before (occurrences below ++ occurrences rest) ((lists_below below + own_turns below) + whole_turns rest) (whole_turns (field f below rest)) (suc (2 * size below) + suc (2 * size rest)) (suc (2 * size (field f below rest))) (spread_names below ++ spread_names rest) z (a_turn_before z).due (suc z.turns) both
+      account-field f before (occurrences below ++ occurrences rest) (whole_turns (field f below rest)) (suc (2 * size (field f below rest))) (spread_names below ++ spread_names rest) (a_turn_before z) (a_field_before f z).due (a_field_before f z).opening
+      (account-as before (occurrences below ++ occurrences rest) ((lists_below below + own_turns below) + whole_turns rest) (whole_turns (field f below rest)) (suc (2 * size below) + suc (2 * size rest)) (suc (2 * size (field f below rest))) (spread_names below ++ spread_names rest) z (a_turn_before z).due (a_turn_before z).opening (suc z.turns) both
       (λ s e. omega arith) (λ s e. omega arith))
   account-course_with k p shrinks each before (spread n rest) le =
       let x = p before n in
@@ -73,7 +73,7 @@ module _ {F : Type 0} (fragments : Fragments F) where
       let y = course_with p x.opened rest in
       let z : Course F = followed_by x y in
       let both = account-join fragments before [] (occurrences rest) 0 (whole_turns rest) 1 (suc (2 * size rest)) (n ∷ []) (spread_names rest) x y (each before n le) (account-course_with k p shrinks each x.opened rest (omega arith)) in
-      account-as before (occurrences rest) (0 + whole_turns rest) (whole_turns (spread n rest)) (1 + suc (2 * size rest)) (suc (2 * size (spread n rest))) (n ∷ spread_names rest) z (a_turn_before z).due (suc z.turns) both (λ s e. omega arith) (λ s e. omega arith)
+      account-as before (occurrences rest) (0 + whole_turns rest) (whole_turns (spread n rest)) (1 + suc (2 * size rest)) (suc (2 * size (spread n rest))) (n ∷ spread_names rest) z (a_turn_before z).due (a_turn_before z).opening (suc z.turns) both (λ s e. omega arith) (λ s e. omega arith)
   account-course_with k p shrinks each before (inline inner rest) le =
       let x = course_with p before inner in
       let small = course_with-shrinks fragments p shrinks before inner in
@@ -81,7 +81,7 @@ module _ {F : Type 0} (fragments : Fragments F) where
       let z : Course F = followed_by x y in
       let both = account-join fragments before (occurrences inner) (occurrences rest) (whole_turns inner) (whole_turns rest) (suc (2 * size inner)) (suc (2 * size rest)) (spread_names inner) (spread_names rest) x y
       (account-course_with k p shrinks each before inner le) (account-course_with k p shrinks each x.opened rest (omega arith)) in
-      account-as before (occurrences inner ++ occurrences rest) (whole_turns inner + whole_turns rest) (whole_turns (inline inner rest)) (suc (2 * size inner) + suc (2 * size rest)) (suc (2 * size (inline inner rest))) (spread_names inner ++ spread_names rest) z (a_turn_before z).due (suc z.turns) both (λ s e. omega arith) (λ s e. omega arith)
+      account-as before (occurrences inner ++ occurrences rest) (whole_turns inner + whole_turns rest) (whole_turns (inline inner rest)) (suc (2 * size inner) + suc (2 * size rest)) (suc (2 * size (inline inner rest))) (spread_names inner ++ spread_names rest) z (a_turn_before z).due (a_turn_before (followed_by (just_opened x) y)).opening (suc z.turns) both (λ s e. omega arith) (λ s e. omega arith)
 
   -- what a spread gives has its account, where the walks over fragments have
   account-spread : (lower : Names → Selections F → Course F) (before : Names) (n : List ℕ) →

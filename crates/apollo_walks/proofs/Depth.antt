@@ -3,7 +3,7 @@ use Rattle.std.proofs.Common.{◌≡◌, ℕ, zero, suc, ◌+◌, ◌<◌, ◌�
 use Rattle.graphql_nodes.specs.SameText.{same}
 use Rattle.graphql_nodes.proofs.Texts.{same-true}
 use Rattle.apollo_walks.specs.Selections.{Selections, none, field, spread, inline, Fragments, Names, with_name, fragment_of}
-use Rattle.apollo_walks.specs.Course.{Course, no_course, course_below, followed_by, a_turn_before, a_field_before, course_with, course_of_spread, course_of_name, course_within}
+use Rattle.apollo_walks.specs.Course.{Course, no_course, course_below, followed_by, a_turn_before, a_field_before, just_opened, course_with, course_of_spread, course_of_name, course_within}
 
 -- how many fragments are not opened
 abbrev pub unopened : {F : Type 0} → Fragments F → Names → ℕ
@@ -85,10 +85,10 @@ module _ {F : Type 0} (fragments : Fragments F) where
       let third : course_with p (p before n).opened rest ≡ course_with q (q before n).opened rest = second ∙ ap (λ x. course_with q x.opened rest) first in
       λ i. a_turn_before (followed_by (first i) (third i))
   course_with-same k p q shrinks same before (inline inner rest) le =
-      let first : course_with p before inner ≡ course_with q before inner = course_with-same k p q shrinks same before inner le in
+      let first : just_opened (course_with p before inner) ≡ just_opened (course_with q before inner) = ap (λ (c : Course F). just_opened c) (course_with-same k p q shrinks same before inner le) in
       let small = course_with-shrinks p shrinks before inner in
       let second : course_with p (course_with p before inner).opened rest ≡ course_with q (course_with p before inner).opened rest = course_with-same k p q shrinks same (course_with p before inner).opened rest (omega arith) in
-      let third : course_with p (course_with p before inner).opened rest ≡ course_with q (course_with q before inner).opened rest = second ∙ ap (λ x. course_with q x.opened rest) first in
+      let third : course_with p (course_with p before inner).opened rest ≡ course_with q (course_with q before inner).opened rest = second ∙ ap (λ (x : Course F). course_with q x.opened rest) first in
       λ i. a_turn_before (followed_by (first i) (third i))
 
   -- what a spread gives is the same at two levels that agree on smaller sets
@@ -98,7 +98,7 @@ module _ {F : Type 0} (fragments : Fragments F) where
   course_of_spread-same lower higher before n k le same found is true opened = refl
   course_of_spread-same lower higher before n k le same None is false closed = refl
   course_of_spread-same lower higher before n k le same (Some set) is false closed =
-      let less = fewer fragments n before set is closed in same (with_name n before) set (omega arith)
+      let less = fewer fragments n before set is closed in ap (λ (c : Course F). just_opened c) (same (with_name n before) set (omega arith))
 
   -- no_course is unopened: a spread gives no_course
   course_of_spread-none : (lower : Names → Selections F → Course F) (before : Names) (n : List ℕ) → unopened fragments before ≤ 0 →

@@ -1,51 +1,49 @@
 -- Courses that follow one another.
 use Rattle.std.proofs.Common.{◌≡◌, ℕ, suc, ◌+◌, List, [], ◌∷◌, ◌++◌, refl, ap, ◌∙◌, arith, append_assoc, append-nil}
 use Rattle.apollo_walks.specs.Selections.{Names}
-use Rattle.apollo_walks.specs.Course.{Course, no_course, followed_by, a_turn_before, a_field_before}
+use Rattle.apollo_walks.specs.Course.{Course, no_course, followed_by, a_turn_before, a_field_before, just_opened}
 
 module _ {F : Type 0} where
   -- two of the same parts
-  same-parts : (xs ys : List F) (ds es : ℕ → List ℕ) (opened : Names) (m n : ℕ) → xs ≡ ys → ((t : ℕ) → ds t ≡ es t) → m ≡ n →
-      ◌≡◌ {A = Course F} (record { fields = xs; due = ds; opened = opened; turns = m }) (record { fields = ys; due = es; opened = opened; turns = n })
-  same-parts xs ys ds es opened m n p q r = λ i. record { fields = p i; due = λ t. q t i; opened = opened; turns = r i }
+  same-parts : (x y : Course F) → x.fields ≡ y.fields → ((t : ℕ) → x.due t ≡ y.due t) → ((t : ℕ) → x.opening t ≡ y.opening t) → x.opened ≡ y.opened → x.turns ≡ y.turns → x ≡ y
+  same-parts x y p q o n r = λ i. record { fields = p i; due = λ t. q t i; opening = λ t. o t i; opened = n i; turns = r i }
 
   -- turns that are given where so many are taken before
   at-once : (x : Course F) (m n : ℕ) → m ≡ n → x.due m ≡ x.due n
   at-once x m n is = ap (λ k. x.due k) is
 
+  at-once-opening : (x : Course F) (m n : ℕ) → m ≡ n → x.opening m ≡ x.opening n
+  at-once-opening x m n is = ap (λ k. x.opening k) is
+
   pub no_course-first : (names : Names) (x : Course F) → followed_by (no_course names) x ≡ x
   no_course-first names x =
-      let y = followed_by (no_course names) x in
-      same-parts x.fields x.fields y.due x.due x.opened (0 + x.turns) x.turns refl (λ t. at-once x (t + 0) t (omega arith)) (omega arith)
+      same-parts (followed_by (no_course names) x) x refl (λ t. at-once x (t + 0) t (omega arith)) (λ t. at-once-opening x (t + 0) t (omega arith)) refl (omega arith)
 
   pub no_course-last : (x : Course F) → followed_by x (no_course x.opened) ≡ x
   no_course-last x =
-      let y = followed_by x (no_course x.opened) in
-      same-parts (x.fields ++ []) x.fields y.due x.due x.opened (x.turns + 0) x.turns (append-nil x.fields) (λ t. append-nil (x.due t)) (omega arith)
+      same-parts (followed_by x (no_course x.opened)) x (append-nil x.fields) (λ t. append-nil (x.due t)) (λ t. append-nil (x.opening t)) refl (omega arith)
 
   -- three, one after the other
   in-turn : (x y z : Course F) → followed_by (followed_by x y) z ≡ followed_by x (followed_by y z)
   in-turn x y z =
-      let l = followed_by (followed_by x y) z in
-      let r = followed_by x (followed_by y z) in
-      same-parts l.fields r.fields l.due r.due z.opened l.turns r.turns (append_assoc x.fields y.fields z.fields)
+      same-parts (followed_by (followed_by x y) z) (followed_by x (followed_by y z)) (append_assoc x.fields y.fields z.fields)
       (λ t. append_assoc (x.due t) (y.due (t + x.turns)) (z.due (t + (x.turns + y.turns)))
       ∙ ap (λ ds. x.due t ++ (y.due (t + x.turns) ++ ds)) (at-once z (t + (x.turns + y.turns)) ((t + x.turns) + y.turns) (omega arith)))
-      (omega arith)
+      (λ t. append_assoc (x.opening t) (y.opening (t + x.turns)) (z.opening (t + (x.turns + y.turns)))
+      ∙ ap (λ ds. x.opening t ++ (y.opening (t + x.turns) ++ ds)) (at-once-opening z (t + (x.turns + y.turns)) ((t + x.turns) + y.turns) (omega arith)))
+      refl (omega arith)
 
   pub turn-first : (x y : Course F) → followed_by (a_turn_before x) y ≡ a_turn_before (followed_by x y)
   turn-first x y =
-      let l = followed_by (a_turn_before x) y in
-      let r = a_turn_before (followed_by x y) in
-      same-parts l.fields r.fields l.due r.due y.opened l.turns r.turns refl
-      (λ t. ap (λ ds. x.due (t + 1) ++ ds) (at-once y (t + suc x.turns) ((t + 1) + x.turns) (omega arith))) (omega arith)
+      same-parts (followed_by (a_turn_before x) y) (a_turn_before (followed_by x y)) refl
+      (λ t. ap (λ ds. x.due (t + 1) ++ ds) (at-once y (t + suc x.turns) ((t + 1) + x.turns) (omega arith)))
+      (λ t. ap (λ ds. x.opening (t + 1) ++ ds) (at-once-opening y (t + suc x.turns) ((t + 1) + x.turns) (omega arith))) refl (omega arith)
 
   field-first : (f : F) (x y : Course F) → followed_by (a_field_before f x) y ≡ a_field_before f (followed_by x y)
   field-first f x y =
-      let l = followed_by (a_field_before f x) y in
-      let r = a_field_before f (followed_by x y) in
-      same-parts l.fields r.fields l.due r.due y.opened l.turns r.turns refl
-      (λ t. ap (λ ds. (t + 1) ∷ (x.due (t + 1) ++ ds)) (at-once y (t + suc x.turns) ((t + 1) + x.turns) (omega arith))) (omega arith)
+      same-parts (followed_by (a_field_before f x) y) (a_field_before f (followed_by x y)) refl
+      (λ t. ap (λ ds. (t + 1) ∷ (x.due (t + 1) ++ ds)) (at-once y (t + suc x.turns) ((t + 1) + x.turns) (omega arith)))
+      (λ t. ap (λ ds. x.opening (t + 1) ++ ds) (at-once-opening y (t + suc x.turns) ((t + 1) + x.turns) (omega arith))) refl (omega arith)
 
   -- the same, where two courses come after the turn
   pub turn-before-two : (x y z : Course F) → followed_by (a_turn_before (followed_by x y)) z ≡ a_turn_before (followed_by x (followed_by y z))

@@ -1,8 +1,8 @@
 -- One turn of a walk, by what the open list begins with.
 use Rattle.std.proofs.Common.{◌≡◌, ℕ, zero, suc, ◌+◌, ◌<◌, ◌≤◌, Bool, true, false, List, [], ◌∷◌, ◌++◌, length, Option, None, Some, ap, ◌∙◌, arith}
 use Rattle.apollo_walks.specs.Selections.{Selections, none, field, spread, inline, Fragments, Names, with_name, fragment_of}
-use Rattle.apollo_walks.specs.Course.{Course, no_course, followed_by, course_with, course_of_spread, course_of_name, course_within, course, course_of_all, a_turn_before, a_field_before}
-use Rattle.apollo_walks.specs.TurnByTurn.{over, IsNoLater, AreTurnByTurn}
+use Rattle.apollo_walks.specs.Course.{Course, no_course, followed_by, course_with, course_of_spread, course_of_name, course_within, course, course_of_all, a_turn_before, a_field_before, just_opened}
+use Rattle.apollo_walks.specs.TurnByTurn.{over, opened_over, IsNoLater, AreTurnByTurn}
 use Rattle.apollo_walks.proofs.Depth.{enough, unopened_le-length}
 use Rattle.apollo_walks.proofs.Sequences.{no_course-first, no_course-last, turn-first, turn-before-two, field-before-two}
 
@@ -24,30 +24,30 @@ module _ {F : Type 0} (fragments : Fragments F) (before : Names) where
       turn-first (no_course before) y ∙ ap (λ (c : Course F). a_turn_before c) (no_course-first before y)
 
   give : (f : F) (below rest : Selections F) (ss : List (Selections F)) →
-      course_of_all fragments before (field f below rest ∷ ss) ≡ a_field_before f (course_of_all fragments before (over below (rest ∷ ss)))
+      course_of_all fragments before (field f below rest ∷ ss) ≡ a_field_before f (opened_over below (course_of_all fragments before (over below (rest ∷ ss))))
   unfolding course
   give f none rest ss =
       let y = course fragments before rest in
       let z = course_of_all fragments y.opened ss in
       field-before-two f (no_course before) y z ∙ ap (λ (c : Course F). a_field_before f c) (no_course-first before (followed_by y z))
   give f (field g b r) rest ss =
-      let x = course fragments before (field g b r) in
+      let x = just_opened (course fragments before (field g b r)) in
       let y = course fragments x.opened rest in
       field-before-two f x y (course_of_all fragments y.opened ss)
   give f (spread n r) rest ss =
-      let x = course fragments before (spread n r) in
+      let x = just_opened (course fragments before (spread n r)) in
       let y = course fragments x.opened rest in
       field-before-two f x y (course_of_all fragments y.opened ss)
   give f (inline b r) rest ss =
-      let x = course fragments before (inline b r) in
+      let x = just_opened (course fragments before (inline b r)) in
       let y = course fragments x.opened rest in
       field-before-two f x y (course_of_all fragments y.opened ss)
 
   go_inside : (inner rest : Selections F) (ss : List (Selections F)) →
-      course_of_all fragments before (inline inner rest ∷ ss) ≡ a_turn_before (course_of_all fragments before (inner ∷ rest ∷ ss))
+      course_of_all fragments before (inline inner rest ∷ ss) ≡ a_turn_before (just_opened (course_of_all fragments before (inner ∷ rest ∷ ss)))
   unfolding course
   go_inside inner rest ss =
-      let x = course fragments before inner in
+      let x = just_opened (course fragments before inner) in
       let y = course fragments x.opened rest in
       turn-before-two x y (course_of_all fragments y.opened ss)
 
@@ -69,13 +69,13 @@ module _ {F : Type 0} (fragments : Fragments F) (before : Names) where
       spread_gives n rest ss (no_course before) is ∙ ap (λ (c : Course F). a_turn_before c) (no_course-first before (followed_by y z))
 
   open_first : (n : List ℕ) (set rest : Selections F) (ss : List (Selections F)) → before n ≡ false → fragment_of fragments n ≡ Some set →
-      course_of_all fragments before (spread n rest ∷ ss) ≡ a_turn_before (course_of_all fragments (with_name n before) (set ∷ rest ∷ ss))
+      course_of_all fragments before (spread n rest ∷ ss) ≡ a_turn_before (just_opened (course_of_all fragments (with_name n before) (set ∷ rest ∷ ss)))
   unfolding course
   open_first n set rest ss closed found =
-      let x = course fragments (with_name n before) set in
+      let x = just_opened (course fragments (with_name n before) set) in
       let is : course_of_name fragments (course_within fragments (length fragments)) before n ≡ x =
       ap (λ o. course_of_spread (course_within fragments (length fragments)) before n o (before n)) found ∙ ap (λ b. course_of_spread (course_within fragments (length fragments)) before n (Some set) b) closed
-      ∙ enough fragments (length fragments) (with_name n before) set (unopened_le-length fragments (with_name n before)) in
+      ∙ ap (λ (c : Course F). just_opened c) (enough fragments (length fragments) (with_name n before) set (unopened_le-length fragments (with_name n before))) in
       spread_gives n rest ss x is
 
   pass_opened : (n : List ℕ) (rest : Selections F) (ss : List (Selections F)) → before n ≡ true →
@@ -117,7 +117,7 @@ module _ {F : Type 0} (fragments : Fragments F) (before : Names) where
       no_sooner-than (t + 1) (x.due (t + 1)) (y.due ((t + 1) + x.turns)) (each names n (t + 1))
       (no_sooner-still (t + 1) (((t + 1) + x.turns) + 1) (y.due ((t + 1) + x.turns)) (omega arith) (course_with-no_sooner p each x.opened rest ((t + 1) + x.turns)))
   course_with-no_sooner p each names (inline inner rest) t =
-      let x = course_with p names inner in
+      let x = just_opened (course_with p names inner) in
       let y = course_with p x.opened rest in
       no_sooner-than (t + 1) (x.due (t + 1)) (y.due ((t + 1) + x.turns))
       (no_sooner-still (t + 1) ((t + 1) + 1) (x.due (t + 1)) (omega arith) (course_with-no_sooner p each names inner (t + 1)))

@@ -6,7 +6,7 @@ ghost use Rattle.std.specs.Prelude.{◌≡◌, ◌≤◌, ◌+◌, ◌*◌, ◌�
 ghost use Rattle.std.specs.List.Sorted.{IsPermutation};
 ghost use Rattle.apollo_walks.specs.Selections.{Selections, Fragments, Names, no_names, fragment_of};
 ghost use Rattle.apollo_walks.specs.Reachable.{Among, Reachable, AreReachable, IsClosed, IsReached};
-ghost use Rattle.apollo_walks.specs.OrderInTurns.{OrderInTurns, AreDue};
+ghost use Rattle.apollo_walks.specs.OrderInTurns.{OrderInTurns, AreDue, AreOpenings};
 ghost use Rattle.apollo_walks.specs.WalkOrder.{Order};
 ghost use Rattle.apollo_walks.specs.TurnByTurn.{AreTurnByTurn};
 ghost use Rattle.apollo_walks.specs.Turns.{AreAllTurns, AreWithinTurns, turns_in_reach, selections_in_reach};
@@ -71,8 +71,10 @@ pub fn walks_give_each_field_in_its_turn<F>()
     ensures due { (fragments : Fragments F) (s : Selections F) → AreDue fragments s (course fragments no_names s).fields ((course fragments no_names s).due 0) }
     ensures one { (fragments : Fragments F) (s : Selections F) (fs gs : List F) (ds es : List ℕ) → AreDue fragments s fs ds → AreDue fragments s gs es → (fs ≡ gs) × (ds ≡ es) }
     ensures walk { (fragments : Fragments F) (s : Selections F) (fields : List F) (due : List ℕ) → AreDue fragments s fields due → IsWalk fragments s fields }
-    ensures all { (fragments : Fragments F) (s : Selections F) (fields : List F) (due : List ℕ) (opened : Names) (turns : ℕ)
-        → OrderInTurns fragments no_names 0 s fields due opened turns → AreAllTurns fragments s turns }
+    ensures all { (fragments : Fragments F) (s : Selections F) (fields : List F) (due opening : List ℕ) (opened : Names) (turns : ℕ)
+        → OrderInTurns fragments no_names 0 s fields due opening opened turns → AreAllTurns fragments s turns }
+    ensures openings { (fragments : Fragments F) (s : Selections F) → AreOpenings fragments s ((course fragments no_names s).opening 0) }
+    ensures openings_one { (fragments : Fragments F) (s : Selections F) (xs ys : List ℕ) → AreOpenings fragments s xs → AreOpenings fragments s ys → xs ≡ ys }
 {}
 
 /// The names that selections lead to are one list but for their order, so the turns of a walk over them are one number, and

@@ -1,15 +1,16 @@
 -- What a call of `next` gives, by the last turn that it takes.
-use Rattle.std.proofs.Common.{◌≡◌, ◌≤◌, ◌+◌, Bool, true, false, [], ◌∷◌, None, Some, Ok, Err, refl, sym, ap, subst, ◌∙◌, arith, true≢false}
+use Rattle.std.proofs.Common.{◌≡◌, ◌≤◌, ◌+◌, ◌++◌, ℕ, List, inr, append_assoc, Bool, true, false, [], ◌∷◌, None, Some, Ok, Err, refl, sym, ap, subst, ◌∙◌, arith, true≢false}
 use Rattle.std.specs.Borrow.{Bor}
 use Rattle.std.specs.declared.alloc.AllocError.{AllocError}
 use Rattle.graphql_nodes.specs.NodeView.{NodeView}
 use Rattle.apollo_walks.specs.Course.{Course}
+use Rattle.apollo_walks.specs.Reachable.{Among}
 use Rattle.apollo_walks.specs.TurnByTurn.{IsNoLater}
 use Rattle.apollo_executable.specs.Walks.Plain.{plain, fragments_of}
 use Rattle.apollo_executable.specs.Walks.WalkView.{IsWithinTurns}
 use Rattle.apollo_executable.specs.Walks.Nesting.{IsFlat, StaysFlat, opens_lists}
-use Rattle.apollo_executable.specs.Walks.NextItem.{IsNext, IsOver}
-use Rattle.apollo_executable.specs.Walks.Left.{walk_over, names_opened, IsTurn}
+use Rattle.apollo_executable.specs.Walks.NextItem.{IsNext, IsOver, Leaves}
+use Rattle.apollo_executable.specs.Walks.Left.{walk_over, names_opened, opening_if, IsTurn}
 use Rattle.apollo_executable.specs.Walks.Seen.{left, seen}
 use Rattle.apollo_executable.specs.declared.selection.Field.{Field}
 use Rattle.apollo_executable.specs.declared.selection.SelectionSet.{SelectionSet}
@@ -24,6 +25,7 @@ use Rattle.apollo_executable.proofs.Walking.WholeLemmas.{WholeWalkLaws, within, 
 pub record IsLater (old now : Walk) : Type 0 where
   pub fields : (left old).fields ≡ (left now).fields
   pub due : (left old).due old.taken.number ≡ (left now).due now.taken.number
+  pub opening : Leaves ((left old).opening old.taken.number) ((left now).opening now.taken.number)
   pub opened : (left old).opened ≡ (left now).opened
   pub document : now.document ≡ old.document
   pub start : now.start ≡ old.start
@@ -41,6 +43,21 @@ pub record IsWalkTurn (now : Walk) (did : Turn) (new : Walk) : Type 0 where
   pub taken : new.taken.number ≡ now.taken.number + 1
   pub turn : IsTurn now.lists did new.lists
   pub flat : IsFlat now.lists → StaysFlat did new.lists
+
+-- what is left of what is left
+leaves-on : (a b c : List ℕ) → Leaves a b → Leaves b c → Leaves a c
+leaves-on a b c p q = (p.0 ++ q.0, p.1 ∙ ap (λ (l : List ℕ). p.0 ++ l) q.1 ∙ sym (append_assoc p.0 q.0 c))
+
+leaves-if : (opens : Bool) (before after : ℕ → List ℕ) (m n : ℕ) → n ≡ m + 1 → before m ≡ opening_if opens after (m + 1) → Leaves (before m) (after n)
+leaves-if true before after m n is e = ((m + 1) ∷ [], e ∙ ap (λ (k : ℕ). (m + 1) ∷ after k) (sym is))
+leaves-if false before after m n is e = ([], e ∙ ap (λ (k : ℕ). after k) (sym is))
+
+among-after : (n : ℕ) (xs ys : List ℕ) → Among n ys → Among n (xs ++ ys)
+among-after n [] ys among = among
+among-after n (x ∷ xs) ys among = inr (among-after n xs ys among)
+
+among-leaves : (n : ℕ) (a b : List ℕ) → Leaves a b → Among n b → Among n a
+among-leaves n a b p among = subst (λ (l : List ℕ). Among n l) (sym p.1) (among-after n p.0 b among)
 
 nothing-left : (w : Walk) → w.lists.ended ≡ true → (left w).fields ≡ []
 nothing-left w ended = rw ended refl
@@ -66,10 +83,11 @@ module _ (laws : WholeWalkLaws) where
   gives-field old now new field later going t = record {
     document = ap (λ (d : Bor ExecutableDocument). d.now) (t.document ∙ later.document);
     start = ap (λ (s : Bor SelectionSet). s.now) (t.start ∙ later.start);
-    gives = (later.fields ∙ ap (λ (x : Course (NodeView Field)). x.fields) t.turn.0, later.goes_on going, t.turn.1);
+    gives = (later.fields ∙ ap (λ (x : Course (NodeView Field)). x.fields) t.turn.1.0, later.goes_on going, t.turn.1.1);
     takes = (
       omega (arith, later.more, t.taken),
-      later.due ∙ ap (λ (x : Course (NodeView Field)). x.due now.taken.number) t.turn.0 ∙ ap (λ n. n ∷ (left new).due n) (sym t.taken),
+      later.due ∙ ap (λ (x : Course (NodeView Field)). x.due now.taken.number) t.turn.1.0 ∙ ap (λ n. n ∷ (left new).due n) (sym t.taken),
+      leaves-on _ _ _ later.opening (leaves-if t.turn.0 (left now).opening (left new).opening now.taken.number new.taken.number t.taken (ap (λ (x : Course (NodeView Field)). x.opening now.taken.number) t.turn.1.0)),
     );
     bound = bound new old.lists.deep (t.deep ∙ later.deep);
     over = tt;
@@ -81,11 +99,12 @@ module _ (laws : WholeWalkLaws) where
   gives-error old now new error later going t = record {
     document = ap (λ (d : Bor ExecutableDocument). d.now) (t.document ∙ later.document);
     start = ap (λ (s : Bor SelectionSet). s.now) (t.start ∙ later.start);
-    gives = (later.goes_on going, nothing-left new t.turn, t.turn);
+    gives = (later.goes_on going, nothing-left new t.turn.0, t.turn.0);
     takes = (
       omega (arith, later.more, t.taken),
       (let next = left_of-no_sooner now.lists (laws.steps (fragments_of now.lists.deep now.lists.document.now) (names_opened now.lists)) going now.taken.number in
           subst (λ n. IsNoLater n (seen old).due) (sym t.taken) (subst (λ l. IsNoLater (now.taken.number + 1) l) (sym later.due) next)),
+      among-leaves new.taken.number _ _ later.opening (subst (λ n. Among n ((left now).opening now.taken.number)) (sym t.taken) (t.turn.1 now.taken.number)),
     );
     bound = bound new old.lists.deep (t.deep ∙ later.deep);
     over = tt;
@@ -118,17 +137,18 @@ module _ (laws : WholeWalkLaws) where
 -- a turn that gives no field leaves a later walk
 pub turns-later : (old now new : Walk) → IsLater old now → now.lists.ended ≡ false → IsWalkTurn now Moved new → IsLater old new
 turns-later old now new later going t = record {
-  fields = later.fields ∙ ap (λ (x : Course (NodeView Field)). x.fields) t.turn;
-  due = later.due ∙ ap (λ (x : Course (NodeView Field)). x.due now.taken.number) t.turn ∙ ap (λ n. (left new).due n) (sym t.taken);
-  opened = later.opened ∙ ap (λ (x : Course (NodeView Field)). x.opened) t.turn;
+  fields = later.fields ∙ ap (λ (x : Course (NodeView Field)). x.fields) t.turn.1;
+  opening = leaves-on _ _ _ later.opening (leaves-if t.turn.0 (left now).opening (left new).opening now.taken.number new.taken.number t.taken (ap (λ (x : Course (NodeView Field)). x.opening now.taken.number) t.turn.1));
+  due = later.due ∙ ap (λ (x : Course (NodeView Field)). x.due now.taken.number) t.turn.1 ∙ ap (λ n. (left new).due n) (sym t.taken);
+  opened = later.opened ∙ ap (λ (x : Course (NodeView Field)). x.opened) t.turn.1;
   document = t.document ∙ later.document;
   start = t.start ∙ later.start;
   deep = t.deep ∙ later.deep;
   goes_on = λ _. later.goes_on going;
   stands = λ ended. absurd (true≢false (sym ended ∙ later.goes_on going));
-  turns = (let e = ap (λ (x : Course (NodeView Field)). x.turns) t.turn in omega (arith, e, later.turns, t.taken));
+  turns = (let e = ap (λ (x : Course (NodeView Field)). x.turns) t.turn.1 in omega (arith, e, later.turns, t.taken));
   more = omega (arith, later.more, t.taken);
 }
 
 pub later-itself : (w : Walk) → IsLater w w
-later-itself w = record { fields = refl; due = refl; opened = refl; document = refl; start = refl; deep = refl; goes_on = λ going. going; stands = λ _. refl; turns = refl; more = omega arith }
+later-itself w = record { fields = refl; due = refl; opening = ([], refl); opened = refl; document = refl; start = refl; deep = refl; goes_on = λ going. going; stands = λ _. refl; turns = refl; more = omega arith }

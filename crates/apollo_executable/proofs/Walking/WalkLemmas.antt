@@ -1,5 +1,5 @@
 -- What the parts of a walk say of what is left of it.
-use Rattle.std.proofs.Common.{◌≡◌, ◌≤◌, ◌+◌, ℕ, true, false, List, [], ◌∷◌, ◌++◌, map, reverse, Result, Ok, Err, OnOk, is_ok, length, arith, refl, sym, ap, subst, ◌∙◌}
+use Rattle.std.proofs.Common.{◌≡◌, ◌≤◌, ◌+◌, ℕ, true, false, List, [], ◌∷◌, ◌++◌, map, reverse, Result, Ok, Err, OnOk, OnErr, is_ok, length, arith, refl, sym, ap, subst, ◌∙◌}
 use Rattle.std.proofs.lemmas.List.{reverse-append, map-append}
 use Rattle.std.specs.Prelude.{nat_eq}
 use Rattle.std.specs.Borrow.{Bor}
@@ -51,15 +51,20 @@ left_of-no_sooner w steps goes_on taken =
 -- what a turn leaves of the turns, where so many were taken of all
 pub turn-counts : (old new : OpenLists) (turn : Turn) → AreTurnByTurn (fragments_of old.deep old.document.now) (names_opened old) → IsTurn old turn new → old.ended ≡ false → (n all : ℕ) → n + (left_of old).turns ≡ all →
     (n + 1 ≤ all) × (new.ended ≡ false → (n + 1) + (left_of new).turns ≡ all)
-turn-counts old new (Gave field) steps is goes_on n all sum = let e = ap (λ (s : Course (NodeView Field)). s.turns) is.0 in (omega arith, λ _. omega arith)
-turn-counts old new Moved steps is goes_on n all sum = let e = ap (λ (s : Course (NodeView Field)). s.turns) is in (omega arith, λ _. omega arith)
+turn-counts old new (Gave field) steps is goes_on n all sum = let e = ap (λ (s : Course (NodeView Field)). s.turns) is.1.0 in (omega arith, λ _. omega arith)
+turn-counts old new Moved steps is goes_on n all sum = let e = ap (λ (s : Course (NodeView Field)). s.turns) is.1 in (omega arith, λ _. omega arith)
 turn-counts old new Refused steps is goes_on n all sum =
     let e = ap (λ (s : Course (NodeView Field)). s.turns) (left_of-open old goes_on) in
     let some = left_in-positive old.deep old.document.now (names_opened old) steps old.current.now (waiting_lists old.waiting.items) in
+    let ended : new.ended ≡ true = is.0 in
     (omega arith, λ still. absurd (cc))
 
 -- and of the names
 pub turn-opens : (old new : OpenLists) (turn : Turn) → IsTurn old turn new → new.ended ≡ false → (left_of old).opened ≡ (left_of new).opened
-turn-opens old new (Gave field) is goes_on = ap (λ (s : Course (NodeView Field)). s.opened) is.0
-turn-opens old new Moved is goes_on = ap (λ (s : Course (NodeView Field)). s.opened) is
-turn-opens old new Refused is goes_on = absurd (cc)
+turn-opens old new (Gave field) is goes_on = ap (λ (s : Course (NodeView Field)). s.opened) is.1.0
+turn-opens old new Moved is goes_on = ap (λ (s : Course (NodeView Field)). s.opened) is.1
+turn-opens old new Refused is goes_on = let ended : new.ended ≡ true = is.0 in absurd (cc)
+
+pub OnErr-always : {T E : Type 0} (A : Type 0) (r : Result T E) → A → OnErr r A
+OnErr-always A (Ok x) a = tt
+OnErr-always A (Err e) a = a

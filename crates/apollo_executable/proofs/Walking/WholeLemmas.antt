@@ -3,7 +3,7 @@ use Rattle.std.proofs.Common.{◌≡◌, ◌≤◌, ◌↔◌, Bool, ℕ, List, 
 use Rattle.graphql_nodes.specs.NodeView.{NodeView}
 use Rattle.apollo_walks.specs.Selections.{Fragments, Names, none, no_names, fragment_of}
 use Rattle.apollo_walks.specs.WalkOrder.{Order, of_none}
-use Rattle.apollo_walks.specs.OrderInTurns.{AreDue}
+use Rattle.apollo_walks.specs.OrderInTurns.{AreDue, AreOpenings}
 use Rattle.apollo_walks.specs.Reachable.{Reachable}
 use Rattle.apollo_walks.specs.TurnByTurn.{AreTurnByTurn}
 use Rattle.apollo_walks.specs.Turns.{AreAllTurns, AreWithinTurns}
@@ -11,7 +11,7 @@ use Rattle.apollo_walks.specs.Whole.{IsWalk}
 use Rattle.apollo_walks.specs.Course.{course}
 use Rattle.apollo_executable.specs.Walks.Plain.{Plain, plain, fragments_of}
 use Rattle.apollo_executable.specs.Walks.Left.{walk_over, opened_names}
-use Rattle.apollo_executable.specs.Walks.WalkView.{AreWalked, AreDueIn, IsWithinTurns, TakesAllTurns, AreReachedNames}
+use Rattle.apollo_executable.specs.Walks.WalkView.{AreWalked, AreDueIn, AreOpenedIn, IsWithinTurns, TakesAllTurns, AreReachedNames}
 use Rattle.apollo_executable.specs.declared.selection.Field.{Field}
 use Rattle.apollo_executable.specs.declared.selection.SelectionSet.{SelectionSet}
 use Rattle.apollo_executable.specs.declared.document.ExecutableDocument.{ExecutableDocument}
@@ -51,6 +51,11 @@ module _ (deep : Bool) (document : ExecutableDocument) (set : SelectionSet) wher
       → AreDueIn deep document set (walk_over deep document set).fields ((walk_over deep document set).due 0)
   unfolding walk_over
   in-turns due = due
+
+  pub in-openings : AreOpenings (fragments_of deep document) (plain deep set.selections) ((course (fragments_of deep document) no_names (plain deep set.selections)).opening 0)
+      → AreOpenedIn deep document set ((walk_over deep document set).opening 0)
+  unfolding walk_over
+  in-openings opening = opening
 
   pub within : AreWithinTurns (fragments_of deep document) (plain deep set.selections) (course (fragments_of deep document) no_names (plain deep set.selections)).turns
       → (turns : ℕ) → turns ≤ (walk_over deep document set).turns → IsWithinTurns deep document set turns

@@ -1,5 +1,5 @@
 -- What is left of a walk, by the lists that are open.
-use Rattle.std.specs.Prelude.{◌≡◌, ℕ, Bool, true, false, List, ◌∷◌, map, filter, reverse, cond, position, slice_index_or}
+use Rattle.std.specs.Prelude.{◌≡◌, ◌+◌, ℕ, Bool, true, false, List, ◌∷◌, map, filter, reverse, cond, position, slice_index_or}
 use Rattle.std.specs.Borrow.{Bor}
 use Rattle.std.specs.Option.{option_map_or}
 use Rattle.graphql_nodes.specs.NodeView.{NodeView}
@@ -7,6 +7,7 @@ use Rattle.graphql_nodes.specs.SameText.{by_text}
 use Rattle.graphql_nodes.specs.Tables.{keys_of}
 use Rattle.apollo_walks.specs.Selections.{Names, no_names}
 use Rattle.apollo_walks.specs.Course.{Course, no_course, course, course_of_all, a_turn_before, a_field_before}
+use Rattle.apollo_walks.specs.Reachable.{Among}
 use Rattle.apollo_executable.specs.Walks.Plain.{plain, fragments_of}
 use Rattle.apollo_executable.specs.declared.selection.Selection.{Selection}
 use Rattle.apollo_executable.specs.declared.selection.Selection.TheVariants as variant
@@ -45,14 +46,28 @@ left_of w = cond w.ended (no_course (names_opened w)) (left_in w.deep w.document
 unfoldable pub walk_over : Bool → ExecutableDocument → SelectionSet → Course (NodeView Field)
 walk_over deep document set = course (fragments_of deep document) no_names (plain deep set.selections)
 
--- what was left before a turn, and after it
+-- over lists the first of which the last turn opened, or did not
+abbrev pub opening_if : Bool → (ℕ → List ℕ) → ℕ → List ℕ
+opening_if true opening taken = taken ∷ opening taken
+opening_if false opening taken = opening taken
+
+abbrev pub just_opened_if : Bool → Course (NodeView Field) → Course (NodeView Field)
+just_opened_if opens x = record { fields = x.fields; due = x.due; opening = opening_if opens x.opening; opened = x.opened; turns = x.turns }
+
+-- the next turn opens a list
+abbrev pub OpensNow : Course (NodeView Field) → Type 0
+OpensNow x = (taken : ℕ) → Among (taken + 1) (x.opening taken)
+
+-- what was left before a turn, and after it. A turn that is refused would have opened a list
 abbrev pub IsTurn : OpenLists → Turn → OpenLists → Type 0
-IsTurn old (Gave field) new = (left_of old ≡ a_field_before field.now (left_of new)) × (new.ended ≡ false)
-IsTurn old Moved new = left_of old ≡ a_turn_before (left_of new)
-IsTurn old Refused new = new.ended ≡ true
+IsTurn old (Gave field) new = (opens : Bool) × ((left_of old ≡ a_field_before field.now (just_opened_if opens (left_of new))) × (new.ended ≡ false))
+IsTurn old Moved new = (opens : Bool) × (left_of old ≡ a_turn_before (just_opened_if opens (left_of new)))
+IsTurn old Refused new = (new.ended ≡ true) × OpensNow (left_of old)
 
 -- the same, where old has just taken a spread from its open list
+abbrev pub left_with : OpenLists → NodeView FragmentSpread → Course (NodeView Field)
+left_with old n = left_in old.deep old.document.now (names_opened old) (variant.FragmentSpread n ∷ old.current.now) (waiting_lists old.waiting.items)
+
 abbrev pub IsSpreadTurn : OpenLists → NodeView FragmentSpread → OpenLists → Type 0
-IsSpreadTurn old n new =
-    left_in old.deep old.document.now (names_opened old) (variant.FragmentSpread n ∷ old.current.now) (waiting_lists old.waiting.items)
-    ≡ a_turn_before (left_in new.deep new.document.now (names_opened new) new.current.now (waiting_lists new.waiting.items))
+IsSpreadTurn old n new = (opens : Bool)
+    × (left_with old n ≡ a_turn_before (just_opened_if opens (left_in new.deep new.document.now (names_opened new) new.current.now (waiting_lists new.waiting.items))))

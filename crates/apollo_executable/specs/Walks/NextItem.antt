@@ -1,8 +1,9 @@
 -- What a call of `next` gives of a walk, and what it leaves.
-use Rattle.std.specs.Prelude.{◌≡◌, ◌<◌, ℕ, suc, Bool, true, false, [], ◌∷◌, length, Option, None, Some, IfNone, IfSome, cond, Result, Ok, Err, OnErr}
+use Rattle.std.specs.Prelude.{◌≡◌, ◌<◌, ◌++◌, List, ℕ, suc, Bool, true, false, [], ◌∷◌, length, Option, None, Some, IfNone, IfSome, cond, Result, Ok, Err, OnErr}
 use Rattle.std.specs.Borrow.{Bor}
 use Rattle.std.specs.declared.alloc.AllocError.{AllocError}
 use Rattle.graphql_nodes.specs.NodeView.{NodeView}
+use Rattle.apollo_walks.specs.Reachable.{Among}
 use Rattle.apollo_walks.specs.TurnByTurn.{IsNoLater}
 use Rattle.apollo_executable.specs.Walks.Nesting.{opens_lists}
 use Rattle.apollo_executable.specs.Walks.WalkView.{WalkView, IsWithinTurns, TakesAllTurns, AreReachedNames}
@@ -19,13 +20,17 @@ GivesFirst old (Some (Ok field)) new = (old.coming ≡ field.now ∷ new.coming)
 -- after the error nothing comes
 GivesFirst old (Some (Err error)) new = (old.ended ≡ false) × (new.coming ≡ []) × (new.ended ≡ true)
 
+-- those are the last of these
+abbrev pub Leaves : List ℕ → List ℕ → Type 0
+Leaves turns last = (passed : List ℕ) × (turns ≡ passed ++ last)
+
 -- after the end nothing changes any more, and each item takes a turn or more
 abbrev pub TakesTurns : WalkView → Option Item → WalkView → Type 0
 TakesTurns old None new = old.ended ≡ true → new ≡ old
 -- a field is given in its turn
-TakesTurns old (Some (Ok field)) new = (old.taken < new.taken) × (old.due ≡ new.taken ∷ new.due)
--- the error comes no later than the next field would
-TakesTurns old (Some (Err error)) new = (old.taken < new.taken) × IsNoLater new.taken old.due
+TakesTurns old (Some (Ok field)) new = (old.taken < new.taken) × (old.due ≡ new.taken ∷ new.due) × Leaves old.opening new.opening
+-- the error comes in a turn that opens a list, no later than the next field would
+TakesTurns old (Some (Err error)) new = (old.taken < new.taken) × IsNoLater new.taken old.due × Among new.taken old.opening
 
 -- a whole walk is over
 abbrev pub IsOver : Bool → WalkView → Type 0

@@ -16,6 +16,7 @@ seen w = record {
   start = w.start.now;
   coming = (left w).fields;
   due = (left w).due w.taken.number;
+  opening = (left w).opening w.taken.number;
   opened = opened_names w.document.now (names_opened w.lists);
   ended = w.lists.ended;
   taken = w.taken.number;

@@ -1,5 +1,5 @@
 //! The lists that a walk has open, and one turn over them.
-ghost use Rattle.std.specs.Prelude.{◌≡◌, [], ◌∷◌, ◌++◌, OnOk, false};
+ghost use Rattle.std.specs.Prelude.{◌≡◌, [], ◌∷◌, ◌++◌, OnOk, OnErr, false};
 
 use crate::document::ExecutableDocument;
 use crate::selection::{Field, FragmentSpread, Selection, SelectionSet};
@@ -31,7 +31,7 @@ pub(crate) enum Turn<'doc> {
 
 impl<'doc> OpenLists<'doc> {
     ghost use Rattle.apollo_executable.specs.Walks.Plain.{below_of};
-    ghost use Rattle.apollo_executable.specs.Walks.Left.{left_of, walk_over, names_opened, opened_names, IsTurn, IsSpreadTurn};
+    ghost use Rattle.apollo_executable.specs.Walks.Left.{left_of, walk_over, names_opened, opened_names, IsTurn, IsSpreadTurn, OpensNow, left_with};
     ghost use Rattle.apollo_executable.specs.Walks.Nesting.{IsFlat, StaysFlat, opens_lists};
 
     /// The list of this set.
@@ -79,6 +79,7 @@ impl<'doc> OpenLists<'doc> {
         ensures deep { self.new.deep ≡ self.old.deep }
         ensures ended { self.new.ended ≡ self.old.ended }
         ensures turn { OnOk result (IsSpreadTurn self.old spread.now self.new) }
+        ensures refused { OnErr result (OpensNow (left_with self.old spread.now)) }
     {
         walks_go_turn_by_turn::<Node<Field>>();
         let fragments = &self.document.fragments;

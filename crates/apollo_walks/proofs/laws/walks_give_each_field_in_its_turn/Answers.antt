@@ -1,4 +1,4 @@
-use Rattle.apollo_walks.proofs.InTurns.{course-due, due-once, due-walk, due-turns}
+use Rattle.apollo_walks.proofs.InTurns.{course-due, due-once, due-walk, due-turns, course-openings, openings-once}
 use Rattle.apollo_walks.proofs.laws.walks_give_each_field_in_its_turn.Goals as goal
 
 pub returns-clause-due : goal.returns-clause-due
@@ -12,3 +12,9 @@ returns-clause-walk g c = λ fragments s. due-walk fragments s
 
 pub returns-clause-all : goal.returns-clause-all
 returns-clause-all g c = λ fragments s. due-turns fragments s
+
+pub returns-clause-openings : goal.returns-clause-openings
+returns-clause-openings g c = λ fragments s. course-openings fragments s
+
+pub returns-clause-openings_one : goal.returns-clause-openings_one
+returns-clause-openings_one g c = λ fragments s. openings-once fragments s
