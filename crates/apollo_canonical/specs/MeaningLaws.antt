@@ -22,7 +22,7 @@ use Rattle.apollo_meaning.specs.Order.Places.{extension_places, folding_order, o
 use Rattle.apollo_meaning.specs.Schema.Definition.{schema_sourced}
 use Rattle.apollo_meaning.specs.Steps.Prefixes.{found, found_at}
 use Rattle.apollo_meaning.specs.Types.Components.{Sourced}
-use Rattle.apollo_meaning.specs.Types.Meaning.{sourced, type_from, type_names}
+use Rattle.apollo_meaning.specs.Types.Meaning.{extensions_with_origin, type_from, type_names}
 
 pub record MeaningLaws : Type 0 where
   -- a type is headed by its definition, and each kind is the same as itself
@@ -38,7 +38,7 @@ pub record MeaningLaws : Type 0 where
   pub joined : (xs ys : List ListItem) (n : List ℕ) → first (xs ++ ys) n ≡ option_or (first xs n) (first ys n)
   -- the extensions that are folded, and how often each is met
   pub folded : (start : ℕ) (xs : List ListItem) (n : List ℕ) (d : TypePart) → first xs n ≡ Some d
-      → map (λ s. s.1) (sourced n start (folding_order xs)) ≡ of_kind (kind_of d) (extensions_of xs n)
+      → map (λ s. s.1) (extensions_with_origin n start (folding_order xs)) ≡ of_kind (kind_of d) (extensions_of xs n)
   pub schema_folded : (start : ℕ) (xs : List ListItem) (s : SchemaPart) → first_schema xs ≡ Some s
       → map (λ e. e.1) (schema_sourced start (folding_order xs)) ≡ schema_extensions xs
   pub types_met : (xs : List ListItem) → All (λ e. times_met types xs e ≡ once_if_defined types xs e) (extension_places types xs)

@@ -5,12 +5,12 @@ use Rattle.apollo_meaning.specs.Items.ListItems.{ListItem}
 use Rattle.apollo_meaning.specs.Items.Named.{extensions_of, first, of_kind}
 use Rattle.apollo_meaning.specs.Items.Parts.{TypePart, kind_of}
 use Rattle.apollo_meaning.specs.Order.Places.{folding_order}
-use Rattle.apollo_meaning.specs.Types.Meaning.{parts, sourced, type_from, type_of}
+use Rattle.apollo_meaning.specs.Types.Meaning.{parts, extensions_with_origin, type_from, type_of}
 use Rattle.apollo_compiler.specs.Headline.{IsFolded}
 
 -- a type of a list is folded of its name's first definition, where all extensions of that one's kind are folded for a name
 pub type-folded : (xs : List ListItem) (n : List ℕ) (t : ExtendedType)
-    → ((d : TypePart) → first xs n ≡ Some d → map (λ s. s.1) (sourced n 0 (folding_order xs)) ≡ of_kind (kind_of d) (extensions_of xs n))
+    → ((d : TypePart) → first xs n ≡ Some d → map (λ s. s.1) (extensions_with_origin n 0 (folding_order xs)) ≡ of_kind (kind_of d) (extensions_of xs n))
     → type_of 0 (folding_order xs) xs n ≡ Some t → IsFolded xs n t
 type-folded xs n t all is = by (first xs n) refl is
   where

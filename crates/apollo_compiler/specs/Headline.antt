@@ -15,7 +15,7 @@ use Rattle.apollo_meaning.specs.Items.Named.{extensions_of, first, of_kind}
 use Rattle.apollo_meaning.specs.Items.Parts.{TypePart, kind_of}
 use Rattle.apollo_meaning.specs.Order.Places.{folding_order}
 use Rattle.apollo_meaning.specs.Schema.Whole.{whole}
-use Rattle.apollo_meaning.specs.Types.Meaning.{parts, sourced, type_from}
+use Rattle.apollo_meaning.specs.Types.Meaning.{parts, extensions_with_origin, type_from}
 use Rattle.apollo_schema.specs.declared.schema.Schema.{Schema}
 use Rattle.apollo_executable.specs.Erasure.{at_place}
 use Rattle.apollo_executable.specs.Listed.{listed}
@@ -43,7 +43,7 @@ type_named c name = lookup (by_text name) c.compiled.schema.types
 pub record IsFolded (items : List ListItem) (name : List ℕ) (t : ExtendedType) : Type 0 where
   pub definition : TypePart
   pub is_first : first items name ≡ Some definition
-  pub are_all : map (λ e. e.1) (sourced name 0 (folding_order items)) ≡ of_kind (kind_of definition) (extensions_of items name)
+  pub are_all : map (λ e. e.1) (extensions_with_origin name 0 (folding_order items)) ≡ of_kind (kind_of definition) (extensions_of items name)
   pub is : t ≡ type_from definition (parts 0 (folding_order items) name definition)
 
 -- the operations that a document keeps of a list: the anonymous one, then the named ones

@@ -1,11 +1,11 @@
 -- Which type parts make, by their kind.
-use Rattle.apollo_meaning.proofs.Prelude.{◌≡◌, List, ◌++◌, refl, sym, ap, subst, ◌∙◌, NodeView, ExtendedType, Scalar, Object, Interface, Union, Enum, InputObject, TypePart, TypeBody, ScalarBody, ObjectBody, InterfaceBody, UnionBody, EnumBody, InputObjectBody, Sourced, type_at, type_from}
+use Rattle.apollo_meaning.proofs.Prelude.{◌≡◌, List, ◌++◌, refl, sym, ap, subst, ◌∙◌, NodeView, ExtendedType, Scalar, Object, Interface, Union, Enum, InputObject, TypePart, TypeBody, ScalarBody, ObjectBody, InterfaceBody, UnionBody, EnumBody, InputObjectBody, Sourced, type_of_kind, type_from}
 use Rattle.apollo_meaning.specs.Types.Meaning.{scalar_of, object_of, interface_of, union_of, enum_of, input_object_of}
 
 -- a node of one kind is what parts make, and others make such a node as well
 pub record IsOf {T : Type 0} (make : NodeView T → ExtendedType) (of : TypePart → List Sourced → T) (b : TypeBody) (head : TypePart) (done : List Sourced) (n : NodeView T) : Type 0 where
   pub node : n ≡ record { value = of head done; location = head.location }
-  pub more : (parts : List Sourced) → type_at b head parts ≡ make (record { value = of head parts; location = head.location })
+  pub more : (parts : List Sourced) → type_of_kind b head parts ≡ make (record { value = of head parts; location = head.location })
 
 -- the value is that of the parts
 pub IsOf-value : {T : Type 0} {make : NodeView T → ExtendedType} {of : TypePart → List Sourced → T} {b : TypeBody} {head : TypePart} {done : List Sourced} {n : NodeView T}
@@ -32,7 +32,7 @@ IsOfParts b head done (Union n) = IsOf Union union_of b head done n
 IsOfParts b head done (Enum n) = IsOf Enum enum_of b head done n
 IsOfParts b head done (InputObject n) = IsOf InputObject input_object_of b head done n
 
-made : (b : TypeBody) (head : TypePart) (done : List Sourced) → IsOfParts b head done (type_at b head done)
+made : (b : TypeBody) (head : TypePart) (done : List Sourced) → IsOfParts b head done (type_of_kind b head done)
 made ScalarBody head done = record { node = refl; more = λ parts. refl }
 made (ObjectBody interfaces fields) head done = record { node = refl; more = λ parts. refl }
 made (InterfaceBody interfaces fields) head done = record { node = refl; more = λ parts. refl }

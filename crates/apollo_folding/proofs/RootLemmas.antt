@@ -7,7 +7,7 @@ use Rattle.apollo_types.specs.SchemaRoots.{root_of}
 use Rattle.apollo_meaning.specs.declared.build_error.BuildError.TheVariants as errors
 use Rattle.apollo_meaning.specs.Schema.Definition.{same_operation, schema_directives_of, roots_of}
 use Rattle.apollo_meaning.specs.Faults.RootFaults.{root_fault, root_faults}
-use Rattle.apollo_folding.specs.RootTables.{NamedRoot, named_root, first_named, with_roots, put_root, held_fault, held_faults}
+use Rattle.apollo_folding.specs.RootTables.{NamedRoot, root_with_origin, first_named, with_roots, put_root, held_fault, held_faults}
 
 -- one more root
 first-push : (op : OperationType) (rs : List NamedRoot) (r : NamedRoot) → first_named op (rs ++ r ∷ []) ≡ option_or (first_named op rs) (cond (same_operation op r.0) (Some r.1) None)
@@ -63,9 +63,9 @@ root_of-first d rs Subscription = refl
 
 -- one more root is folded
 pub held_faults-turn : (rs : List NamedRoot) (o : ComponentOrigin) (xs : List Root) (i : ℕ) (x : Root) → i < length xs → x ≡ get_or xs i x
-    → held_faults rs o (take (i + 1) xs) ≡ held_faults rs o (take i xs) ++ held_fault (first_named x.value.0 (rs ++ map (named_root o) (take i xs))) x
+    → held_faults rs o (take (i + 1) xs) ≡ held_faults rs o (take i xs) ++ held_fault (first_named x.value.0 (rs ++ map (root_with_origin o) (take i xs))) x
 held_faults-turn rs o xs i x lt is =
-    ap (held_faults rs o) (take_more xs i x lt ∙ ap (λ y. take i xs ++ y ∷ []) (sym is)) ∙ each_after-push (λ done x. held_fault (first_named x.value.0 (rs ++ map (named_root o) done)) x) [] (take i xs) x
+    ap (held_faults rs o) (take_more xs i x lt ∙ ap (λ y. take i xs ++ y ∷ []) (sym is)) ∙ each_after-push (λ done x. held_fault (first_named x.value.0 (rs ++ map (root_with_origin o) done)) x) [] (take i xs) x
 
 -- names of roots, without their origins
 abbrev Named : Type 0
@@ -109,21 +109,21 @@ held-root_faults : (o : ComponentOrigin) (rs : List NamedRoot) (before xs : List
 held-root_faults o rs before xs same =
     (λ i. each_after (λ done x. one done x i) [] xs) ∙ sym (each_after-start root_fault before xs)
   where
-    more : (done : List Root) → map name_of (rs ++ map (named_root o) done) ≡ map (λ k. k.value) (before ++ done)
+    more : (done : List Root) → map name_of (rs ++ map (root_with_origin o) done) ≡ map (λ k. k.value) (before ++ done)
     more done =
-        map-append name_of rs (map (named_root o) done) ∙ (λ i. same i ++ map-map name_of (named_root o) done i) ∙ sym (map-append (λ (k : Root). k.value) before done)
+        map-append name_of rs (map (root_with_origin o) done) ∙ (λ i. same i ++ map-map name_of (root_with_origin o) done i) ∙ sym (map-append (λ (k : Root). k.value) before done)
 
-    one : (done : List Root) (x : Root) → held_fault (first_named x.value.0 (rs ++ map (named_root o) done)) x ≡ root_fault (before ++ done) x
+    one : (done : List Root) (x : Root) → held_fault (first_named x.value.0 (rs ++ map (root_with_origin o) done)) x ≡ root_fault (before ++ done) x
     one done x =
-        held-name (first_named x.value.0 (rs ++ map (named_root o) done)) x
-        ∙ ap (name_fault x) (name-first x.value.0 (rs ++ map (named_root o) done) ∙ ap (first_name x.value.0) (more done))
+        held-name (first_named x.value.0 (rs ++ map (root_with_origin o) done)) x
+        ∙ ap (name_fault x) (name-first x.value.0 (rs ++ map (root_with_origin o) done) ∙ ap (first_name x.value.0) (more done))
         ∙ sym (root-name (before ++ done) x)
 
 -- the roots that parts name are those that they hold
 pub roots-joined : (done : List SourcedSchema) → map name_of (flat_map roots_of done) ≡ map (λ k. k.value) (roots_in (map (λ s. s.1) done))
 roots-joined [] = refl
 roots-joined (s ∷ done) =
-    let here : map name_of (roots_of s) ≡ map (λ (k : Root). k.value) s.1.roots = map-map name_of (named_root s.0) s.1.roots in
+    let here : map name_of (roots_of s) ≡ map (λ (k : Root). k.value) s.1.roots = map-map name_of (root_with_origin s.0) s.1.roots in
     let rest : map name_of (flat_map roots_of done) ≡ map (λ (k : Root). k.value) (roots_in (map (λ s. s.1) done)) = roots-joined done in
     map-append name_of (roots_of s) (flat_map roots_of done)
     ∙ (λ i. here i ++ rest i)

@@ -19,8 +19,8 @@ abbrev pub NamedRoot : Type 0
 NamedRoot = OperationType × ComponentName
 
 -- a root with its origin
-abbrev pub named_root : ComponentOrigin → Root → NamedRoot
-named_root o r = (r.value.0, component_name o r.value.1)
+abbrev pub root_with_origin : ComponentOrigin → Root → NamedRoot
+root_with_origin o r = (r.value.0, component_name o r.value.1)
 
 -- the first of these that is named for an operation
 abbrev pub first_named : OperationType → List NamedRoot → Option ComponentName
@@ -52,4 +52,4 @@ held_fault held r = option_map_or (λ kept. dropped_root r kept ∷ []) held []
 
 -- the faults of roots of an origin with these before them, in order
 abbrev pub held_faults : List NamedRoot → ComponentOrigin → List Root → List Fault
-held_faults rs o = each_after (λ done x. held_fault (first_named x.value.0 (rs ++ map (named_root o) done)) x) []
+held_faults rs o = each_after (λ done x. held_fault (first_named x.value.0 (rs ++ map (root_with_origin o) done)) x) []

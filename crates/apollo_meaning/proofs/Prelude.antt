@@ -55,6 +55,6 @@ pub use Rattle.apollo_meaning.specs.Steps.Joining.{schema_joining_faults, joinin
 pub use Rattle.apollo_meaning.specs.Directives.{directive_definitions, Directives, AreDirectivesOf}
 pub use Rattle.apollo_meaning.specs.Faults.OtherFaults.{other_faults}
 pub use Rattle.apollo_meaning.specs.Types.Components.{component, component_name, same_component_name, distinct_names, Sourced, interfaces_of, fields_of, distinct_entries}
-pub use Rattle.apollo_meaning.specs.Types.Meaning.{sourced, type_at, type_from, extension_part, numbered, type_names, parts, AreTypesOf}
+pub use Rattle.apollo_meaning.specs.Types.Meaning.{extensions_with_origin, type_of_kind, type_from, extension_part, numbered, type_names, parts, AreTypesOf}
 pub use Rattle.apollo_meaning.specs.Schema.Whole.{whole}
 pub use Rattle.apollo_meaning.specs.Schema.Definition.{SourcedSchema, schema_from, schema_of, schema_definition_of}

@@ -6,10 +6,10 @@ ghost use Rattle.apollo_meaning.specs.Items.Parts.{TypePart, SchemaPart, kind_of
 ghost use Rattle.apollo_meaning.specs.Items.ListItems.{ListItem, Added, added, added_items, defined_part};
 ghost use Rattle.apollo_meaning.specs.Items.Named.{first, extensions_of, of_kind, first_schema, schema_extensions};
 ghost use Rattle.apollo_meaning.specs.Order.Places.{Placed, types, schemas, extension_places, first_place, times_met, once_if_defined, folding_order};
-ghost use Rattle.apollo_meaning.specs.Types.Meaning.{sourced, type_from, type_names, type_of};
+ghost use Rattle.apollo_meaning.specs.Types.Meaning.{extensions_with_origin, type_from, type_names, type_of};
 ghost use Rattle.apollo_meaning.specs.Types.Components.{Sourced};
 ghost use Rattle.apollo_meaning.specs.Schema.Whole.{whole, folds};
-ghost use Rattle.apollo_meaning.specs.Rows.TypeRows.{line, folding_place, extensions_around, written_around, extensions_that_wait, extension_of_another_kind};
+ghost use Rattle.apollo_meaning.specs.Rows.TypeRows.{line, folding_location, extensions_around, written_around, extensions_that_wait, extension_of_another_kind};
 ghost use Rattle.apollo_meaning.specs.Faults.Collisions.{Entry, collisions, same_name, dropped_component};
 ghost use Rattle.apollo_meaning.specs.Faults.TypeComponents.{components_of, same_component, dropped_from_type, joined_faults};
 ghost use Rattle.apollo_meaning.specs.Faults.RootFaults.{root_faults, same_root, dropped_root, schema_orphan};
@@ -43,7 +43,7 @@ use crate::collision::Collection;
 /// them: GraphQL specification of October 2021, section 3.4.3.
 pub fn folded_extensions()
     ensures { (start : ℕ) (xs : List ListItem) (n : List ℕ) (d : TypePart) → first xs n ≡ Some d
-        → map (λ s. s.1) (sourced n start (folding_order xs)) ≡ of_kind (kind_of d) (extensions_of xs n) }
+        → map (λ s. s.1) (extensions_with_origin n start (folding_order xs)) ≡ of_kind (kind_of d) (extensions_of xs n) }
 {}
 
 /// The extensions that are folded for the schema, once it has a definition, are all of its extensions, in the order of the
@@ -100,14 +100,14 @@ pub fn adoption_leaves_no_orphan_names()
 /// The definitions on a list with an extension on either side of the definition: the locations of the extensions in folding
 /// order, and the write-out of the type that the name means, computed.
 pub fn extensions_on_either_side()
-    ensures order { map folding_place (folding_order (whole false (added false extensions_around))) ≡ line 1 ∷ line 5 ∷ [] }
+    ensures order { map folding_location (folding_order (whole false (added false extensions_around))) ≡ line 1 ∷ line 5 ∷ [] }
     ensures writes { option_map write_type (type_of 0 (folding_order (whole false (added false extensions_around))) (whole false (added false extensions_around)) (codes "Q")) ≡ Some written_around }
 {}
 
 /// The definitions on a list whose extensions wait for their definitions: the locations of the extensions in folding order,
 /// computed. One of a name that is never defined is not folded.
 pub fn extensions_that_wait()
-    ensures { map folding_place (folding_order (whole false (added false extensions_that_wait))) ≡ line 3 ∷ line 6 ∷ line 1 ∷ line 11 ∷ [] }
+    ensures { map folding_location (folding_order (whole false (added false extensions_that_wait))) ≡ line 3 ∷ line 6 ∷ line 1 ∷ line 11 ∷ [] }
 {}
 
 /// The definitions on a list with an extension of another kind than its name's, computed: it is not folded.
@@ -187,7 +187,7 @@ pub fn built_in_definitions_are_faultless()
 /// dropped, and is the only fault. GraphQL specification of October 2021, sections 3.3.1, 3.3.2 and 3.4.3.
 pub fn extensions_alone_adopted()
     ensures names { filter_map type_name_of (adopted (added_items (added false extensions_alone))) ≡ codes "B" ∷ codes "A" ∷ [] }
-    ensures order { map folding_place (folding_order (whole true (added false extensions_alone))) ≡ line 6 ∷ line 8 ∷ line 1 ∷ line 4 ∷ [] }
+    ensures order { map folding_location (folding_order (whole true (added false extensions_alone))) ≡ line 6 ∷ line 8 ∷ line 1 ∷ line 4 ∷ [] }
     ensures definition { schema_of 0 (folding_order (whole true (added false extensions_alone))) (whole true (added false extensions_alone)) ≡ Some adopted_schema }
     ensures faults { faults_of true (added false extensions_alone) ≡ adopted_faults }
 {}
@@ -214,7 +214,7 @@ pub fn query_type_implies_its_root()
 /// those of the extensions, and the root that is dropped is an extension's. GraphQL specification of October 2021,
 /// sections 3.3.1 and 3.3.2.
 pub fn schema_extensions_that_wait()
-    ensures order { map folding_place (folding_order (whole false (added false schema_extensions_that_wait))) ≡ line 1 ∷ line 3 ∷ [] }
+    ensures order { map folding_location (folding_order (whole false (added false schema_extensions_that_wait))) ≡ line 1 ∷ line 3 ∷ [] }
     ensures definition { schema_of 0 (folding_order (whole false (added false schema_extensions_that_wait))) (whole false (added false schema_extensions_that_wait)) ≡ Some waited_for_schema }
     ensures faults { faults_of false (added false schema_extensions_that_wait) ≡ dropped_root_fault }
 {}

@@ -14,7 +14,7 @@ use Rattle.apollo_component.specs.declared.extension.ComponentOrigin.{ComponentO
 use Rattle.apollo_component.proofs.Lists.Each.{filter-map}
 use Rattle.apollo_types.specs.BareTypes.{BareType, bare_extended_type, BareSchemaDefinition, bare_schema_definition}
 use Rattle.apollo_meaning.specs.Types.Components.{Sourced, body_fields, body_input_fields, body_interfaces, body_members, body_values, component, component_name, sourced_directives, distinct_entries, distinct_names}
-use Rattle.apollo_meaning.specs.Types.Meaning.{type_at, type_from, parts, sourced}
+use Rattle.apollo_meaning.specs.Types.Meaning.{type_of_kind, type_from, parts, extensions_with_origin}
 use Rattle.apollo_rearrangement.proofs.Bare.{bare_body, bare_list, bare_part, bare_schema_part, extensions-bare, first-bare, first_schema-bare, schema_extensions-bare}
 use Rattle.apollo_rearrangement.proofs.BareCompletion.{kind-bare}
 use Rattle.apollo_rearrangement.proofs.Subjects.{extensions-agree, first-agree, first_schema-agree, schema_extensions-agree}
@@ -131,7 +131,7 @@ forget-type head ps = by head.body
     directives : bare_directives (record { 0 = flat_map sourced_directives ps }) ≡ plain_directives (map bare_part (parts_of ps))
     directives = forget-directives ps
 
-    by : (b : TypeBody) → bare_extended_type (type_at b head ps) ≡ plain_type (bare_body b) (bare_part head) (map bare_part (parts_of ps))
+    by : (b : TypeBody) → bare_extended_type (type_of_kind b head ps) ≡ plain_type (bare_body b) (bare_part head) (map bare_part (parts_of ps))
     by ScalarBody = λ i. BareType.Scalar (record { description = description; name = name; directives = directives i })
     by (ObjectBody interfaces fields) = λ i. BareType.Object (record { description = description; name = name; implements_interfaces = forget-names (λ p. body_interfaces p.body) (λ p. holds-interfaces p.body) ps i; directives = directives i; fields = forget-entries bare_field_definition (λ f. f.value.name) (λ f. refl) (λ p. body_fields p.body) (λ p. holds-fields p.body) ps i })
     by (InterfaceBody interfaces fields) = λ i. BareType.Interface (record { description = description; name = name; implements_interfaces = forget-names (λ p. body_interfaces p.body) (λ p. holds-interfaces p.body) ps i; directives = directives i; fields = forget-entries bare_field_definition (λ f. f.value.name) (λ f. refl) (λ p. body_fields p.body) (λ p. holds-fields p.body) ps i })
@@ -194,7 +194,7 @@ schema_meant_of o es = option_map (λ s. plain_definition s (s ∷ es)) o
 
 -- the extensions that are folded for a name are those of its kind, in order
 abbrev pub FoldsByKind : Type 0
-FoldsByKind = (start : ℕ) (xs : List ListItem) (n : List ℕ) (d : TypePart) → first xs n ≡ Some d → map (λ s. s.1) (sourced n start (folding_order xs)) ≡ of_kind (kind_of d) (extensions_of xs n)
+FoldsByKind = (start : ℕ) (xs : List ListItem) (n : List ℕ) (d : TypePart) → first xs n ≡ Some d → map (λ s. s.1) (extensions_with_origin n start (folding_order xs)) ≡ of_kind (kind_of d) (extensions_of xs n)
 
 module _ (folds : FoldsByKind) where
   -- what a name means in a list is that of its first definition and its extensions there

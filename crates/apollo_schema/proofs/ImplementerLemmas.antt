@@ -8,7 +8,7 @@ use Rattle.apollo_component.proofs.Tabled.{tabled, first_of_each-distinct, first
 use Rattle.apollo_types.specs.TypeKinds.{is_interface}
 use Rattle.apollo_schema.specs.Lookups.{Types, declared_interfaces, is_listed, declares}
 use Rattle.apollo_schema.specs.Implementers.{names_declared, implementers_of, implementers_map}
-use Rattle.apollo_schema.specs.Noted.{no_implementers, with_name, noted, noted_under}
+use Rattle.apollo_schema.specs.Noted.{no_implementers, with_implementer, noted, noted_under}
 use Rattle.apollo_schema.specs.declared.implementers.Implementers.{Implementers}
 
 abbrev names_of : List ComponentName → List NameView
@@ -96,7 +96,7 @@ module _ (types : Types) (k : NameView) where
       }
 
   -- the name noted under the interface
-  value-own : (o : Bool) (cs : List ComponentName) (c : ComponentName) → with_name o k (value types o k cs c.name) ≡ value types o k (cs ++ c ∷ []) c.name
+  value-own : (o : Bool) (cs : List ComponentName) (c : ComponentName) → with_implementer o k (value types o k cs c.name) ≡ value types o k (cs ++ c ∷ []) c.name
   value-own o cs c = by o ∙ sym (ap (at o) listed)
     where
       or_true : (b : Bool) → (b || true) ≡ true
@@ -112,7 +112,7 @@ module _ (types : Types) (k : NameView) where
         interfaces = first_of_each same_text (keys_declaring is_interface types c.name ++ one_if (not o && b) k);
       }
 
-      by : (o : Bool) → with_name o k (value types o k cs c.name) ≡ at o true
+      by : (o : Bool) → with_implementer o k (value types o k cs c.name) ≡ at o true
       by true = ap (λ (l : List NameView). record { objects = l; interfaces = first_of_each same_text (keys_declaring is_interface types c.name ++ []) }) (put (keys_declaring is_object types c.name) (is_listed c.name cs) k)
       by false = ap (λ (l : List NameView). record { objects = first_of_each same_text (keys_declaring is_object types c.name ++ []); interfaces = l }) (put (keys_declaring is_interface types c.name) (is_listed c.name cs) k)
 
@@ -136,7 +136,7 @@ module _ (types : Types) (k : NameView) where
   -- one more interface noted
   grown-push : (o : Bool) (cs : List ComponentName) (c : ComponentName) → noted o k (grown types o k cs) c ≡ grown types o k (cs ++ c ∷ [])
   grown-push o cs c =
-      ap (λ m. insert_entry same_text (grown types o k cs) c.name (with_name o k m)) was
+      ap (λ m. insert_entry same_text (grown types o k cs) c.name (with_implementer o k m)) was
       ∙ ap (λ v. insert_entry same_text (grown types o k cs) c.name v) (value-own o cs c)
       ∙ tabled-insert same_text name_laws (value types o k cs) (value types o k (cs ++ c ∷ [])) c.name (value-other o cs c) (value-text o (cs ++ c ∷ []) c.name) (first_of_each same_text before) (first_of_each-distinct same_text before)
       ∙ ap (tabled (value types o k (cs ++ c ∷ []))) (sym (first_of_each-insert same_text name_laws before c.name) ∙ ap (first_of_each same_text) after)
@@ -207,5 +207,5 @@ module _ (types : Types) (k : NameView) where
       interface (InputObject n) i = refl
 
 -- a name noted where the interface's implementers stand
-pub noted-found : (o : Bool) (k : NameView) (map : List (NameView × Implementers)) (i : ComponentName) (m : Implementers) → lookup (same_text i.name) map ≡ Some m → set_value (same_text i.name) map (with_name o k m) ≡ noted o k map i
-noted-found o k map i m there = insert_entry-found same_text map i.name m (with_name o k m) there ∙ ap (λ found. insert_entry same_text map i.name (with_name o k (unwrap_or found no_implementers))) (sym there)
+pub noted-found : (o : Bool) (k : NameView) (map : List (NameView × Implementers)) (i : ComponentName) (m : Implementers) → lookup (same_text i.name) map ≡ Some m → set_value (same_text i.name) map (with_implementer o k m) ≡ noted o k map i
+noted-found o k map i m there = insert_entry-found same_text map i.name m (with_implementer o k m) there ∙ ap (λ found. insert_entry same_text map i.name (with_implementer o k (unwrap_or found no_implementers))) (sym there)

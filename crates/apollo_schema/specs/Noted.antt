@@ -11,13 +11,13 @@ abbrev pub no_implementers : Implementers
 no_implementers = record { objects = []; interfaces = [] }
 
 -- the object types, or else the interface types, with one more name
-abbrev pub with_name : Bool → NameView → Implementers → Implementers
-with_name true name m = record m { objects = insert_key same_text m.objects name }
-with_name false name m = record m { interfaces = insert_key same_text m.interfaces name }
+abbrev pub with_implementer : Bool → NameView → Implementers → Implementers
+with_implementer true name m = record m { objects = insert_key same_text m.objects name }
+with_implementer false name m = record m { interfaces = insert_key same_text m.interfaces name }
 
 -- the table with the name noted under one interface
 abbrev pub noted : Bool → NameView → List (NameView × Implementers) → ComponentName → List (NameView × Implementers)
-noted is_object name map i = insert_entry same_text map i.name (with_name is_object name (unwrap_or (lookup (same_text i.name) map) no_implementers))
+noted is_object name map i = insert_entry same_text map i.name (with_implementer is_object name (unwrap_or (lookup (same_text i.name) map) no_implementers))
 
 -- and under several, one after another
 abbrev pub noted_under : Bool → NameView → List (NameView × Implementers) → List ComponentName → List (NameView × Implementers)

@@ -3,7 +3,7 @@ ghost use Rattle.std.specs.Prelude.{◌≡◌, ◌++◌, length, IfSome, OnOk};
 ghost use Rattle.std.specs.Iterator.{YieldsFirstRef, UpTo, item_count};
 ghost use Rattle.std.specs.Iterator.SizeHint.{IsWithinCount, IsExactHint};
 ghost use Rattle.apollo_schema.specs.ImplementerNames.{names_left};
-ghost use Rattle.apollo_schema.specs.Noted.{no_implementers, with_name};
+ghost use Rattle.apollo_schema.specs.Noted.{no_implementers, with_implementer};
 
 use graphql_nodes::collections::hash_keys::HashKeys;
 use graphql_nodes::collections::key_set::KeySet;
@@ -71,7 +71,7 @@ impl Implementers {
 
     /// Adds the name of an object type, or else of an interface type. The error is want of memory.
     pub(crate) fn add(&mut self, name: &Name, is_object: bool) -> Result<(), AllocError>
-        ensures { OnOk result (self.new ≡ with_name is_object name.now self.old) }
+        ensures { OnOk result (self.new ≡ with_implementer is_object name.now self.old) }
     {
         if is_object {
             self.objects.insert(name.clone()?)?;

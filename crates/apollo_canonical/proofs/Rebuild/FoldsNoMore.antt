@@ -5,7 +5,7 @@ use Rattle.apollo_canonical.proofs.Words.Lists.{length-map, ◌+◌, ◌++◌, f
 use Rattle.apollo_canonical.proofs.Words.Syntax.{NameView, NodeView, same_text, values_of, OperationType, Query, Mutation, Subscription, DefinitionPart, Directive, SourceSpan, DefinitionParts, is_built_in, by_text, keys_of, lookup}
 use Rattle.apollo_canonical.proofs.Words.Types.{same_key, SourcedPart, sourced, identities, of_extensions, of_origin, origins_in, Component, ComponentName, ComponentOrigin, of_directive, of_name, of_root, schema_components, named_roots, type_components, each-first, list_any-first_of_each, extension_id, id_of, same_id, Definition, Extension, ExtensionId, first_of_each-distinct, type_location, ExtendedType, SchemaDefinition, name_laws}
 use Rattle.apollo_canonical.proofs.Words.Meaning.{EnumBody, InputObjectBody, InterfaceBody, ObjectBody, ScalarBody, SchemaPart, TypeBody, TypePart, UnionBody, SourcedSchema, root_in, roots_of, same_operation, schema_definition_of, schema_directives_of, Sourced, body_fields, body_input_fields, body_interfaces, body_members, body_values, component, component_name}
-use Rattle.apollo_canonical.proofs.Words.Meaning.{sourced_directives, distinct_entries, distinct_names, field_entry, input_field_entry, same_component_name, value_entry, type_at, adopted, adopted_by, extended_names, orphans_of, with_adopted, implied_schema, Added, ListItem, OfSchema, OfType, added_items, extended_part, Defined, Extended, Folding, schema_extensions}
+use Rattle.apollo_canonical.proofs.Words.Meaning.{sourced_directives, distinct_entries, distinct_names, field_entry, input_field_entry, same_component_name, value_entry, type_of_kind, adopted, adopted_by, extended_names, orphans_of, with_adopted, implied_schema, Added, ListItem, OfSchema, OfType, added_items, extended_part, Defined, Extended, Folding, schema_extensions}
 use Rattle.apollo_canonical.proofs.Words.Meaning.{first, first_schema, Family, Placed, extension_places, first_place, folded_when, folding_order, is_folded, is_met, met_when, once_if_defined, schemas, times_met, types, folds, whole, Directives, is_handed_in, no_schema, schema_from, schema_parts, of_type, parts, type_from, MeansSchema, Schema}
 use Rattle.apollo_canonical.proofs.Words.Written.{MeaningLaws, written_again}
 use Rattle.std.proofs.lemmas.Map.Made.{length-le_from_is_member}
@@ -53,7 +53,7 @@ module _ (P : ComponentOrigin → Type 0) where
         (each-map (λ (c : Component T). P c.origin) (λ (e : NameView × Component T). e.1) (distinct_entries all) (each-first (λ (e : NameView × Component T). P e.1.origin) (same_key same_text) all
         (each-made (λ (e : NameView × Component T). e.1.origin) entry is of ps a)))
 
-    pub each-of_type : (body : TypeBody) (head : TypePart) → AllByRecursion From (type_components (type_at body head ps))
+    pub each-of_type : (body : TypeBody) (head : TypePart) → AllByRecursion From (type_components (type_of_kind body head ps))
     each-of_type ScalarBody head = directives
     each-of_type (ObjectBody interfaces fields) head =
         each-append From _ _ (each-append From _ _ directives (names (λ p. body_interfaces p.body))) (entries field_entry (λ o n. refl) parts.Field (λ p. body_fields p.body))

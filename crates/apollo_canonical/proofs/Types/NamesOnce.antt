@@ -2,7 +2,7 @@
 use Rattle.apollo_canonical.proofs.Words.Lists.{◌≡◌, List, [], ◌++◌, Option, map, sym, ap, ◌∙◌, append_assoc, subst, append-nil, map-map, ℕ, ◌∷◌, None, Some, is_some, refl, true≢false, map-id, flat_map, IsPermutation-map, IsDistinct-IsPermutation, AllByRecursion, IsDistinct, IsPermutation, option_map, unwrap_or, each-append, each-weaken, flat_map-map, map-append}
 use Rattle.apollo_canonical.proofs.Words.Syntax.{NameView, values_of, SourceSpan, type_extension, DefinitionPart, DefinitionParts, NodeView, same_text}
 use Rattle.apollo_canonical.proofs.Words.Types.{extension_location, by_origin, written_type, Component, ComponentName, ExtensionId, of_name, type_kind, type_name, type_location, type_description, type_components, write_type, ExtendedType, Scalar, Object, Interface, Union, Enum, InputObject, first_of_each, same_key, ComponentOrigin, each-first, first_of_each-map, name_laws, first_of_each-distinct}
-use Rattle.apollo_canonical.proofs.Words.Meaning.{ListItem, Folding, first, TypePart, TypeBody, ScalarBody, ObjectBody, InterfaceBody, UnionBody, EnumBody, InputObjectBody, Sourced, body_fields, body_values, body_input_fields, interfaces_of, members_of, fields_of, field_entry, input_fields_of, input_field_entry, value_entry, distinct_names, distinct_entries, parts, type_at, type_from, type_of}
+use Rattle.apollo_canonical.proofs.Words.Meaning.{ListItem, Folding, first, TypePart, TypeBody, ScalarBody, ObjectBody, InterfaceBody, UnionBody, EnumBody, InputObjectBody, Sourced, body_fields, body_values, body_input_fields, interfaces_of, members_of, fields_of, field_entry, input_fields_of, input_field_entry, value_entry, distinct_names, distinct_entries, parts, type_of_kind, type_from, type_of}
 use Rattle.apollo_canonical.proofs.Words.Written.{HasSameComponents, as_parts, in_sections, node_with_origin, name_with_origin, type_sections, placed, HasWhatIsWritten, Sections, with_origins, joined, sections_of, HasEachNameOnce}
 use Rattle.graphql_ast.specs.declared.definition_parts.DefinitionPart.TheVariants as parts
 use Rattle.apollo_meaning.specs.Types.Components as components
@@ -104,7 +104,7 @@ module _ (head : TypePart) (ps : List Sourced) where
   made_fields-once : IsDistinct same_text (map (λ x. x.1.value.name) (map node_with_origin (values_of (distinct_entries (flat_map fields_of ps)))))
   made_fields-once = entries-once (λ f. f.value.name) (flat_map fields_of ps) (all-named (λ f. f.value.name) (λ s. body_fields s.1.body) field_entry (λ o n. refl) ps)
 
-  pub made-once : (body : TypeBody) → HasEachNameOnce (type_sections (type_at body head ps))
+  pub made-once : (body : TypeBody) → HasEachNameOnce (type_sections (type_of_kind body head ps))
   unfolding IsDistinct
   made-once ScalarBody = record { names = tt; fields = tt; values = tt; input_fields = tt }
   made-once (ObjectBody interfaces fields) = record { names = names-once (flat_map interfaces_of ps); fields = made_fields-once; values = tt; input_fields = tt }

@@ -2,7 +2,7 @@
 use Rattle.apollo_canonical.proofs.Words.Lists.{◌≡◌, ℕ, Bool, true, false, cond, ◌||◌, List, [], ◌∷◌, Option, None, Some, map, find, option_map, refl, sym, ap, subst, ◌∙◌, length, ◌==◌, list_any-IsPermutation, map-map, AllByRecursion, IsDistinct, flat_map, list_any, IsPermutation, length-map, ◌++◌, map-id, filter, append-nil, map-append, IsEquivalence, on_equiv, each-append, each-filter, each-weaken}
 use Rattle.apollo_canonical.proofs.Words.Syntax.{bare_name, entries_by_text, members_by_text, NameView, NodeView, by_text, same_text, lookup, values_of, TypeKind, bare_directive, bare_field_definition, bare_enum_value_definition, bare_input_value_definition, Directive, SourceSpan}
 use Rattle.apollo_canonical.proofs.Words.Types.{bare_component, same_key, Component, ComponentName, ComponentOrigin, BareType, bare_extended_type, type_kind, type_name, type_description, type_location, write_type, ExtendedType, Scalar, Object, Interface, Union, Enum, InputObject, each-first, name_laws, by_origin, Definition, PartsByOrigin, same_origin, first_of_each, of_origin, entry_laws}
-use Rattle.apollo_canonical.proofs.Words.Meaning.{TypePart, TypeBody, ScalarBody, ObjectBody, InterfaceBody, UnionBody, EnumBody, InputObjectBody, Sourced, body_fields, body_values, body_input_fields, fields_of, field_entry, input_fields_of, input_field_entry, value_entry, component, type_at, type_from, extension_part, component_name, same_component_name, body_interfaces, body_members, distinct_names, distinct_entries}
+use Rattle.apollo_canonical.proofs.Words.Meaning.{TypePart, TypeBody, ScalarBody, ObjectBody, InterfaceBody, UnionBody, EnumBody, InputObjectBody, Sourced, body_fields, body_values, body_input_fields, fields_of, field_entry, input_fields_of, input_field_entry, value_entry, component, type_of_kind, type_from, extension_part, component_name, same_component_name, body_interfaces, body_members, distinct_names, distinct_entries}
 use Rattle.apollo_canonical.proofs.Words.Written.{Sections, HasSameComponents, sections_of, node_with_origin, name_with_origin, type_sections, HasEachNameOnce, HasWhatIsWritten, MeaningLaws}
 use Rattle.graphql_nodes.specs.declared.type_kind.TypeKind.TheVariants as kinds
 use Rattle.graphql_ast.specs.declared.type_system.EnumValueDefinition.{EnumValueDefinition}
@@ -81,7 +81,7 @@ HasNamedEntries (Union n) = Unit {0}
 HasNamedEntries (Enum n) = AllByRecursion (IsNamed (λ v. v.value.value)) n.value.values
 HasNamedEntries (InputObject n) = AllByRecursion (IsNamed (λ f. f.value.name)) n.value.fields
 
-pub named-made : (body : TypeBody) (head : TypePart) (ps : List Sourced) → HasNamedEntries (type_at body head ps)
+pub named-made : (body : TypeBody) (head : TypePart) (ps : List Sourced) → HasNamedEntries (type_of_kind body head ps)
 named-made ScalarBody head ps = tt
 named-made (ObjectBody interfaces fields) head ps = each-first (IsNamed (λ f. f.value.name)) (same_key same_text) (flat_map fields_of ps) (all-named (λ f. f.value.name) (λ s. body_fields s.1.body) field_entry (λ o n. refl) ps)
 named-made (InterfaceBody interfaces fields) head ps = each-first (IsNamed (λ f. f.value.name)) (same_key same_text) (flat_map fields_of ps) (all-named (λ f. f.value.name) (λ s. body_fields s.1.body) field_entry (λ o n. refl) ps)
@@ -143,7 +143,7 @@ module _ (head : TypePart) (es : List (ℕ × TypePart)) where
   abbrev directive_parts : PartsByOrigin
   directive_parts = record { definition = directives_alone head.directives; extensions = map (numbered_parts (λ p. p.location) (λ p. directives_alone p.directives)) es }
 
-  directives-made : (body : TypeBody) (ps : List Sourced) → (type_sections (type_at body head ps)).directives ≡ shown_in (λ (p : TypePart). p.directives) ps
+  directives-made : (body : TypeBody) (ps : List Sourced) → (type_sections (type_of_kind body head ps)).directives ≡ shown_in (λ (p : TypePart). p.directives) ps
   directives-made ScalarBody ps = shown-made node_with_origin component (λ o a. refl) (λ p. p.directives) ps
   directives-made body ps = shown-made node_with_origin component (λ o a. refl) (λ p. p.directives) ps
 

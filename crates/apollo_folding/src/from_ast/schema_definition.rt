@@ -10,7 +10,7 @@ ghost use Rattle.apollo_meaning.specs.Items.Parts.{schema_definition_part, schem
 ghost use Rattle.apollo_meaning.specs.Types.Components.{component_name};
 ghost use Rattle.apollo_meaning.specs.Schema.Definition.{schema_from};
 ghost use Rattle.apollo_meaning.specs.Faults.RootFaults.{schema_faults};
-ghost use Rattle.apollo_folding.specs.RootTables.{NamedRoot, named_root, with_roots, put_root, dropped_root, held_fault, held_faults};
+ghost use Rattle.apollo_folding.specs.RootTables.{NamedRoot, root_with_origin, with_roots, put_root, dropped_root, held_fault, held_faults};
 ghost use Rattle.apollo_meaning.specs.Steps.Joining.{schema_numbered, schema_begun, schema_begun_faults, schema_joining_faults};
 ghost use Rattle.apollo_folding.specs.Refusals.{RefusedAs, SpentWith, after};
 
@@ -90,7 +90,7 @@ fn fold_roots(
     faults: &mut Items<Fault>,
 ) -> Result<(), AllocError>
     ensures named { OnOk result ((base : AnyDefinition) (rs : List NamedRoot) → definition.old ≡ with_roots base rs
-        → definition.new ≡ with_roots base (rs ++ map (named_root origin) roots.now)) }
+        → definition.new ≡ with_roots base (rs ++ map (root_with_origin origin) roots.now)) }
     ensures faults { OnOk result ((base : AnyDefinition) (rs : List NamedRoot) → definition.old ≡ with_roots base rs
         → faults.new ≡ faults.old ++ held_faults rs origin roots.now) }
 {

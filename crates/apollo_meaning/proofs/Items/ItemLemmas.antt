@@ -1,5 +1,5 @@
 -- What a list says of a name with one more item.
-use Rattle.apollo_meaning.proofs.Prelude.{◌≡◌, ℕ, ◌+◌, ◌≤◌, cond, List, [], ◌∷◌, ◌++◌, length, filter, slice_get, Some, None, ap, ◌∙◌, append_assoc, length-append, arith, filter_map, option_or, lookup, append-nil, map-append, filter-append, filter_map-append, each_after-push, enumerate_from-append, filter_map-push_none, TypePart, SchemaPart, key_of, ListItem, Defined, Extended, SchemaDefined, SchemaExtended, Folding, defined_part, extended_part, defined_schema, extended_schema, same, first, extensions_of, first_schema, schema_extensions, folded_at, folded, found_at, found, waited_at, waited, sourced}
+use Rattle.apollo_meaning.proofs.Prelude.{◌≡◌, ℕ, ◌+◌, ◌≤◌, cond, List, [], ◌∷◌, ◌++◌, length, filter, slice_get, Some, None, ap, ◌∙◌, append_assoc, length-append, arith, filter_map, option_or, lookup, append-nil, map-append, filter-append, filter_map-append, each_after-push, enumerate_from-append, filter_map-push_none, TypePart, SchemaPart, key_of, ListItem, Defined, Extended, SchemaDefined, SchemaExtended, Folding, defined_part, extended_part, defined_schema, extended_schema, same, first, extensions_of, first_schema, schema_extensions, folded_at, folded, found_at, found, waited_at, waited, extensions_with_origin}
 use Rattle.apollo_component.proofs.Lists.Ends.{lookup-append, slice_get-push}
 use Rattle.apollo_meaning.specs.Items.Named.{named, definitions}
 
@@ -57,8 +57,8 @@ module _ (xs : List ListItem) (x : ListItem) where
   waited-push = each_after-push waited_at [] xs x
 
 -- the folded extensions of a name, after others
-pub sourced-append : (n : List ℕ) (start : ℕ) (ps qs : List Folding) → sourced n start (ps ++ qs) ≡ sourced n start ps ++ sourced n (start + length ps) qs
-sourced-append n start ps qs = rw (enumerate_from-append start ps qs, filter_map-append, filter-append, map-append)
+pub extensions_with_origin-append : (n : List ℕ) (start : ℕ) (ps qs : List Folding) → extensions_with_origin n start (ps ++ qs) ≡ extensions_with_origin n start ps ++ extensions_with_origin n (start + length ps) qs
+extensions_with_origin-append n start ps qs = rw (enumerate_from-append start ps qs, filter_map-append, filter-append, map-append)
 
 -- a longer list folds no less
 pub length-folded-front : (xs ys : List ListItem) → length (folded xs) ≤ length (folded (xs ++ ys))

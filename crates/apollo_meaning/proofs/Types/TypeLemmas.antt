@@ -1,11 +1,11 @@
 -- The type of a name with one more item.
-use Rattle.apollo_meaning.proofs.Prelude.{◌≡◌, ℕ, ◌+◌, Bool, true, false, List, [], ◌∷◌, ◌++◌, length, map, Option, Some, None, filter, refl, sym, ap, subst, ◌∙◌, append_assoc, filter_map, option_map, option_or, append-nil, filter_map-append, TypeKind, each_after, TypePart, SchemaPart, kind_of, key_of, same_kind, ListItem, Defined, Extended, SchemaDefined, SchemaExtended, Other, Folding, OfType, OfSchema, extended_part, same, first, extensions_of, of_kind, types_folded_at, schemas_folded_at, folded_at, folded, Sourced, type_from, extension_part, numbered, sourced, parts, same-true, same-is, AllByRecursion, each-filter, each-weaken}
+use Rattle.apollo_meaning.proofs.Prelude.{◌≡◌, ℕ, ◌+◌, Bool, true, false, List, [], ◌∷◌, ◌++◌, length, map, Option, Some, None, filter, refl, sym, ap, subst, ◌∙◌, append_assoc, filter_map, option_map, option_or, append-nil, filter_map-append, TypeKind, each_after, TypePart, SchemaPart, kind_of, key_of, same_kind, ListItem, Defined, Extended, SchemaDefined, SchemaExtended, Other, Folding, OfType, OfSchema, extended_part, same, first, extensions_of, of_kind, types_folded_at, schemas_folded_at, folded_at, folded, Sourced, type_from, extension_part, numbered, extensions_with_origin, parts, same-true, same-is, AllByRecursion, each-filter, each-weaken}
 use Rattle.std.proofs.lemmas.List.Elements.{filter_passes, recursion_from_All}
 use Rattle.apollo_component.specs.declared.extension.ComponentOrigin.TheVariants as origins
 use Rattle.apollo_component.proofs.Lists.Each.{each-append}
 use Rattle.apollo_component.proofs.Lists.Ends.{filter_map-made, filter_map-unmade}
 use Rattle.apollo_meaning.specs.Types.Meaning.{type_of}
-use Rattle.apollo_meaning.proofs.Items.ItemLemmas.{first-push_definition, folded-push, sourced-append, first-append}
+use Rattle.apollo_meaning.proofs.Items.ItemLemmas.{first-push_definition, folded-push, extensions_with_origin-append, first-append}
 
 -- each part has the name
 abbrev pub Own : List ℕ → List TypePart → Type 0
@@ -39,22 +39,22 @@ pub type_foldings-push : (xs : List ListItem) (x : ListItem) → type_foldings (
 type_foldings-push xs x =
     ap type_foldings (folded-push xs x) ∙ filter_map-append type_folding (folded xs) (folded_at xs x) ∙ ap (λ l. type_foldings (folded xs) ++ l) (type_foldings-at xs x)
 
-sourced-own : (n : List ℕ) (start : ℕ) (ps : List TypePart) → Own n ps → sourced n start (map OfType ps) ≡ map extension_part (numbered start ps)
-sourced-own n start [] own = refl
-sourced-own n start (p ∷ ps) own = rw own.0 (ap (λ l. extension_part (start, p) ∷ l) (sourced-own n (start + 1) ps own.1))
+extensions_with_origin-own : (n : List ℕ) (start : ℕ) (ps : List TypePart) → Own n ps → extensions_with_origin n start (map OfType ps) ≡ map extension_part (numbered start ps)
+extensions_with_origin-own n start [] own = refl
+extensions_with_origin-own n start (p ∷ ps) own = rw own.0 (ap (λ l. extension_part (start, p) ∷ l) (extensions_with_origin-own n (start + 1) ps own.1))
 
-sourced-apart : (n : List ℕ) (start : ℕ) (fs : List Folding) → Apart n (type_foldings fs) → sourced n start fs ≡ []
-sourced-apart n start [] apart = refl
-sourced-apart n start (OfType p ∷ fs) apart = rw apart.0 (sourced-apart n (start + 1) fs apart.1)
-sourced-apart n start (OfSchema s ∷ fs) apart = sourced-apart n (start + 1) fs apart
+extensions_with_origin-apart : (n : List ℕ) (start : ℕ) (fs : List Folding) → Apart n (type_foldings fs) → extensions_with_origin n start fs ≡ []
+extensions_with_origin-apart n start [] apart = refl
+extensions_with_origin-apart n start (OfType p ∷ fs) apart = rw apart.0 (extensions_with_origin-apart n (start + 1) fs apart.1)
+extensions_with_origin-apart n start (OfSchema s ∷ fs) apart = extensions_with_origin-apart n (start + 1) fs apart
 
 -- what is folded at an item that concerns the name
-sourced-at : (n : List ℕ) (start : ℕ) (xs : List ListItem) (x : ListItem) → Own n (types_folded_at xs x) → sourced n start (folded_at xs x) ≡ map extension_part (numbered start (types_folded_at xs x))
-sourced-at n start xs x own =
+extensions_with_origin-at : (n : List ℕ) (start : ℕ) (xs : List ListItem) (x : ListItem) → Own n (types_folded_at xs x) → extensions_with_origin n start (folded_at xs x) ≡ map extension_part (numbered start (types_folded_at xs x))
+extensions_with_origin-at n start xs x own =
     let schemas = map OfSchema (schemas_folded_at xs x) in
     let next = start + length (map OfType (types_folded_at xs x)) in
-    sourced-append n start (map OfType (types_folded_at xs x)) schemas
-    ∙ (λ i. sourced-own n start (types_folded_at xs x) own i ++ sourced-apart n next schemas (subst (Apart n) (sym (type_foldings-schemas (schemas_folded_at xs x))) tt) i)
+    extensions_with_origin-append n start (map OfType (types_folded_at xs x)) schemas
+    ∙ (λ i. extensions_with_origin-own n start (types_folded_at xs x) own i ++ extensions_with_origin-apart n next schemas (subst (Apart n) (sym (type_foldings-schemas (schemas_folded_at xs x))) tt) i)
     ∙ append-nil (map extension_part (numbered start (types_folded_at xs x)))
 
 pub Own-named : (n : List ℕ) (ps : List TypePart) → Own n (filter (λ p. same n (key_of p)) ps)
@@ -126,16 +126,16 @@ pub Apart-folded : (n : List ℕ) (xs : List ListItem) → first xs n ≡ None �
 Apart-folded n xs none = Apart-folded_after n [] xs none
 
 module _ (start : ℕ) (xs : List ListItem) (x : ListItem) (n : List ℕ) where
-  sourced-push : sourced n start (folded (xs ++ x ∷ [])) ≡ sourced n start (folded xs) ++ sourced n (start + length (folded xs)) (folded_at xs x)
-  sourced-push = ap (sourced n start) (folded-push xs x) ∙ sourced-append n start (folded xs) (folded_at xs x)
+  extensions_with_origin-push : extensions_with_origin n start (folded (xs ++ x ∷ [])) ≡ extensions_with_origin n start (folded xs) ++ extensions_with_origin n (start + length (folded xs)) (folded_at xs x)
+  extensions_with_origin-push = ap (extensions_with_origin n start) (folded-push xs x) ∙ extensions_with_origin-append n start (folded xs) (folded_at xs x)
 
   -- an item that does not concern the name leaves its type
   pub type_of-same : first (xs ++ x ∷ []) n ≡ first xs n → Apart n (types_folded_at xs x) → type_of start (folded (xs ++ x ∷ [])) (xs ++ x ∷ []) n ≡ type_of start (folded xs) xs n
   type_of-same one apart =
-      let same : sourced n start (folded (xs ++ x ∷ [])) ≡ sourced n start (folded xs) =
-      sourced-push
-      ∙ ap (λ l. sourced n start (folded xs) ++ l) (sourced-apart n (start + length (folded xs)) (folded_at xs x) (subst (Apart n) (sym (type_foldings-at xs x)) apart))
-      ∙ append-nil (sourced n start (folded xs)) in
+      let same : extensions_with_origin n start (folded (xs ++ x ∷ [])) ≡ extensions_with_origin n start (folded xs) =
+      extensions_with_origin-push
+      ∙ ap (λ l. extensions_with_origin n start (folded xs) ++ l) (extensions_with_origin-apart n (start + length (folded xs)) (folded_at xs x) (subst (Apart n) (sym (type_foldings-at xs x)) apart))
+      ∙ append-nil (extensions_with_origin n start (folded xs)) in
       ap (λ (l : List Sourced). option_map (λ d. type_from d ((origins.Definition, d) ∷ l)) (first (xs ++ x ∷ []) n)) same
       ∙ ap (option_map (λ d. type_from d (parts start (folded xs) n d))) one
 
@@ -143,9 +143,9 @@ module _ (start : ℕ) (xs : List ListItem) (x : ListItem) (n : List ℕ) where
   pub type_of-more : (d : TypePart) → first (xs ++ x ∷ []) n ≡ Some d → Own n (types_folded_at xs x)
       → type_of start (folded (xs ++ x ∷ [])) (xs ++ x ∷ []) n ≡ Some (type_from d (parts start (folded xs) n d ++ map extension_part (numbered (start + length (folded xs)) (types_folded_at xs x))))
   type_of-more d one own =
-      let more : sourced n start (folded (xs ++ x ∷ [])) ≡ sourced n start (folded xs) ++ map extension_part (numbered (start + length (folded xs)) (types_folded_at xs x)) =
-      sourced-push ∙ ap (λ l. sourced n start (folded xs) ++ l) (sourced-at n (start + length (folded xs)) xs x own) in
-      ap (option_map (λ d. type_from d ((origins.Definition, d) ∷ sourced n start (folded (xs ++ x ∷ []))))) one
+      let more : extensions_with_origin n start (folded (xs ++ x ∷ [])) ≡ extensions_with_origin n start (folded xs) ++ map extension_part (numbered (start + length (folded xs)) (types_folded_at xs x)) =
+      extensions_with_origin-push ∙ ap (λ l. extensions_with_origin n start (folded xs) ++ l) (extensions_with_origin-at n (start + length (folded xs)) xs x own) in
+      ap (option_map (λ d. type_from d ((origins.Definition, d) ∷ extensions_with_origin n start (folded (xs ++ x ∷ []))))) one
       ∙ ap (λ (l : List Sourced). Some (type_from d ((origins.Definition, d) ∷ l))) more
 
   -- at the first definition there is nothing before it
@@ -153,4 +153,4 @@ module _ (start : ℕ) (xs : List ListItem) (x : ListItem) (n : List ℕ) where
       → type_of start (folded (xs ++ x ∷ [])) (xs ++ x ∷ []) n ≡ Some (type_from d ((origins.Definition, d) ∷ map extension_part (numbered (start + length (folded xs)) (types_folded_at xs x))))
   type_of-new d none one own =
       type_of-more d one own
-      ∙ ap (λ (l : List Sourced). Some (type_from d ((origins.Definition, d) ∷ (l ++ map extension_part (numbered (start + length (folded xs)) (types_folded_at xs x)))))) (sourced-apart n start (folded xs) (Apart-folded n xs none))
+      ∙ ap (λ (l : List Sourced). Some (type_from d ((origins.Definition, d) ∷ (l ++ map extension_part (numbered (start + length (folded xs)) (types_folded_at xs x)))))) (extensions_with_origin-apart n start (folded xs) (Apart-folded n xs none))

@@ -12,25 +12,25 @@ use Rattle.apollo_built_in.specs.BuiltInNodes.{scalar}
 use Rattle.apollo_meaning.specs.Items.ListItems.{ListItem, Defined, SchemaDefined, Other, Extended, SchemaExtended}
 use Rattle.apollo_meaning.specs.Items.Parts.{key_of, Root}
 use Rattle.apollo_meaning.specs.Faults.Collisions.{Fault}
-use Rattle.apollo_meaning.specs.Rows.TypeRows.{line, name_at, field_at, definition_at, extension_at}
+use Rattle.apollo_meaning.specs.Rows.TypeRows.{line, name_on_line, field_on_line, definition_on_line, extension_on_line}
 use Rattle.apollo_component.specs.declared.extension.ComponentOrigin.TheVariants as origins
 use Rattle.apollo_meaning.specs.declared.build_error.BuildError.TheVariants as errors
 use Rattle.graphql_ast.specs.declared.definition.Definition.TheVariants as ast
 
-abbrev pub root_at : OperationType → List ℕ → ℕ → Root
-root_at op text n = record { value = (op, name_at text n); location = line n }
+abbrev pub root_on_line : OperationType → List ℕ → ℕ → Root
+root_on_line op text n = record { value = (op, name_on_line text n); location = line n }
 
-abbrev pub directive_at : List ℕ → ℕ → NodeView Directive
-directive_at text n = record { value = record { name = name_at text n; arguments = [] }; location = line n }
+abbrev pub directive_on_line : List ℕ → ℕ → NodeView Directive
+directive_on_line text n = record { value = record { name = name_on_line text n; arguments = [] }; location = line n }
 
-abbrev pub schema_at : ℕ → List Root → Definition
-schema_at n roots = ast.SchemaDefinition (record {
+abbrev pub schema_on_line : ℕ → List Root → Definition
+schema_on_line n roots = ast.SchemaDefinition (record {
   value = record { description = None; directives = record { 0 = [] }; root_operations = roots };
   location = line n;
 })
 
-abbrev pub schema_extension_at : ℕ → List (NodeView Directive) → List Root → Definition
-schema_extension_at n directives roots = ast.SchemaExtension (record {
+abbrev pub schema_extension_on_line : ℕ → List (NodeView Directive) → List Root → Definition
+schema_extension_on_line n directives roots = ast.SchemaExtension (record {
   value = record { directives = record { 0 = directives }; root_operations = roots };
   location = line n;
 })
@@ -45,21 +45,21 @@ type_name_of (Other d) = None
 
 -- the root of a name that stands on a line, in the definition, or in an extension with a number and a line
 abbrev pub own_root : List ℕ → ℕ → Option ComponentName
-own_root text n = Some (record { origin = origins.Definition; name = name_at text n })
+own_root text n = Some (record { origin = origins.Definition; name = name_on_line text n })
 
 abbrev pub extension_root : ℕ → ℕ → List ℕ → ℕ → Option ComponentName
-extension_root number from text n = Some (record { origin = origins.Extension (extension_id number (line from)); name = name_at text n })
+extension_root number from text n = Some (record { origin = origins.Extension (extension_id number (line from)); name = name_on_line text n })
 
 -- extensions alone: of the schema, twice, of an interface and of an object type
 abbrev pub extensions_alone : List Definition
 extensions_alone =
-    schema_extension_at 1 (directive_at (codes "d") 2 ∷ []) (root_at Query (codes "A") 3 ∷ [])
-    ∷ schema_extension_at 4 [] (root_at Query (codes "B") 5 ∷ [])
+    schema_extension_on_line 1 (directive_on_line (codes "d") 2 ∷ []) (root_on_line Query (codes "A") 3 ∷ [])
+    ∷ schema_extension_on_line 4 [] (root_on_line Query (codes "B") 5 ∷ [])
     ∷ ast.InterfaceTypeExtension (record {
-      value = record { name = name_at (codes "B") 6; implements_interfaces = []; directives = record { 0 = [] }; fields = field_at (codes "x") 7 ∷ [] };
+      value = record { name = name_on_line (codes "B") 6; implements_interfaces = []; directives = record { 0 = [] }; fields = field_on_line (codes "x") 7 ∷ [] };
       location = line 6;
     })
-    ∷ extension_at 8 (name_at (codes "A") 8) [] (field_at (codes "y") 9 ∷ [])
+    ∷ extension_on_line 8 (name_on_line (codes "A") 8) [] (field_on_line (codes "y") 9 ∷ [])
     ∷ []
 
 -- the schema definition where they are adopted: it is at no location, and all of it comes of its extensions, which are folded
@@ -68,7 +68,7 @@ abbrev pub adopted_schema : NodeView SchemaDefinition
 adopted_schema = record {
   value = record {
     description = None;
-    directives = record { 0 = record { origin = origins.Extension (extension_id 2 (line 1)); node = directive_at (codes "d") 2 } ∷ [] };
+    directives = record { 0 = record { origin = origins.Extension (extension_id 2 (line 1)); node = directive_on_line (codes "d") 2 } ∷ [] };
     query = extension_root 2 1 (codes "A") 3;
     mutation = None;
     subscription = None;
@@ -82,15 +82,15 @@ adopted_faults = (line 5, errors.DuplicateRootOperation (line 3) (codes "query")
 
 abbrev pub orphan_faults : List Fault
 orphan_faults =
-    (line 6, errors.OrphanTypeExtension (name_at (codes "B") 6))
-    ∷ (line 8, errors.OrphanTypeExtension (name_at (codes "A") 8))
+    (line 6, errors.OrphanTypeExtension (name_on_line (codes "B") 6))
+    ∷ (line 8, errors.OrphanTypeExtension (name_on_line (codes "A") 8))
     ∷ (line 1, errors.OrphanSchemaExtension)
     ∷ (line 4, errors.OrphanSchemaExtension)
     ∷ []
 
 -- an object type with the default name of the query root, and no schema definition
 abbrev pub query_type_alone : List Definition
-query_type_alone = definition_at 1 (codes "Query") [] [] ∷ []
+query_type_alone = definition_on_line 1 (codes "Query") [] [] ∷ []
 
 -- the schema definition that it implies
 abbrev pub implied_query : NodeView SchemaDefinition
@@ -108,9 +108,9 @@ implied_query = record {
 -- extensions of the schema that wait for its definition, which names a root that the first of them names too
 abbrev pub schema_extensions_that_wait : List Definition
 schema_extensions_that_wait =
-    schema_extension_at 1 [] (root_at Query (codes "Q") 2 ∷ [])
-    ∷ schema_extension_at 3 [] (root_at Subscription (codes "S") 4 ∷ [])
-    ∷ schema_at 5 (root_at Mutation (codes "M") 6 ∷ root_at Query (codes "A") 7 ∷ [])
+    schema_extension_on_line 1 [] (root_on_line Query (codes "Q") 2 ∷ [])
+    ∷ schema_extension_on_line 3 [] (root_on_line Subscription (codes "S") 4 ∷ [])
+    ∷ schema_on_line 5 (root_on_line Mutation (codes "M") 6 ∷ root_on_line Query (codes "A") 7 ∷ [])
     ∷ []
 
 -- the schema definition with both of them, and the fault of the root that is dropped
@@ -134,7 +134,7 @@ abbrev pub built_in_int : List Definition
 built_in_int = scalar (codes "Int") ∷ []
 
 abbrev pub int_again : List Definition
-int_again = ast.ScalarTypeDefinition (record { value = record { description = None; name = name_at (codes "Int") 1; directives = record { 0 = [] } }; location = line 1 }) ∷ []
+int_again = ast.ScalarTypeDefinition (record { value = record { description = None; name = name_on_line (codes "Int") 1; directives = record { 0 = [] } }; location = line 1 }) ∷ []
 
 abbrev pub redefinition_fault : List Fault
 redefinition_fault = (line 1, errors.BuiltInScalarTypeRedefinition) ∷ []

@@ -14,28 +14,28 @@ abbrev pub line : ℕ → Option SourceSpan
 line n = Some (record { file = record { 0 = 1 }; start = n; end = n })
 
 -- where an extension that is folded stands
-abbrev pub folding_place : Folding → Option SourceSpan
-folding_place (OfType p) = p.location
-folding_place (OfSchema s) = s.location
+abbrev pub folding_location : Folding → Option SourceSpan
+folding_location (OfType p) = p.location
+folding_location (OfSchema s) = s.location
 
-abbrev pub name_at : List ℕ → ℕ → NameView
-name_at text n = record { text = text; location = line n }
+abbrev pub name_on_line : List ℕ → ℕ → NameView
+name_on_line text n = record { text = text; location = line n }
 
 -- a field of type `Int`
-abbrev pub field_at : List ℕ → ℕ → NodeView FieldDefinition
-field_at text n = record {
-  value = record { description = None; name = name_at text n; arguments = []; ty = Named (name_at (codes "Int") n); directives = record { 0 = [] } };
+abbrev pub field_on_line : List ℕ → ℕ → NodeView FieldDefinition
+field_on_line text n = record {
+  value = record { description = None; name = name_on_line text n; arguments = []; ty = Named (name_on_line (codes "Int") n); directives = record { 0 = [] } };
   location = line n;
 }
 
-abbrev pub definition_at : ℕ → List ℕ → List NameView → List (NodeView FieldDefinition) → Definition
-definition_at n text interfaces fields = ObjectTypeDefinition (record {
-  value = record { description = None; name = name_at text n; implements_interfaces = interfaces; directives = record { 0 = [] }; fields = fields };
+abbrev pub definition_on_line : ℕ → List ℕ → List NameView → List (NodeView FieldDefinition) → Definition
+definition_on_line n text interfaces fields = ObjectTypeDefinition (record {
+  value = record { description = None; name = name_on_line text n; implements_interfaces = interfaces; directives = record { 0 = [] }; fields = fields };
   location = line n;
 })
 
-abbrev pub extension_at : ℕ → NameView → List NameView → List (NodeView FieldDefinition) → Definition
-extension_at n name interfaces fields = ObjectTypeExtension (record {
+abbrev pub extension_on_line : ℕ → NameView → List NameView → List (NodeView FieldDefinition) → Definition
+extension_on_line n name interfaces fields = ObjectTypeExtension (record {
   value = record { name = name; implements_interfaces = interfaces; directives = record { 0 = [] }; fields = fields };
   location = line n;
 })
@@ -43,35 +43,35 @@ extension_at n name interfaces fields = ObjectTypeExtension (record {
 -- an extension before its definition, and one after it, which repeats a field
 abbrev pub extensions_around : List Definition
 extensions_around =
-    extension_at 1 (name_at (codes "Q") 1) [] (field_at (codes "b") 2 ∷ [])
-    ∷ definition_at 3 (codes "Q") [] (field_at (codes "a") 4 ∷ [])
-    ∷ extension_at 5 (name_at (codes "Q") 5) (name_at (codes "N") 6 ∷ []) (field_at (codes "a") 7 ∷ [])
+    extension_on_line 1 (name_on_line (codes "Q") 1) [] (field_on_line (codes "b") 2 ∷ [])
+    ∷ definition_on_line 3 (codes "Q") [] (field_on_line (codes "a") 4 ∷ [])
+    ∷ extension_on_line 5 (name_on_line (codes "Q") 5) (name_on_line (codes "N") 6 ∷ []) (field_on_line (codes "a") 7 ∷ [])
     ∷ []
 
 -- how they are written again: the repeated field is dropped, interfaces come before fields, each extension stands where
 -- it stood, and the name is the type's, which its definition wrote
 abbrev pub written_around : List Definition
 written_around =
-    definition_at 3 (codes "Q") [] (field_at (codes "a") 4 ∷ [])
-    ∷ extension_at 5 (name_at (codes "Q") 3) (name_at (codes "N") 6 ∷ []) []
-    ∷ extension_at 1 (name_at (codes "Q") 3) [] (field_at (codes "b") 2 ∷ [])
+    definition_on_line 3 (codes "Q") [] (field_on_line (codes "a") 4 ∷ [])
+    ∷ extension_on_line 5 (name_on_line (codes "Q") 3) (name_on_line (codes "N") 6 ∷ []) []
+    ∷ extension_on_line 1 (name_on_line (codes "Q") 3) [] (field_on_line (codes "b") 2 ∷ [])
     ∷ []
 
 -- extensions of two names, some of which wait for their definitions, and of a name that is never defined
 abbrev pub extensions_that_wait : List Definition
 extensions_that_wait =
-    extension_at 1 (name_at (codes "A") 1) [] (field_at (codes "x") 2 ∷ [])
-    ∷ extension_at 3 (name_at (codes "B") 3) [] (field_at (codes "y") 4 ∷ [])
-    ∷ definition_at 5 (codes "B") [] []
-    ∷ extension_at 6 (name_at (codes "B") 6) [] (field_at (codes "z") 7 ∷ [])
-    ∷ definition_at 8 (codes "A") [] []
-    ∷ extension_at 9 (name_at (codes "C") 9) [] (field_at (codes "u") 10 ∷ [])
-    ∷ extension_at 11 (name_at (codes "A") 11) [] (field_at (codes "w") 12 ∷ [])
+    extension_on_line 1 (name_on_line (codes "A") 1) [] (field_on_line (codes "x") 2 ∷ [])
+    ∷ extension_on_line 3 (name_on_line (codes "B") 3) [] (field_on_line (codes "y") 4 ∷ [])
+    ∷ definition_on_line 5 (codes "B") [] []
+    ∷ extension_on_line 6 (name_on_line (codes "B") 6) [] (field_on_line (codes "z") 7 ∷ [])
+    ∷ definition_on_line 8 (codes "A") [] []
+    ∷ extension_on_line 9 (name_on_line (codes "C") 9) [] (field_on_line (codes "u") 10 ∷ [])
+    ∷ extension_on_line 11 (name_on_line (codes "A") 11) [] (field_on_line (codes "w") 12 ∷ [])
     ∷ []
 
 -- an extension of another kind than the definition's
 abbrev pub extension_of_another_kind : List Definition
 extension_of_another_kind =
-    definition_at 1 (codes "Q") [] (field_at (codes "a") 2 ∷ [])
-    ∷ ScalarTypeExtension (record { value = record { name = name_at (codes "Q") 3; directives = record { 0 = [] } }; location = line 3 })
+    definition_on_line 1 (codes "Q") [] (field_on_line (codes "a") 2 ∷ [])
+    ∷ ScalarTypeExtension (record { value = record { name = name_on_line (codes "Q") 3; directives = record { 0 = [] } }; location = line 3 })
     ∷ []

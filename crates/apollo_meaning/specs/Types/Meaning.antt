@@ -36,12 +36,12 @@ of_type (i, OfType p) = Some (i, p)
 of_type (i, OfSchema s) = None
 
 -- the folded extensions of a name, with their origins
-abbrev pub sourced : List ℕ → ℕ → List Folding → List Sourced
-sourced n start folded = map extension_part (filter (λ e. same n (key_of e.1)) (filter_map of_type (enumerate_from start folded)))
+abbrev pub extensions_with_origin : List ℕ → ℕ → List Folding → List Sourced
+extensions_with_origin n start folded = map extension_part (filter (λ e. same n (key_of e.1)) (filter_map of_type (enumerate_from start folded)))
 
 -- the parts of a name with this first definition, where these extensions are folded, in this order
 abbrev pub parts : ℕ → List Folding → List ℕ → TypePart → List Sourced
-parts start folded n d = (Definition, d) ∷ sourced n start folded
+parts start folded n d = (Definition, d) ∷ extensions_with_origin n start folded
 
 -- the types of parts, by kind: directives joined, and the first of each name
 abbrev pub scalar_of : TypePart → List Sourced → ScalarType
@@ -93,17 +93,17 @@ input_object_of head parts = record {
   fields = distinct_entries (flat_map input_fields_of parts);
 }
 
-abbrev pub type_at : TypeBody → TypePart → List Sourced → ExtendedType
-type_at ScalarBody head parts = Scalar (record { value = scalar_of head parts; location = head.location })
-type_at (ObjectBody interfaces fields) head parts = Object (record { value = object_of head parts; location = head.location })
-type_at (InterfaceBody interfaces fields) head parts = Interface (record { value = interface_of head parts; location = head.location })
-type_at (UnionBody members) head parts = Union (record { value = union_of head parts; location = head.location })
-type_at (EnumBody values) head parts = Enum (record { value = enum_of head parts; location = head.location })
-type_at (InputObjectBody fields) head parts = InputObject (record { value = input_object_of head parts; location = head.location })
+abbrev pub type_of_kind : TypeBody → TypePart → List Sourced → ExtendedType
+type_of_kind ScalarBody head parts = Scalar (record { value = scalar_of head parts; location = head.location })
+type_of_kind (ObjectBody interfaces fields) head parts = Object (record { value = object_of head parts; location = head.location })
+type_of_kind (InterfaceBody interfaces fields) head parts = Interface (record { value = interface_of head parts; location = head.location })
+type_of_kind (UnionBody members) head parts = Union (record { value = union_of head parts; location = head.location })
+type_of_kind (EnumBody values) head parts = Enum (record { value = enum_of head parts; location = head.location })
+type_of_kind (InputObjectBody fields) head parts = InputObject (record { value = input_object_of head parts; location = head.location })
 
 -- the type that these parts make, with the description, name and location of the head
 abbrev pub type_from : TypePart → List Sourced → ExtendedType
-type_from head parts = type_at head.body head parts
+type_from head parts = type_of_kind head.body head parts
 
 -- the type of a name, where these extensions are folded, in this order
 abbrev pub type_of : ℕ → List Folding → List ListItem → List ℕ → Option ExtendedType

@@ -1,6 +1,6 @@
 use Rattle.apollo_meaning.proofs.Prelude.{◌++◌, map, sym, ap, ◌∙◌, flat_map, SchemaDefinition, component, SourcedSchema}
 use Rattle.apollo_meaning.specs.Schema.Definition.{schema_directives_of, roots_of}
-use Rattle.apollo_folding.specs.RootTables.{named_root, with_roots, held_faults}
+use Rattle.apollo_folding.specs.RootTables.{root_with_origin, with_roots, held_faults}
 use Rattle.apollo_folding.proofs.RootLemmas.{schema-push, held-schema_faults}
 use Rattle.apollo_folding.proofs.from_ast.schema_definition.fold.Goals as goal
 
@@ -13,7 +13,7 @@ returns-clause-folded c = λ head part done directives roots was.
     let folded = c.in_ok-fold_directives.ensures ∙ ap (λ l. l ++ map (component o) c.args.directives.now) (ap (λ (d : SchemaDefinition). d.directives.0) was)
     ∙ ap (λ l. flat_map schema_directives_of done ++ map (component o) l) (sym directives) in
     c.in_ok-fold_roots.ensures.named base first (λ i. record { description = base.description; directives = base.directives; query = (was i).query; mutation = (was i).mutation; subscription = (was i).subscription })
-    ∙ ap (λ l. with_roots base (first ++ map (named_root o) l)) (sym roots)
+    ∙ ap (λ l. with_roots base (first ++ map (root_with_origin o) l)) (sym roots)
     ∙ schema-push base head done s (ap (λ (d : SchemaDefinition). d.description) was) folded
 
 pub returns-clause-faults : goal.returns-clause-faults

@@ -1,6 +1,6 @@
 use Rattle.apollo_meaning.proofs.Prelude.{◌≡◌, ◌++◌, map, take, sym, ap, ◌∙◌, append_assoc, arith, take_all, component_name}
 use Rattle.apollo_types.specs.SchemaRoots.{root_of}
-use Rattle.apollo_folding.specs.RootTables.{named_root, first_named, with_roots, put_root, held_fault, held_faults}
+use Rattle.apollo_folding.specs.RootTables.{root_with_origin, first_named, with_roots, put_root, held_fault, held_faults}
 use Rattle.apollo_meaning.proofs.Faults.KeptLemmas.{map-turn}
 use Rattle.apollo_folding.proofs.RootLemmas.{put-first, root_of-first, held_faults-turn}
 use Rattle.apollo_folding.proofs.from_ast.schema_definition.fold_roots.Goals as goal
@@ -8,7 +8,7 @@ use Rattle.apollo_folding.proofs.from_ast.schema_definition.fold_roots.Goals as 
 pub loop-root-preserved : goal.loop-root-preserved
 loop-root-preserved c =
     let o = c.args.origin in
-    let f = named_root o in
+    let f = root_with_origin o in
     let xs = c.args.roots.now in
     let i = c.loop-root.root-index in
     let x = c.root-item.result in
@@ -36,7 +36,7 @@ pub returns-clause-named : goal.returns-clause-named
 returns-clause-named c = λ base rs h.
     let xs = c.args.roots.now in
     let whole : take c.loop-root.root-index xs ≡ xs = take_all c.loop-root.root-index xs (omega arith) in
-    c.loop-root.invariant.named base rs h ∙ ap (λ l. with_roots base (rs ++ map (named_root c.args.origin) l)) whole
+    c.loop-root.invariant.named base rs h ∙ ap (λ l. with_roots base (rs ++ map (root_with_origin c.args.origin) l)) whole
 
 pub returns-clause-faults : goal.returns-clause-faults
 returns-clause-faults c = λ base rs h.
