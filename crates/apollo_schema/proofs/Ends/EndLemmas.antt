@@ -1,5 +1,5 @@
 -- What the tables of a list end it with is what the list ends with.
-use Rattle.apollo_meaning.proofs.Prelude.{◌≡◌, ℕ, ◌+◌, ◌^◌, ◌≤◌, Bool, false, cond, List, [], ◌∷◌, ◌++◌, length, map, Option, Some, None, is_some, true, refl, sym, ap, subst, ◌∙◌, arith, append_assoc, true≢false, flat_map, lookup, option_map, option_map_or, option_or, append-nil, NameView, NodeView, OperationType, Query, Mutation, Subscription, Definition, next_number, source_at, SchemaDefinition, TypePart, SchemaPart, TypeBody, schema_extension_part, kind_of, same_kind, roots_in, ListItem, SchemaDefined, extended_parts, first, first_schema, schema_extensions, Sourced, type_at, type_from, parts, AreTypesOf, orphan, schema_orphan, further_schema, extended_names, orphans_of, schema_orphans, schema_for, implied_schema, schema_begun, schema_begun_faults, by_text, schema_of, directive_definitions, AreDirectivesOf, folded, found_at, found}
+use Rattle.apollo_meaning.proofs.Prelude.{◌≡◌, ℕ, ◌+◌, ◌^◌, ◌≤◌, Bool, false, cond, List, [], ◌∷◌, ◌++◌, length, map, Option, Some, None, is_some, true, refl, sym, ap, subst, ◌∙◌, arith, append_assoc, true≢false, flat_map, lookup, option_map, option_map_or, option_or, append-nil, NameView, NodeView, OperationType, Query, Mutation, Subscription, Definition, next_number, source_at, SchemaDefinition, TypePart, SchemaPart, TypeBody, schema_extension_part, kind_of, same_kind, roots_in, ListItem, SchemaDefined, extended_parts, first, first_schema, schema_extensions, Sourced, type_of_kind, type_from, parts, AreTypesOf, orphan, schema_orphan, further_schema, extended_names, orphans_of, schema_orphans, schema_for, implied_schema, schema_begun, schema_begun_faults, by_text, schema_of, directive_definitions, AreDirectivesOf, folded, found_at, found}
 use Rattle.std.specs.Map.{values_of}
 use Rattle.std.proofs.lemmas.List.Folds.{flat_map-map}
 use Rattle.graphql_nodes.specs.OperationTexts.{default_type_text}
@@ -17,7 +17,7 @@ use Rattle.apollo_schema.proofs.Stands.SchemaStandsLemmas.{schema_known, schema_
 is_object-from : (d : TypePart) (ps : List Sourced) → is_some_object (Some (type_from d ps)) ≡ same_kind kinds.Object (kind_of d)
 is_object-from d ps = by d.body
   where
-    by : (b : TypeBody) → is_some_object (Some (type_at b d ps)) ≡ same_kind kinds.Object (body_kind b)
+    by : (b : TypeBody) → is_some_object (Some (type_of_kind b d ps)) ≡ same_kind kinds.Object (body_kind b)
     by b = grind arith
 
 module _ {start : ℕ} {xs : List ListItem} {t : Tables} (was : Stands start xs t) where
