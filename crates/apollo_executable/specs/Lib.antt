@@ -9,4 +9,5 @@ pub mod OperationLending
 pub mod Operations
 pub mod Requests
 pub mod SelectionParts
+pub mod SelectionSets
 pub mod Walks

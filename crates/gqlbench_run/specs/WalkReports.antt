@@ -1,15 +1,12 @@
 -- What the report of the command `walk` says.
-use Rattle.std.specs.Prelude.{◌≡◌, ◌+◌, ◌-◌, ◌^◌, ℕ, Bool, true, false, List, [], ◌∷◌, ◌++◌, codes, length, map, min}
+use Rattle.std.specs.Prelude.{◌≡◌, ◌+◌, ◌-◌, ◌^◌, ℕ, Bool, true, false, List, [], ◌∷◌, ◌++◌, codes, length, min}
 use Rattle.graphql_ast.specs.declared.document.Document.{Document}
 use Rattle.graphql_nodes.specs.NodeView.{NodeView}
-use Rattle.graphql_nodes.specs.Tables.{values_of}
 use Rattle.apollo_schema.specs.declared.schema.Schema.{Schema}
 use Rattle.apollo_executable.specs.declared.document.ExecutableDocument.{ExecutableDocument}
-use Rattle.apollo_executable.specs.declared.operation.Fragment.{Fragment}
-use Rattle.apollo_executable.specs.declared.operation.Operation.{Operation}
 use Rattle.apollo_executable.specs.declared.selection.Field.{Field}
 use Rattle.apollo_executable.specs.declared.selection.SelectionSet.{SelectionSet}
-use Rattle.apollo_executable.specs.Operations.{all_operations}
+use Rattle.apollo_executable.specs.SelectionSets.{sets_of}
 use Rattle.apollo_executable.specs.Walks.WalkView.{AreWalked}
 use Rattle.gqlbench_run.specs.declared.command.Command.{Command}
 use Rattle.gqlbench_run.specs.declared.counts.Counts.TheVariants as c
@@ -21,17 +18,6 @@ use Rattle.gqlbench_run.specs.TypedBuilds.{AreBuiltFrom}
 -- the phases of the command `walk`
 abbrev pub walk_phases : List (List ℕ)
 walk_phases = codes "root-walks" ∷ codes "all-walks" ∷ []
-
--- the selections of an operation, and of a fragment
-abbrev pub operation_set : NodeView Operation → SelectionSet
-operation_set operation = operation.value.selection_set
-
-abbrev pub fragment_set : NodeView Fragment → SelectionSet
-fragment_set fragment = fragment.value.selection_set
-
--- the selections of each operation, the anonymous one first, and then of each fragment
-abbrev pub sets_of : ExecutableDocument → List SelectionSet
-sets_of document = map operation_set (all_operations document.operations) ++ map fragment_set (values_of document.fragments)
 
 -- the fields of a whole walk over each of these sets, one after the other
 abbrev pub AreWalkedInTurn : Bool → ExecutableDocument → List SelectionSet → List (NodeView Field) → Type 0

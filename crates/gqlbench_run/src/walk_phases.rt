@@ -1,7 +1,8 @@
 //! The phases of the command `walk`: walks over each operation and fragment of a typed document that is built once.
 ghost use Rattle.std.specs.Prelude.{◌≡◌, ◌+◌, ℕ, IfOk, OnOk, length};
 ghost use Rattle.apollo_executable.specs.Operations.{all_operations};
-ghost use Rattle.gqlbench_run.specs.WalkReports.{IsCountedOn, IsCountOver, IsWalkReport, sets_of};
+ghost use Rattle.apollo_executable.specs.SelectionSets.{sets_of};
+ghost use Rattle.gqlbench_run.specs.WalkReports.{IsCountedOn, IsCountOver, IsWalkReport};
 ghost use Rattle.gqlbench_run.specs.declared.counts.Counts.TheVariants as counted;
 
 use crate::command::Command;

@@ -7,6 +7,7 @@ use Rattle.std.proofs.lemmas.List.Elements.{filter_map-append}
 use Rattle.std.proofs.lemmas.List.Folds.{flat_map-map}
 use Rattle.graphql_nodes.specs.Tables.{values_of}
 use Rattle.apollo_executable.specs.Operations.{all_operations}
+use Rattle.apollo_executable.specs.SelectionSets.{fragment_set, operation_set}
 use Rattle.apollo_executable.specs.declared.document.ExecutableDocument.{ExecutableDocument}
 use Rattle.apollo_executable.specs.declared.operation.Fragment.{Fragment}
 use Rattle.apollo_executable.specs.declared.operation.Operation.{Operation}
@@ -60,12 +61,6 @@ nodes-faults s set ns k n at some none = filled-at (λ n. leaf_faults_in s (set 
 
 -- and a document where one of its operations has, or one of its fragments
 module _ (s : Schema) (document : ExecutableDocument) where
-  abbrev operation_set : NodeView Operation → SelectionSet
-  operation_set n = n.value.selection_set
-
-  abbrev fragment_set : NodeView Fragment → SelectionSet
-  fragment_set n = n.value.selection_set
-
   abbrev faults_of : SelectionSet → List LeafFault
   faults_of set = leaf_faults_in s set.selections
 

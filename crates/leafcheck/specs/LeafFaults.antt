@@ -1,16 +1,15 @@
 -- Fields at fault as leaves: those of scalar or enum types that have subselections, and those of object, interface or union
 -- types that have none. GraphQL specification of October 2021, section 5.3.3.
-use Rattle.std.specs.Prelude.{◌==◌, ◌++◌, Bool, true, false, List, length, map, Option, None, Some, option_map, option_and_then, if◌then◌else◌}
+use Rattle.std.specs.Prelude.{◌==◌, Bool, true, false, List, length, Option, None, Some, option_map, option_and_then, if◌then◌else◌}
 use Rattle.std.specs.List.{filter_map, flat_map}
 use Rattle.graphql_nodes.specs.NodeView.{NodeView}
-use Rattle.graphql_nodes.specs.Tables.{values_of}
 use Rattle.graphql_ast.specs.TypeReferences.{inner_name}
 use Rattle.apollo_types.specs.TypeKinds.{is_composite, is_leaf}
 use Rattle.apollo_types.specs.declared.extended_type.ExtendedType.{ExtendedType}
 use Rattle.apollo_schema.specs.Lookups.{type_at}
 use Rattle.apollo_schema.specs.declared.schema.Schema.{Schema}
-use Rattle.apollo_executable.specs.Operations.{all_operations}
 use Rattle.apollo_executable.specs.SelectionParts.{response_key}
+use Rattle.apollo_executable.specs.SelectionSets.{sets_of}
 use Rattle.apollo_executable.specs.Walks.FieldsIn.{fields_in}
 use Rattle.apollo_executable.specs.declared.document.ExecutableDocument.{ExecutableDocument}
 use Rattle.apollo_executable.specs.declared.selection.Field.{Field}
@@ -36,10 +35,6 @@ fault_at s n = option_map (λ kind. record { location = n.location; response_key
 -- the faults of the fields that stand in selections
 abbrev pub leaf_faults_in : Schema → List Selection → List LeafFault
 leaf_faults_in s selections = filter_map (fault_at s) (fields_in true selections)
-
--- the sets of a document: of each operation, the anonymous one first, and then of each fragment
-abbrev pub sets_of : ExecutableDocument → List SelectionSet
-sets_of document = map (λ n. n.value.selection_set) (all_operations document.operations) ++ map (λ n. n.value.selection_set) (values_of document.fragments)
 
 -- the faults of a document
 abbrev pub leaf_faults : Schema → ExecutableDocument → List LeafFault

@@ -45,7 +45,7 @@ pub record IsWalkTurn (now : Walk) (did : Turn) (new : Walk) : Type 0 where
   pub flat : IsFlat now.lists → StaysFlat did new.lists
 
 -- what is left of what is left
-leaves-on : (a b c : List ℕ) → Leaves a b → Leaves b c → Leaves a c
+pub leaves-on : (a b c : List ℕ) → Leaves a b → Leaves b c → Leaves a c
 leaves-on a b c p q = (p.0 ++ q.0, p.1 ∙ ap (λ (l : List ℕ). p.0 ++ l) q.1 ∙ sym (append_assoc p.0 q.0 c))
 
 leaves-if : (opens : Bool) (before after : ℕ → List ℕ) (m n : ℕ) → n ≡ m + 1 → before m ≡ opening_if opens after (m + 1) → Leaves (before m) (after n)
@@ -56,7 +56,7 @@ among-after : (n : ℕ) (xs ys : List ℕ) → Among n ys → Among n (xs ++ ys)
 among-after n [] ys among = among
 among-after n (x ∷ xs) ys among = inr (among-after n xs ys among)
 
-among-leaves : (n : ℕ) (a b : List ℕ) → Leaves a b → Among n b → Among n a
+pub among-leaves : (n : ℕ) (a b : List ℕ) → Leaves a b → Among n b → Among n a
 among-leaves n a b p among = subst (λ (l : List ℕ). Among n l) (sym p.1) (among-after n p.0 b among)
 
 nothing-left : (w : Walk) → w.lists.ended ≡ true → (left w).fields ≡ []

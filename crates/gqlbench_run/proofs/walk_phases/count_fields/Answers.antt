@@ -3,7 +3,8 @@ use Rattle.apollo_executable.specs.Operations.{all_operations}
 use Rattle.apollo_executable.specs.declared.selection.SelectionSet.{SelectionSet}
 use Rattle.apollo_executable.specs.declared.operation.Fragment.{Fragment}
 use Rattle.apollo_executable.specs.declared.operation.Operation.{Operation}
-use Rattle.gqlbench_run.specs.WalkReports.{IsCountedOn, IsCountOver, fragment_set, operation_set}
+use Rattle.apollo_executable.specs.SelectionSets.{fragment_set, operation_set}
+use Rattle.gqlbench_run.specs.WalkReports.{IsCountedOn, IsCountOver}
 use Rattle.gqlbench_run.proofs.WalkCountLemmas.{over-turn, turned, turned-after}
 use Rattle.gqlbench_run.proofs.walk_phases.count_fields.Goals as goal
 

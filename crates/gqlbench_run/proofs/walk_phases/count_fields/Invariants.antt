@@ -1,6 +1,7 @@
 use Rattle.std.proofs.Common.{◌++◌, map}
 use Rattle.apollo_executable.specs.Operations.{all_operations}
-use Rattle.gqlbench_run.specs.WalkReports.{IsCountOver, fragment_set, operation_set}
+use Rattle.apollo_executable.specs.SelectionSets.{fragment_set, operation_set}
+use Rattle.gqlbench_run.specs.WalkReports.{IsCountOver}
 use Rattle.gqlbench_run.proofs.walk_phases.count_fields.Given as goal
 
 abbrev pub invariant-loop-operation : goal.invariant-loop-operation
