@@ -1,6 +1,6 @@
 -- What definitions say without their locations, and what is found in a list of them.
-use Rattle.apollo_meaning.proofs.Prelude.{◌&&◌, ◌∙◌, ◌∷◌, ◌≡◌, Added, Bool, Defined, Definition, DirectiveDefinition, Directives, EnumBody, Extended, InputObjectBody, InterfaceBody, List, ListItem, NodeView, None, ObjectBody, Option, Other, ScalarBody, SchemaDefined, SchemaExtended, SchemaPart, Some, TypeBody, TypePart, UnionBody, [], added_item, added_items, ap, defined_part, defined_schema, directive_definitions, extended_part, extended_schema, extensions_of, false, filter, filter_map, find, first, first_schema, is_built_in, item_of, key_of, map, not, option_map, refl, same, schema_extensions, slice_get, sym, true, ℕ}
-use Rattle.apollo_rearrangement.proofs.Words.{cons_option, directive_meant, directive_of, directive_part, find-made, has_text, is_handed_in, last_or, lookup-keyed}
+use Rattle.apollo_meaning.proofs.Prelude.{◌&&◌, ◌∙◌, ◌∷◌, ◌≡◌, Added, Bool, Defined, Definition, DirectiveDefinition, Directives, EnumBody, Extended, InputObjectBody, InterfaceBody, List, ListItem, NodeView, None, ObjectBody, Option, Other, ScalarBody, SchemaDefined, SchemaExtended, SchemaPart, Some, TypeBody, TypePart, UnionBody, [], added_item, added_items, ap, arith, defined_part, defined_schema, directive_definitions, extended_part, extended_schema, extensions_of, false, filter, filter_map, find, first, first_schema, is_built_in, item_of, key_of, map, not, option_map, refl, same, schema_extensions, slice_get, sym, true, ℕ, map-map}
+use Rattle.apollo_rearrangement.proofs.Words.{directive_meant, directive_of, directive_part, find-made, has_text, is_handed_in, last_or, lookup-keyed}
 use Rattle.std.specs.Option.{option_or}
 use Rattle.std.proofs.lemmas.Option.{slice_get-map}
 use Rattle.graphql_nodes.specs.Comparing.{bare_name, bare_node}
@@ -71,13 +71,11 @@ said (b, d) = item_of d
 
 -- of a definition
 added-said : (a : Added) → bare_item (added_item a) ≡ said (compared a)
-added-said (b, ast.DirectiveDefinition n) = refl
-added-said (b, d) = refl
+added-said a = grind arith
 
 -- and of each of a list
 all-said : (xs : List Added) → bare_list (added_items xs) ≡ map said (map compared xs)
-all-said [] = refl
-all-said (x ∷ xs) = λ i. added-said x i ∷ all-said xs i
+all-said xs = simp map-map (λ i. map (λ a. added-said a i) xs)
 
 -- so equal lists say the same without locations
 pub equal-said : (xs ys : List Added) → AreEqualLists xs ys → bare_list (added_items xs) ≡ bare_list (added_items ys)
@@ -87,34 +85,17 @@ equal-said xs ys alike = all-said xs ∙ ap (map said) alike ∙ sym (all-said y
 module _ {P : Type 0} (which : ListItem → Option P) (bare : P → P) (agree : (x : ListItem) → which (bare_item x) ≡ option_map bare (which x)) where
   chosen-bare : (xs : List ListItem) → filter_map which (bare_list xs) ≡ map bare (filter_map which xs)
   chosen-bare [] = refl
-  chosen-bare (x ∷ xs) = (λ i. cons_option (agree x i) (chosen-bare xs i)) ∙ by (which x)
-    where
-      by : (o : Option P) → cons_option (option_map bare o) (map bare (filter_map which xs)) ≡ map bare (cons_option o (filter_map which xs))
-      by None = refl
-      by (Some p) = refl
+  chosen-bare (x ∷ xs) = grind (arith, agree x, chosen-bare xs)
 
 -- so with the definitions of types, their extensions, and the directive definitions
 defined-bare : (xs : List ListItem) → filter_map defined_part (bare_list xs) ≡ map bare_part (filter_map defined_part xs)
-defined-bare = chosen-bare defined_part bare_part agree
-  where
-    agree : (x : ListItem) → defined_part (bare_item x) ≡ option_map bare_part (defined_part x)
-    agree (Defined p) = refl
-    agree x = refl
+defined-bare = chosen-bare defined_part bare_part (λ x. grind arith)
 
 pub extended-bare : (xs : List ListItem) → filter_map extended_part (bare_list xs) ≡ map bare_part (filter_map extended_part xs)
-extended-bare = chosen-bare extended_part bare_part agree
-  where
-    agree : (x : ListItem) → extended_part (bare_item x) ≡ option_map bare_part (extended_part x)
-    agree (Extended p) = refl
-    agree x = refl
+extended-bare = chosen-bare extended_part bare_part (λ x. grind arith)
 
 directives-bare : (xs : List ListItem) → directive_definitions (bare_list xs) ≡ map bare_directive_node (directive_definitions xs)
-directives-bare = chosen-bare directive_part bare_directive_node agree
-  where
-    agree : (x : ListItem) → directive_part (bare_item x) ≡ option_map bare_directive_node (directive_part x)
-    agree (Other (ast.DirectiveDefinition n)) = refl
-    agree (Other d) = refl
-    agree x = refl
+directives-bare = chosen-bare directive_part bare_directive_node (λ x. grind arith)
 
 module _ (xs : List ListItem) where
   -- the first definition and the extensions of a name
@@ -128,18 +109,10 @@ module _ (xs : List ListItem) where
 
   -- those of the schema
   pub first_schema-bare : first_schema (bare_list xs) ≡ option_map bare_schema_part (first_schema xs)
-  first_schema-bare = ap (λ l. slice_get l 0) (chosen-bare defined_schema bare_schema_part agree xs) ∙ slice_get-map bare_schema_part (filter_map defined_schema xs) 0
-    where
-      agree : (x : ListItem) → defined_schema (bare_item x) ≡ option_map bare_schema_part (defined_schema x)
-      agree (SchemaDefined s) = refl
-      agree x = refl
+  first_schema-bare = ap (λ l. slice_get l 0) (chosen-bare defined_schema bare_schema_part (λ x. grind arith) xs) ∙ slice_get-map bare_schema_part (filter_map defined_schema xs) 0
 
   pub schema_extensions-bare : schema_extensions (bare_list xs) ≡ map bare_schema_part (schema_extensions xs)
-  schema_extensions-bare = chosen-bare extended_schema bare_schema_part agree xs
-    where
-      agree : (x : ListItem) → extended_schema (bare_item x) ≡ option_map bare_schema_part (extended_schema x)
-      agree (SchemaExtended s) = refl
-      agree x = refl
+  schema_extensions-bare = chosen-bare extended_schema bare_schema_part (λ x. grind arith) xs
 
 -- The definition that a directive's name means.
 
@@ -149,8 +122,7 @@ module _ (n : List ℕ) where
   find-bare ds = find-made (λ d. has_text n d && is_handed_in d) bare_directive_node ds ∙ (λ i. option_map bare_directive_node (find (λ d. has_text n d && not (keeps (is_built_in d.location) i)) ds))
     where
       keeps : (b : Bool) → is_built_in (marked b) ≡ b
-      keeps true = refl
-      keeps false = refl
+      keeps b = grind arith
 
   -- the last of them
   last-bare : (o : Option (NodeView DirectiveDefinition)) (ds : Directives) → last_or (option_map bare_directive_node o) (map bare_directive_node ds) ≡ option_map bare_directive_node (last_or o ds)
@@ -168,9 +140,7 @@ module _ (n : List ℕ) where
       ds = directive_definitions xs
 
       by : (o p : Option (NodeView DirectiveDefinition)) → option_map (λ d. d.value) (option_or (option_map bare_directive_node o) (option_map bare_directive_node p)) ≡ option_map (λ d. bare_directive_definition d.value) (option_or o p)
-      by (Some d) p = refl
-      by None (Some d) = refl
-      by None None = refl
+      by o p = grind arith
 
   -- so it is equal in lists that say the same without locations
   pub directives-alike : (xs ys : List ListItem) → bare_list xs ≡ bare_list ys → directive_meant xs n ≡ directive_meant ys n

@@ -1,10 +1,10 @@
 -- What rearranged lists are completed with, what is found in them, and all their faults are the same, in another order.
-use Rattle.apollo_meaning.proofs.Prelude.{◌++◌, ◌∙◌, ◌∷◌, ◌≡◌, AllByRecursion, Bool, Defined, DirectiveDefinition, Fault, List, ListItem, Mutation, NodeView, None, Option, Other, Query, Some, Subscription, TypePart, [], adopted, adopted_by, adopted_part, ap, append-nil, append_assoc, completed, cond, defined_schema, each-weaken, each_after, each_after-append, each_after-push, extended_names, extended_part, extensions_of, false, filter, filter-append, filter_map, first, first_of_each, first_of_each-push_new, first_of_each-push_old, flat_map, found, found_at, implied_schema, key_of, kind_of, list_any, map, option_map_or, orphan, orphans_of, refl, roots_in, same, same-is, same-true, same_kind, schema_extensions, schema_for, schema_orphan, schema_orphans, snoc_ind, subst, sym, true, true≢false, with_adopted, ℕ}
-use Rattle.apollo_rearrangement.proofs.Words.{AreRearranged, DefinitionsOf, DirectiveDefinitionsOf, ExtensionsOf, Group, IsOwn, IsPermutation, IsPermutation-append, IsPermutation-append_right, IsPermutation-map, IsPermutation-refl, IsPermutation-sym, IsPermutation-trans, IsTest, SchemaDefinitions, SchemaExtensions, by_subject, default_root, default_type_text, directive_part, each-append, faults-completed, faults_in, filter_agree, filter_passes, has_text, implicit_roots, is_in, recursion_from_All, one-element-permutation}
+use Rattle.apollo_meaning.proofs.Prelude.{◌++◌, ◌∙◌, ◌∷◌, ◌≡◌, AllByRecursion, Bool, Defined, Fault, List, ListItem, Mutation, None, Option, Query, Some, Subscription, TypePart, [], adopted, adopted_by, adopted_part, ap, append-nil, append_assoc, arith, completed, cond, defined_schema, each-weaken, each_after, each_after-append, each_after-push, extended_names, extended_part, extensions_of, false, filter, filter-append, filter_map, first, first_of_each, first_of_each-push_new, first_of_each-push_old, flat_map, found, found_at, implied_schema, key_of, kind_of, list_any, map, option_map_or, orphan, orphans_of, refl, roots_in, same, same-is, same-true, same_kind, schema_extensions, schema_for, schema_orphan, schema_orphans, snoc_ind, subst, sym, true, true≢false, with_adopted, ℕ}
+use Rattle.apollo_rearrangement.proofs.Words.{AreRearranged, DefinitionsOf, DirectiveDefinitionsOf, ExtensionsOf, Group, IsOwn, IsPermutation, IsPermutation-append, IsPermutation-append_right, IsPermutation-map, IsPermutation-refl, IsPermutation-sym, IsPermutation-trans, IsTest, SchemaDefinitions, SchemaExtensions, by_subject, default_root, default_type_text, each-append, faults-completed, faults_in, filter_agree, filter_passes, implicit_roots, is_in, recursion_from_All, one-element-permutation}
 use Rattle.std.specs.Cmp.Lexicographic.{nat_list_eq_equiv}
 use Rattle.std.proofs.lemmas.Map.Views.{any-filter_same}
 use Rattle.graphql_nodes.specs.declared.type_kind.TypeKind.TheVariants as kinds
-use Rattle.apollo_rearrangement.proofs.Subjects.{extensions-agree, first-agree, first_schema-agree, schema_extensions-agree, Subject, DirectiveNamed, NoSubject, TheSchema, TypeNamed, of_directive, same_subject, subject, subject_laws, subject_of_group, definitions-agree, definitions_of, found_at-agree, found_at-own, schema_definitions-agree}
+use Rattle.apollo_rearrangement.proofs.Subjects.{extensions-agree, first-agree, first_schema-agree, schema_extensions-agree, Subject, DirectiveNamed, NoSubject, TheSchema, TypeNamed, same_subject, subject, subject_laws, subject_of_group, definitions-agree, definitions_of, found_at-agree, found_at-own, schema_definitions-agree}
 use Rattle.apollo_rearrangement.proofs.Rearranging.{rearranged-append, rearranged-refl}
 use Rattle.apollo_rearrangement.proofs.Regrouped.{finding_schemas, finding_types, grouped, schema-regrouped, type-regrouped}
 use Rattle.apollo_rearrangement.proofs.Permutations.{exchange, flat_map-permutation, filter-permutation, filter_map-permutation}
@@ -18,11 +18,10 @@ abbrev new_name : List (List ℕ) → List ℕ → List (List ℕ)
 new_name before n = cond (list_any (same n) before) [] (n ∷ [])
 
 first-one_by_one : (ns : List (List ℕ)) → first_of_each same ns ≡ each_after new_name [] ns
-first-one_by_one = snoc_ind (λ ns. first_of_each same ns ≡ each_after new_name [] ns) refl (λ ns n so_far. by ns n (list_any (same n) ns) refl ∙ ap (λ l. l ++ new_name ns n) so_far ∙ sym (each_after-push new_name [] ns n))
+first-one_by_one = snoc_ind (λ ns. first_of_each same ns ≡ each_after new_name [] ns) refl (λ ns n so_far. by ns n ∙ ap (λ l. l ++ new_name ns n) so_far ∙ sym (each_after-push new_name [] ns n))
   where
-    by : (ns : List (List ℕ)) (n : List ℕ) (b : Bool) → list_any (same n) ns ≡ b → first_of_each same (ns ++ n ∷ []) ≡ first_of_each same ns ++ new_name ns n
-    by ns n true e = first_of_each-push_old same nat_list_eq_equiv ns n e ∙ sym (append-nil (first_of_each same ns)) ∙ ap (λ b. first_of_each same ns ++ cond b [] (n ∷ [])) (sym e)
-    by ns n false e = first_of_each-push_new same nat_list_eq_equiv ns n e ∙ ap (λ b. first_of_each same ns ++ cond b [] (n ∷ [])) (sym e)
+    by : (ns : List (List ℕ)) (n : List ℕ) → first_of_each same (ns ++ n ∷ []) ≡ first_of_each same ns ++ new_name ns n
+    by ns n = grind (arith, first_of_each-push_old same nat_list_eq_equiv ns n, first_of_each-push_new same nat_list_eq_equiv ns n, append-nil (first_of_each same ns))
 
 new_name-own : IsOwn same same_laws (λ n. n) new_name
 new_name-own before n = ap (λ b. cond b [] (n ∷ [])) (sym (any-filter_same (same n) (same n) true (λ m h. h) before))
@@ -72,11 +71,7 @@ module _ (xs : List ListItem) where
   -- nothing else is adopted
   adopted-none : (q : ListItem → Bool) → ((p : TypePart) → q (Defined p) ≡ false) → (ms : List (List ℕ)) → filter q (adopted_for ms) ≡ []
   adopted-none q fails [] = refl
-  adopted-none q fails (m ∷ ms) = by (orphans_of xs m) (adopted-none q fails ms)
-    where
-      by : (ps : List TypePart) → filter q (adopted_for ms) ≡ [] → filter q (adopted_by ps ++ adopted_for ms) ≡ []
-      by [] rest = rest
-      by (p ∷ ps) rest = rw (fails (adopted_part p)) rest
+  adopted-none q fails (m ∷ ms) = grind (arith, fails, adopted-none q fails ms)
 
 module _ (xs ys : List ListItem) (r : AreRearranged xs ys) where
   pub extended_names-rearranged : IsPermutation (extended_names xs) (extended_names ys)
@@ -124,17 +119,11 @@ about k x = same_subject k (subject x)
 
 -- those of a directive's name are its definitions
 about-directive : (n : List ℕ) (x : ListItem) → about (DirectiveNamed n) x ≡ is_in (DirectiveDefinitionsOf n) x
-about-directive n (Other d) = by (directive_part (Other d))
-  where
-    by : (o : Option (NodeView DirectiveDefinition)) → same_subject (DirectiveNamed n) (of_directive o) ≡ option_map_or (has_text n) o false
-    by None = refl
-    by (Some m) = refl
-about-directive n x = refl
+about-directive n x = grind arith
 
 -- no group is of no subject
 in-none : (g : Group) → same_subject NoSubject (subject_of_group g) ≡ false
-in-none (DefinitionsOf n) = refl
-in-none g = refl
+in-none g = grind arith
 
 -- what is found at those of no subject is so wherever they stand
 alone : (before xs : List ListItem) → AllByRecursion (λ x. about NoSubject x ≡ true) xs → each_after found_at before xs ≡ flat_map (found_at []) xs

@@ -1,6 +1,6 @@
 mod Words
-mod Permutations
-mod Subjects
+pub mod Permutations
+pub mod Subjects
 mod Regrouped
 mod Rearranging
 mod Reported

@@ -1,5 +1,5 @@
 -- Lists with the same elements in another order: parts that change places, and what is made of each element.
-use Rattle.apollo_meaning.proofs.Prelude.{◌++◌, ◌<◌, ◌∷◌, ◌≡◌, Bool, List, None, Option, Some, [], ap, append_assoc, arith, cond, filter, filter_map, flat_map, get_or, length, option_map_or, refl, subst, suc, zero, ℕ}
+use Rattle.apollo_meaning.proofs.Prelude.{◌++◌, ◌<◌, ◌∷◌, ◌≡◌, Bool, List, None, Option, Some, [], ap, append_assoc, arith, cond, filter, filter_map, flat_map, get_or, length, option_map_or, refl, subst, suc, zero, ℕ, map, map-append, ◌∙◌}
 use Rattle.apollo_rearrangement.proofs.Words.{IsPermutation, IsPermutation-append_comm, IsPermutation-append_left, IsPermutation-append_right, IsPermutation-keeps, IsPermutation-refl, IsPermutation-trans, cons_option, set, swap}
 use Rattle.std.proofs.lemmas.List.Edits.{swap_is}
 
@@ -33,6 +33,11 @@ module _ {X Y : Type 0} (f : X → List Y) where
       step : (l : List X) (i j : ℕ) → i < length l → j < length l → IsPermutation (flat_map f l) (flat_map f (swap l i j))
       step [] i j a b = absurd (omega (arith, a))
       step (d ∷ l) i j a b = subst (λ m. IsPermutation (flat_map f (d ∷ l)) (flat_map f m)) (swap_is (d ∷ l) i j d a b) (flat_map-swap (d ∷ l) i j d a b)
+
+-- what is made of each element of joined lists
+pub map-flat_map : {X Y Z : Type 0} (f : Y → Z) (g : X → List Y) (xs : List X) → map f (flat_map g xs) ≡ flat_map (λ x. map f (g x)) xs
+map-flat_map f g [] = refl
+map-flat_map f g (x ∷ xs) = map-append f (g x) (flat_map g xs) ∙ ap (λ l. map f (g x) ++ l) (map-flat_map f g xs)
 
 -- those that pass a test, and what a choice makes of those that it takes
 module _ {X : Type 0} (p : X → Bool) where

@@ -1,9 +1,9 @@
 -- What is found of one subject, that of its first definition with its extensions and that of each further definition, in
 -- another order.
-use Rattle.apollo_meaning.proofs.Prelude.{◌++◌, ◌∙◌, ◌∷◌, ◌≡◌, Bool, Defined, DirectiveDefinition, Extended, Family, Fault, List, ListItem, NodeView, None, Option, Other, SchemaDefined, SchemaExtended, SchemaPart, Some, TypePart, [], ap, append-nil, append_assoc, cond, defined_schema, each_after-push, extension_faults, extensions_of, false, filter, filter-append, filter_map, filter_map-append, first, flat_map, found, found_at, further_definition, further_schema, joining_faults, key_of, kind_of, of_kind, option_map_or, part_faults, refl, same, same-true, schema_begun_faults, schema_extensions, schema_faults, schema_joining_faults, schemas, slice_get, snoc_ind, subst, sym, true, types, ℕ}
-use Rattle.apollo_rearrangement.proofs.Words.{IsPermutation, IsPermutation-append_comm, IsPermutation-append_left, IsPermutation-append_right, IsPermutation-refl, IsPermutation-trans, all-kept, bool_cases, cons_option, directive_part, filter-push_dropped, filter-push_kept, found-push, joining_fault, own-kept, type_begun_faults}
+use Rattle.apollo_meaning.proofs.Prelude.{◌++◌, ◌∙◌, ◌∷◌, ◌≡◌, Bool, Defined, Extended, Family, Fault, List, ListItem, None, Option, Other, SchemaDefined, SchemaExtended, SchemaPart, Some, TypePart, [], ap, append-nil, arith, append_assoc, defined_schema, each_after-push, extension_faults, extensions_of, false, filter, filter-append, filter_map, filter_map-append, first, flat_map, found, found_at, further_definition, further_schema, joining_faults, key_of, kind_of, of_kind, option_map_or, part_faults, refl, same, same-true, schema_begun_faults, schema_extensions, schema_faults, schema_joining_faults, schemas, slice_get, snoc_ind, subst, sym, true, types, ℕ}
+use Rattle.apollo_rearrangement.proofs.Words.{IsPermutation, IsPermutation-append_comm, IsPermutation-append_left, IsPermutation-append_right, IsPermutation-refl, IsPermutation-trans, all-kept, bool_cases, cons_option, filter-push_dropped, filter-push_kept, found-push, joining_fault, own-kept, type_begun_faults}
 use Rattle.std.proofs.lemmas.Grind.{flat_map-append}
-use Rattle.apollo_rearrangement.proofs.Subjects.{Subject, TheSchema, TypeNamed, of_directive, same_subject, subject, subject_laws, definitions_of, first-is, found_at-own}
+use Rattle.apollo_rearrangement.proofs.Subjects.{Subject, TheSchema, TypeNamed, same_subject, subject, subject_laws, definitions_of, first-is, found_at-own}
 
 -- how faults are found: at a further definition, at the first one with extensions before it, and at an extension after
 -- a first definition and extensions
@@ -21,12 +21,10 @@ module _ {P : Type 0} (by_kind : Finding P) where
 
   -- at one more definition, and at one more extension
   abbrev pub at_definition : List P → List P → P → List Fault
-  at_definition [] es p = by_kind.begun p es
-  at_definition (d ∷ ds) es p = by_kind.further d p
+  at_definition ds es p = option_map_or (λ d. by_kind.further d p) (slice_get ds 0) (by_kind.begun p es)
 
   abbrev pub at_extension : List P → List P → P → List Fault
-  at_extension [] es e = []
-  at_extension (d ∷ ds) es e = by_kind.joins d es e
+  at_extension ds es e = option_map_or (λ d. by_kind.joins d es e) (slice_get ds 0) []
 
   grouped-definition : (ds es : List P) (p : P) → grouped (ds ++ p ∷ []) es ≡ grouped ds es ++ at_definition ds es p
   grouped-definition [] es p = append-nil (by_kind.begun p es)
@@ -63,18 +61,12 @@ module _ {P : Type 0} (f : Family P) (n : List ℕ) (by_kind : Finding P) (k : S
 
   -- of those that a choice takes, one more item adds its own, if it has the key
   module _ (xs : List ListItem) (x : ListItem) where
-    taken : (which : ListItem → Option P) (o : Option P) → which x ≡ o → filter has (filter_map which (xs ++ x ∷ [])) ≡ filter has (filter_map which xs) ++ filter has (cons_option o [])
-    taken which o e =
-        ap (filter has) (filter_map-append which xs (x ∷ []) ∙ ap (λ o. filter_map which xs ++ cons_option o []) e) ∙ filter-append has (filter_map which xs) (cons_option o [])
+    taken : (which : ListItem → Option P) (l : List P) → filter has (cons_option (which x) []) ≡ l → filter has (filter_map which (xs ++ x ∷ [])) ≡ filter has (filter_map which xs) ++ l
+    taken which l e =
+        ap (filter has) (filter_map-append which xs (x ∷ [])) ∙ filter-append has (filter_map which xs) (cons_option (which x) []) ∙ ap (λ l. filter has (filter_map which xs) ++ l) e
 
-    taken-none : (which : ListItem → Option P) → which x ≡ None → filter has (filter_map which (xs ++ x ∷ [])) ≡ filter has (filter_map which xs)
-    taken-none which e = taken which None e ∙ append-nil (filter has (filter_map which xs))
-
-    taken-some : (which : ListItem → Option P) (p : P) (b : Bool) → which x ≡ Some p → has p ≡ b → filter has (filter_map which (xs ++ x ∷ [])) ≡ filter has (filter_map which xs) ++ cond b (p ∷ []) []
-    taken-some which p b e own = taken which (Some p) e ∙ ap (λ b. filter has (filter_map which xs) ++ cond b (p ∷ []) []) own
-
-    taken-other : (which : ListItem → Option P) (p : P) → which x ≡ Some p → has p ≡ false → filter has (filter_map which (xs ++ x ∷ [])) ≡ filter has (filter_map which xs)
-    taken-other which p e own = taken-some which p false e own ∙ append-nil (filter has (filter_map which xs))
+    taken-none : (which : ListItem → Option P) → filter has (cons_option (which x) []) ≡ [] → filter has (filter_map which (xs ++ x ∷ [])) ≡ filter has (filter_map which xs)
+    taken-none which e = taken which [] e ∙ append-nil (filter has (filter_map which xs))
 
   -- what holds of no item, and stays with one of another subject, with a definition and with an extension, holds of each list, its definitions and its extensions
   pub by_plays : (Q : List ListItem → List P → List P → Type 0) → Q [] [] [] → ((xs : List ListItem) (x : ListItem) (ds es : List P) → about x ≡ false → Q xs ds es → Q (xs ++ x ∷ []) ds es)
@@ -84,15 +76,15 @@ module _ {P : Type 0} (f : Family P) (n : List ℕ) (by_kind : Finding P) (k : S
   by_plays Q none other defines extends plays = snoc_ind (λ xs. Q xs (defined_of xs) (extended_of xs)) none (λ xs x so_far. more xs x so_far (plays x))
     where
       more : (xs : List ListItem) (x : ListItem) → Q xs (defined_of xs) (extended_of xs) → Plays x → Q (xs ++ x ∷ []) (defined_of (xs ++ x ∷ [])) (extended_of (xs ++ x ∷ []))
-      more xs x so_far (Neither d e a) = rw (taken-none xs x f.defined d, taken-none xs x f.extended e) (other xs x (defined_of xs) (extended_of xs) a so_far)
+      more xs x so_far (Neither d e a) = rw (taken-none xs x f.defined (rw d refl), taken-none xs x f.extended (rw e refl)) (other xs x (defined_of xs) (extended_of xs) a so_far)
       more xs x so_far (Defines p d e a at) =
           bool_cases (has p)
-          (λ own. rw (taken-some xs x f.defined p true d own, taken-none xs x f.extended e) (defines xs x (defined_of xs) (extended_of xs) p (a ∙ own) (at xs own) so_far))
-          (λ own. rw (taken-other xs x f.defined p d own, taken-none xs x f.extended e) (other xs x (defined_of xs) (extended_of xs) (a ∙ own) so_far))
+          (λ own. rw (taken xs x f.defined (p ∷ []) (rw (d, own) refl), taken-none xs x f.extended (rw e refl)) (defines xs x (defined_of xs) (extended_of xs) p (a ∙ own) (at xs own) so_far))
+          (λ own. rw (taken-none xs x f.defined (rw (d, own) refl), taken-none xs x f.extended (rw e refl)) (other xs x (defined_of xs) (extended_of xs) (a ∙ own) so_far))
       more xs x so_far (Extends p d e a at) =
           bool_cases (has p)
-          (λ own. rw (taken-none xs x f.defined d, taken-some xs x f.extended p true e own) (extends xs x (defined_of xs) (extended_of xs) p (a ∙ own) (at xs own) so_far))
-          (λ own. rw (taken-none xs x f.defined d, taken-other xs x f.extended p e own) (other xs x (defined_of xs) (extended_of xs) (a ∙ own) so_far))
+          (λ own. rw (taken-none xs x f.defined (rw d refl), taken xs x f.extended (p ∷ []) (rw (e, own) refl)) (extends xs x (defined_of xs) (extended_of xs) p (a ∙ own) (at xs own) so_far))
+          (λ own. rw (taken-none xs x f.defined (rw d refl), taken-none xs x f.extended (rw (e, own) refl)) (other xs x (defined_of xs) (extended_of xs) (a ∙ own) so_far))
 
   -- what is found at those of the subject is grouped
   regrouped : ((x : ListItem) → Plays x) → (xs : List ListItem) → IsPermutation (found (filter about xs)) (grouped by_kind (defined_of xs) (extended_of xs))
@@ -126,43 +118,22 @@ finding_schemas = record { further = λ s t. further_schema s t ∷ []; begun = 
     more s es e =
         ap (λ l. schema_faults [] s ++ l) (each_after-push schema_faults (s ∷ []) es e) ∙ sym (append_assoc (schema_faults [] s) (schema_joining_faults (s ∷ []) es) (schema_faults (s ∷ es) e))
 
--- by the first definition, if there is one, or by the definitions
-at-first : {P : Type 0} (by_kind : Finding P) (ds es : List P) (p : P) → option_map_or (λ d. by_kind.further d p) (slice_get ds 0) (by_kind.begun p es) ≡ at_definition by_kind ds es p
-at-first by_kind [] es p = refl
-at-first by_kind (d ∷ ds) es p = refl
-
-at-joined : {P : Type 0} (by_kind : Finding P) (ds es : List P) (e : P) → option_map_or (λ d. by_kind.joins d es e) (slice_get ds 0) [] ≡ at_extension by_kind ds es e
-at-joined by_kind [] es e = refl
-at-joined by_kind (d ∷ ds) es e = refl
-
 pub plays-type : (n : List ℕ) (x : ListItem) → Plays types n finding_types (TypeNamed n) x
 plays-type n (Defined p) = Defines p refl refl refl (λ xs own.
     ap (λ (m : List ℕ). option_map_or (λ d. further_definition d p) (first xs m) (type_begun_faults p (extensions_of xs m))) (sym (same-true n (key_of p) own))
-    ∙ ap (λ o. option_map_or (λ d. further_definition d p) o (type_begun_faults p (extensions_of xs n))) (first-is xs n)
-    ∙ at-first finding_types (definitions_of xs n) (extensions_of xs n) p)
+    ∙ ap (λ o. option_map_or (λ d. further_definition d p) o (type_begun_faults p (extensions_of xs n))) (first-is xs n))
 plays-type n (Extended p) = Extends p refl refl refl (λ xs own.
     ap (λ (m : List ℕ). option_map_or (λ d. extension_faults d (extensions_of xs m) p) (first xs m) []) (sym (same-true n (key_of p) own))
-    ∙ ap (λ o. option_map_or (λ d. extension_faults d (extensions_of xs n) p) o []) (first-is xs n)
-    ∙ at-joined finding_types (definitions_of xs n) (extensions_of xs n) p)
-plays-type n (Other d) = Neither refl refl (by (directive_part (Other d)))
-  where
-    by : (o : Option (NodeView DirectiveDefinition)) → same_subject (TypeNamed n) (of_directive o) ≡ false
-    by None = refl
-    by (Some m) = refl
+    ∙ ap (λ o. option_map_or (λ d. extension_faults d (extensions_of xs n) p) o []) (first-is xs n))
+plays-type n (Other d) = Neither refl refl (grind arith)
 plays-type n x = Neither refl refl refl
 
 pub plays-schema : (x : ListItem) → Plays schemas [] finding_schemas TheSchema x
 plays-schema (SchemaDefined s) = Defines s refl refl refl (λ xs own.
-    (λ i. option_map_or (λ d. further_schema d s ∷ []) (slice_get (all-kept (filter_map defined_schema xs) i) 0) (schema_begun_faults s (all-kept (schema_extensions xs) i)))
-    ∙ at-first finding_schemas (defined_of schemas [] finding_schemas TheSchema xs) (extended_of schemas [] finding_schemas TheSchema xs) s)
+    (λ i. option_map_or (λ d. further_schema d s ∷ []) (slice_get (all-kept (filter_map defined_schema xs) i) 0) (schema_begun_faults s (all-kept (schema_extensions xs) i))))
 plays-schema (SchemaExtended e) = Extends e refl refl refl (λ xs own.
-    (λ i. option_map_or (λ s. schema_faults (s ∷ all-kept (schema_extensions xs) i) e) (slice_get (all-kept (filter_map defined_schema xs) i) 0) [])
-    ∙ at-joined finding_schemas (defined_of schemas [] finding_schemas TheSchema xs) (extended_of schemas [] finding_schemas TheSchema xs) e)
-plays-schema (Other d) = Neither refl refl (by (directive_part (Other d)))
-  where
-    by : (o : Option (NodeView DirectiveDefinition)) → same_subject TheSchema (of_directive o) ≡ false
-    by None = refl
-    by (Some m) = refl
+    (λ i. option_map_or (λ s. schema_faults (s ∷ all-kept (schema_extensions xs) i) e) (slice_get (all-kept (filter_map defined_schema xs) i) 0) []))
+plays-schema (Other d) = Neither refl refl (grind arith)
 plays-schema x = Neither refl refl refl
 
 -- what is found at the definitions and extensions of a name, by itself

@@ -1,6 +1,6 @@
 -- What a fault of a dropped component or root is about, the type or the schema that it is dropped from; and those faults of a list
 -- are those of what is dropped from a type, or from the schema, in order.
-use Rattle.apollo_meaning.proofs.Prelude.{◌&&◌, ◌++◌, ◌∙◌, ◌∷◌, ◌≡◌, AllByRecursion, Bool, Defined, Definition, DirectiveDefinition, Directives, Entry, EnumBody, Extended, Family, Fault, InputObjectBody, InterfaceBody, List, ListItem, NameView, NodeView, None, ObjectBody, Option, Other, Placed, Root, ScalarBody, SchemaDefined, SchemaExtended, SchemaPart, Some, TypeBody, TypePart, UnionBody, [], ap, append-nil, body_faults, collision, collision_at, collisions, completed, cond, defined_schema, directive_definitions, each_after, each_after-append, extended_names, extended_part, extension_faults, extension_places, extensions_of, false, field_entries, field_names, filter, filter-append, filter_map, find, first, first_place, first_schema, flat_map, found, found_at, further_definition, further_schema, implied_schema, interface_names, key_of, kind_of, map, name_entries, of_kind, option_map_or, orphan, orphans_of, other_faults, part_faults, refl, roots_in, same, same-is, same-true, same_kind, same_text, schema_begun_faults, schema_extensions, schema_faults, schema_joining_faults, schema_orphan, schema_orphans, schemas, slice_get, subst, sym, true, types, with_adopted, ℕ}
+use Rattle.apollo_meaning.proofs.Prelude.{◌&&◌, ◌++◌, ◌∙◌, ◌∷◌, ◌≡◌, AllByRecursion, Bool, Defined, Definition, DirectiveDefinition, Directives, Entry, EnumBody, Extended, Family, Fault, InputObjectBody, InterfaceBody, List, ListItem, NameView, NodeView, None, ObjectBody, Option, Other, Placed, Root, ScalarBody, SchemaDefined, SchemaExtended, SchemaPart, Some, TypeBody, TypePart, UnionBody, [], ap, append-nil, arith, body_faults, collision, collision_at, collisions, completed, cond, defined_schema, directive_definitions, each_after, each_after-append, extended_names, extended_part, extension_faults, extension_places, extensions_of, false, field_entries, field_names, filter, filter-append, filter_map, find, first, first_place, first_schema, flat_map, found, found_at, further_definition, further_schema, implied_schema, interface_names, key_of, kind_of, map, name_entries, of_kind, option_map_or, orphan, orphans_of, other_faults, part_faults, refl, roots_in, same, same-is, same-true, same_kind, same_text, schema_begun_faults, schema_extensions, schema_faults, schema_joining_faults, schema_orphan, schema_orphans, schemas, slice_get, subst, sym, true, types, with_adopted, ℕ}
 use Rattle.apollo_rearrangement.proofs.Words.{All-filter, BuildError, all-kept, each-append, faults-completed, faults_in, filter-each, filter-fails, filter_agree, filter_passes, found-push, found_of_schema, found_of_type, has_text, input_field_entries, input_field_names, is_handed_in, joined_faults, joining_fault, kind_mismatch, member_names, operation_text, recursion_from_All, redefinition, root_fault, root_faults, same_operation, type_begun_faults, value_entries, value_names}
 use Rattle.graphql_nodes.specs.BuiltIn.{is_built_in}
 use Rattle.apollo_meaning.specs.declared.collision.Collection.{Collection}
@@ -40,19 +40,16 @@ each_after-all : {X Y : Type 0} (at : List X → X → List Y) (Q : Y → Type 0
 each_after-all at Q each before [] = tt
 each_after-all at Q each before (x ∷ xs) = each-append Q (at before x) (each_after at (before ++ x ∷ []) xs) (each before x) (each_after-all at Q each (before ++ x ∷ []) xs)
 
+-- the fault of something, if there is something, is from a subject where that of anything is
+one-from : {X : Type 0} (k : Subject) (say : X → Fault) → ((x : X) → dropped_from (say x).1 ≡ k) → (o : Option X) → AllFrom k (option_map_or (λ x. say x ∷ []) o [])
+one-from k say is None = tt
+one-from k say is (Some x) = (is x, tt)
+
 -- the components of a collection are dropped from the type of the name that they stand under
 collisions-from : (c : Collection) (ty : NameView) (before : List NameView) (es : List Entry) → AllFrom (TypeNamed ty.text) (collisions c ty before es)
 collisions-from c ty before =
     each_after-all (λ done. collision_at c ty (before ++ map (λ e. e.0) done)) (λ f. dropped_from f.1 ≡ TypeNamed ty.text)
-    (λ done e. by e (find (same_text e.0) (before ++ map (λ e. e.0) done))) []
-  where
-    named : (c : Collection) (kept : NameView) → dropped_from (collision c kept ty) ≡ TypeNamed ty.text
-    named ObjectInterfaces kept = refl
-    named c kept = refl
-
-    by : (e : Entry) (o : Option NameView) → AllFrom (TypeNamed ty.text) (option_map_or (λ kept. (e.1, collision c kept ty) ∷ []) o [])
-    by e None = tt
-    by e (Some kept) = (named c kept, tt)
+    (λ done e. one-from (TypeNamed ty.text) (λ kept. (e.1, collision c kept ty)) (λ kept. grind arith) (find (same_text e.0) (before ++ map (λ e. e.0) done))) []
 
 -- and so are those of a body
 body-from : (b : TypeBody) (ty : NameView) (parts : List TypePart) → AllFrom (TypeNamed ty.text) (body_faults b ty parts)
@@ -86,11 +83,7 @@ joined-from d n xs own =
 
 -- roots are dropped from the schema
 roots-from : (before rs : List Root) → AllFrom TheSchema (root_faults before rs)
-roots-from = each_after-all root_fault (λ f. dropped_from f.1 ≡ TheSchema) (λ before r. by r (find (λ k. same_operation r.value.0 k.value.0) before))
-  where
-    by : (r : Root) (o : Option Root) → AllFrom TheSchema (option_map_or (λ kept. (r.location, errors.DuplicateRootOperation kept.value.1.location (operation_text r.value.0)) ∷ []) o [])
-    by r None = tt
-    by r (Some kept) = (refl, tt)
+roots-from = each_after-all root_fault (λ f. dropped_from f.1 ≡ TheSchema) (λ before r. one-from TheSchema (λ kept. (r.location, errors.DuplicateRootOperation kept.value.1.location (operation_text r.value.0))) (λ kept. refl) (find (λ k. same_operation r.value.0 k.value.0) before))
 
 -- and so they are where definitions and extensions of the schema join one after another
 pub begun-from : (s : SchemaPart) (es : List SchemaPart) → AllFrom TheSchema (schema_begun_faults s es)
@@ -110,11 +103,8 @@ further-from d e = by (is_built_in d.location) e.ignorable (same_kind kinds.Scal
 
 -- neither does what is of no type and not of the schema
 other-from : (ds : Directives) (d : Definition) → AllFrom NoSubject (other_faults ds d)
-other-from ds (ast.DirectiveDefinition n) = by (find (λ e. has_text n.value.name.text e && is_handed_in e) ds)
-  where
-    by : (o : Option (NodeView DirectiveDefinition)) → AllFrom NoSubject (option_map_or (λ kept. (n.value.name.location, errors.DirectiveDefinitionCollision kept.value.name.location n.value.name) ∷ []) o [])
-    by None = tt
-    by (Some kept) = (refl, tt)
+other-from ds (ast.DirectiveDefinition n) =
+    one-from NoSubject (λ (kept : NodeView DirectiveDefinition). (n.value.name.location, errors.DirectiveDefinitionCollision kept.value.name.location n.value.name)) (λ kept. refl) (find (λ e. has_text n.value.name.text e && is_handed_in e) ds)
 other-from ds (ast.OperationDefinition n) = (refl, tt)
 other-from ds (ast.FragmentDefinition n) = (refl, tt)
 other-from ds d = tt
@@ -235,14 +225,10 @@ reported-type : (adopts : Bool) (xs : List ListItem) (n : List ℕ) (o : Option 
     → filter (λ f. is_collision_of n f.1) (faults_in adopts xs) ≡ filter (is_from (TypeNamed n)) (option_map_or (λ d. type_begun_faults d (extensions_of (completed adopts xs) n)) o [])
 reported-type adopts xs n o is =
     let ys = completed adopts xs in
-    filter_agree (λ f. is_collision_of n f.1) (is_from (TypeNamed n)) (λ f. named f.1) (faults_in adopts xs)
+    filter_agree (λ f. is_collision_of n f.1) (is_from (TypeNamed n)) (λ f. grind arith) (faults_in adopts xs)
     ∙ reported-found (TypeNamed n) refl adopts xs
     ∙ found-told (TypeNamed n) refl types n finding_types further-from (plays-type n) ys
     ∙ ap (λ o. filter (is_from (TypeNamed n)) (option_map_or (λ d. type_begun_faults d (extensions_of ys n)) o [])) (sym (first-is ys n) ∙ is)
-  where
-    named : (e : BuildError) → is_collision_of n e ≡ same_subject (TypeNamed n) (dropped_from e)
-    named (errors.DuplicateRootOperation previous operation) = refl
-    named e = refl
 
 -- so they are those of the components that are dropped from the type
 pub reported-collisions : (adopts : Bool) (xs : List ListItem) (d : Placed TypePart) → first_place types (completed adopts xs) (key_of d.1) ≡ Some d
@@ -265,15 +251,11 @@ reported-schema : (adopts : Bool) (xs : List ListItem) (o : Option SchemaPart) �
     → filter (λ f. is_repeated_root f.1) (faults_in adopts xs) ≡ filter (is_from TheSchema) (option_map_or (λ s. schema_begun_faults s (schema_extensions (completed adopts xs))) o [])
 reported-schema adopts xs o is =
     let ys = completed adopts xs in
-    filter_agree (λ f. is_repeated_root f.1) (is_from TheSchema) (λ f. named f.1) (faults_in adopts xs)
+    filter_agree (λ f. is_repeated_root f.1) (is_from TheSchema) (λ f. grind arith) (faults_in adopts xs)
     ∙ reported-found TheSchema refl adopts xs
     ∙ found-told TheSchema refl schemas [] finding_schemas (λ d p. (refl, tt)) plays-schema ys
     ∙ (λ i. filter (is_from TheSchema) (option_map_or (λ s. schema_begun_faults s (sym (all-kept (schema_extensions ys)) i)) (slice_get (sym (all-kept (filter_map defined_schema ys)) i) 0) []))
     ∙ ap (λ o. filter (is_from TheSchema) (option_map_or (λ s. schema_begun_faults s (schema_extensions ys)) o [])) is
-  where
-    named : (e : BuildError) → is_repeated_root e ≡ same_subject TheSchema (dropped_from e)
-    named (errors.DuplicateRootOperation previous operation) = refl
-    named e = refl
 
 -- so they are those of the roots that are dropped from the schema
 pub reported-roots : (adopts : Bool) (xs : List ListItem) (s : Placed SchemaPart) → first_place schemas (completed adopts xs) [] ≡ Some s

@@ -1,6 +1,7 @@
 -- What a definition is about, and what lists say of a subject, where those of its groups stand in both in the same order.
-use Rattle.apollo_meaning.proofs.Prelude.{◌&&◌, ◌∙◌, ◌∷◌, ◌≡◌, Bool, Defined, Definition, DirectiveDefinition, Directives, Extended, List, ListItem, NodeView, None, Option, Other, SchemaDefined, SchemaExtended, Some, TypePart, [], ap, arith, defined_part, defined_schema, directive_definitions, extended_part, extended_schema, extension_faults, extensions_of, false, filter, filter_map, find, first, first_schema, found_at, further_definition, further_schema, is_some, key_of, option_map_or, option_or, other_faults, refl, same, same-is, same-true, schema_begun_faults, schema_extensions, schema_faults, slice_get, sym, true, true≢false, ℕ}
-use Rattle.apollo_rearrangement.proofs.Words.{DefinitionsOf, DirectiveDefinitionsOf, ExtensionsOf, Group, IsOwn, IsTest, SchemaDefinitions, SchemaExtensions, chosen-wider, directive_faults, directive_of, directive_part, filter-wider, filter_map-wider, find-first, has_text, is_handed_in, is_in, last_or, lookup-keyed, type_begun_faults}
+use Rattle.apollo_meaning.proofs.Prelude.{◌&&◌, ◌∙◌, ◌∷◌, ◌≡◌, Bool, Defined, DirectiveDefinition, Extended, List, ListItem, NodeView, None, Option, Other, SchemaDefined, SchemaExtended, TypePart, [], ap, arith, defined_part, defined_schema, directive_definitions, extended_part, extended_schema, extension_faults, extensions_of, false, filter, filter_map, find, first, first_schema, found_at, further_definition, further_schema, is_some, key_of, option_map_or, option_or, refl, same, same-true, schema_begun_faults, schema_extensions, schema_faults, slice_get, sym, true, ℕ}
+use Rattle.apollo_rearrangement.proofs.Words.{DefinitionsOf, DirectiveDefinitionsOf, ExtensionsOf, Group, IsOwn, IsTest, SchemaDefinitions, SchemaExtensions, chosen-wider, directive_of, directive_part, filter-wider, filter_map-wider, find-first, has_text, is_handed_in, is_in, last_or, lookup-keyed, type_begun_faults}
+use Rattle.graphql_nodes.proofs.Texts.{same-refl}
 use Rattle.graphql_ast.specs.declared.definition.Definition.TheVariants as ast
 use Rattle.apollo_meaning.specs.declared.build_error.BuildError.TheVariants as errors
 
@@ -40,28 +41,17 @@ subject_laws = record { is = is; itself = itself }
     is : (a b : Subject) → same_subject a b ≡ true → a ≡ b
     is (TypeNamed n) (TypeNamed m) e = ap TypeNamed (same-true n m e)
     is (DirectiveNamed n) (DirectiveNamed m) e = ap DirectiveNamed (same-true n m e)
-    is TheSchema TheSchema e = refl
-    is NoSubject NoSubject e = refl
-    is a b e = absurd (true≢false (sym e))
+    is a b e = grind (arith, e)
 
     itself : (a : Subject) → same_subject a a ≡ true
-    itself (TypeNamed n) = same-is n n refl
-    itself (DirectiveNamed n) = same-is n n refl
-    itself TheSchema = refl
-    itself NoSubject = refl
+    itself a = grind (arith, same-refl)
 
 -- those of a group have its subject
 pub in-subject : (g : Group) (x : ListItem) → is_in g x ≡ true → subject_of_group g ≡ subject x
 in-subject (DefinitionsOf n) (Defined p) e = ap TypeNamed (same-true n (key_of p) e)
 in-subject (ExtensionsOf n) (Extended p) e = ap TypeNamed (same-true n (key_of p) e)
-in-subject SchemaDefinitions (SchemaDefined s) e = refl
-in-subject SchemaExtensions (SchemaExtended s) e = refl
-in-subject (DirectiveDefinitionsOf n) (Other d) e = by (directive_part (Other d)) e
-  where
-    by : (o : Option (NodeView DirectiveDefinition)) → option_map_or (has_text n) o false ≡ true → DirectiveNamed n ≡ of_directive o
-    by None h = absurd (true≢false (sym h))
-    by (Some m) h = ap DirectiveNamed (same-true n m.value.name.text h)
-in-subject g x e = absurd (true≢false (sym e))
+in-subject (DirectiveDefinitionsOf n) (Other (ast.DirectiveDefinition m)) e = ap DirectiveNamed (same-true n m.value.name.text e)
+in-subject g x e = grind (arith, e)
 
 -- the definitions of a name, in order
 abbrev pub definitions_of : List ListItem → List ℕ → List TypePart
@@ -74,11 +64,6 @@ first-is xs n = lookup-keyed (same n) key_of (filter_map defined_part xs) ∙ fi
 find-filter : {X : Type 0} (p q : X → Bool) (xs : List X) → find (λ x. p x && q x) xs ≡ find q (filter p xs)
 find-filter p q [] = refl
 find-filter p q (x ∷ xs) = grind (arith, find-filter p q xs)
-
--- the fault of something else than a type or the schema, with a directive's name or without
-other_faults-is : (ds : Directives) (d : Definition) → other_faults ds d ≡ option_map_or (directive_faults ds) (directive_part (Other d)) (other_faults [] d)
-other_faults-is ds (ast.DirectiveDefinition n) = refl
-other_faults-is ds d = refl
 
 module _ (xs ys : List ListItem) where
   -- those of a group stand in both lists in the same order
@@ -131,13 +116,10 @@ module _ (xs ys : List ListItem) where
       option_map_or (λ f. further_schema f s ∷ []) (first_schema-agree (a SchemaDefinitions refl) i) (schema_begun_faults s (schema_extensions-agree (a SchemaExtensions refl) i))
   found_at-agree (SchemaExtended e) a = λ i.
       option_map_or (λ s. schema_faults (s ∷ schema_extensions-agree (a SchemaExtensions refl) i) e) (first_schema-agree (a SchemaDefinitions refl) i) []
-  found_at-agree (Other d) a = other_faults-is (directive_definitions xs) d ∙ by (directive_part (Other d)) refl ∙ sym (other_faults-is (directive_definitions ys) d)
-    where
-      by : (o : Option (NodeView DirectiveDefinition)) → directive_part (Other d) ≡ o
-          → option_map_or (directive_faults (directive_definitions xs)) o (other_faults [] d) ≡ option_map_or (directive_faults (directive_definitions ys)) o (other_faults [] d)
-      by None e = refl
-      by (Some n) e = ap (λ o. option_map_or (λ kept. (n.value.name.location, errors.DirectiveDefinitionCollision kept.value.name.location n.value.name) ∷ []) o [])
-          (handed_in-agree n.value.name.text (a (DirectiveDefinitionsOf n.value.name.text) (ap of_directive (sym e))))
+  found_at-agree (Other (ast.DirectiveDefinition n)) a =
+      ap (λ o. option_map_or (λ kept. (n.value.name.location, errors.DirectiveDefinitionCollision kept.value.name.location n.value.name) ∷ []) o [])
+      (handed_in-agree n.value.name.text (a (DirectiveDefinitionsOf n.value.name.text) refl))
+  found_at-agree (Other d) a = refl
 
 -- what is found at an item is decided by those of its subject before it
 pub found_at-own : IsOwn same_subject subject_laws subject found_at

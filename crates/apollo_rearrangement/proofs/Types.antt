@@ -1,7 +1,7 @@
 -- The types and the schema definitions that lists mean: what `==` compares of them is decided by the parts that they are made
 -- of, without locations and without the origins of components.
-use Rattle.apollo_meaning.proofs.Prelude.{◌++◌, ◌∙◌, ◌∷◌, ◌≡◌, Bool, EnumBody, InputObjectBody, InterfaceBody, List, ListItem, Mutation, NameView, NodeView, ObjectBody, Option, Query, ScalarBody, SchemaPart, Some, SourcedSchema, Subscription, TypeBody, TypePart, UnionBody, [], ap, by_text, cond, extensions_of, false, filter, find, first, first_of_each, first_schema, flat_map, folding_order, kind_of, list_any, lookup, map, map-append, of_kind, option_map, refl, same_key, same_kind, same_text, schema_definition_of, schema_extensions, schema_from, sym, true, ℕ}
-use Rattle.apollo_rearrangement.proofs.Words.{AreRearranged, DefinitionsOf, ExtensionsOf, SchemaDefinitions, SchemaExtensions, first_of_each-map, list_any-map, option_cases, option_map_id, root_in, roots_of, same_operation, schema_directives_of, schema_meant, schema_parts, schema_sourced, type_meant}
+use Rattle.apollo_meaning.proofs.Prelude.{◌∙◌, ◌∷◌, ◌≡◌, Bool, EnumBody, InputObjectBody, InterfaceBody, List, ListItem, Mutation, NameView, NodeView, ObjectBody, Option, Query, ScalarBody, SchemaPart, Some, SourcedSchema, Subscription, TypeBody, TypePart, UnionBody, [], ap, arith, by_text, cond, extensions_of, false, filter, find, first, first_of_each, first_schema, flat_map, folding_order, kind_of, list_any, lookup, map, of_kind, option_map, refl, same_key, same_kind, same_text, schema_definition_of, schema_extensions, schema_from, sym, true, ℕ, map-map}
+use Rattle.apollo_rearrangement.proofs.Words.{AreRearranged, DefinitionsOf, ExtensionsOf, SchemaDefinitions, SchemaExtensions, first_of_each-map, list_any-map, option_cases, option_map_id, root_in, roots_of, same_operation, schema_directives_of, schema_meant, schema_parts, schema_sourced, type_meant, flat_map-map, find-made}
 use Rattle.graphql_nodes.specs.Comparing.{bare_name, bare_node, entries_by_text, members_by_text}
 use Rattle.graphql_nodes.specs.declared.operation_type.OperationType.{OperationType}
 use Rattle.graphql_ast.specs.Bare.{bare_directive}
@@ -15,6 +15,7 @@ use Rattle.apollo_component.proofs.Lists.Each.{filter-map}
 use Rattle.apollo_types.specs.BareTypes.{BareType, bare_extended_type, BareSchemaDefinition, bare_schema_definition}
 use Rattle.apollo_meaning.specs.Types.Components.{Sourced, body_fields, body_input_fields, body_interfaces, body_members, body_values, component, component_name, sourced_directives, distinct_entries, distinct_names}
 use Rattle.apollo_meaning.specs.Types.Meaning.{type_of_kind, type_from, parts, extensions_with_origin}
+use Rattle.apollo_rearrangement.proofs.Permutations.{map-flat_map}
 use Rattle.apollo_rearrangement.proofs.Bare.{bare_body, bare_list, bare_part, bare_schema_part, extensions-bare, first-bare, first_schema-bare, schema_extensions-bare}
 use Rattle.apollo_rearrangement.proofs.BareCompletion.{kind-bare}
 use Rattle.apollo_rearrangement.proofs.Subjects.{extensions-agree, first-agree, first_schema-agree, schema_extensions-agree}
@@ -27,14 +28,13 @@ parts_of = map (λ s. s.1)
 module _ {A B C P : Type 0} (seen : A → B) (sourced : ComponentOrigin → C → A) (plain : C → B) (one : C → C) (forgets : (o : ComponentOrigin) (c : C) → seen (sourced o c) ≡ plain (one c))
     (bare : P → P) (held : P → List C) (holds : (p : P) → held (bare p) ≡ map one (held p)) where
   forget-each : (o : ComponentOrigin) (cs : List C) → map seen (map (sourced o) cs) ≡ map plain (map one cs)
-  forget-each o [] = refl
-  forget-each o (c ∷ cs) = λ i. forgets o c i ∷ forget-each o cs i
+  forget-each o cs = simp map-map (λ i. map (λ c. forgets o c i) cs)
 
   forget : (ps : List (ComponentOrigin × P)) → map seen (flat_map (λ s. map (sourced s.0) (held s.1)) ps) ≡ flat_map (λ p. map plain (held p)) (map bare (parts_of ps))
-  forget [] = refl
-  forget (s ∷ ps) =
-      map-append seen (map (sourced s.0) (held s.1)) (flat_map (λ s. map (sourced s.0) (held s.1)) ps)
-      ∙ (λ i. (forget-each s.0 (held s.1) ∙ ap (map plain) (sym (holds s.1))) i ++ forget ps i)
+  forget ps =
+      map-flat_map seen (λ s. map (sourced s.0) (held s.1)) ps
+      ∙ (λ i. flat_map (λ s. (forget-each s.0 (held s.1) ∙ ap (map plain) (sym (holds s.1))) i) ps)
+      ∙ sym (ap (flat_map (λ p. map plain (held p))) (map-map bare (λ s. s.1) ps) ∙ flat_map-map (λ p. map plain (held p)) (λ s. bare s.1) ps)
 
 -- directives, names and named components that `==` compares, of parts without locations
 abbrev plain_directives : List TypePart → List Directive
@@ -89,24 +89,19 @@ module _ {T : Type 0} (bare : T → T) (name : NodeView T → NameView) (named :
 
 -- what a part holds of each sort, without locations
 holds-interfaces : (b : TypeBody) → body_interfaces (bare_body b) ≡ map bare_name (body_interfaces b)
-holds-interfaces (ObjectBody interfaces fields) = refl
-holds-interfaces b = refl
+holds-interfaces b = grind arith
 
 holds-fields : (b : TypeBody) → body_fields (bare_body b) ≡ map (bare_node bare_field_definition) (body_fields b)
-holds-fields (ObjectBody interfaces fields) = refl
-holds-fields b = refl
+holds-fields b = grind arith
 
 holds-members : (b : TypeBody) → body_members (bare_body b) ≡ map bare_name (body_members b)
-holds-members (UnionBody members) = refl
-holds-members b = refl
+holds-members b = grind arith
 
 holds-values : (b : TypeBody) → body_values (bare_body b) ≡ map (bare_node bare_enum_value_definition) (body_values b)
-holds-values (EnumBody values) = refl
-holds-values b = refl
+holds-values b = grind arith
 
 holds-input_fields : (b : TypeBody) → body_input_fields (bare_body b) ≡ map (bare_node bare_input_value_definition) (body_input_fields b)
-holds-input_fields (InputObjectBody fields) = refl
-holds-input_fields b = refl
+holds-input_fields b = grind arith
 
 -- what `==` compares of the type of this kind, by its head and its parts without locations
 plain_type : TypeBody → TypePart → List TypePart → BareType
@@ -153,8 +148,7 @@ plain_schema_directives = flat_map (λ s. map (λ d. d.value) s.directives)
 -- they are what is compared of the root and the directives that the parts are joined to
 find-root : (op : OperationType) (rs : List (OperationType × ComponentName))
     → option_map bare_component_name (option_map (λ r. r.1) (find (λ r. same_operation op r.0) rs)) ≡ option_map (λ r. r.1) (find (λ r. same_operation op r.0) (map bare_root rs))
-find-root op [] = refl
-find-root op (r ∷ rs) = elim (same_operation op r.0) as (λ b. option_map bare_component_name (option_map (λ r. r.1) (cond b (Some r) (find (λ r. same_operation op r.0) rs))) ≡ option_map (λ r. r.1) (cond b (Some (bare_root r)) (find (λ r. same_operation op r.0) (map bare_root rs)))) [ true ↦ refl | false ↦ find-root op rs ]
+find-root op rs = rw (find-made (λ r. same_operation op r.0) bare_root rs) (grind arith)
 
 forget-root : (op : OperationType) (ps : List SourcedSchema) → option_map bare_component_name (root_in op ps) ≡ plain_root op (map bare_schema_part (parts_of ps))
 forget-root op ps =

@@ -3,6 +3,7 @@ pub use Rattle.std.proofs.Common.{set, swap}
 pub use Rattle.std.specs.List.{cons_option, last_or}
 pub use Rattle.std.specs.List.Sorted.{IsPermutation}
 pub use Rattle.std.proofs.lemmas.List.Elements.{All-filter, filter_agree, filter_passes, recursion_from_All}
+pub use Rattle.std.proofs.lemmas.List.Folds.{flat_map-map}
 pub use Rattle.std.proofs.lemmas.List.Sorted.{IsPermutation-append, IsPermutation-append_comm, IsPermutation-append_left, IsPermutation-append_right, IsPermutation-keeps, IsPermutation-map, IsPermutation-refl, IsPermutation-sym, IsPermutation-trans}
 pub use Rattle.apollo_component.proofs.Lists.Each.{each-append, filter-each, filter-fails}
 pub use Rattle.apollo_component.proofs.Lists.Ends.{all-kept, filter-push_dropped, filter-push_kept}
@@ -15,7 +16,6 @@ pub use Rattle.apollo_meaning.proofs.Completion.CompletionLemmas.{faults-complet
 pub use Rattle.apollo_meaning.proofs.Items.ItemLemmas.{found-push}
 pub use Rattle.apollo_rearrangement.specs.Rearranged.{AreRearranged, DefinitionsOf, DirectiveDefinitionsOf, ExtensionsOf, Group, SchemaDefinitions, SchemaExtensions, directive_meant, is_in, schema_meant, type_meant}
 pub use Rattle.apollo_meaning.specs.Faults.ListFaults.{faults_in, found_of_schema, found_of_type}
-pub use Rattle.apollo_meaning.specs.Faults.OtherFaults.{directive_faults}
 pub use Rattle.apollo_meaning.specs.Faults.RootFaults.{root_fault, root_faults}
 pub use Rattle.apollo_meaning.specs.Faults.TypeComponents.{joined_faults}
 pub use Rattle.apollo_meaning.specs.Faults.TypeFaults.{input_field_entries, input_field_names, joining_fault, kind_mismatch, member_names, redefinition, value_entries, value_names}
