@@ -1,10 +1,10 @@
 -- A schema definition that a list means, and the one that what is written of it means.
-use Rattle.apollo_canonical.proofs.Words.Lists.{one-element-permutation, ◌≡◌, ℕ, List, [], ◌∷◌, ◌++◌, None, Option, Some, map, find, flat_map, length, option_map, slice_get, refl, sym, ap, ◌∙◌, ◌==◌, length-map, map-map, AllByRecursion, IsDistinct, IsPermutation, find-first, find-made}
+use Rattle.apollo_canonical.proofs.Words.Lists.{one-element-permutation, ◌≡◌, ℕ, List, [], ◌∷◌, ◌++◌, None, Option, Some, map, find, flat_map, length, option_map, slice_get, refl, sym, ap, ◌∙◌, ◌==◌, length-map, map-map, AllByRecursion, IsDistinct, IsPermutation, find-first, find-made, map-flat_map}
 use Rattle.apollo_canonical.proofs.Words.Syntax.{bare_name, NodeView, OperationType, Query, Mutation, Subscription, bare_directive, DefinitionParts, Directive}
 use Rattle.apollo_canonical.proofs.Words.Types.{bare_component, bare_component_name, extension_location, by_origin, identities, of_extensions, of_origin, origins_in, Component, ComponentName, ComponentOrigin, Definition, Extension, ExtensionId, PartsByOrigin, bare_schema_definition, root_node, schema_components, root_of, SchemaDefinition}
 use Rattle.apollo_canonical.proofs.Words.Meaning.{Root, SchemaPart, root_in, roots_of, same_operation, schema_definition_of, schema_directives_of, schema_extension_source, component, component_name}
 use Rattle.apollo_canonical.proofs.Words.Written.{Sections, in_sections, joined, with_origins, no_components, node_with_origin, placed}
-use Rattle.apollo_canonical.proofs.Lists.{in_order, map-flat_map, option_map-twice}
+use Rattle.apollo_canonical.proofs.Lists.{in_order, option_map-twice}
 use Rattle.apollo_canonical.proofs.Sections.{kept, origins-split, roots-there, HasOrigins, directives-in_order}
 use Rattle.apollo_canonical.proofs.Types.{same-placed, directives_alone, numbered-distinct, numbered-written, numbered_parts, paired, paired-self, renumbered, renumbered-distinct, renumbered-placed, directives-numbered, shown-joined, shown-made, shown_in, IsMadeBy}
 use Rattle.apollo_canonical.proofs.Definitions.SchemaSections.{IsSchemaRow, entries, is_op, roots-origin, roots_for, schema-components, schema-in_order, schema-row, schema_sections, schema_sorts, filter-joined, from-values, in_operation_order, schema-parts_again}
@@ -31,6 +31,11 @@ schema_extension_of e = record { location = extension_location e.0; description 
 -- the schema definition of a part and of extensions with numbers
 abbrev pub made_schema : SchemaPart → List (ℕ × SchemaPart) → SchemaDefinition
 made_schema head es = schema_definition_of head ((Definition, head) ∷ map schema_extension_source es)
+
+-- a root of it is that of its parts
+pub root-made : (head : SchemaPart) (es : List (ℕ × SchemaPart)) (op : OperationType) → root_of (made_schema head es) op ≡ root_in op ((Definition, head) ∷ map schema_extension_source es)
+root-made head es Query = refl
+root-made head es op = refl
 
 -- the part has what is written of the definition
 pub record IsWrittenHead (d : SchemaDefinition) (head : SchemaPart) : Type 0 where
@@ -151,12 +156,8 @@ module _ (d : SchemaDefinition) (m : IsMadeBy made_schema d) (head : SchemaPart)
       perm-entries op (root_of d op) (map (λ x. x.1) (joined (roots_for op) (with_origins p)))
       (kept s p same_definition same_parts (roots_for op) (entries op (root_of d op)) (λ o. ap (λ cs. roots_for op (of_origin o cs)) (sym (schema-components d)) ∙ roots-origin d o op) (there op))
 
-  root_u : (op : OperationType) → root_of u op ≡ root_in op ((Definition, head) ∷ map schema_extension_source es)
-  root_u Query = refl
-  root_u op = refl
-
   entries-again : (op : OperationType) → entries op (root_of u op) ≡ joined (roots_for op) (with_origins p)
-  entries-again op = ap (entries op) (root_u op ∙ root-found op) ∙ (from-values op (joined (roots_for op) (with_origins p)) (root_of d op) (root-values op)).0
+  entries-again op = ap (entries op) (root-made head es op ∙ root-found op) ∙ (from-values op (joined (roots_for op) (with_origins p)) (root_of d op) (root-values op)).0
 
   sections-again : schema_sections u ≡ in_operation_order p
   sections-again = (λ i. record no_components { directives = directives-again i; roots = entries-again Query i ++ (entries-again Mutation i ++ (entries-again Subscription i ++ [])) })
@@ -169,7 +170,7 @@ module _ (d : SchemaDefinition) (m : IsMadeBy made_schema d) (head : SchemaPart)
   parts-again : written_parts_of u ≡ p
   parts-again =
       ap by_origin (schema-components u ∙ ap in_sections sections-again)
-      ∙ schema-parts_again p (renumbered-distinct is (written_parts_of d).extensions apart) (schema-row d Definition) (rows is (identities (origins_in (schema_components d)))) (ap (in_order schema_sorts) same_exts ∙ schema-in_order d)
+      ∙ schema-parts_again p (renumbered-distinct is (written_parts_of d).extensions many apart) (schema-row d Definition) (rows is (identities (origins_in (schema_components d)))) (ap (in_order schema_sorts) same_exts ∙ schema-in_order d)
 
   pub schema-again : IsSchemaAgain d u
   schema-again = record {
@@ -177,7 +178,7 @@ module _ (d : SchemaDefinition) (m : IsMadeBy made_schema d) (head : SchemaPart)
     definition = ap (λ q. q.definition) parts-again;
     extensions = ap (λ q. placed q.extensions) parts-again ∙ renumbered-placed is (written_parts_of d).extensions many;
     directives = nodes u.directives.0 ∙ ap (map (λ x. x.1)) directives-again ∙ in_order_again ∙ sym (nodes d.directives.0);
-    roots = (λ op. ap (option_map (λ (c : ComponentName). c.name)) (root_u op ∙ root-found op) ∙ (from-values op (joined (roots_for op) (with_origins p)) (root_of d op) (root-values op)).1);
+    roots = (λ op. ap (option_map (λ (c : ComponentName). c.name)) (root-made head es op ∙ root-found op) ∙ (from-values op (joined (roots_for op) (with_origins p)) (root_of d op) (root-values op)).1);
   }
     where
       nodes : (cs : List (Component Directive)) → map (λ c. c.node) cs ≡ map (λ x. x.1) (map node_with_origin cs)

@@ -1,15 +1,15 @@
 -- The schema definition that a list means: written in it, or implied.
-use Rattle.apollo_canonical.proofs.Words.Lists.{◌≡◌, ℕ, Bool, true, false, cond, List, [], ◌∷◌, ◌++◌, None, Some, map, find, flat_map, option_map, slice_get, refl, sym, ap, subst, ◌∙◌, ◌==◌, append-nil, filter_map-append, map-map, AllByRecursion, IsDistinct, filter_map, option_map_or, option_or, unwrap_or, ◌≢◌, option_cases}
-use Rattle.apollo_canonical.proofs.Words.Syntax.{NodeView, OperationType, Query}
+use Rattle.apollo_canonical.proofs.Words.Lists.{◌≡◌, ℕ, Bool, true, false, cond, List, [], ◌∷◌, ◌++◌, None, Some, map, flat_map, option_map, slice_get, refl, sym, ap, subst, ◌∙◌, ◌==◌, append-nil, filter_map-append, map-map, AllByRecursion, IsDistinct, filter_map, option_map_or, option_or, unwrap_or, ◌≢◌, option_cases}
+use Rattle.apollo_canonical.proofs.Words.Syntax.{NodeView, OperationType}
 use Rattle.apollo_canonical.proofs.Words.Types.{has_own_root, root_of, SchemaDefinition, ComponentName}
-use Rattle.apollo_canonical.proofs.Words.Meaning.{adopted, adopted_by, extended_names, orphans_of, with_adopted, implicit_roots, implied_schema, schema_for, schema_of_roots, ListItem, SchemaDefined, added_items, defined_schema, extended_schema, first_schema}
-use Rattle.apollo_canonical.proofs.Words.Meaning.{schema_extensions, Root, SchemaPart, TypePart, roots_in, folding_order, SourcedSchema, no_schema, roots_of, same_operation, schema_extension_source, schema_from, schema_of, schema_parts, whole, Schema}
+use Rattle.apollo_canonical.proofs.Words.Meaning.{adopted, with_adopted, implicit_roots, implied_schema, schema_for, schema_of_roots, ListItem, SchemaDefined, added_items, defined_schema, extended_schema, first_schema}
+use Rattle.apollo_canonical.proofs.Words.Meaning.{schema_extensions, Root, SchemaPart, roots_in, folding_order, SourcedSchema, no_schema, roots_of, schema_extension_source, schema_from, schema_of, schema_parts, whole, Schema}
 use Rattle.apollo_canonical.proofs.Words.Written.{MeaningLaws, IsMeantByList, with_built_ins}
 use Rattle.apollo_component.specs.declared.extension.ComponentOrigin.TheVariants as origins
 use Rattle.apollo_canonical.proofs.Lists.{both-empty, map-empty}
-use Rattle.apollo_canonical.proofs.Items.{no-schema_definitions, adopted-split, items, rooted}
+use Rattle.apollo_canonical.proofs.Items.{adopted-unchosen, no-schema_definitions, adopted-split, items, rooted}
 use Rattle.apollo_canonical.proofs.Types.{rising-distinct, schema_numbers, schema_numbers-rise, IsMadeBy}
-use Rattle.apollo_canonical.proofs.Definitions.OneSchema.{made_schema, written_parts_of}
+use Rattle.apollo_canonical.proofs.Definitions.OneSchema.{made_schema, root-made, written_parts_of}
 use Rattle.apollo_canonical.proofs.Definitions.SchemaSaid.{all-none, no-directives, own-root, operations-named}
 
 -- it names a root
@@ -80,12 +80,8 @@ none-named : (head : SchemaPart) (es : List (ℕ × SchemaPart)) → ((op : Oper
 none-named head es none =
     map-empty (λ (r : Root). r.value.0) (roots_in (map (λ e. e.1) es)) (sym (operations-named es) ∙ ap (map (λ (r : OperationType × ComponentName). r.0)) nothing)
   where
-    found : (op : OperationType) → option_map (λ r. r.1) (find (λ r. same_operation op r.0) (flat_map roots_of ((origins.Definition, head) ∷ map schema_extension_source es))) ≡ None
-    found Query = none Query
-    found op = none op
-
     nothing : flat_map roots_of (map schema_extension_source es) ≡ []
-    nothing = (both-empty (roots_of (origins.Definition, head)) (flat_map roots_of (map schema_extension_source es)) (all-none (flat_map roots_of ((origins.Definition, head) ∷ map schema_extension_source es)) found)).1
+    nothing = (both-empty (roots_of (origins.Definition, head)) (flat_map roots_of (map schema_extension_source es)) (all-none (flat_map roots_of ((origins.Definition, head) ∷ map schema_extension_source es)) (λ op. sym (root-made head es op) ∙ none op))).1
 
 module _ (laws : MeaningLaws) (schema : Schema) (list : IsMeantByList schema) where
   open list use {start, adopts, more}
@@ -100,16 +96,8 @@ module _ (laws : MeaningLaws) (schema : Schema) (list : IsMeantByList schema) wh
   definitions-of : filter_map defined_schema W ≡ filter_map defined_schema (added_items more)
   definitions-of = ap (filter_map defined_schema) (adopted-split adopts more) ∙ simp (filter_map-append, no-schema_definitions, by adopts, append-nil)
     where
-      one : (ps : List TypePart) → filter_map defined_schema (adopted_by ps) ≡ []
-      one [] = refl
-      one (p ∷ ps) = refl
-
-      all : (ns : List (List ℕ)) → filter_map defined_schema (flat_map (λ n. adopted_by (orphans_of (items adopts more) n)) ns) ≡ []
-      all [] = refl
-      all (n ∷ ns) = filter_map-append defined_schema (adopted_by (orphans_of (items adopts more) n)) (flat_map (λ n. adopted_by (orphans_of (items adopts more) n)) ns) ∙ (λ i. one (orphans_of (items adopts more) n) i ++ all ns i)
-
       by : (b : Bool) → filter_map defined_schema (cond b (adopted (items adopts more)) []) ≡ []
-      by true = all (extended_names (items adopts more))
+      by true = adopted-unchosen defined_schema (λ p. refl) (items adopts more)
       by false = refl
 
   first-roots : (s : SchemaPart) → first_schema W ≡ Some s → NamesRoot s

@@ -1,14 +1,14 @@
 -- What is written of a schema definition: of two that say the same, of one of roots alone, and of one that is left out.
-use Rattle.apollo_canonical.proofs.Words.Lists.{◌≡◌, ℕ, Bool, true, false, cond, not, ◌||◌, ◌&&◌, List, [], ◌∷◌, ◌++◌, None, Option, Some, is_none, map, find, flat_map, length, option_map, refl, sym, ap, ◌∙◌, ◌==◌, or_right, length-map, map-map, cons_option, list_any, option_eq, nat_eq, true≢false, arith, and_parts, nat_tests, list_all, flat_map-map, IsDistinct}
-use Rattle.apollo_canonical.proofs.Words.Syntax.{NameView, OperationType, Query, Mutation, Subscription, SourceSpan, schema_definition, schema_extension, DefinitionParts, Directive, bare_name, default_type_text, same-is, same-true, bare_directive}
-use Rattle.apollo_canonical.proofs.Words.Types.{extension_location, same_origin, identities, origins_in, Component, ComponentName, ComponentOrigin, PartsByOrigin, ExtensionId, root_node, has_implied_root, has_own_root, implied_name, is_written, schema_components, write_schema_definition, root_of, ExtendedType, SchemaDefinition, bare_component, bare_component_name, bare_schema_definition, is_implied, operation_types}
+use Rattle.apollo_canonical.proofs.Words.Lists.{◌≡◌, ℕ, Bool, true, false, cond, not, ◌||◌, ◌&&◌, List, [], ◌∷◌, ◌++◌, None, Option, Some, is_none, map, find, flat_map, length, option_map, refl, sym, ap, ◌∙◌, ◌==◌, length-map, map-map, cons_option, list_any, option_eq, nat_eq, true≢false, arith, and_parts, nat_tests, list_all, flat_map-map, IsDistinct, map-flat_map, nil_from_length}
+use Rattle.apollo_canonical.proofs.Words.Syntax.{NameView, OperationType, Query, Mutation, Subscription, SourceSpan, schema_definition, schema_extension, DefinitionParts, Directive, bare_name, default_type_text, same-true, bare_directive, same-refl}
+use Rattle.apollo_canonical.proofs.Words.Types.{extension_location, same_origin, identities, origins_in, Component, ComponentName, PartsByOrigin, ExtensionId, has_implied_root, has_own_root, implied_name, is_written, schema_components, write_schema_definition, root_of, ExtendedType, SchemaDefinition, bare_component, bare_component_name, bare_schema_definition, is_implied, operation_types}
 use Rattle.apollo_canonical.proofs.Words.Meaning.{Root, SchemaPart, roots_of, same_operation, schema_extension_source, component_name, default_root, schema_of_roots, roots_in}
 use Rattle.apollo_canonical.proofs.Words.Faults.{same_root}
 use Rattle.apollo_canonical.proofs.Words.Written.{with_origins, placed}
 use Rattle.std.specs.Cmp.Lexicographic.{pointwise}
 use Rattle.apollo_component.specs.declared.extension.ComponentOrigin.TheVariants as origins
 use Rattle.apollo_canonical.proofs.Sections.{has_none, definition-alone, has_some, of-alone, picked}
-use Rattle.apollo_canonical.proofs.Lists.{option_map-twice, map-flat_map}
+use Rattle.apollo_canonical.proofs.Lists.{distinct-from_first, option_map-twice}
 use Rattle.apollo_canonical.proofs.Types.{directives_alone, numbered_parts, same-placed}
 use Rattle.apollo_canonical.proofs.Definitions.SchemaSections.{entries, of_schema-origin, picked-roots}
 use Rattle.apollo_canonical.proofs.Definitions.OneSchema.{IsSchemaAgain, directives-in_parts, extension_written, made_schema, root_under, written_parts_of}
@@ -20,15 +20,14 @@ is_own (Some n) = same_origin origins.Definition n.origin
 
 any-one : (op : OperationType) (o : Option ComponentName) (rest : List (OperationType × ComponentName))
     → list_any (λ r. same_origin origins.Definition r.1.origin) (cons_option (option_map (λ n. (op, n)) o) rest) ≡ (is_own o || list_any (λ r. same_origin origins.Definition r.1.origin) rest)
-any-one op None rest = refl
-any-one op (Some n) rest = refl
+any-one op o rest = grind arith
 
 has_own-three : (d : SchemaDefinition) → has_own_root d ≡ (is_own d.query || (is_own d.mutation || (is_own d.subscription || false)))
 has_own-three d = simp any-one
 
 -- a definition that names a root has a root of its own
 pub own-root : (head : SchemaPart) (r : Root) (rs : List Root) (es : List (ℕ × SchemaPart)) → head.roots ≡ r ∷ rs → has_own_root (made_schema head es) ≡ true
-own-root head r rs es e = has_own-three (made_schema head es) ∙ by r.value.0 refl
+own-root head r rs es e = has_own-three (made_schema head es) ∙ grind (arith, own Query, own Mutation, own Subscription)
   where
     first : OperationType × ComponentName
     first = (r.value.0, component_name origins.Definition r.value.1)
@@ -47,18 +46,12 @@ own-root head r rs es e = has_own-three (made_schema head es) ∙ by r.value.0 r
     d : SchemaDefinition
     d = made_schema head es
 
-    by : (op : OperationType) → r.value.0 ≡ op → (is_own d.query || (is_own d.mutation || (is_own d.subscription || false))) ≡ true
-    by Query f = ap (λ b. b || (is_own d.mutation || (is_own d.subscription || false))) (own Query (ap (same_operation Query) f))
-    by Mutation f = or_right (is_own d.query) _ (ap (λ b. b || (is_own d.subscription || false)) (own Mutation (ap (same_operation Mutation) f)))
-    by Subscription f = or_right (is_own d.query) _ (or_right (is_own d.mutation) _ (ap (λ b. b || false) (own Subscription (ap (same_operation Subscription) f))))
-
 has_some-append : {A : Type 0} (xs ys : List A) → has_some (xs ++ ys) ≡ (has_some xs || has_some ys)
 has_some-append [] ys = refl
 has_some-append (x ∷ xs) ys = refl
 
 own-entry : (op : OperationType) (o : Option ComponentName) → is_own o ≡ has_some (picked origins.Definition (entries op o))
-own-entry op None = refl
-own-entry op (Some n) = elim (same_origin origins.Definition n.origin) as (λ b. b ≡ has_some (map (λ (x : ComponentOrigin × Root). x.1) (cond b ((n.origin, root_node (op, n)) ∷ []) []))) [ true ↦ refl | false ↦ refl ]
+own-entry op o = grind arith
 
 -- it has one where roots are written of the definition
 pub own-said : (d : SchemaDefinition) → has_own_root d ≡ has_some (written_parts_of d).definition.roots
@@ -81,11 +74,7 @@ no-directives head es e =
 -- where there is no root of any operation type, no part names one
 pub all-none : (l : List (OperationType × ComponentName)) → ((op : OperationType) → option_map (λ r. r.1) (find (λ r. same_operation op r.0) l) ≡ None) → l ≡ []
 all-none [] h = refl
-all-none (x ∷ l) h = absurd (grind (arith, itself x.0, h x.0))
-  where
-    itself : (op : OperationType) → same_operation op op ≡ true
-    itself Query = refl
-    itself op = refl
+all-none (x ∷ l) h = absurd (grind (arith, h x.0))
 
 -- extensions name roots of the operation types of their parts' roots
 pub operations-named : (es : List (ℕ × SchemaPart)) → map (λ r. r.0) (flat_map roots_of (map schema_extension_source es)) ≡ map (λ r. r.value.0) (roots_in (map (λ e. e.1) es))
@@ -150,28 +139,15 @@ has_one q m s Query = q
 has_one q m s Mutation = m
 has_one q m s Subscription = s
 
--- its roots, that it has no extension, and that the roots differ, computed
-abbrev HasRoot : Bool → Bool → Bool → OperationType → Type 0
-HasRoot q m s op = option_map (λ n. n.name.text) (root_of (implied_schema_of q m s) op) ≡ cond (has_one q m s op) (Some (default_type_text op)) None
+-- its roots, that it has no extension, and that the roots differ
+root-three : (q m s : Bool) (op : OperationType) → option_map (λ n. n.name.text) (root_of (implied_schema_of q m s) op) ≡ cond (has_one q m s op) (Some (default_type_text op)) None
+root-three q m s op = grind arith
 
-computed : (q m s : Bool) → (HasRoot q m s Query × HasRoot q m s Mutation × HasRoot q m s Subscription) × (identities (origins_in (schema_components (implied_schema_of q m s))) ≡ []) × IsDistinct same_root (roots_where q m s)
-unfolding IsDistinct
-computed true true true = ((refl, refl, refl), refl, ((refl, (refl, tt)), ((refl, tt), (tt, tt))))
-computed true true false = ((refl, refl, refl), refl, ((refl, tt), (tt, tt)))
-computed true false true = ((refl, refl, refl), refl, ((refl, tt), (tt, tt)))
-computed true false false = ((refl, refl, refl), refl, (tt, tt))
-computed false true true = ((refl, refl, refl), refl, ((refl, tt), (tt, tt)))
-computed false true false = ((refl, refl, refl), refl, (tt, tt))
-computed false false true = ((refl, refl, refl), refl, (tt, tt))
-computed false false false = ((refl, refl, refl), refl, tt)
+unextended : (q m s : Bool) → identities (origins_in (schema_components (implied_schema_of q m s))) ≡ []
+unextended q m s = grind arith
 
 pub implied-distinct : (q m s : Bool) → IsDistinct same_root (roots_where q m s)
-implied-distinct q m s = (computed q m s).2
-
-root-three : (q m s : Bool) (op : OperationType) → HasRoot q m s op
-root-three q m s Query = (computed q m s).0.0
-root-three q m s Mutation = (computed q m s).0.1
-root-three q m s Subscription = (computed q m s).0.2
+implied-distinct q m s = distinct-from_first same_root (roots_where q m s) (grind arith)
 
 -- the text of a root that equals an implied one
 implied-text : (a b : Option (List ℕ)) → option_eq (pointwise nat_eq) a b ≡ true → a ≡ b
@@ -181,20 +157,21 @@ implied-text (Some x) None h = absurd (true≢false (sym h))
 implied-text (Some x) (Some y) h = ap Some (same-true x y h)
 
 text-implied : (a : Option (List ℕ)) → option_eq (pointwise nat_eq) a a ≡ true
-text-implied None = refl
-text-implied (Some x) = same-is x x refl
+text-implied a = grind (arith, same-refl)
 
 is-none : {X : Type 0} (o : Option X) → is_none o ≡ true → o ≡ None
-is-none None h = refl
-is-none (Some x) h = absurd (true≢false (sym h))
+is-none o h = grind (arith, h)
 
 is-empty : {X : Type 0} (xs : List X) → (length xs == 0) ≡ true → xs ≡ []
-is-empty [] h = refl
-is-empty (x ∷ xs) h = absurd (grind (arith, nat_tests, h))
+is-empty xs h = nil_from_length xs (grind (arith, nat_tests, h))
 
 -- a name of this text
 abbrev bare_text : List ℕ → NameView
 bare_text t = record { text = t; location = None }
+
+-- a test that all operation types pass
+each-operation : (test : OperationType → Bool) (op : OperationType) → list_all test operation_types ≡ true → test op ≡ true
+each-operation test op h = grind (arith, h)
 
 -- nothing is said by it but implied roots
 pub record IsLeftOut (d : SchemaDefinition) (types : List (NameView × ExtendedType)) : Type 0 where
@@ -205,22 +182,12 @@ pub record IsLeftOut (d : SchemaDefinition) (types : List (NameView × ExtendedT
 
 pub left-out : (d : SchemaDefinition) (types : List (NameView × ExtendedType)) → is_implied types d ≡ true → IsLeftOut d types
 left-out d types h =
-    let counted : Bool = length (identities (origins_in (schema_components d))) == 0 in
-    let a = and_parts ((is_none d.description && (length d.directives.0 == 0)) && counted) (list_all (has_implied_root types d) operation_types) h in
-    let b = and_parts (is_none d.description && (length d.directives.0 == 0)) counted a.0 in
-    let c = and_parts (is_none d.description) (length d.directives.0 == 0) b.0 in
-    let q = and_parts (has_implied_root types d Query) (has_implied_root types d Mutation && (has_implied_root types d Subscription && true)) a.1 in
-    let m = and_parts (has_implied_root types d Mutation) (has_implied_root types d Subscription && true) q.1 in
-    let s = and_parts (has_implied_root types d Subscription) true m.1 in
+    let rooted = (and_parts ((is_none d.description && (length d.directives.0 == 0)) && (length (identities (origins_in (schema_components d))) == 0)) (list_all (has_implied_root types d) operation_types) h).1 in
     record {
-      description = is-none d.description c.0;
-      directives = is-empty d.directives.0 c.1;
-      extensions = is-empty (identities (origins_in (schema_components d))) b.1;
-      roots = λ op. elim op as (λ op. option_map (λ n. n.name.text) (root_of d op) ≡ implied_name types op) [
-        | Query ↦ implied-text _ _ q.0
-        | Mutation ↦ implied-text _ _ m.0
-        | Subscription ↦ implied-text _ _ s.0
-      ];
+      description = is-none d.description (grind (arith, h));
+      directives = is-empty d.directives.0 (grind (arith, h));
+      extensions = is-empty (identities (origins_in (schema_components d))) (grind (arith, h));
+      roots = λ op. implied-text (option_map (λ n. n.name.text) (root_of d op)) (implied_name types op) (each-operation (has_implied_root types d) op rooted);
     }
 
 module _ (types : List (NameView × ExtendedType)) (q m s : Bool) (are : (op : OperationType) → implied_name types op ≡ cond (has_one q m s op) (Some (default_type_text op)) None) where
@@ -247,7 +214,7 @@ module _ (types : List (NameView × ExtendedType)) (q m s : Bool) (are : (op : O
   root-implied op = (λ i. option_eq (pointwise nat_eq) (root-three q m s op i) (are op i)) ∙ text-implied (cond (has_one q m s op) (Some (default_type_text op)) None)
 
   implied-again : is_implied types (implied_schema_of q m s) ≡ true
-  implied-again = (λ i. is_none (implied_schema_of q m s).description && (length (implied_schema_of q m s).directives.0 == 0) && (length ((computed q m s).1 i) == 0) && (root-implied Query i && (root-implied Mutation i && (root-implied Subscription i && true))))
+  implied-again = (λ i. is_none (implied_schema_of q m s).description && (length (implied_schema_of q m s).directives.0 == 0) && (length (unextended q m s i) == 0) && (root-implied Query i && (root-implied Mutation i && (root-implied Subscription i && true))))
 
 -- nothing is written of it
 pub left-out-written : (d : SchemaDefinition) (place : Option SourceSpan) (types : List (NameView × ExtendedType)) → is_implied types d ≡ true → identities (origins_in (schema_components d)) ≡ [] → write_schema_definition d place types ≡ []
@@ -259,4 +226,4 @@ left-out-written d place types implied none =
 
 pub implied-unwritten : (types : List (NameView × ExtendedType)) (q m s : Bool) → ((op : OperationType) → implied_name types op ≡ cond (has_one q m s op) (Some (default_type_text op)) None) → (place : Option SourceSpan)
     → write_schema_definition (implied_schema_of q m s) place types ≡ []
-implied-unwritten types q m s are place = left-out-written (implied_schema_of q m s) place types (implied-again types q m s are) (computed q m s).1
+implied-unwritten types q m s are place = left-out-written (implied_schema_of q m s) place types (implied-again types q m s are) (unextended q m s)

@@ -1,5 +1,5 @@
 -- The components of a schema definition, whose roots stand in the order of the operation types, and the definition that written parts make again.
-use Rattle.apollo_canonical.proofs.Words.Lists.{◌≡◌, Bool, true, false, cond, List, [], ◌∷◌, ◌++◌, None, Option, Some, map, filter, flat_map, option_map, refl, sym, ap, ◌∙◌, slice_get, append-nil, filter-append, cons_option, list_any, AllByRecursion, IsDistinct, map-map, unwrap_or, filter-map}
+use Rattle.apollo_canonical.proofs.Words.Lists.{◌≡◌, Bool, true, cond, List, [], ◌∷◌, ◌++◌, None, Option, Some, map, filter, flat_map, option_map, refl, sym, ap, ◌∙◌, slice_get, append-nil, filter-append, cons_option, list_any, AllByRecursion, IsDistinct, map-map, unwrap_or, filter-map, arith}
 use Rattle.apollo_canonical.proofs.Words.Syntax.{OperationType, Query, Mutation, Subscription, DefinitionParts}
 use Rattle.apollo_canonical.proofs.Words.Types.{same_id, same_origin, of_origin, of_extensions, SourcedPart, by_origin, ComponentName, ComponentOrigin, Extension, Definition, ExtensionId, of_root, root_node, schema_components, root_of, SchemaDefinition, PartsByOrigin}
 use Rattle.apollo_canonical.proofs.Words.Meaning.{Root, same_operation, component_name}
@@ -21,8 +21,7 @@ schema_sections d = record no_components { directives = map node_with_origin d.d
 
 one-root : (op : OperationType) (o : Option ComponentName) (rest : List (OperationType × ComponentName)) (more : List (ComponentOrigin × Root)) → map of_root rest ≡ as_parts parts.Root more
     → map of_root (cons_option (option_map (λ n. (op, n)) o) rest) ≡ as_parts parts.Root (entries op o ++ more)
-one-root op None rest more e = e
-one-root op (Some n) rest more e = ap (λ l. of_root (op, n) ∷ l) e
+one-root op o rest more e = grind (arith, e)
 
 -- they are those that are written
 pub schema-components : (d : SchemaDefinition) → schema_components d ≡ in_sections (schema_sections d)
@@ -39,17 +38,9 @@ is_op op r = same_operation op r.value.0
 abbrev pub roots_for : OperationType → DefinitionParts → List Root
 roots_for op d = filter (is_op op) d.roots
 
-cond-nil : {X : Type 0} (b : Bool) → ◌≡◌ {A = List X} [] (cond b [] [])
-cond-nil true = refl
-cond-nil false = refl
-
 module _ (o : ComponentOrigin) where
   piece : (op other : OperationType) (n : Option ComponentName) → filter (is_op op) (picked o (entries other n)) ≡ cond (same_operation op other) (picked o (entries other n)) []
-  piece op other None = cond-nil (same_operation op other)
-  piece op other (Some n) = elim (same_origin o n.origin) as (λ b. filter (is_op op) (map (λ (x : ComponentOrigin × Root). x.1) (cond b ((n.origin, root_node (other, n)) ∷ []) [])) ≡ cond (same_operation op other) (map (λ (x : ComponentOrigin × Root). x.1) (cond b ((n.origin, root_node (other, n)) ∷ []) [])) []) [
-    | true ↦ refl
-    | false ↦ cond-nil (same_operation op other)
-  ]
+  piece op other n = grind arith
 
   module _ (d : SchemaDefinition) where
     pub picked-roots : picked o (root_entries d) ≡ picked o (entries Query d.query) ++ (picked o (entries Mutation d.mutation) ++ (picked o (entries Subscription d.subscription) ++ []))

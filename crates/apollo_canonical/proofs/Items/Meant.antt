@@ -1,15 +1,15 @@
 -- The list of a schema: the built-in definitions, and after them what is handed in.
-use Rattle.apollo_canonical.proofs.Words.Lists.{◌≡◌, ℕ, true, false, cond, List, [], ◌∷◌, None, Some, map, refl, sym, ap, subst, ◌∙◌, Bool, ◌++◌, Option, flat_map, append_assoc, AllByRecursion, IsDistinct, filter_map, option_map_or, ◌≢◌, append-nil, map-append, filter_map-append, recursion_from_All, each-append, each-filter, each-weaken}
-use Rattle.apollo_canonical.proofs.Words.Syntax.{is_built_in, NameView, same, same_text, same-true, built_in_definitions, Definition}
-use Rattle.apollo_canonical.proofs.Words.Types.{first_of_each, first_of_each-distinct}
-use Rattle.apollo_canonical.proofs.Words.Meaning.{ListItem, Defined, Extended, added, added_items, defined_part, extended_part, defined_schema, Other, SchemaDefined, Added, added_item, item_of, ignorable_if, named, first, extensions_of, first_schema, schema_extensions}
+use Rattle.apollo_canonical.proofs.Words.Lists.{◌≡◌, ℕ, true, false, cond, List, [], ◌∷◌, None, Some, map, refl, sym, ap, subst, ◌∙◌, Bool, ◌++◌, Option, flat_map, append_assoc, AllByRecursion, IsDistinct, filter_map, option_map_or, ◌≢◌, append-nil, map-append, filter_map-append, recursion_from_All, each-append, each-filter, each-weaken, lookup-none, none_past_head, nat_list_eq_equiv, arith}
+use Rattle.apollo_canonical.proofs.Words.Syntax.{is_built_in, NameView, same, same_text, built_in_definitions, Definition, keys_of}
+use Rattle.apollo_canonical.proofs.Words.Types.{first_of_each}
+use Rattle.apollo_canonical.proofs.Words.Meaning.{ListItem, Defined, Extended, added, added_items, defined_part, extended_part, defined_schema, Other, SchemaDefined, Added, added_item, item_of, ignorable_if, named, first, extensions_of, first_schema, schema_extensions, TypeNamed}
 use Rattle.apollo_canonical.proofs.Words.Meaning.{TypePart, key_of, SchemaPart, Root, roots_in, adopted, adopted_by, extended_names, orphans_of, with_adopted, implied_schema, schema_for, schema_of_roots, implicit_roots, whole, Schema}
 use Rattle.apollo_canonical.proofs.Words.Written.{IsMeantByList, with_built_ins}
 use Rattle.std.specs.Map.{lookup}
 use Rattle.graphql_ast.specs.Definitions.{definition_location}
 use Rattle.graphql_ast.specs.declared.definition.Definition.TheVariants as ast
-use Rattle.apollo_canonical.proofs.Lists.{found-holds}
-use Rattle.apollo_canonical.proofs.Items.About.{Name, about, lookup-named}
+use Rattle.apollo_canonical.proofs.Lists.{distinct-from_first, each-flat_map, each-of, found-holds}
+use Rattle.apollo_canonical.proofs.Items.About.{about, lookup-named}
 use Rattle.apollo_canonical.proofs.Items.TypeFaults.{HaveEachNameOnce, interfaces_in, members_in, fields_in, values_in, input_fields_in}
 
 abbrev pub built_ins : List ListItem
@@ -23,16 +23,9 @@ pub no-schema_definitions : filter_map defined_schema built_ins ≡ []
 unfolding built_in_definitions
 no-schema_definitions = refl
 
--- names that computing shows to differ
-distinct-names : (ns : List NameView) → first_of_each same_text ns ≡ ns → IsDistinct same_text ns
-distinct-names ns e = subst (IsDistinct same_text) e (first_of_each-distinct same_text ns)
-
-all-keys : first_of_each same (map key_of (filter_map defined_part built_ins)) ≡ map key_of (filter_map defined_part built_ins)
+all-keys : first_of_each same (keys_of (named (filter_map defined_part built_ins))) ≡ keys_of (named (filter_map defined_part built_ins))
 unfolding built_in_definitions
 all-keys = refl
-
-distinct-keys : IsDistinct same (map key_of (filter_map defined_part built_ins))
-distinct-keys = subst (IsDistinct same) all-keys (first_of_each-distinct same (map key_of (filter_map defined_part built_ins)))
 
 -- their names
 abbrev pub built_in_names : List NameView
@@ -65,33 +58,26 @@ first-built_in n d h =
       marked = c.0;
       plain = c.1.0;
       once = record {
-        interfaces = distinct-names (flat_map interfaces_in (d ∷ [])) c.1.1.0;
-        members = distinct-names (flat_map members_in (d ∷ [])) c.1.1.1.0;
-        fields = distinct-names (flat_map fields_in (d ∷ [])) c.1.1.1.1.0;
-        values = distinct-names (flat_map values_in (d ∷ [])) c.1.1.1.1.1.0;
-        input_fields = distinct-names (flat_map input_fields_in (d ∷ [])) c.1.1.1.1.1.1;
+        interfaces = distinct-from_first same_text (flat_map interfaces_in (d ∷ [])) c.1.1.0;
+        members = distinct-from_first same_text (flat_map members_in (d ∷ [])) c.1.1.1.0;
+        fields = distinct-from_first same_text (flat_map fields_in (d ∷ [])) c.1.1.1.1.0;
+        values = distinct-from_first same_text (flat_map values_in (d ∷ [])) c.1.1.1.1.1.0;
+        input_fields = distinct-from_first same_text (flat_map input_fields_in (d ∷ [])) c.1.1.1.1.1.1;
       };
     }
 
--- a name that differs from all that are defined has no definition
-first-absent : (n : List ℕ) (xs : List ListItem) → AllByRecursion (λ k. same n k ≡ false) (map key_of (filter_map defined_part xs)) → first xs n ≡ None
-first-absent n [] a = refl
-first-absent n (Defined p ∷ xs) a = ap (λ b. cond b (Some p) (first xs n)) a.0 ∙ first-absent n xs a.1
-first-absent n (x ∷ xs) a = first-absent n xs a
-
 -- a list that defines each name once and extends none says of a name its definition
-about-first : (n : List ℕ) (xs : List ListItem) → filter_map extended_part xs ≡ [] → IsDistinct same (map key_of (filter_map defined_part xs)) → about (Name n) xs ≡ option_map_or (λ d. Defined d ∷ []) (first xs n) []
+about-first : (n : List ℕ) (xs : List ListItem) → filter_map extended_part xs ≡ [] → IsDistinct same (keys_of (named (filter_map defined_part xs))) → about (TypeNamed n) xs ≡ option_map_or (λ d. Defined d ∷ []) (first xs n) []
 unfolding IsDistinct
 about-first n [] none d = refl
 about-first n (Extended p ∷ xs) none d = absurd (let g : p ∷ filter_map extended_part xs ≡ [] = none in cc)
-about-first n (Defined p ∷ xs) none d = elim (same n (key_of p)) as (λ b. same n (key_of p) ≡ b → cond b (Defined p ∷ about (Name n) xs) (about (Name n) xs) ≡ option_map_or (λ d. Defined d ∷ []) (cond b (Some p) (first xs n)) []) [
-  | true ↦ λ e. ap (λ l. Defined p ∷ l) (about-first n xs none d.1 ∙ ap (λ o. option_map_or (λ d. Defined d ∷ []) o []) (first-absent n xs (subst (λ (m : List ℕ). AllByRecursion (λ k. same m k ≡ false) (map key_of (filter_map defined_part xs))) (sym (same-true n (key_of p) e)) d.0)))
-  | false ↦ λ e. about-first n xs none d.1
-] refl
+about-first n (Defined p ∷ xs) none d =
+    let absent : same n (key_of p) ≡ true → first xs n ≡ None = λ e. lookup-none (same n) (named (filter_map defined_part xs)) (none_past_head nat_list_eq_equiv n (key_of p, p) (named (filter_map defined_part xs)) d e) in
+    grind (arith, absent, about-first n xs none d.1)
 about-first n (x ∷ xs) none d = about-first n xs none d
 
-pub about-built_ins : (n : List ℕ) → about (Name n) built_ins ≡ option_map_or (λ d. Defined d ∷ []) (first built_ins n) []
-about-built_ins n = about-first n built_ins no-extensions distinct-keys
+pub about-built_ins : (n : List ℕ) → about (TypeNamed n) built_ins ≡ option_map_or (λ d. Defined d ∷ []) (first built_ins n) []
+about-built_ins n = about-first n built_ins no-extensions (distinct-from_first same (keys_of (named (filter_map defined_part built_ins))) all-keys)
 
 -- an item that isn't marked built-in
 abbrev pub IsHandedIn : ListItem → Type 0
@@ -137,6 +123,14 @@ by_implied P none one adopts xs = by (first_schema xs) adopts (roots_in (schema_
     by None false rs [] = none
     by None false rs (i ∷ is) = one (schema_of_roots (i ∷ is))
 
+-- what takes no definition of a type takes nothing of what is adopted
+pub adopted-unchosen : {Y : Type 0} (which : ListItem → Option Y) → ((p : TypePart) → which (Defined p) ≡ None) → (xs : List ListItem) → filter_map which (adopted xs) ≡ []
+adopted-unchosen which none xs = by (extended_names xs)
+  where
+    by : (ns : List (List ℕ)) → filter_map which (flat_map (λ n. adopted_by (orphans_of xs n)) ns) ≡ []
+    by [] = refl
+    by (n ∷ ns) = grind (arith, none, by ns)
+
 module _ (adopts : Bool) (more : List Added) where
   abbrev pub items : List ListItem
   items = added_items (with_built_ins more)
@@ -174,15 +168,11 @@ module _ (adopts : Bool) (more : List Added) where
         by None = each-weaken (λ p. IsUnmarked p × (same n (key_of p) ≡ true)) IsUnmarked (λ p h. h.0) (extensions_of items n) (each-filter IsUnmarked (λ p. same n (key_of p)) (filter_map extended_part items) unmarked)
 
     handed-adopted : AllByRecursion IsHandedIn (adopted items)
-    handed-adopted = go (extended_names items)
+    handed-adopted = each-flat_map IsHandedIn (λ n. adopted_by (orphans_of items n)) (extended_names items) (each-of _ (λ n. by (orphans_of items n) (unmarked-orphans n)) (extended_names items))
       where
         by : (ps : List TypePart) → AllByRecursion IsUnmarked ps → AllByRecursion IsHandedIn (adopted_by ps)
         by [] a = tt
         by (p ∷ ps) a = (a.0, tt)
-
-        go : (ns : List (List ℕ)) → AllByRecursion IsHandedIn (flat_map (λ n. adopted_by (orphans_of items n)) ns)
-        go [] = tt
-        go (n ∷ ns) = each-append IsHandedIn (adopted_by (orphans_of items n)) (flat_map (λ n. adopted_by (orphans_of items n)) ns) (by (orphans_of items n) (unmarked-orphans n)) (go ns)
 
     -- none of it is marked built-in
     pub handed-later : AllByRecursion IsHandedIn later_items

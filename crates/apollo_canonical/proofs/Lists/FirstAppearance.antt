@@ -1,7 +1,7 @@
 -- The first of each: among joined lists, in the order in which tests take their elements, and of groups by their keys.
-use Rattle.apollo_canonical.proofs.Words.Lists.{◌≡◌, Bool, true, false, cond, not, ◌&&◌, List, [], ◌∷◌, ◌++◌, map, map-id, filter, refl, sym, ap, subst, ◌∙◌, arith, not-true, filter-append, map-map, IsEquivalence, AllByRecursion, IsDistinct, flat_map, list_any, each-filter, each-weaken, filter-fails, filter-map, true≢false, and_parts, map-append, list_any-append, filter-each, find, Some, is_some, filter-all}
-use Rattle.apollo_canonical.proofs.Words.Types.{first_of_each, first_of_each-distinct, found-any}
-use Rattle.apollo_canonical.proofs.Lists.Kept.{filter-filter, each-of, passes, all-first, filter-flat_map, each-both, each-from_map}
+use Rattle.apollo_canonical.proofs.Words.Lists.{◌≡◌, Bool, true, false, cond, not, ◌&&◌, List, [], ◌∷◌, ◌++◌, map, map-id, filter, refl, sym, ap, subst, ◌∙◌, arith, not-true, filter-append, map-map, IsEquivalence, AllByRecursion, IsDistinct, flat_map, list_any, each-filter, each-weaken, filter-fails, filter-map, true≢false, and_parts, map-append, list_any-append, filter-each, find, Some, is_some, filter-all, filter_agree, all-kept, find-first, slice_get}
+use Rattle.apollo_canonical.proofs.Words.Types.{first_of_each, first_of_each-distinct, found-any, find-first_of_each}
+use Rattle.apollo_canonical.proofs.Lists.Kept.{filter-filter, passes, all-first, filter-flat_map, own-group}
 
 -- whether no element that fails comes before one that passes
 abbrev pub leads : List Bool → Bool
@@ -50,14 +50,10 @@ module _ {X : Type 0} (t : X → Bool) where
 
 -- each of the first is found by itself
 pub each-found : {X : Type 0} (same : X → X → Bool) → IsEquivalence same → (xs : List X) → AllByRecursion (λ x. find (same x) xs ≡ Some x) (first_of_each same xs)
-each-found same laws [] = tt
-each-found same laws (x ∷ xs) = (
-  ap (λ b. cond b (Some x) (find (same x) xs)) (laws.refl x),
-  each-weaken (λ y. (find (same y) xs ≡ Some y) × (not (same x y) ≡ true)) (λ y. find (same y) (x ∷ xs) ≡ Some y)
-      (λ y h. ap (λ b. cond b (Some x) (find (same y) xs)) (laws.symm y x ∙ not-true (same x y) h.1) ∙ h.0)
-      (filter (λ y. not (same x y)) (first_of_each same xs))
-      (each-filter (λ y. find (same y) xs ≡ Some y) (λ y. not (same x y)) (first_of_each same xs) (each-found same laws xs)),
-)
+each-found same laws xs =
+    each-weaken (λ x. filter (same x) (first_of_each same xs) ≡ x ∷ []) (λ x. find (same x) xs ≡ Some x)
+    (λ x alone. sym (find-first_of_each same laws x xs) ∙ find-first (same x) (first_of_each same xs) ∙ ap (λ l. slice_get l 0) alone) (first_of_each same xs)
+    (own-group same laws (λ x. x) (first_of_each same xs) (subst (IsDistinct same) (sym (map-id (first_of_each same xs))) (first_of_each-distinct same xs)))
 
 -- whether it is the same as none of these
 abbrev pub new_to_these : {X : Type 0} → (X → X → Bool) → List X → X → Bool
@@ -72,7 +68,7 @@ module _ {X : Type 0} (same : X → X → Bool) (laws : IsEquivalence same) wher
   new_to-more x xs (y ∷ ys) = grind (arith, laws.symm x y, new_to-more x xs ys)
 
   pub first_of_each-append : (xs ys : List X) → first_of_each same (xs ++ ys) ≡ first_of_each same xs ++ filter (new_to xs) (first_of_each same ys)
-  first_of_each-append [] ys = sym (filter-all (new_to []) (first_of_each same ys) (each-of (λ y. true ≡ true) (λ y. refl) (first_of_each same ys)))
+  first_of_each-append [] ys = all-kept (first_of_each same ys)
   first_of_each-append (x ∷ xs) ys = simp (first_of_each-append xs ys, filter-append, new_to-more x xs (first_of_each same ys))
 
   pub new_to-same : (zs : List X) (a b : X) → same a b ≡ true → new_to zs a ≡ new_to zs b
@@ -84,8 +80,7 @@ module _ {X : Type 0} (same : X → X → Bool) (laws : IsEquivalence same) wher
     others x fails (y ∷ ys) = grind (arith, respects x y, others x fails ys)
 
     swapped : (q : X → Bool) (ys : List X) → filter p (filter q ys) ≡ filter q (filter p ys)
-    swapped q [] = refl
-    swapped q (y ∷ ys) = grind (arith, swapped q ys)
+    swapped q ys = filter-filter p q ys ∙ filter_agree (λ y. q y && p y) (λ y. p y && q y) (λ y. grind arith) ys ∙ sym (filter-filter q p ys)
 
     -- a test that doesn't tell apart what is the same
     pub first_of_each-filter : (xs : List X) → filter p (first_of_each same xs) ≡ first_of_each same (filter p xs)
@@ -148,9 +143,7 @@ module _ {X : Type 0} (same : X → X → Bool) (laws : IsEquivalence same) wher
       ∙ first-kept_in_order (kept p xs rest) xss
 
   pub first-in_order : (xss : List (List X)) → in_order (map (λ xs x. list_any (same x) xs) xss) (first_of_each same (flat_map (λ xs. xs) xss)) ≡ true
-  first-in_order xss =
-      let firsts : List X = first_of_each same (flat_map (λ xs. xs) xss) in
-      ap (in_order (map (λ xs x. list_any (same x) xs) xss)) (sym (filter-all (λ _. true) firsts (each-of (λ _. true ≡ true) (λ _. refl) firsts))) ∙ first-kept_in_order (λ _. true) xss
+  first-in_order xss = ap (in_order (map (λ xs x. list_any (same x) xs) xss)) (all-kept (first_of_each same (flat_map (λ xs. xs) xss))) ∙ first-kept_in_order (λ _. true) xss
 
 -- Groups with distinct keys: what is found of each key, and the order in which the keys appear again.
 
@@ -168,24 +161,10 @@ module _ {X : Type 0} (same : X → X → Bool) (laws : IsEquivalence same) wher
   repeated x [] ys = refl
   repeated x (u ∷ us) ys =
       let left : List X = filter (λ y. not (same x y)) (first_of_each same ys) in
-      ap (λ l. x ∷ filter (λ y. not (same x y)) l) (repeated x us ys)
-      ∙ ap (λ b. x ∷ cond (not b) (x ∷ filter (λ y. not (same x y)) left) (filter (λ y. not (same x y)) left)) (laws.refl x)
-      ∙ ap (λ l. x ∷ l) (filter-all (λ y. not (same x y)) left (passes (λ y. not (same x y)) (first_of_each same ys)))
+      let kept : filter (λ y. not (same x y)) left ≡ left = filter-all (λ y. not (same x y)) left (passes (λ y. not (same x y)) (first_of_each same ys)) in
+      grind (arith, repeated x us ys, laws.refl x, kept)
 
   module _ {G : Type 0} (key : G → X) where
-    -- the groups of one of their keys
-    pub own-group : (gs : List G) → IsDistinct same (map key gs) → AllByRecursion (λ g. filter (λ h. same (key g) (key h)) gs ≡ g ∷ []) gs
-    unfolding IsDistinct
-    own-group [] d = tt
-    own-group (g ∷ gs) d =
-        let apart : AllByRecursion (λ h. same (key g) (key h) ≡ false) gs = each-from_map (λ k. same (key g) k ≡ false) key gs d.0 in (
-          ap (λ b. cond b (g ∷ filter (λ h. same (key g) (key h)) gs) (filter (λ h. same (key g) (key h)) gs)) (laws.refl (key g))
-              ∙ ap (λ l. g ∷ l) (filter-fails (λ h. same (key g) (key h) ≡ false) (λ h. same (key g) (key h)) (λ h e. e) gs apart),
-          each-both (λ h. same (key g) (key h) ≡ false) (λ h. filter (λ o. same (key h) (key o)) gs ≡ h ∷ []) (λ h. filter (λ o. same (key h) (key o)) (g ∷ gs) ≡ h ∷ [])
-              (λ h e own. ap (λ b. cond b (g ∷ filter (λ o. same (key h) (key o)) gs) (filter (λ o. same (key h) (key o)) gs)) (laws.symm (key h) (key g) ∙ e) ∙ own)
-              gs apart (own-group gs d.1),
-        )
-
     apart-filter : (k : X) (t : G → Bool) (gs : List G) → AllByRecursion (λ x. same k x ≡ false) (map key gs) → AllByRecursion (λ x. same k x ≡ false) (map key (filter t gs))
     apart-filter k t [] a = tt
     apart-filter k t (g ∷ gs) a = elim (t g) as (λ b. AllByRecursion (λ x. same k x ≡ false) (map key (cond b (g ∷ filter t gs) (filter t gs)))) [ true ↦ (a.0, apart-filter k t gs a.1) | false ↦ apart-filter k t gs a.1 ]
@@ -222,7 +201,7 @@ module _ {X : Type 0} (same : X → X → Bool) (laws : IsEquivalence same) wher
         → filter (new_to_these same (shown key marks gs)) (shown key more gs) ≡ shown key more (filter (λ g. not (marked marks g)) gs)
     shown-others marks more gs d =
         filter-shown (new_to_these same (shown key marks gs)) gs
-        ∙ ap (shown key more) (filter-each (λ g. filter (λ h. same (key g) (key h)) gs ≡ g ∷ []) (λ g. new_to_these same (shown key marks gs) (key g)) (λ g. not (marked marks g)) unmarked gs (own-group gs d))
+        ∙ ap (shown key more) (filter-each (λ g. filter (λ h. same (key g) (key h)) gs ≡ g ∷ []) (λ g. new_to_these same (shown key marks gs) (key g)) (λ g. not (marked marks g)) unmarked gs (own-group same laws key gs d))
       where
         filter-shown : (p : X → Bool) (hs : List G) → filter p (shown key more hs) ≡ shown key more (filter (λ g. p (key g)) hs)
         filter-shown p [] = refl

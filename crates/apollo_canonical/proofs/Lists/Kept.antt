@@ -1,7 +1,7 @@
 -- Lists: what tests keep, what is found, and groups of elements by keys that differ.
-use Rattle.apollo_canonical.proofs.Words.Lists.{◌≡◌, Bool, true, false, cond, ◌&&◌, List, [], ◌∷◌, ◌++◌, None, Option, Some, map, option_map, filter, find, refl, sym, ap, ◌∙◌, arith, not, subst, true≢false, ◌+◌, ◌≤◌, length, flat_map, length-append, map-append, filter-append, filter_passes, recursion_from_All, filter_agree, each-permutation, find-none, filter-all}
-use Rattle.apollo_canonical.proofs.Words.Lists.{AllByRecursion, filter_map, list_any, IsDistinct, IfSome, filter-fails, each-weaken, each-filter, flat_map-each, list_any-IsPermutation, IsPermutation-refl, IsPermutation-trans, IsPermutation-append_right, IsPermutation-filter_both, IsEquivalence, IsPermutation}
-use Rattle.apollo_canonical.proofs.Words.Types.{first_of_each}
+use Rattle.apollo_canonical.proofs.Words.Lists.{◌≡◌, Bool, true, false, cond, ◌&&◌, List, [], ◌∷◌, ◌++◌, None, Option, Some, map, option_map, filter, find, refl, sym, ap, ◌∙◌, arith, not, subst, true≢false, ◌+◌, ◌≤◌, length, flat_map, length-append, filter-append, filter_passes, recursion_from_All, filter_agree, filter-all, find-first, slice_get, one-element-permutation, map-id, each-append, filter-permutation}
+use Rattle.apollo_canonical.proofs.Words.Lists.{AllByRecursion, filter_map, list_any, IsDistinct, IfSome, filter-fails, each-weaken, each-filter, flat_map-each, IsPermutation-refl, IsPermutation-trans, IsPermutation-append_right, IsPermutation-filter_both, IsEquivalence, IsPermutation}
+use Rattle.apollo_canonical.proofs.Words.Types.{first_of_each, first_of_each-distinct, first_of_each-map}
 
 pub filter-filter : {X : Type 0} (p q : X → Bool) (xs : List X) → filter p (filter q xs) ≡ filter (λ x. q x && p x) xs
 filter-filter p q [] = refl
@@ -33,13 +33,17 @@ pub each-from_map : {X Y : Type 0} (P : Y → Type 0) (f : X → Y) (xs : List X
 each-from_map P f [] a = tt
 each-from_map P f (x ∷ xs) a = (a.0, each-from_map P f xs a.1)
 
+-- what holds of all that is made of each
+pub each-made : {X Y : Type 0} (P : Y → Type 0) (make : X → Y) → ((x : X) → P (make x)) → (xs : List X) → AllByRecursion P (map make xs)
+each-made P make each xs = each-map P make xs (each-of (λ x. P (make x)) each xs)
+
+pub each-flat_map : {X Y : Type 0} (P : Y → Type 0) (f : X → List Y) (xs : List X) → AllByRecursion (λ x. AllByRecursion P (f x)) xs → AllByRecursion P (flat_map f xs)
+each-flat_map P f [] a = tt
+each-flat_map P f (x ∷ xs) a = each-append P (f x) (flat_map f xs) a.0 (each-flat_map P f xs a.1)
+
 pub map-each : {X Y : Type 0} (f g : X → Y) (xs : List X) → AllByRecursion (λ x. f x ≡ g x) xs → map f xs ≡ map g xs
 map-each f g [] a = refl
 map-each f g (x ∷ xs) a = (λ i. a.0 i ∷ map-each f g xs a.1 i)
-
-pub map-flat_map : {X Y Z : Type 0} (f : Y → Z) (g : X → List Y) (xs : List X) → map f (flat_map g xs) ≡ flat_map (λ x. map f (g x)) xs
-map-flat_map f g [] = refl
-map-flat_map f g (x ∷ xs) = map-append f (g x) (flat_map g xs) ∙ ap (λ l. map f (g x) ++ l) (map-flat_map f g xs)
 
 pub filter-flat_map : {X Y : Type 0} (p : Y → Bool) (f : X → List Y) (xs : List X) → filter p (flat_map f xs) ≡ flat_map (λ x. filter p (f x)) xs
 filter-flat_map p f [] = refl
@@ -95,31 +99,44 @@ all-first same key (x ∷ xs) d =
     ap (λ l. x ∷ filter (λ y. not (same (key x) (key y))) l) (all-first same key xs d.1)
     ∙ ap (λ l. x ∷ l) (filter-all (λ y. not (same (key x) (key y))) xs (each-weaken (λ y. same (key x) (key y) ≡ false) (λ y. not (same (key x) (key y)) ≡ true) (λ y e. ap not e) xs (each-from_map (λ k. same (key x) k ≡ false) key xs d.0)))
 
-module _ {K X : Type 0} (same : K → K → Bool) (laws : IsEquivalence same) (key : X → K) (k : K) where
-  abbrev has : X → Bool
-  has x = same k (key x)
+-- things differ where they are the first of each
+pub distinct-from_first : {K : Type 0} (same : K → K → Bool) (ks : List K) → first_of_each same ks ≡ ks → IsDistinct same ks
+distinct-from_first same ks e = subst (IsDistinct same) e (first_of_each-distinct same ks)
 
-  -- what has the key is what is found by it
-  own-found : (xs : List X) → IsDistinct same (map key xs) → AllByRecursion (λ x. has x ≡ true → find has xs ≡ Some x) xs
+-- where their keys differ they differ by these, and the other way round
+pub distinct-by_keys : {K X : Type 0} (same : K → K → Bool) (key : X → K) (xs : List X) → IsDistinct same (map key xs) → IsDistinct (λ a b. same (key a) (key b)) xs
+distinct-by_keys same key xs d = distinct-from_first (λ a b. same (key a) (key b)) xs (all-first same key xs d)
+
+pub keys-distinct : {K X : Type 0} (same : K → K → Bool) (key : X → K) (xs : List X) → IsDistinct (λ a b. same (key a) (key b)) xs → IsDistinct same (map key xs)
+keys-distinct same key xs d =
+    distinct-from_first same (map key xs) (sym (first_of_each-map same key xs) ∙ ap (map key) (all-first (λ a b. same (key a) (key b)) (λ x. x) xs (subst (IsDistinct (λ a b. same (key a) (key b))) (sym (map-id xs)) d)))
+
+module _ {K X : Type 0} (same : K → K → Bool) (laws : IsEquivalence same) (key : X → K) where
+  -- where all keys differ each element is alone of its key
+  pub own-group : (xs : List X) → IsDistinct same (map key xs) → AllByRecursion (λ x. filter (λ y. same (key x) (key y)) xs ≡ x ∷ []) xs
   unfolding IsDistinct
-  own-found [] d = tt
-  own-found (x ∷ xs) d = (
-    (λ e. ap (λ b. cond b (Some x) (find has xs)) e),
-    each-both (λ y. same (key x) (key y) ≡ false) (λ y. has y ≡ true → find has xs ≡ Some y) (λ y. has y ≡ true → find has (x ∷ xs) ≡ Some y)
-        (λ y apart own e. grind (arith, laws.congr k (key y) (key x) e, laws.symm (key y) (key x), own e, apart))
-        xs (each-from_map (λ c. same (key x) c ≡ false) key xs d.0) (own-found xs d.1),
-  )
+  own-group [] d = tt
+  own-group (x ∷ xs) d =
+      let apart : AllByRecursion (λ y. same (key x) (key y) ≡ false) xs = each-from_map (λ k. same (key x) k ≡ false) key xs d.0 in (
+        rw (laws.refl (key x)) (ap (λ l. x ∷ l) (filter-fails (λ y. same (key x) (key y) ≡ false) (λ y. same (key x) (key y)) (λ y e. e) xs apart)),
+        each-both (λ y. same (key x) (key y) ≡ false) (λ y. filter (λ z. same (key y) (key z)) xs ≡ y ∷ []) (λ y. filter (λ z. same (key y) (key z)) (x ∷ xs) ≡ y ∷ []) (λ y e own. rw (laws.symm (key y) (key x), e) own) xs apart (own-group xs d.1),
+      )
 
-  pub found-permuted : (xs ys : List X) → IsPermutation xs ys → IsDistinct same (map key xs) → find has ys ≡ find has xs
-  found-permuted xs ys p d =
-      go ys (each-permutation Own xs ys p (own-found xs d)) (sym (list_any-IsPermutation has xs ys p))
-    where
-      Own : X → Type 0
-      Own x = has x ≡ true → find has xs ≡ Some x
+  module _ (k : K) where
+    abbrev has : X → Bool
+    has x = same k (key x)
 
-      go : (zs : List X) → AllByRecursion Own zs → list_any has zs ≡ list_any has xs → find has zs ≡ find has xs
-      go [] own any = sym (find-none has xs (sym any))
-      go (z ∷ zs) own any = grind (arith, own.0, go zs own.1)
+    -- so is what has a key
+    alone : (xs : List X) → IsDistinct same (map key xs) → AllByRecursion (λ x. filter has xs ≡ x ∷ []) (filter has xs)
+    alone xs d =
+        each-weaken (λ x. (filter (λ y. same (key x) (key y)) xs ≡ x ∷ []) × (has x ≡ true)) (λ x. filter has xs ≡ x ∷ []) (λ x h. (λ i. filter (λ y. laws.congr k (key x) (key y) h.1 i) xs) ∙ h.0) (filter has xs)
+        (each-filter (λ x. filter (λ y. same (key x) (key y)) xs ≡ x ∷ []) has xs (own-group xs d))
+
+    pub found-permuted : (xs ys : List X) → IsPermutation xs ys → IsDistinct same (map key xs) → find has ys ≡ find has xs
+    found-permuted xs ys p d =
+        find-first has ys
+        ∙ ap (λ l. slice_get l 0) (sym (one-element-permutation (filter has xs) (filter has xs) (filter has ys) (filter-permutation has xs ys p) (alone xs d)))
+        ∙ sym (find-first has xs)
 
 module _ {K : Type 0} (same : K → K → Bool) (laws : IsEquivalence same) where
   apart-keys : (j k l : K) → same j k ≡ false → (not (same j l) && same k l) ≡ same k l

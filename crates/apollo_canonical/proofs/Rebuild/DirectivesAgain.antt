@@ -6,7 +6,7 @@ use Rattle.apollo_canonical.proofs.Words.Meaning.{AreDirectivesOf, Directives, d
 use Rattle.apollo_canonical.proofs.Words.Written.{IsMeantByList, with_built_ins}
 use Rattle.graphql_ast.specs.declared.definition.Definition.TheVariants as ast
 use Rattle.apollo_canonical.proofs.Lists.{first_of_each-again, new_to-same, new_to_these, each-both, each-from_map, found-holds, passes, each-found}
-use Rattle.apollo_canonical.proofs.Items.{built_ins, IsHandedIn, handed, handed-later, later_items, whole-split, each-entry, lookup-absent}
+use Rattle.apollo_canonical.proofs.Items.{built_ins, IsHandedIn, handed, handed-later, later_items, whole-split, each-entry, lookup-past}
 
 abbrev pub built_in_directives : Directives
 built_in_directives = directive_definitions built_ins
@@ -82,7 +82,7 @@ module _ (n : List ℕ) where
   find-values [] d a = refl
   find-values (e ∷ es) d a =
       let text : has_text n e.1 ≡ same n e.0.text = ap (same n) (sym (same-true e.0.text e.1.value.name.text a.0)) in
-      let absent : same n e.0.text ≡ true → lookup (by_text n) es ≡ None = λ g. lookup-absent n e.0 es g d.0 in
+      let absent : same n e.0.text ≡ true → lookup (by_text n) es ≡ None = λ g. lookup-past n e es d g in
       grind (arith, text, absent, find-values es d.1 a.1)
 
 -- the names of the first of each
@@ -131,16 +131,9 @@ module _ (schema : Schema) (list : IsMeantByList schema) where
 
   pub same_meaning : (n : List ℕ) → directive_of (built_in_directives ++ written_directives) n ≡ lookup (by_text n) table
   same_meaning n =
+      let handed_in : (d : NodeView DirectiveDefinition) → find (has_text n) later ≡ Some d → is_handed_in d ≡ true = λ d. found-holds (λ x. is_handed_in x ≡ true) (has_text n) later d handed_later in
       directive-after n written_directives (passes is_handed_in (values_of table))
-      ∙ ap (λ o. option_or o (built_in_of n)) (find-values n table unique_directives texts ∙ ap (if_handed n) (each n)) ∙ by (find (has_text n) later) refl ∙ sym (each n)
-    where
-      by : (o : Option (NodeView DirectiveDefinition)) → find (has_text n) later ≡ o → option_or (if_handed n (option_or (find (has_text n) later) (built_in_of n))) (built_in_of n) ≡ option_or (find (has_text n) later) (built_in_of n)
-      by (Some d) e =
-          ap (λ o. option_or (if_handed n (option_or o (built_in_of n))) (built_in_of n)) e
-          ∙ ap (λ b. option_or (cond b (Some d) None) (built_in_of n)) (found-holds (λ x. is_handed_in x ≡ true) (has_text n) later d handed_later e)
-          ∙ sym (ap (λ o. option_or o (built_in_of n)) e)
-      by None e =
-          ap (λ o. option_or (if_handed n (option_or o (built_in_of n))) (built_in_of n)) e ∙ ap (λ o. option_or o (built_in_of n)) (built_in-dropped n) ∙ sym (ap (λ o. option_or o (built_in_of n)) e)
+      ∙ ap (λ o. option_or o (built_in_of n)) (find-values n table unique_directives texts ∙ ap (if_handed n) (each n)) ∙ grind (arith, handed_in, built_in-dropped n) ∙ sym (each n)
 
   -- a name that no built-in directive has is that of its handed-in definition
   own_names : AllByRecursion (λ e. new e.0 ≡ true → (is_handed_in e.1 ≡ true) × (e.1.value.name ≡ e.0)) table

@@ -1,14 +1,13 @@
 -- Write-outs that are equal, whatever their locations, are equal lists behind the built-in definitions.
-use Rattle.apollo_canonical.proofs.Words.Lists.{◌≡◌, Bool, true, false, cond, List, [], ◌∷◌, ◌++◌, Option, map, filter, flat_map, refl, sym, ap, ◌∙◌, map-append, not-true, AllByRecursion, each-append, each-weaken}
+use Rattle.apollo_canonical.proofs.Words.Lists.{◌≡◌, Bool, true, false, cond, List, [], ◌∷◌, ◌++◌, Option, map, filter, flat_map, refl, sym, ap, ◌∙◌, map-append, not-true, AllByRecursion, each-append, each-weaken, arith}
 use Rattle.apollo_canonical.proofs.Words.Syntax.{NameView, SourceSpan, TypeKind, Definition, DefinitionParts, type_definition, type_extension, schema_definition, schema_extension, is_built_in, built_in_definitions, values_of}
 use Rattle.apollo_canonical.proofs.Words.Types.{ExtensionId, PartsByOrigin, ExtendedType, extension_location, by_origin, is_written, schema_components, type_components, type_description, type_kind, type_location, type_name, write_type}
 use Rattle.apollo_canonical.proofs.Words.Meaning.{Directives, Schema, added, is_handed_in, write_directives, write_held_schema_definition, write_held_type, write_schema}
 use Rattle.apollo_canonical.proofs.Words.Written.{written_again}
 use Rattle.graphql_ast.specs.BareDocuments.{bare_definition}
 use Rattle.graphql_ast.specs.declared.definition.Definition.TheVariants as ast
-use Rattle.graphql_nodes.specs.declared.type_kind.TypeKind.TheVariants as kinds
 use Rattle.apollo_rearrangement.specs.Equal.{AreEqualLists, compared, is_built_in_directive}
-use Rattle.apollo_canonical.proofs.Lists.{each-map, each-of, passes}
+use Rattle.apollo_canonical.proofs.Lists.{each-flat_map, each-made, each-map, each-of, passes}
 
 -- it is no directive definition that is marked built-in
 abbrev IsUnmarked : Definition → Type 0
@@ -16,20 +15,13 @@ IsUnmarked d = is_built_in_directive d ≡ false
 
 -- what types are written out as is of types
 unmarked-definition : (k : TypeKind) (description : Option NameView) (name : NameView) (parts : DefinitionParts) (place : Option SourceSpan) → IsUnmarked (type_definition k description name parts place)
-unmarked-definition kinds.Scalar description name parts place = refl
-unmarked-definition k description name parts place = refl
+unmarked-definition k description name parts place = grind arith
 
 unmarked-extension : (k : TypeKind) (name : NameView) (parts : DefinitionParts) (place : Option SourceSpan) → IsUnmarked (type_extension k name parts place)
-unmarked-extension kinds.Scalar name parts place = refl
-unmarked-extension k name parts place = refl
+unmarked-extension k name parts place = grind arith
 
--- what is made of each is so where each is
-each-made : {X : Type 0} (make : X → Definition) → ((x : X) → IsUnmarked (make x)) → (xs : List X) → AllByRecursion IsUnmarked (map make xs)
-each-made make each xs = each-map IsUnmarked make xs (each-of (λ x. IsUnmarked (make x)) each xs)
-
-unmarked-types : (ts : List ExtendedType) → AllByRecursion IsUnmarked (flat_map write_held_type ts)
-unmarked-types [] = tt
-unmarked-types (t ∷ ts) = each-append IsUnmarked (write_held_type t) (flat_map write_held_type ts) (by (is_built_in (type_location t))) (unmarked-types ts)
+unmarked-type : (t : ExtendedType) → AllByRecursion IsUnmarked (write_held_type t)
+unmarked-type t = by (is_built_in (type_location t))
   where
     written : PartsByOrigin
     written = by_origin (type_components t)
@@ -38,7 +30,7 @@ unmarked-types (t ∷ ts) = each-append IsUnmarked (write_held_type t) (flat_map
     make e = type_extension (type_kind t) (type_name t) e.1 (extension_location e.0)
 
     extensions : AllByRecursion IsUnmarked (map make written.extensions)
-    extensions = each-made make (λ e. unmarked-extension (type_kind t) (type_name t) e.1 (extension_location e.0)) written.extensions
+    extensions = each-made IsUnmarked make (λ e. unmarked-extension (type_kind t) (type_name t) e.1 (extension_location e.0)) written.extensions
 
     by : (b : Bool) → AllByRecursion IsUnmarked (cond b (map make written.extensions) (write_type t))
     by true = extensions
@@ -61,7 +53,7 @@ unmarked-schema s = by (is_written s.types s.schema_definition.value)
     make e = schema_extension e.1 (extension_location e.0)
 
     extensions : AllByRecursion IsUnmarked (map make written.extensions)
-    extensions = each-made make (λ e. refl) written.extensions
+    extensions = each-made IsUnmarked make (λ e. refl) written.extensions
 
     by : (b : Bool) → AllByRecursion IsUnmarked (cond b (schema_definition s.schema_definition.value.description written.definition s.schema_definition.location ∷ []) [] ++ map make written.extensions)
     by true = (refl, extensions)
@@ -72,7 +64,7 @@ unmarked : (s : Schema) → AllByRecursion IsUnmarked (write_schema s)
 unmarked s =
     each-append IsUnmarked (write_held_schema_definition s ++ write_directives (values_of s.directive_definitions)) (flat_map write_held_type (values_of s.types))
     (each-append IsUnmarked (write_held_schema_definition s) (write_directives (values_of s.directive_definitions)) (unmarked-schema s) (unmarked-directives (values_of s.directive_definitions)))
-    (unmarked-types (values_of s.types))
+    (each-flat_map IsUnmarked write_held_type (values_of s.types) (each-of _ unmarked-type (values_of s.types)))
 
 -- and what is compared of a write-out is its definitions without locations
 compared-written : (c : Bool) (ds : List Definition) → AllByRecursion IsUnmarked ds → map compared (added c ds) ≡ map (λ d. (false, d)) (map bare_definition ds)

@@ -1,16 +1,16 @@
 -- A list with a write-out is without fault.
-use Rattle.apollo_canonical.proofs.Words.Lists.{◌≡◌, List, [], ◌∷◌, ◌++◌, None, Option, Some, slice_get, map, refl, sym, ap, subst, ◌∙◌, append_assoc, append-nil, map-append, flat_map-append, flat_map-map, IsDistinct-IsPermutation, IsEquivalence, IsDistinct, option_map_or, filter_map-made, ℕ, Bool, true, false, cond, ◌&&◌, filter, find, flat_map, arith, filter_map-append, find-append, map-map, AllByRecursion, list_any, option_or, option_cases, find-none, filter_map-unmade}
+use Rattle.apollo_canonical.proofs.Words.Lists.{filter-fails, ◌≡◌, List, [], ◌∷◌, ◌++◌, None, Option, Some, slice_get, map, refl, sym, ap, subst, ◌∙◌, append_assoc, append-nil, map-append, flat_map-append, flat_map-map, IsDistinct-IsPermutation, IsEquivalence, IsDistinct, option_map_or, filter_map-made, ℕ, Bool, true, false, cond, ◌&&◌, filter, find, flat_map, arith, filter_map-append, find-append, map-map, AllByRecursion, list_any, option_or, option_cases, find-none, filter_map-unmade, IsPermutation-append_comm}
 use Rattle.apollo_canonical.proofs.Words.Syntax.{operation_text, Query, Mutation, Subscription, NameView, NodeView, by_text, same, same_text, HasUniqueKeys, keys_of, lookup, values_of, same-true, DirectiveDefinition, built_in_definitions}
 use Rattle.apollo_canonical.proofs.Words.Types.{each_after, by_origin, ComponentName, SchemaDefinition, is_written, ExtendedType, name_laws}
-use Rattle.apollo_canonical.proofs.Words.Meaning.{SchemaDefined, SchemaExtended, defined_schema, extended_schema, first_schema, schema_extensions, Root, SchemaPart, roots_in, extended_names, orphans_of, schema_orphans, adopting_schema, implicit_roots, implied_schema, schema_of_roots, Directives, directive_definitions, directive_part, has_text, is_handed_in, Defined, Extended, ListItem, Other, whole, Schema}
+use Rattle.apollo_canonical.proofs.Words.Meaning.{SchemaDefined, SchemaExtended, defined_schema, extended_schema, first_schema, schema_extensions, Root, SchemaPart, roots_in, extended_names, orphans_of, schema_orphans, adopting_schema, implicit_roots, implied_schema, schema_of_roots, Directives, directive_definitions, directive_part, has_text, is_handed_in, Defined, Extended, ListItem, Other, whole, Schema, DirectiveNamed, NoSubject, Subject, TheSchema, TypeNamed}
 use Rattle.apollo_canonical.proofs.Words.Faults.{root_faults, same_root, schema_faults, schema_begun_faults, schema_joining_faults, found_at, Fault, faults_in, further_schema, schema_orphan, orphan, found, root_fault}
 use Rattle.apollo_canonical.proofs.Words.Written.{joined, with_origins, MeaningLaws, IsMeantByList, with_built_ins}
 use Rattle.graphql_ast.specs.declared.definition.Definition.TheVariants as ast
 use Rattle.apollo_component.proofs.Lists.EachAfter.{each_after-append}
 use Rattle.apollo_meaning.specs.declared.build_error.BuildError.TheVariants as errors
-use Rattle.apollo_canonical.proofs.Lists.{distinct-filter, flat_map-none}
+use Rattle.apollo_canonical.proofs.Lists.{distinct-from_first, distinct-filter, flat_map-none, each-of}
 use Rattle.apollo_canonical.proofs.Sections.{joined-values, written-keeps}
-use Rattle.apollo_canonical.proofs.Items.{distinct-front, new-after, Name, Others, TheSchema, Topic, about, directives-about, faultless-by_topic, built_ins, HaveEachNameOnce, type-faultless, none-added, none-made}
+use Rattle.apollo_canonical.proofs.Items.{is_about, distinct-front, new-after, about, directives-about, faultless-by_topic, built_ins, HaveEachNameOnce, type-faultless, none-added, none-made}
 use Rattle.apollo_canonical.proofs.Types.{once-in_parts, written_parts, once, definition_part, extension_of, written}
 use Rattle.apollo_canonical.proofs.Definitions.{schema_extension_of, written_parts_of, entries, root_entries, schema-components, schema_sections, roots_where, first_schema-append, schema_node, implied-distinct}
 use Rattle.apollo_canonical.proofs.Rebuild.TypesAgain.{fits, flag, is-made, view-type}
@@ -53,15 +53,7 @@ early-none before es = none-made found_at [] SchemaExtended (λ _. Unit {0}) (λ
 
 -- the roots of a schema definition differ
 entries-distinct : (q m s : Option ComponentName) → IsDistinct same_root (map (λ x. x.1) (entries Query q ++ (entries Mutation m ++ (entries Subscription s ++ []))))
-unfolding IsDistinct
-entries-distinct None None None = tt
-entries-distinct None None (Some s) = (tt, tt)
-entries-distinct None (Some m) None = (tt, tt)
-entries-distinct None (Some m) (Some s) = ((refl, tt), (tt, tt))
-entries-distinct (Some q) None None = (tt, tt)
-entries-distinct (Some q) None (Some s) = ((refl, tt), (tt, tt))
-entries-distinct (Some q) (Some m) None = ((refl, tt), (tt, tt))
-entries-distinct (Some q) (Some m) (Some s) = ((refl, (refl, tt)), ((refl, tt), (tt, tt)))
+entries-distinct q m s = distinct-from_first same_root (map (λ x. x.1) (entries Query q ++ (entries Mutation m ++ (entries Subscription s ++ [])))) (grind arith)
 
 -- so do those of what is written of it
 pub written-distinct : IsEquivalence same_root → (d : SchemaDefinition) → IsDistinct same_root ((written_parts_of d).definition.roots ++ roots_in (map schema_extension_of (written_parts_of d).extensions))
@@ -77,7 +69,7 @@ written-distinct root_laws d =
 -- A list with a write-out is without fault.
 
 -- handed-in directive definitions whose names differ
-others-built_in : each_after found_at [] (about Others built_ins) ≡ []
+others-built_in : each_after found_at [] (about NoSubject built_ins) ≡ []
 unfolding built_in_definitions
 others-built_in = refl
 
@@ -114,11 +106,6 @@ names-distinct (e ∷ es) d t = (apart es d.0 t.1, names-distinct es d.1 t.1)
 values-distinct : (es : List (NameView × NodeView DirectiveDefinition)) → HasUniqueKeys same_text es → AllByRecursion (λ e. has_text e.0.text e.1 ≡ true) es → IsDistinct same_text (map (λ d. d.value.name) (filter is_handed_in (values_of es)))
 values-distinct es d t = distinct-filter same_text name_laws (λ d. d.value.name) is_handed_in (values_of es) (names-distinct es d t)
 
-distinct-back : (xs ys : List Root) → IsDistinct same_root (xs ++ ys) → IsDistinct same_root ys
-unfolding IsDistinct
-distinct-back [] ys d = d
-distinct-back (x ∷ xs) ys d = distinct-back xs ys d.1
-
 module _ (laws : MeaningLaws) (schema : Schema) (list : IsMeantByList schema) (c : Bool) where
   open list use {start, adopts, more}
 
@@ -140,11 +127,11 @@ module _ (laws : MeaningLaws) (schema : Schema) (list : IsMeantByList schema) (c
   abbrev exts : List SchemaPart
   exts = map schema_extension_of (written_parts_of node.value).extensions
 
-  type-none : (n : List ℕ) (t : ExtendedType) → lookup (by_text n) types ≡ Some t → found (about (Name n) ys) ≡ []
+  type-none : (n : List ℕ) (t : ExtendedType) → lookup (by_text n) types ≡ Some t → found (about (TypeNamed n) ys) ≡ []
   type-none n t e =
       let b : Bool = flag laws schema list c (others laws schema list c) [] (quiet laws schema list c) tt n t e in
       let h : HaveEachNameOnce (written_parts t) = once-in_parts t (once t (is-made laws schema list n t e)) in
-      ap found (ap (about (Name n)) (sym (alone laws schema list c))
+      ap found (ap (about (TypeNamed n)) (sym (alone laws schema list c))
       ∙ view-type laws schema list c (others laws schema list c) [] (quiet laws schema list c) tt n t e
       ∙ ap (λ l. Defined (record (definition_part t) { ignorable = b }) ∷ l) (sym (map-map Extended (extension_of t) (written t).extensions)))
       ∙ type-faultless laws.own_kind (record (definition_part t) { ignorable = b }) (map (extension_of t) (written t).extensions)
@@ -161,20 +148,21 @@ module _ (laws : MeaningLaws) (schema : Schema) (list : IsMeantByList schema) (c
       by true = schema-faultless laws.same_root (written_head node.value node.location) exts (written-distinct laws.same_root node.value)
       by false = early-none [] exts
 
-  others-none : found (about Others ys) ≡ []
+  others-none : found (about NoSubject ys) ≡ []
   others-none =
       ap found (list-about_others c node.value node.location types ds (values_of types))
-      ∙ each_after-append found_at [] (about Others built_ins) (directive_items ds)
-      ∙ (λ i. others-built_in i ++ (ap (λ l. each_after found_at l (directive_items ds)) (sym (append-nil (about Others built_ins)))
-      ∙ directives-none (about Others built_ins) (sym (directives-about built_ins)) ds (values-distinct schema.directive_definitions (unique_directives schema list) (texts schema list))) i)
+      ∙ each_after-append found_at [] (about NoSubject built_ins) (directive_items ds)
+      ∙ (λ i. others-built_in i ++ (ap (λ l. each_after found_at l (directive_items ds)) (sym (append-nil (about NoSubject built_ins)))
+      ∙ directives-none (about NoSubject built_ins) (sym (directives-about built_ins)) ds (values-distinct schema.directive_definitions (unique_directives schema list) (texts schema list))) i)
 
   found-none : found ys ≡ []
   found-none = faultless-by_topic ys by
     where
-      by : (topic : Topic) → found (about topic ys) ≡ []
-      by (Name n) = option_cases (lookup (by_text n) types) (λ e. ap found (first-nothing laws schema list c n e)) (type-none n)
+      by : (topic : Subject) → found (about topic ys) ≡ []
+      by (TypeNamed n) = option_cases (lookup (by_text n) types) (λ e. ap found (first-nothing laws schema list c n e)) (type-none n)
       by TheSchema = schema-items-none
-      by Others = others-none
+      by NoSubject = others-none
+      by (DirectiveNamed n) = ap found (filter-fails (λ x. is_about (DirectiveNamed n) x ≡ false) (is_about (DirectiveNamed n)) (λ x e. e) ys (each-of (λ x. is_about (DirectiveNamed n) x ≡ false) (λ x. grind arith) ys))
 
   orphaned-none : flat_map (orphans_of ys) (extended_names ys) ≡ []
   orphaned-none = flat_map-none (orphans_of ys) (orphans-none laws schema list c) (extended_names ys)
@@ -210,7 +198,9 @@ module _ (laws : MeaningLaws) (schema : Schema) (list : IsMeantByList schema) (c
           same_exts = exts-Y laws schema list c
 
           unnamed : (named : List Root) → roots_in (schema_extensions ys) ≡ named → (each_after found_at ys (implied_schema true ys) ≡ []) × (schema_orphans zs ≡ [])
-          unnamed (r ∷ rs) g = at (schema_of_roots []) none (are_ends ∙ ap (λ l. adopting_schema l (implicit_roots ys)) g) (distinct-back (written_parts_of node.value).definition.roots (roots_in exts) (written-distinct laws.same_root node.value))
+          unnamed (r ∷ rs) g = at (schema_of_roots []) none (are_ends ∙ ap (λ l. adopting_schema l (implicit_roots ys)) g)
+              (distinct-front same_root (roots_in exts) (written_parts_of node.value).definition.roots (IsDistinct-IsPermutation same_root laws.same_root.symm ((written_parts_of node.value).definition.roots ++ roots_in exts) (roots_in exts ++ (written_parts_of node.value).definition.roots)
+              (IsPermutation-append_comm (written_parts_of node.value).definition.roots (roots_in exts)) (written-distinct laws.same_root node.value)))
           unnamed [] g =
               at (schema_of_roots (implicit_roots ys)) none (are_ends ∙ ap (λ l. adopting_schema l (implicit_roots ys)) g)
               (subst (IsDistinct same_root) (sym ((λ i. implicit-again laws schema list c i ++ (ap roots_in (sym same_exts) ∙ g) i) ∙ append-nil (roots_where (object_at types Query) (object_at types Mutation) (object_at types Subscription))))

@@ -1,22 +1,23 @@
 -- A type, and a schema definition, is written out with no more extensions than it was made of: each component comes from one of its
 -- parts. So a schema's write-out folds no more extensions than the list that the schema is of.
-use Rattle.apollo_canonical.proofs.Words.Lists.{◌≡◌, List, [], ◌∷◌, None, Option, Some, map, find, flat_map, option_map, refl, sym, subst, ℕ, ◌≤◌, Bool, true, false, ◌||◌, length, ◌∙◌, true≢false, arith, AllByRecursion, cons_option, list_any, IfSome, each-append}
-use Rattle.apollo_canonical.proofs.Words.Lists.{length-map, ◌+◌, ◌++◌, filter, ap, length-append, cond, filter_map-append, recursion_from_All, All, filter_map, range_with_len, IsDistinct, enumerate_from, option_map_or, unwrap_or, each-weaken, filter_map-numbered}
-use Rattle.apollo_canonical.proofs.Words.Syntax.{NameView, NodeView, same_text, values_of, OperationType, Query, Mutation, Subscription, DefinitionPart, Directive, SourceSpan, DefinitionParts, is_built_in, by_text, keys_of, lookup}
-use Rattle.apollo_canonical.proofs.Words.Types.{same_key, SourcedPart, sourced, identities, of_extensions, of_origin, origins_in, Component, ComponentName, ComponentOrigin, of_directive, of_name, of_root, schema_components, named_roots, type_components, each-first, list_any-first_of_each, extension_id, id_of, same_id, Definition, Extension, ExtensionId, first_of_each-distinct, type_location, ExtendedType, SchemaDefinition, name_laws}
-use Rattle.apollo_canonical.proofs.Words.Meaning.{EnumBody, InputObjectBody, InterfaceBody, ObjectBody, ScalarBody, SchemaPart, TypeBody, TypePart, UnionBody, SourcedSchema, root_in, roots_of, same_operation, schema_definition_of, schema_directives_of, Sourced, body_fields, body_input_fields, body_interfaces, body_members, body_values, component, component_name}
-use Rattle.apollo_canonical.proofs.Words.Meaning.{sourced_directives, distinct_entries, distinct_names, field_entry, input_field_entry, same_component_name, value_entry, type_of_kind, adopted, adopted_by, extended_names, orphans_of, with_adopted, implied_schema, Added, ListItem, OfSchema, OfType, added_items, extended_part, Defined, Extended, Folding, schema_extensions}
+use Rattle.apollo_canonical.proofs.Words.Lists.{◌≡◌, List, [], ◌∷◌, None, Option, Some, map, find, flat_map, option_map, refl, sym, subst, ℕ, ◌≤◌, Bool, true, length, ◌∙◌, true≢false, arith, AllByRecursion, cons_option, list_any, IfSome, each-append}
+use Rattle.apollo_canonical.proofs.Words.Lists.{length-map, ◌+◌, ◌++◌, filter, ap, length-append, filter_map-append, recursion_from_All, All, filter_map, range_with_len, IsDistinct, enumerate_from, option_map_or, unwrap_or, each-weaken, filter_map-numbered}
+use Rattle.apollo_canonical.proofs.Words.Syntax.{NameView, NodeView, same_text, values_of, OperationType, Query, Mutation, Subscription, DefinitionPart, Directive, SourceSpan, DefinitionParts, by_text, keys_of, lookup}
+use Rattle.apollo_canonical.proofs.Words.Types.{same_key, SourcedPart, sourced, identities, of_extensions, of_origin, origins_in, Component, ComponentName, ComponentOrigin, of_directive, of_name, of_root, schema_components, named_roots, type_components, each-first, list_any-first_of_each, extension_id, same_id, Definition, Extension, ExtensionId, first_of_each-distinct, ExtendedType, SchemaDefinition, name_laws}
+use Rattle.apollo_canonical.proofs.Words.Meaning.{EnumBody, InputObjectBody, InterfaceBody, ObjectBody, ScalarBody, SchemaPart, TypeBody, TypePart, UnionBody, SourcedSchema, root_in, roots_of, same_operation, schema_definition_of, schema_directives_of, Sourced, body_fields, body_input_fields, body_interfaces, body_members, body_values, component, component_name, extended_schema}
+use Rattle.apollo_canonical.proofs.Words.Meaning.{sourced_directives, distinct_entries, distinct_names, field_entry, input_field_entry, same_component_name, value_entry, type_of_kind, adopted, with_adopted, implied_schema, Added, ListItem, OfSchema, OfType, added_items, extended_part, Extended, Folding, schema_extensions}
 use Rattle.apollo_canonical.proofs.Words.Meaning.{first, first_schema, Family, Placed, extension_places, first_place, folded_when, folding_order, is_folded, is_met, met_when, once_if_defined, schemas, times_met, types, folds, whole, Directives, is_handed_in, no_schema, schema_from, schema_parts, of_type, parts, type_from, MeansSchema, Schema}
 use Rattle.apollo_canonical.proofs.Words.Written.{MeaningLaws, written_again}
 use Rattle.std.proofs.lemmas.Map.Made.{length-le_from_is_member}
+use Rattle.std.proofs.lemmas.Map.Steps.{list_any_congr}
 use Rattle.std.proofs.lemmas.List.Sums.{count_by-le-length, length-filter}
 use Rattle.apollo_meaning.specs.Order.SpentIds.{SpendsIds}
 use Rattle.graphql_ast.specs.declared.definition_parts.DefinitionPart.TheVariants as parts
-use Rattle.apollo_canonical.proofs.Lists.{each-map, if-found, grouped-few, each-of, passed, same-once}
+use Rattle.apollo_canonical.proofs.Lists.{each-flat_map, each-made, each-map, if-found, grouped-few, each-of, passed, same-once}
 use Rattle.apollo_canonical.proofs.Sections.{each-among, is_among, ids_in, same_id-equiv}
-use Rattle.apollo_canonical.proofs.Types.{made, written, numbers_of, schema_numbers, definition_part, extension_of, extension_items, held_items}
+use Rattle.apollo_canonical.proofs.Types.{made, written, numbers_of, schema_numbers, extension_of, held_items}
 use Rattle.apollo_canonical.proofs.Definitions.{root_under, made_schema, written_parts_of, schema_extension_of}
-use Rattle.apollo_canonical.proofs.Items.{by_implied, each-entry}
+use Rattle.apollo_canonical.proofs.Items.{adopted-unchosen, by_implied, each-entry}
 use Rattle.apollo_canonical.proofs.Rebuild.TypesAgain.{unique}
 use Rattle.apollo_canonical.proofs.Rebuild.WrittenList.{list-extended, list-schema_extensions}
 use Rattle.apollo_canonical.proofs.Rebuild.Canonical.{items-listed}
@@ -27,23 +28,22 @@ module _ (P : ComponentOrigin → Type 0) where
   From c = P c.0
 
   -- what is made of one sort of the parts
-  each-made : {S A C : Type 0} (origin : C → ComponentOrigin) (make : ComponentOrigin → A → C) → ((o : ComponentOrigin) (a : A) → origin (make o a) ≡ o) → (sort : S → List A) (ps : List (ComponentOrigin × S))
+  each-sourced : {S A C : Type 0} (origin : C → ComponentOrigin) (make : ComponentOrigin → A → C) → ((o : ComponentOrigin) (a : A) → origin (make o a) ≡ o) → (sort : S → List A) (ps : List (ComponentOrigin × S))
       → AllByRecursion (λ s. P s.0) ps → AllByRecursion (λ c. P (origin c)) (flat_map (λ s. map (make s.0) (sort s.1)) ps)
-  each-made origin make is sort [] a = tt
-  each-made {S} {A} {C} origin make is sort (s ∷ ps) a =
-      each-append (λ c. P (origin c)) (map (make s.0) (sort s.1)) (flat_map (λ s. map (make s.0) (sort s.1)) ps)
-      (each-map (λ c. P (origin c)) (make s.0) (sort s.1) (each-of (λ x. P (origin (make s.0 x))) (λ x. subst P (sym (is s.0 x)) a.0) (sort s.1))) (each-made origin make is sort ps a.1)
+  each-sourced origin make is sort ps a =
+      each-flat_map (λ c. P (origin c)) (λ s. map (make s.0) (sort s.1)) ps
+      (each-weaken (λ s. P s.0) (λ s. AllByRecursion (λ c. P (origin c)) (map (make s.0) (sort s.1))) (λ s own. each-made (λ c. P (origin c)) (make s.0) (λ x. subst P (sym (is s.0 x)) own) (sort s.1)) ps a)
 
   -- the components of a type
   module _ (ps : List Sourced) (a : AllByRecursion (λ s. P s.0) ps) where
     directives : AllByRecursion From (map of_directive (flat_map sourced_directives ps))
     directives =
-        each-map From of_directive (flat_map sourced_directives ps) (each-made (λ (c : Component Directive). c.origin) component (λ o n. refl) (λ (p : TypePart). p.directives) ps a)
+        each-map From of_directive (flat_map sourced_directives ps) (each-sourced (λ (c : Component Directive). c.origin) component (λ o n. refl) (λ (p : TypePart). p.directives) ps a)
 
     names : (of : TypePart → List NameView) → AllByRecursion From (map of_name (distinct_names (flat_map (λ s. map (component_name s.0) (of s.1)) ps)))
     names of =
         let all : List ComponentName = flat_map (λ (s : Sourced). map (component_name s.0) (of s.1)) ps in
-        each-map From of_name (distinct_names all) (each-first (λ (c : ComponentName). P c.origin) same_component_name all (each-made (λ (c : ComponentName). c.origin) component_name (λ o n. refl) of ps a))
+        each-map From of_name (distinct_names all) (each-first (λ (c : ComponentName). P c.origin) same_component_name all (each-sourced (λ (c : ComponentName). c.origin) component_name (λ o n. refl) of ps a))
 
     entries : {T : Type 0} (entry : ComponentOrigin → NodeView T → NameView × Component T) → ((o : ComponentOrigin) (n : NodeView T) → (entry o n).1.origin ≡ o) → (part : NodeView T → DefinitionPart)
         → (of : TypePart → List (NodeView T)) → AllByRecursion From (map (sourced part) (values_of (distinct_entries (flat_map (λ s. map (entry s.0) (of s.1)) ps))))
@@ -51,7 +51,7 @@ module _ (P : ComponentOrigin → Type 0) where
         let all : List (NameView × Component T) = flat_map (λ (s : Sourced). map (entry s.0) (of s.1)) ps in
         each-map From (sourced part) (values_of (distinct_entries all))
         (each-map (λ (c : Component T). P c.origin) (λ (e : NameView × Component T). e.1) (distinct_entries all) (each-first (λ (e : NameView × Component T). P e.1.origin) (same_key same_text) all
-        (each-made (λ (e : NameView × Component T). e.1.origin) entry is of ps a)))
+        (each-sourced (λ (e : NameView × Component T). e.1.origin) entry is of ps a)))
 
     pub each-of_type : (body : TypeBody) (head : TypePart) → AllByRecursion From (type_components (type_of_kind body head ps))
     each-of_type ScalarBody head = directives
@@ -68,7 +68,7 @@ module _ (P : ComponentOrigin → Type 0) where
     root : (op : OperationType) (rest : List (OperationType × ComponentName)) → AllByRecursion (λ r. P r.1.origin) rest → AllByRecursion (λ r. P r.1.origin) (cons_option (option_map (λ n. (op, n)) (root_in op ps)) rest)
     root op rest b = by (find (λ r. same_operation op r.0) (flat_map roots_of ps))
         (if-found (λ (r : OperationType × ComponentName). P r.1.origin) (λ r. same_operation op r.0) (flat_map roots_of ps)
-        (each-made (λ (r : OperationType × ComponentName). r.1.origin) root_under (λ o r. refl) (λ (s : SchemaPart). s.roots) ps a))
+        (each-sourced (λ (r : OperationType × ComponentName). r.1.origin) root_under (λ o r. refl) (λ (s : SchemaPart). s.roots) ps a))
       where
         by : (o : Option (OperationType × ComponentName)) → IfSome o (λ r. P r.1.origin) → AllByRecursion (λ r. P r.1.origin) (cons_option (option_map (λ n. (op, n)) (option_map (λ r. r.1) o)) rest)
         by None h = b
@@ -80,21 +80,13 @@ module _ (P : ComponentOrigin → Type 0) where
         let subscriptions : List (OperationType × ComponentName) = cons_option (option_map (λ n. (Subscription, n)) (root_in Subscription ps)) [] in
         let mutations : List (OperationType × ComponentName) = cons_option (option_map (λ n. (Mutation, n)) (root_in Mutation ps)) subscriptions in
         each-append From (map of_directive (flat_map schema_directives_of ps)) (map of_root roots)
-        (each-map From of_directive (flat_map schema_directives_of ps) (each-made (λ (c : Component Directive). c.origin) component (λ o n. refl) (λ (s : SchemaPart). s.directives) ps a))
+        (each-map From of_directive (flat_map schema_directives_of ps) (each-sourced (λ (c : Component Directive). c.origin) component (λ o n. refl) (λ (s : SchemaPart). s.directives) ps a))
         (each-map From of_root roots (root Query mutations (root Mutation subscriptions (root Subscription [] tt))))
 
 -- components whose origins are among these identities have no others
 among-there : (ids : List ExtensionId) (e : ExtensionId) (cs : List SourcedPart) → AllByRecursion (λ c. is_among ids c.0 ≡ true) cs → list_any (same_id e) (ids_in cs) ≡ true → list_any (same_id e) ids ≡ true
 among-there ids e [] a h = absurd (true≢false (sym h))
-among-there ids e (c ∷ cs) a h = by c.0 a.0 h (among-there ids e cs a.1)
-  where
-    by : (o : ComponentOrigin) → is_among ids o ≡ true → list_any (same_id e) (cons_option (id_of o) (ids_in cs)) ≡ true → (list_any (same_id e) (ids_in cs) ≡ true → list_any (same_id e) ids ≡ true) → list_any (same_id e) ids ≡ true
-    by Definition own h rest = rest h
-    by (Extension f) own h rest = at (same_id e f) refl h
-      where
-        at : (b : Bool) → same_id e f ≡ b → (b || list_any (same_id e) (ids_in cs)) ≡ true → list_any (same_id e) ids ≡ true
-        at true alike g = (λ i. list_any (λ k. same_id-equiv.congr e f k alike i) ids) ∙ own
-        at false alike g = rest g
+among-there ids e (c ∷ cs) a h = grind (arith, a.0, h, list_any_congr same_id-equiv e, among-there ids e cs a.1)
 
 -- so they are written with no more extensions than there are of these
 written-among : (ids : List ExtensionId) (cs : List SourcedPart) → AllByRecursion (λ c. is_among ids c.0 ≡ true) cs → length (of_extensions cs) ≤ length ids
@@ -152,8 +144,7 @@ module _ (xs : List ListItem) where
       )
     where
       at_most : (o : Option (Placed P)) (n : ℕ) → n ≡ option_map_or (λ _. 1) o 0 → n ≤ 1
-      at_most None n h = omega (arith, h)
-      at_most (Some d) n h = omega (arith, h)
+      at_most o n h = grind (arith, h)
 
   -- and no more are folded than are met
   folded-met : (is : List ℕ) → length (flat_map (folded_when xs) is) ≤ length (flat_map (met_when types xs) is) + length (flat_map (met_when schemas xs) is)
@@ -165,13 +156,8 @@ module _ (xs : List ListItem) where
   folded-few laws = omega (arith, folded-met (range_with_len 0 (length xs)), met-few types (laws.types_met xs), met-few schemas (laws.schemas_met xs))
 
   -- what is adopted extends nothing
-  adopted-none : (ns : List (List ℕ)) → extensions_in (flat_map (λ n. adopted_by (orphans_of xs n)) ns) ≡ 0
-  adopted-none [] = refl
-  adopted-none (n ∷ ns) = by (orphans_of xs n) (adopted-none ns)
-    where
-      by : (ps : List TypePart) → extensions_in (flat_map (λ n. adopted_by (orphans_of xs n)) ns) ≡ 0 → extensions_in (adopted_by ps ++ flat_map (λ n. adopted_by (orphans_of xs n)) ns) ≡ 0
-      by [] rest = rest
-      by (p ∷ ps) rest = rest
+  adopted-unextended : extensions_in (adopted xs) ≡ 0
+  adopted-unextended = rw (adopted-unchosen extended_part (λ p. refl) xs, adopted-unchosen extended_schema (λ p. refl) xs) refl
 
   -- and nor does an implied schema definition
   implied-none : extensions_in (implied_schema true xs) ≡ 0
@@ -187,7 +173,7 @@ folds-few laws xs =
       extensions_in-append (with_adopted true items) (implied_schema true (with_adopted true items)),
       implied-none (with_adopted true items),
       extensions_in-append items (adopted items),
-      adopted-none items (extended_names items),
+      adopted-unextended items,
     )
 
 -- those that are folded of types and of the schema are all that are folded
@@ -210,15 +196,11 @@ by-name-few start fs ks d =
 module _ (c : Bool) where
   -- a type has as many extensions in a list as it is written with
   held-counted : (t : ExtendedType) → length (filter_map extended_part (held_items c t)) ≡ length (written t).extensions
-  held-counted t = by (is_built_in (type_location t))
+  held-counted t = grind (arith, extensions (written t).extensions)
     where
       extensions : (es : List (ExtensionId × DefinitionParts)) → length (filter_map extended_part (map (λ e. Extended (extension_of t e)) es)) ≡ length es
       extensions [] = refl
       extensions (e ∷ es) = omega (arith, extensions es)
-
-      by : (b : Bool) → length (filter_map extended_part (cond b (extension_items c t) (Defined (record (definition_part t) { ignorable = c }) ∷ extension_items c t))) ≡ length (written t).extensions
-      by true = extensions (written t).extensions
-      by false = extensions (written t).extensions
 
   -- types with no more extensions than were folded for their names
   types-few : (start : ℕ) (fs : List Folding) (es : List (NameView × ExtendedType)) → AllByRecursion (λ e. length (written e.1).extensions ≤ length (numbers_of e.0.text start fs)) es

@@ -1,42 +1,24 @@
 -- The schema definition that a list with a write-out means is the one that was written out.
 use Rattle.apollo_canonical.proofs.Words.Lists.{◌≡◌, ℕ, Bool, true, false, cond, List, [], ◌∷◌, ◌++◌, None, Option, Some, map, find, flat_map, option_map, refl, sym, ap, subst, ◌∙◌, ◌==◌, true≢false, arith, append-nil, filter_map-append, IsDistinct, filter_map, option_or, bool_cases}
 use Rattle.apollo_canonical.proofs.Words.Syntax.{NameView, NodeView, default_type_text, by_text, lookup, OperationType, Query, Mutation, Subscription, SourceSpan}
-use Rattle.apollo_canonical.proofs.Words.Types.{ComponentName, BareType, bare_extended_type, bare_schema_definition, has_own_root, implied_name, is_implied, is_some_object, is_written, write_schema_definition, root_of, is_object, ExtendedType, Scalar, SchemaDefinition}
-use Rattle.apollo_canonical.proofs.Words.Meaning.{adopting_schema, implicit_roots, schema_of_roots, ListItem, SchemaDefined, extended_schema, first_schema, schema_extensions, Root, SchemaPart, roots_in, folding_order, roots_of, same_operation, schema_extension_source, AreTypesOf, Schema}
+use Rattle.apollo_canonical.proofs.Words.Types.{ComponentName, bare_schema_definition, has_own_root, implied_name, is_implied, is_some_object, is_written, write_schema_definition, root_of, ExtendedType, SchemaDefinition}
+use Rattle.apollo_canonical.proofs.Words.Meaning.{adopting_schema, implicit_roots, schema_of_roots, ListItem, SchemaDefined, extended_schema, first_schema, schema_extensions, Root, SchemaPart, roots_in, folding_order, roots_of, same_operation, schema_extension_source, AreTypesOf, Schema, same_kind}
 use Rattle.apollo_canonical.proofs.Words.Written.{MeaningLaws, IsMeantByList}
+use Rattle.graphql_nodes.specs.declared.type_kind.TypeKind.TheVariants as kinds
 use Rattle.apollo_canonical.proofs.Lists.{map-empty}
 use Rattle.apollo_canonical.proofs.Types.{rising-distinct, schema_numbers, schema_numbers-rise}
-use Rattle.apollo_canonical.proofs.Definitions.{has_one, implied-unwritten, left-out, left-out-equal, left-out-written, IsSchemaAgain, IsWrittenHead, equal-again, extension_written, made_schema, schema-again, schema_extension_of, written_parts_of, IsMeantSchema, first_schema-append, meant-schema, node-of, schema_node, schema_numbers-parts, SameImplied, no-own, written-alike, operations-named}
+use Rattle.apollo_canonical.proofs.Definitions.{has_one, implied-unwritten, left-out, left-out-equal, left-out-written, IsSchemaAgain, IsWrittenHead, equal-again, extension_written, made_schema, root-made, schema-again, schema_extension_of, written_parts_of, IsMeantSchema, first_schema-append, meant-schema, node-of, schema_node, schema_numbers-parts, SameImplied, no-own, written-alike, operations-named}
 use Rattle.apollo_canonical.proofs.Rebuild.TypesAgain.{same-seen}
-use Rattle.apollo_canonical.proofs.Rebuild.WrittenList.{written_head, W, Y, Z, exts-Y, unwritten-Y, written-Y, ends, implicit-again, implicit-listed, implied_here, node, object_at, others, quiet, quiet-implied}
-
--- an object type is one by what `==` compares
-is_bare_object : BareType → Bool
-is_bare_object (BareType.Object o) = true
-is_bare_object _ = false
-
-object-bare : (t : ExtendedType) → is_object t ≡ is_bare_object (bare_extended_type t)
-unfolding is_bare_object
-object-bare (Scalar n) = refl
-object-bare t = refl
+use Rattle.apollo_canonical.proofs.Rebuild.WrittenList.{object-kind, written_head, W, Y, Z, exts-Y, unwritten-Y, written-Y, ends, implicit-again, implicit-listed, implied_here, node, object_at, others, quiet, quiet-implied}
 
 implied-cond : (types : List (NameView × ExtendedType)) (op : OperationType) → implied_name types op ≡ cond (has_one (object_at types Query) (object_at types Mutation) (object_at types Subscription) op) (Some (default_type_text op)) None
-implied-cond types Query = refl
-implied-cond types op = refl
+implied-cond types op = grind arith
 
 -- extensions that name no root leave none
 no-roots : (es : List (ℕ × SchemaPart)) → roots_in (map (λ e. e.1) es) ≡ [] → (op : OperationType) → root_of (made_schema (schema_of_roots []) es) op ≡ None
-no-roots es h op = by op
-  where
-    none : flat_map roots_of (map schema_extension_source es) ≡ []
-    none = map-empty (λ (r : OperationType × ComponentName). r.0) (flat_map roots_of (map schema_extension_source es)) (operations-named es ∙ ap (map (λ (r : Root). r.value.0)) h)
-
-    found : (op : OperationType) → option_map (λ r. r.1) (find (λ r. same_operation op r.0) (flat_map roots_of (map schema_extension_source es))) ≡ None
-    found op = ap (λ l. option_map (λ r. r.1) (find (λ r. same_operation op r.0) l)) none
-
-    by : (op : OperationType) → root_of (made_schema (schema_of_roots []) es) op ≡ None
-    by Query = found Query
-    by op = found op
+no-roots es h op =
+    root-made (schema_of_roots []) es op
+    ∙ ap (λ l. option_map (λ r. r.1) (find (λ r. same_operation op r.0) l)) (map-empty (λ (r : OperationType × ComponentName). r.0) (flat_map roots_of (map schema_extension_source es)) (operations-named es ∙ ap (map (λ (r : Root). r.value.0)) h))
 
 module _ (laws : MeaningLaws) (schema : Schema) (list : IsMeantByList schema) (c : Bool) (again : ℕ) (types_again : List (NameView × ExtendedType))
     (are_again : AreTypesOf again (folding_order (Z laws schema list c)) (Z laws schema list c) types_again) where
@@ -63,7 +45,7 @@ module _ (laws : MeaningLaws) (schema : Schema) (list : IsMeantByList schema) (c
   m = meant-schema laws schema list
 
   object-same : (n : List ℕ) → is_some_object (lookup (by_text n) types_again) ≡ is_some_object (lookup (by_text n) types)
-  object-same = same-seen laws schema list c (others laws schema list c) end_items (quiet laws schema list c) (quiet-implied ys) again types_again are_again is_some_object (λ t u a. object-bare u ∙ ap is_bare_object a.equal ∙ sym (object-bare t))
+  object-same = same-seen laws schema list c (others laws schema list c) end_items (quiet laws schema list c) (quiet-implied ys) again types_again are_again is_some_object (λ t u a. object-kind u ∙ ap (same_kind kinds.Object) a.kind ∙ sym (object-kind t))
 
   same_implied : SameImplied types types_again
   same_implied op = ap (λ b. cond b (Some (default_type_text op)) None) (object-same (default_type_text op))
@@ -149,8 +131,7 @@ module _ (laws : MeaningLaws) (schema : Schema) (list : IsMeantByList schema) (c
             from-head (schema_of_roots (implicit_roots ys)) here.0 here.1 (written-head (implicit_roots ys) ((implicit-again laws schema list c) ∙ sym (implicit-listed laws schema list c) ∙ m.roots own nothing)) unwritten
           where
             unnamed : (o : Option ComponentName) → option_map (λ n. n.name) o ≡ None → o ≡ None
-            unnamed None h = refl
-            unnamed (Some n) h = absurd (let g : Some n.name ≡ None = h in cc)
+            unnamed o h = grind (arith, h)
 
   -- the schema definition is equal and written out alike
   pub same-schema : Same (schema_node again zs)

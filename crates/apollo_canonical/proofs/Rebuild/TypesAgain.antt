@@ -1,11 +1,11 @@
 -- The types of a list with a write-out are the types that were written out.
-use Rattle.apollo_canonical.proofs.Words.Lists.{◌≡◌, ℕ, Bool, true, false, cond, List, [], ◌∷◌, ◌++◌, None, Option, Some, is_some, map, filter, flat_map, option_map, refl, sym, ap, subst, ◌∙◌, append-nil, filter-append, map-map, AllByRecursion, IsDistinct, filter_map, list_any, option_map_or, option_or, unwrap_or, each-weaken, option_cases, filter-all}
+use Rattle.apollo_canonical.proofs.Words.Lists.{◌≡◌, ℕ, Bool, true, false, cond, List, [], ◌∷◌, ◌++◌, None, Option, Some, is_some, map, filter, flat_map, option_map, refl, sym, ap, subst, ◌∙◌, append-nil, filter-append, map-map, AllByRecursion, IsDistinct, filter_map, list_any, option_map_or, option_or, unwrap_or, each-weaken, option_cases, filter-all, arith, filter-fails}
 use Rattle.apollo_canonical.proofs.Words.Syntax.{is_built_in, entries_by_text, NameView, same, same_text, by_text, HasUniqueKeys, keys_of, values_of, lookup, DefinitionParts}
 use Rattle.apollo_canonical.proofs.Words.Types.{first_of_each, ExtensionId, bare_extended_type, type_location, type_name, ExtendedType, name_laws, first_of_each-distinct}
-use Rattle.apollo_canonical.proofs.Words.Meaning.{ListItem, Defined, Extended, defined_part, extended_part, first, extensions_of, of_kind, TypePart, kind_of, folding_order, whole, Sourced, AreTypesOf, extension_part, type_names, type_from, parts, Schema}
+use Rattle.apollo_canonical.proofs.Words.Meaning.{ListItem, Defined, Extended, defined_part, extended_part, first, extensions_of, of_kind, TypePart, kind_of, folding_order, whole, Sourced, AreTypesOf, extension_part, type_names, type_from, parts, Schema, TypeNamed}
 use Rattle.apollo_canonical.proofs.Words.Written.{MeaningLaws, IsMeantByList, with_built_ins}
 use Rattle.apollo_canonical.proofs.Lists.{first_of_each-again, new_to_these, each-both, each-from_map, passes}
-use Rattle.apollo_canonical.proofs.Items.{Name, about, is_about, first-about, extensions-about, built_ins, built_in_names, about-built_ins, first-built_in, first-unmarked, handed, later_items, whole-split, each-entry, values-by_keys, defined_names, defined_names-append, names-of_first, among-defined, first-key, Fits, fits-of_kind}
+use Rattle.apollo_canonical.proofs.Items.{about, is_about, first-about, extensions-about, built_ins, built_in_names, about-built_ins, first-built_in, first-unmarked, handed, later_items, whole-split, each-entry, values-by_keys, defined_names, defined_names-append, names-of_first, among-defined, first-key, Fits, fits-of_kind}
 use Rattle.apollo_canonical.proofs.Types.{numbers_of, numbers-rise, rising-distinct, IsAgain, made, rebuilt, definition-own, written, definition_part, extension_of, kind-body, held_items, extension_items, about-types, defines-types, IsMadeBy}
 
 -- a type of a list is made of its name's first definition
@@ -50,25 +50,18 @@ module _ (laws : MeaningLaws) (start : ℕ) (xs : List ListItem) (types : List (
 
 -- items that say nothing of types
 abbrev pub IsQuiet : ListItem → Type 0
-IsQuiet (Defined p) = ⊥
-IsQuiet (Extended p) = ⊥
-IsQuiet _ = Unit {0}
+IsQuiet x = (defined_part x ≡ None) × (extended_part x ≡ None)
 
-pub about-quiet : (n : List ℕ) (xs : List ListItem) → AllByRecursion IsQuiet xs → about (Name n) xs ≡ []
-about-quiet n [] q = refl
-about-quiet n (Defined p ∷ xs) q = absurd q.0
-about-quiet n (Extended p ∷ xs) q = absurd q.0
-about-quiet n (x ∷ xs) q = about-quiet n xs q.1
+pub about-quiet : (n : List ℕ) (xs : List ListItem) → AllByRecursion IsQuiet xs → about (TypeNamed n) xs ≡ []
+about-quiet n = filter-fails IsQuiet (is_about (TypeNamed n)) (λ x q. grind (arith, q.0, q.1))
 
 pub defines-quiet : (xs : List ListItem) → AllByRecursion IsQuiet xs → defined_names xs ≡ []
 defines-quiet [] q = refl
-defines-quiet (Defined p ∷ xs) q = absurd q.0
-defines-quiet (x ∷ xs) q = defines-quiet xs q.1
+defines-quiet (x ∷ xs) q = rw q.0.0 (defines-quiet xs q.1)
 
 pub extends-quiet : (xs : List ListItem) → AllByRecursion IsQuiet xs → filter_map extended_part xs ≡ []
 extends-quiet [] q = refl
-extends-quiet (Extended p ∷ xs) q = absurd q.0
-extends-quiet (x ∷ xs) q = extends-quiet xs q.1
+extends-quiet (x ∷ xs) q = rw q.0.1 (extends-quiet xs q.1)
 
 -- the types of a list of which nothing but its head is built in
 module _ (laws : MeaningLaws) (schema : Schema) (list : IsMeantByList schema) where
@@ -107,10 +100,10 @@ module _ (laws : MeaningLaws) (schema : Schema) (list : IsMeantByList schema) wh
     marked-where None e = ap is_built_in location ∙ first-unmarked adopts more (handed schema list) n m.made_of.head (sym (first-split n ∙ ap (λ o. option_or o (first (later_items adopts more) n)) e) ∙ m.first_one)
 
     -- the built-in definition, or else what is written of the type, is the type's definition with its extensions
-    pub written-view : (c : Bool) → (b : Bool) × (about (Name n) built_ins ++ held_items c t ≡ Defined (record (definition_part t) { ignorable = b }) ∷ extension_items c t)
+    pub written-view : (c : Bool) → (b : Bool) × (about (TypeNamed n) built_ins ++ held_items c t ≡ Defined (record (definition_part t) { ignorable = b }) ∷ extension_items c t)
     written-view c = by (first built_ins n) refl
       where
-        by : (o : Option TypePart) → first built_ins n ≡ o → (b : Bool) × (about (Name n) built_ins ++ held_items c t ≡ Defined (record (definition_part t) { ignorable = b }) ∷ extension_items c t)
+        by : (o : Option TypePart) → first built_ins n ≡ o → (b : Bool) × (about (TypeNamed n) built_ins ++ held_items c t ≡ Defined (record (definition_part t) { ignorable = b }) ∷ extension_items c t)
         by None e = (c, (λ i. (about-built_ins n ∙ ap (λ o. option_map_or (λ d. Defined d ∷ []) o []) e) i ++ cond (marked-where None e i) (extension_items c t) (Defined (record (definition_part t) { ignorable = c }) ∷ extension_items c t)))
         by (Some b) e =
             let head_is : m.made_of.head ≡ b = ap (λ o. unwrap_or o b) (sym m.first_one ∙ first-split n ∙ ap (λ o. option_or o (first (later_items adopts more) n)) e) in
@@ -130,11 +123,11 @@ module _ (laws : MeaningLaws) (schema : Schema) (list : IsMeantByList schema) wh
     abbrev pub again_items : List ListItem
     again_items = (built_ins ++ (others ++ flat_map (held_items c) (values_of types))) ++ ends
 
-    view : (n : List ℕ) → about (Name n) again_items ≡ about (Name n) built_ins ++ option_map_or (held_items c) (lookup (by_text n) types) []
+    view : (n : List ℕ) → about (TypeNamed n) again_items ≡ about (TypeNamed n) built_ins ++ option_map_or (held_items c) (lookup (by_text n) types) []
     view n =
-        simp (filter-append (is_about (Name n)), about-quiet n ends quiet_end, about-quiet n others quiet, about-types c n types (unique laws start xs types are) (own_names laws start xs types are), append-nil)
+        simp (filter-append (is_about (TypeNamed n)), about-quiet n ends quiet_end, about-quiet n others quiet, about-types c n types (unique laws start xs types are) (own_names laws start xs types are), append-nil)
 
-    pub view-nothing : (n : List ℕ) → lookup (by_text n) types ≡ None → about (Name n) again_items ≡ []
+    pub view-nothing : (n : List ℕ) → lookup (by_text n) types ≡ None → about (TypeNamed n) again_items ≡ []
     view-nothing n none =
         view n
         ∙ (λ i. (about-built_ins n ∙ ap (λ o. option_map_or (λ d. Defined d ∷ []) o []) (front (first built_ins n) (sym (first-split n) ∙ unmeant start xs types are n none))) i ++ option_map_or (held_items c) (none i) [])
@@ -147,8 +140,8 @@ module _ (laws : MeaningLaws) (schema : Schema) (list : IsMeantByList schema) wh
       abbrev pub flag : Bool
       flag = (written-view n t found c).0
 
-      pub view-type : about (Name n) again_items ≡ Defined (record (definition_part t) { ignorable = flag }) ∷ extension_items c t
-      view-type = view n ∙ ap (λ o. about (Name n) built_ins ++ option_map_or (held_items c) o []) found ∙ (written-view n t found c).1
+      pub view-type : about (TypeNamed n) again_items ≡ Defined (record (definition_part t) { ignorable = flag }) ∷ extension_items c t
+      view-type = view n ∙ ap (λ o. about (TypeNamed n) built_ins ++ option_map_or (held_items c) o []) found ∙ (written-view n t found c).1
 
       pub first-again : first again_items n ≡ Some (record (definition_part t) { ignorable = flag })
       first-again = first-about n again_items ∙ ap (λ l. first l n) view-type ∙ ap (λ b. cond b (Some (record (definition_part t) { ignorable = flag })) (first (extension_items c t) n)) (key n t found)

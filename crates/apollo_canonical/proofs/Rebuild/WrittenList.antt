@@ -1,14 +1,14 @@
 -- The list with a write-out, item by item, and what it is completed with.
-use Rattle.apollo_canonical.proofs.Words.Lists.{◌≡◌, Bool, true, false, cond, List, [], ◌∷◌, ◌++◌, None, Option, Some, map, filter, flat_map, slice_get, refl, sym, ap, subst, ◌∙◌, append-nil, filter-append, filter_map-append, AllByRecursion, filter_map, each-append, each-weaken, filter-fails, ℕ, option_map_or, option_or, or-none, map-map, filter_map-made, option_cases, filter-all, filter_map-unmade}
+use Rattle.apollo_canonical.proofs.Words.Lists.{◌≡◌, Bool, true, false, cond, List, [], ◌∷◌, ◌++◌, None, Option, Some, map, filter, flat_map, slice_get, refl, sym, ap, subst, ◌∙◌, append-nil, filter-append, filter_map-append, AllByRecursion, filter_map, each-append, each-weaken, filter-fails, ℕ, option_map_or, option_or, or-none, map-map, filter_map-made, option_cases, filter-all, filter_map-unmade, arith}
 use Rattle.apollo_canonical.proofs.Words.Syntax.{is_built_in, NameView, SourceSpan, schema_definition, schema_extension, DefinitionParts, built_in_definitions, NodeView, default_type_text, by_text, lookup, values_of, OperationType, Query, Mutation, Subscription}
-use Rattle.apollo_canonical.proofs.Words.Types.{extension_location, ExtensionId, is_written, write_schema_definition, type_location, ExtendedType, SchemaDefinition, is_some_object, is_object, type_kind, Scalar}
-use Rattle.apollo_canonical.proofs.Words.Meaning.{Directives, directive_definitions, is_handed_in, Defined, Extended, ListItem, Other, SchemaDefined, SchemaExtended, defined_schema, extended_part, extended_schema, first_schema, schema_extensions, SchemaPart, write_directives, adopted, adopted_by}
-use Rattle.apollo_canonical.proofs.Words.Meaning.{extended_names, orphans_of, with_adopted, implicit_roots, implied_schema, is_object_name, adopting_schema, schema_for, extensions_of, first, Root, TypePart, kind_of, same_kind, roots_in, folding_order, whole, AreTypesOf, Schema, directive_part}
+use Rattle.apollo_canonical.proofs.Words.Types.{extension_location, ExtensionId, is_written, write_schema_definition, type_location, ExtendedType, SchemaDefinition, is_some_object, is_object, type_kind}
+use Rattle.apollo_canonical.proofs.Words.Meaning.{Directives, directive_definitions, is_handed_in, Defined, Extended, ListItem, Other, SchemaDefined, SchemaExtended, defined_schema, extended_part, extended_schema, first_schema, schema_extensions, SchemaPart, write_directives, adopted, adopted_by, NoSubject, Subject, TheSchema, TypeNamed}
+use Rattle.apollo_canonical.proofs.Words.Meaning.{extended_names, orphans_of, with_adopted, implicit_roots, implied_schema, is_object_name, adopting_schema, schema_for, extensions_of, first, Root, kind_of, same_kind, roots_in, folding_order, whole, AreTypesOf, Schema, directive_part}
 use Rattle.apollo_canonical.proofs.Words.Written.{MeaningLaws, IsMeantByList, with_built_ins}
 use Rattle.graphql_nodes.specs.declared.type_kind.TypeKind.TheVariants as kinds
 use Rattle.graphql_ast.specs.declared.definition.Definition.TheVariants as ast
-use Rattle.apollo_canonical.proofs.Lists.{each-map, each-of, flat_map-none}
-use Rattle.apollo_canonical.proofs.Items.{Others, TheSchema, Topic, about, directives-about, first_schema-about, is_about, schema_extensions-about, built_ins, no-extensions, Name, extensions-about, first-about, by_implied, items}
+use Rattle.apollo_canonical.proofs.Lists.{each-flat_map, each-made, each-of, flat_map-none}
+use Rattle.apollo_canonical.proofs.Items.{about, directives-about, first_schema-about, is_about, schema_extensions-about, built_ins, no-extensions, extensions-about, first-about, by_implied, items}
 use Rattle.apollo_canonical.proofs.Types.{written, definition_part, extension_of, document_items, document_items-append, extension_items, held_items, kind-body}
 use Rattle.apollo_canonical.proofs.Definitions.{schema_extension_of, written_parts_of, roots_where, schema_node}
 use Rattle.apollo_canonical.proofs.Rebuild.TypesAgain.{IsQuiet, extends-quiet, again_items, first-again, meant, unmeant, view-nothing}
@@ -20,26 +20,25 @@ no-schema-built_in = refl
 
 -- an item that is about the schema, and one that is about neither it nor types
 abbrev IsOfSchema : ListItem → Type 0
-IsOfSchema x = (is_about TheSchema x ≡ true) × (is_about Others x ≡ false) × IsQuiet x
+IsOfSchema x = (is_about TheSchema x ≡ true) × (is_about NoSubject x ≡ false) × IsQuiet x
 
 abbrev IsElse : ListItem → Type 0
-IsElse x = (is_about TheSchema x ≡ false) × (is_about Others x ≡ true) × IsQuiet x
+IsElse x = (is_about TheSchema x ≡ false) × (is_about NoSubject x ≡ true) × IsQuiet x
 
 -- types are about neither the schema nor directives
 module _ (c : Bool) where
   abbrev IsOfType : ListItem → Type 0
-  IsOfType x = (is_about TheSchema x ≡ false) × (is_about Others x ≡ false)
+  IsOfType x = (is_about TheSchema x ≡ false) × (is_about NoSubject x ≡ false)
 
   each-type : (ts : List ExtendedType) → AllByRecursion IsOfType (flat_map (held_items c) ts)
-  each-type [] = tt
-  each-type (t ∷ ts) = each-append IsOfType (held_items c t) (flat_map (held_items c) ts) (held (is_built_in (type_location t))) (each-type ts)
+  each-type ts = each-flat_map IsOfType (held_items c) ts (each-of _ (λ t. held t (is_built_in (type_location t))) ts)
     where
-      extensions : AllByRecursion IsOfType (extension_items c t)
-      extensions = each-map IsOfType (λ e. Extended (extension_of t e)) (written t).extensions (each-of (λ e. (false ≡ false) × (false ≡ false)) (λ e. (refl, refl)) (written t).extensions)
+      extensions : (t : ExtendedType) → AllByRecursion IsOfType (extension_items c t)
+      extensions t = each-made IsOfType (λ e. Extended (extension_of t e)) (λ e. (refl, refl)) (written t).extensions
 
-      held : (b : Bool) → AllByRecursion IsOfType (cond b (extension_items c t) (Defined (record (definition_part t) { ignorable = c }) ∷ extension_items c t))
-      held true = extensions
-      held false = ((refl, refl), extensions)
+      held : (t : ExtendedType) (b : Bool) → AllByRecursion IsOfType (cond b (extension_items c t) (Defined (record (definition_part t) { ignorable = c }) ∷ extension_items c t))
+      held t true = extensions t
+      held t false = ((refl, refl), extensions t)
 
 -- the definition's part
 abbrev pub written_head : SchemaDefinition → Option SourceSpan → SchemaPart
@@ -61,8 +60,7 @@ module _ (c : Bool) (d : SchemaDefinition) (place : Option SourceSpan) (types : 
       ∙ (λ i. head (is_written types d) i ++ later (written_parts_of d).extensions i)
     where
       head : (b : Bool) → document_items c (cond b (schema_definition d.description (written_parts_of d).definition place ∷ []) []) ≡ cond b (SchemaDefined (written_head d place) ∷ []) []
-      head true = refl
-      head false = refl
+      head b = grind arith
 
       later : (es : List (ExtensionId × DefinitionParts)) → document_items c (map (λ e. schema_extension e.1 (extension_location e.0)) es) ≡ schema_extension_items es
       later es = simp map-map
@@ -72,11 +70,10 @@ module _ (c : Bool) (d : SchemaDefinition) (place : Option SourceSpan) (types : 
   each-schema = subst (AllByRecursion IsOfSchema) (sym schema-listed) (by (is_written types d))
     where
       exts : (es : List (ExtensionId × DefinitionParts)) → AllByRecursion IsOfSchema (schema_extension_items es)
-      exts [] = tt
-      exts (e ∷ es) = ((refl, refl, tt), exts es)
+      exts = each-made IsOfSchema (λ e. SchemaExtended (schema_extension_of e)) (λ e. (refl, refl, (refl, refl)))
 
       by : (b : Bool) → AllByRecursion IsOfSchema (cond b (SchemaDefined (written_head d place) ∷ []) [] ++ schema_extension_items (written_parts_of d).extensions)
-      by true = ((refl, refl, tt), exts (written_parts_of d).extensions)
+      by true = ((refl, refl, (refl, refl)), exts (written_parts_of d).extensions)
       by false = exts (written_parts_of d).extensions
 
   pub schema-quiet : AllByRecursion IsQuiet schema_items
@@ -90,7 +87,7 @@ pub directives-listed : (c : Bool) (ds : Directives) → document_items c (write
 directives-listed c ds = simp map-map
 
 each-directive : (ds : Directives) → AllByRecursion IsElse (directive_items ds)
-each-directive ds = each-map IsElse (λ d. Other (ast.DirectiveDefinition d)) ds (each-of (λ d. IsElse (Other (ast.DirectiveDefinition d))) (λ d. (refl, refl, tt)) ds)
+each-directive = each-made IsElse (λ d. Other (ast.DirectiveDefinition d)) (λ d. (refl, refl, (refl, refl)))
 
 pub directives-quiet : (ds : Directives) → AllByRecursion IsQuiet (directive_items ds)
 directives-quiet ds = each-weaken IsElse IsQuiet (λ x h. h.2) (directive_items ds) (each-directive ds)
@@ -104,7 +101,7 @@ module _ (c : Bool) (d : SchemaDefinition) (place : Option SourceSpan) (types : 
   written_list = built_ins ++ ((schema_items c d place types ++ directive_items ds) ++ flat_map (held_items c) ts)
 
   -- what is about the schema, and what about directives, of the three parts after the built-in definitions
-  about-parts : (topic : Topic) (ss os : List ListItem) → about topic (schema_items c d place types) ≡ ss → about topic (directive_items ds) ≡ os → about topic (flat_map (held_items c) ts) ≡ [] → about topic written_list ≡ about topic built_ins ++ (ss ++ os)
+  about-parts : (topic : Subject) (ss os : List ListItem) → about topic (schema_items c d place types) ≡ ss → about topic (directive_items ds) ≡ os → about topic (flat_map (held_items c) ts) ≡ [] → about topic written_list ≡ about topic built_ins ++ (ss ++ os)
   about-parts topic ss os s o t = simp (filter-append (is_about topic), s, o, t, append-nil)
 
   pub list-about_schema : about TheSchema written_list ≡ schema_items c d place types
@@ -113,10 +110,10 @@ module _ (c : Bool) (d : SchemaDefinition) (place : Option SourceSpan) (types : 
       (filter-fails IsElse (is_about TheSchema) (λ x h. h.0) (directive_items ds) (each-directive ds)) (filter-fails (IsOfType c) (is_about TheSchema) (λ x h. h.0) (flat_map (held_items c) ts) (each-type c ts))
       ∙ (λ i. no-schema-built_in i ++ append-nil (schema_items c d place types) i)
 
-  pub list-about_others : about Others written_list ≡ about Others built_ins ++ directive_items ds
+  pub list-about_others : about NoSubject written_list ≡ about NoSubject built_ins ++ directive_items ds
   list-about_others =
-      about-parts Others [] (directive_items ds) (filter-fails IsOfSchema (is_about Others) (λ x h. h.1) (schema_items c d place types) (each-schema c d place types))
-      (filter-all (is_about Others) (directive_items ds) (each-weaken IsElse (λ x. is_about Others x ≡ true) (λ x h. h.1) (directive_items ds) (each-directive ds))) (filter-fails (IsOfType c) (is_about Others) (λ x h. h.1) (flat_map (held_items c) ts) (each-type c ts))
+      about-parts NoSubject [] (directive_items ds) (filter-fails IsOfSchema (is_about NoSubject) (λ x h. h.1) (schema_items c d place types) (each-schema c d place types))
+      (filter-all (is_about NoSubject) (directive_items ds) (each-weaken IsElse (λ x. is_about NoSubject x ≡ true) (λ x h. h.1) (directive_items ds) (each-directive ds))) (filter-fails (IsOfType c) (is_about NoSubject) (λ x h. h.1) (flat_map (held_items c) ts) (each-type c ts))
 
   exts-all : (es : List (ExtensionId × DefinitionParts)) → filter_map extended_schema (schema_extension_items c d place types es) ≡ map schema_extension_of es
   exts-all es = ap (filter_map extended_schema) (sym (map-map SchemaExtended schema_extension_of es)) ∙ filter_map-made extended_schema SchemaExtended (λ s. refl) (map schema_extension_of es)
@@ -146,9 +143,8 @@ module _ (c : Bool) (d : SchemaDefinition) (place : Option SourceSpan) (types : 
 -- The list with a write-out, and what it is completed with.
 
 -- an object type is one by its kind
-object-kind : (t : ExtendedType) → is_object t ≡ same_kind kinds.Object (type_kind t)
-object-kind (Scalar n) = refl
-object-kind t = refl
+pub object-kind : (t : ExtendedType) → is_object t ≡ same_kind kinds.Object (type_kind t)
+object-kind t = grind arith
 
 -- whether an object type has the name
 abbrev pub object_at : List (NameView × ExtendedType) → OperationType → Bool
@@ -156,14 +152,10 @@ object_at types op = is_some_object (lookup (by_text (default_type_text op)) typ
 
 -- a schema definition that is implied is quiet and defines no directive
 pub quiet-implied : (ys : List ListItem) → AllByRecursion IsQuiet (implied_schema true ys)
-quiet-implied = by_implied (AllByRecursion IsQuiet) tt (λ s. (tt, tt)) true
+quiet-implied = by_implied (AllByRecursion IsQuiet) tt (λ s. ((refl, refl), tt)) true
 
 pub implied-directives : (ys : List ListItem) → directive_definitions (implied_schema true ys) ≡ []
 implied-directives = by_implied (λ l. directive_definitions l ≡ []) refl (λ s. refl) true
-
-no-orphans : (o : Option TypePart) (ps : List TypePart) → ps ≡ [] → option_map_or (λ _. []) o ps ≡ []
-no-orphans None ps e = e
-no-orphans (Some d) ps e = refl
 
 module _ (laws : MeaningLaws) (schema : Schema) (list : IsMeantByList schema) (c : Bool) where
   open list use {start, adopts, more}
@@ -197,12 +189,12 @@ module _ (laws : MeaningLaws) (schema : Schema) (list : IsMeantByList schema) (c
   pub alone : again_items laws schema list c others [] quiet tt ≡ Y
   alone = append-nil Y
 
-  pub first-nothing : (n : List ℕ) → lookup (by_text n) types ≡ None → about (Name n) Y ≡ []
-  first-nothing n none = ap (about (Name n)) (sym alone) ∙ view-nothing laws schema list c others [] quiet tt n none
+  pub first-nothing : (n : List ℕ) → lookup (by_text n) types ≡ None → about (TypeNamed n) Y ≡ []
+  first-nothing n none = ap (about (TypeNamed n)) (sym alone) ∙ view-nothing laws schema list c others [] quiet tt n none
 
   pub orphans-none : (n : List ℕ) → orphans_of Y n ≡ []
   orphans-none n =
-      option_cases (lookup (by_text n) types) (λ e. no-orphans (first Y n) (extensions_of Y n) (extensions-about n Y ∙ ap (λ l. extensions_of l n) (first-nothing n e)))
+      option_cases (lookup (by_text n) types) (λ e. ap (option_map_or (λ _. []) (first Y n)) (extensions-about n Y ∙ ap (λ l. extensions_of l n) (first-nothing n e)) ∙ grind arith)
       (λ t e. ap (λ o. option_map_or (λ _. []) o (extensions_of Y n)) (ap (λ l. first l n) (sym alone) ∙ first-again laws schema list c others [] quiet tt n t e))
 
   adopted-none : adopted Y ≡ []

@@ -1,30 +1,23 @@
 -- The parts that are written out have all components of the sections, and the directives in order.
-use Rattle.apollo_canonical.proofs.Words.Lists.{map-id, ◌≡◌, Bool, true, false, ◌||◌, List, [], ◌∷◌, ◌++◌, map, filter, refl, sym, ap, subst, ◌∙◌, true≢false, arith, or_right, not-true, flat_map-map, IsPermutation-map, map-map, IsEquivalence, AllByRecursion, IsDistinct, cons_option, flat_map, list_any, IsPermutation, each-weaken, each-filter, flat_map-each, append-nil, flat_map-append}
+use Rattle.apollo_canonical.proofs.Words.Lists.{map-id, ◌≡◌, Bool, true, false, List, [], ◌∷◌, ◌++◌, map, filter, refl, sym, ap, subst, ◌∙◌, true≢false, arith, or_right, not-true, flat_map-map, IsPermutation-map, map-map, IsEquivalence, AllByRecursion, IsDistinct, cons_option, flat_map, list_any, IsPermutation, each-weaken, each-filter, flat_map-each, append-nil, flat_map-append, map-flat_map, list_any-map}
 use Rattle.apollo_canonical.proofs.Words.Syntax.{DefinitionPart, DefinitionParts, NodeView, Directive}
 use Rattle.apollo_canonical.proofs.Words.Types.{id_of, same_id, same_origin, SourcedPart, origins_in, identities, of_origin, of_extensions, ComponentOrigin, Definition, Extension, ExtensionId, PartsByOrigin, list_any-first_of_each, first_of_each-distinct, first_of_each}
 use Rattle.apollo_canonical.proofs.Words.Written.{Sections, HasSameComponents, as_parts, in_sections, with_origins, joined, sections_of}
 use Rattle.graphql_ast.specs.declared.definition_parts.DefinitionPart.TheVariants as parts
-use Rattle.apollo_canonical.proofs.Lists.{each-from_map, each-map, each-of, each-split, map-flat_map, groups, passes, new_to_these, first_of_each-append, marked, first-shown, flat_map-nothing}
+use Rattle.apollo_canonical.proofs.Lists.{each-from_map, each-made, keys-distinct, each-split, groups, passes, new_to_these, first_of_each-append, marked, first-shown, flat_map-nothing}
 use Rattle.apollo_canonical.proofs.Sections.SectionLemmas.{same_id-equiv, ids_in, picked, of_origin-sections, ids_in-sections, of-alone, definition-alone, each-alone, extension-alone, shown-joined, marks, has_some, has_some-picked}
 
 same_origin-equiv : IsEquivalence same_origin
 same_origin-equiv = record { refl = itself; symm = both-ways; congr = alike }
   where
     itself : (a : ComponentOrigin) → same_origin a a ≡ true
-    itself Definition = refl
-    itself (Extension a) = same_id-equiv.refl a
+    itself a = grind (arith, same_id-equiv.refl)
 
     both-ways : (a b : ComponentOrigin) → same_origin a b ≡ same_origin b a
-    both-ways Definition Definition = refl
-    both-ways Definition (Extension b) = refl
-    both-ways (Extension a) Definition = refl
-    both-ways (Extension a) (Extension b) = same_id-equiv.symm a b
+    both-ways a b = grind (arith, same_id-equiv.symm)
 
     alike : (a b c : ComponentOrigin) → same_origin a b ≡ true → same_origin a c ≡ same_origin b c
-    alike Definition Definition c e = refl
-    alike (Extension a) (Extension b) Definition e = refl
-    alike (Extension a) (Extension b) (Extension c) e = same_id-equiv.congr a b c e
-    alike a b c e = absurd (true≢false (sym e))
+    alike a b c e = grind (arith, same_id-equiv.congr, e)
 
 -- whether an origin is the definition or among these identities
 abbrev pub is_among : List ExtensionId → ComponentOrigin → Bool
@@ -32,26 +25,18 @@ is_among ids Definition = true
 is_among ids (Extension e) = list_any (same_id e) ids
 
 is_among-more : (ids : List ExtensionId) (a b : ComponentOrigin) → is_among ids b ≡ true → is_among (cons_option (id_of a) ids) b ≡ true
-is_among-more ids a Definition h = refl
-is_among-more ids Definition (Extension e) h = h
-is_among-more ids (Extension d) (Extension e) h = or_right (same_id e d) (list_any (same_id e) ids) h
+is_among-more ids a b h = grind (arith, or_right, h)
 
 pub each-among : {A : Type 0} (cs : List (ComponentOrigin × A)) → AllByRecursion (λ c. is_among (ids_in cs) c.0 ≡ true) cs
 each-among [] = tt
 each-among (c ∷ cs) = (here c.0, each-weaken (λ d. is_among (ids_in cs) d.0 ≡ true) (λ d. is_among (ids_in (c ∷ cs)) d.0 ≡ true) (λ d h. is_among-more (ids_in cs) c.0 d.0 h) cs (each-among cs))
   where
     here : (o : ComponentOrigin) → is_among (cons_option (id_of o) (ids_in cs)) o ≡ true
-    here Definition = refl
-    here (Extension e) = ap (λ b. b || list_any (same_id e) (ids_in cs)) (same_id-equiv.refl e)
-
-distinct-origins : (ids : List ExtensionId) → IsDistinct same_id ids → IsDistinct same_origin (map (λ e. Extension e) ids)
-unfolding IsDistinct
-distinct-origins [] d = tt
-distinct-origins (e ∷ ids) d = (each-map (λ o. same_origin (Extension e) o ≡ false) (λ k. Extension k) ids d.0, distinct-origins ids d.1)
+    here o = grind (arith, same_id-equiv.refl)
 
 distinct-with_definition : (ids : List ExtensionId) → IsDistinct same_id ids → IsDistinct same_origin (Definition ∷ map (λ e. Extension e) ids)
 unfolding IsDistinct
-distinct-with_definition ids d = (each-map (λ o. same_origin Definition o ≡ false) (λ k. Extension k) ids (each-of (λ k. false ≡ false) (λ k. refl) ids), distinct-origins ids d)
+distinct-with_definition ids d = (each-made (λ o. same_origin Definition o ≡ false) (λ k. Extension k) (λ k. refl) ids, keys-distinct same_origin (λ k. Extension k) ids d)
 
 -- what parts have of one sort, without origins
 pub joined-values : {A : Type 0} (sort : DefinitionParts → List A) (gs : List (ComponentOrigin × DefinitionParts)) → map (λ x. x.1) (joined sort gs) ≡ flat_map (λ g. sort g.1) gs
@@ -67,11 +52,9 @@ module _ (s : Sections) (p : PartsByOrigin) (same_definition : p.definition ≡ 
   -- each component comes from one of the origins
   has_origin : (o : ComponentOrigin) → is_among (ids_in (in_sections s)) o ≡ true → list_any (λ a. same_origin a o) origins ≡ true
   has_origin Definition h = refl
-  has_origin (Extension e) h = any-extension ids ∙ list_any-first_of_each same_id same_id-equiv e (ids_in (in_sections s)) ∙ h
-    where
-      any-extension : (ks : List ExtensionId) → list_any (λ a. same_origin a (Extension e)) (map (λ k. Extension k) ks) ≡ list_any (same_id e) ks
-      any-extension [] = refl
-      any-extension (k ∷ ks) = (λ i. same_id-equiv.symm k e i || any-extension ks i)
+  has_origin (Extension e) h =
+      list_any-map (λ a. same_origin a (Extension e)) (λ k. Extension k) ids ∙ (λ i. list_any (λ k. same_id-equiv.symm k e i) ids)
+      ∙ list_any-first_of_each same_id same_id-equiv e (ids_in (in_sections s)) ∙ h
 
   abbrev pub HasOrigins : {A : Type 0} → List (ComponentOrigin × A) → Type 0
   HasOrigins xs = AllByRecursion (λ x. list_any (λ a. same_origin a x.0) origins ≡ true) xs

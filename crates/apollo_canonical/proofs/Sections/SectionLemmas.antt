@@ -1,10 +1,10 @@
 -- Components in sections: their identities, what is of one origin, and what parts make again.
-use Rattle.apollo_canonical.proofs.Words.Lists.{◌≡◌, Bool, true, false, cond, not, ◌||◌, List, [], ◌∷◌, ◌++◌, Option, map, filter, refl, sym, ap, ◌∙◌, arith, map-append, append-nil, map-id, filter-append, filter_map-append, map-map, IsEquivalence, on_equiv, nat_eq_equiv, AllByRecursion, IsDistinct, filter_map, cons_option, flat_map, list_any, each-weaken, filter-map}
+use Rattle.apollo_canonical.proofs.Words.Lists.{◌≡◌, Bool, true, false, cond, not, List, [], ◌∷◌, ◌++◌, Option, map, filter, refl, sym, ap, ◌∙◌, arith, map-append, append-nil, map-id, filter-append, filter_map-append, map-map, IsEquivalence, on_equiv, nat_eq_equiv, AllByRecursion, IsDistinct, filter_map, flat_map, list_any, each-weaken, filter-map, filter-fails}
 use Rattle.apollo_canonical.proofs.Words.Syntax.{as_directive, as_name, as_field, as_value, as_input_field, as_root, DefinitionPart, DefinitionParts}
 use Rattle.apollo_canonical.proofs.Words.Types.{id_of, number_of, same_id, same_origin, first_of_each, SourcedPart, origins_in, identities, of_origin, of_extensions, by_origin, ComponentOrigin, Definition, Extension, ExtensionId, PartsByOrigin}
 use Rattle.apollo_canonical.proofs.Words.Written.{Sections, as_parts, in_sections, with_origins, joined, sections_of}
 use Rattle.graphql_ast.specs.declared.definition_parts.DefinitionPart.TheVariants as parts
-use Rattle.apollo_canonical.proofs.Lists.{in_order, is_nothing, in_order-map, first-in_order, filter_map-none, filter_map-some, map-each, own-group, marked, shown, first-shown_again}
+use Rattle.apollo_canonical.proofs.Lists.{in_order, is_nothing, in_order-map, first-in_order, filter_map-none, filter_map-some, map-each, each-made, own-group, marked, shown, first-shown_again}
 
 pub same_id-equiv : IsEquivalence same_id
 same_id-equiv = on_equiv number_of nat_eq_equiv
@@ -107,12 +107,7 @@ has_some xs = not (is_nothing (marks xs))
 -- an identity has something in a section where it is one of the section's
 pub has_some-picked : {A : Type 0} (id : ExtensionId) (xs : List (ComponentOrigin × A)) → has_some (picked (Extension id) xs) ≡ list_any (same_id id) (ids_in xs)
 has_some-picked id [] = refl
-has_some-picked {A} id (x ∷ xs) = by x.0 (has_some-picked id xs)
-  where
-    by : (o : ComponentOrigin) → has_some (picked (Extension id) xs) ≡ list_any (same_id id) (ids_in xs)
-        → has_some (map (λ c. c.1) (cond (same_origin (Extension id) o) (x ∷ filter (λ c. same_origin (Extension id) c.0) xs) (filter (λ c. same_origin (Extension id) c.0) xs))) ≡ list_any (same_id id) (cons_option (id_of o) (ids_in xs))
-    by Definition rest = rest
-    by (Extension e) rest = elim (same_id id e) as (λ b. has_some (map (λ c. c.1) (cond b (x ∷ filter (λ c. same_origin (Extension id) c.0) xs) (filter (λ c. same_origin (Extension id) c.0) xs))) ≡ (b || list_any (same_id id) (ids_in xs))) [ true ↦ refl | false ↦ rest ]
+has_some-picked id (x ∷ xs) = grind (arith, has_some-picked id xs)
 
 -- the parts of extensions are written in the order in which these tests take them, where what they see is which of the identities there are
 pub written-in_order : (cs : List SourcedPart) (tests : List (DefinitionParts → Bool)) (lists : List (List ExtensionId)) → ids_in cs ≡ flat_map (λ ids. ids) lists
@@ -137,11 +132,7 @@ sections-in_order s =
 
 -- the definition's parts alone are of the definition, and those of an extension of its identity
 pub definition-alone : (p : PartsByOrigin) → filter (λ g. same_origin Definition g.0) (with_origins p) ≡ (Definition, p.definition) ∷ []
-definition-alone p = ap (λ l. (Definition, p.definition) ∷ l) (nothing p.extensions)
-  where
-    nothing : (es : List (ExtensionId × DefinitionParts)) → filter (λ (g : ComponentOrigin × DefinitionParts). same_origin Definition g.0) (map (λ e. (Extension e.0, e.1)) es) ≡ []
-    nothing [] = refl
-    nothing (e ∷ es) = nothing es
+definition-alone p = ap (λ l. (Definition, p.definition) ∷ l) (filter-fails (λ g. same_origin Definition g.0 ≡ false) (λ g. same_origin Definition g.0) (λ g e. e) (map (λ e. (Extension e.0, e.1)) p.extensions) (each-made (λ g. same_origin Definition g.0 ≡ false) (λ e. (Extension e.0, e.1)) (λ e. refl) p.extensions))
 
 pub extension-alone : (p : PartsByOrigin) (e : ExtensionId × DefinitionParts) → filter (λ h. same_id e.0 h.0) p.extensions ≡ e ∷ [] → filter (λ g. same_origin (Extension e.0) g.0) (with_origins p) ≡ (Extension e.0, e.1) ∷ []
 extension-alone p e alone = filter-map (λ g. same_origin (Extension e.0) g.0) (λ h. (Extension h.0, h.1)) p.extensions ∙ ap (map (λ h. (Extension h.0, h.1))) alone

@@ -1,36 +1,20 @@
 -- Types by their sections: their write-out, and the names that stand once in them and in what is written of them.
-use Rattle.apollo_canonical.proofs.Words.Lists.{◌≡◌, List, [], ◌++◌, Option, map, sym, ap, ◌∙◌, append_assoc, subst, append-nil, map-map, ℕ, ◌∷◌, None, Some, is_some, refl, true≢false, map-id, flat_map, IsPermutation-map, IsDistinct-IsPermutation, AllByRecursion, IsDistinct, IsPermutation, option_map, unwrap_or, each-append, each-weaken, flat_map-map, map-append}
-use Rattle.apollo_canonical.proofs.Words.Syntax.{NameView, values_of, SourceSpan, type_extension, DefinitionPart, DefinitionParts, NodeView, same_text}
-use Rattle.apollo_canonical.proofs.Words.Types.{extension_location, by_origin, written_type, Component, ComponentName, ExtensionId, of_name, type_kind, type_name, type_location, type_description, type_components, write_type, ExtendedType, Scalar, Object, Interface, Union, Enum, InputObject, first_of_each, same_key, ComponentOrigin, each-first, first_of_each-map, name_laws, first_of_each-distinct}
+use Rattle.apollo_canonical.proofs.Words.Lists.{◌≡◌, List, [], ◌++◌, Option, map, sym, ap, ◌∙◌, append_assoc, subst, append-nil, map-map, ℕ, ◌∷◌, None, Some, is_some, refl, true≢false, map-id, flat_map, IsPermutation-map, IsDistinct-IsPermutation, AllByRecursion, IsDistinct, IsPermutation, option_map, unwrap_or, each-weaken, flat_map-map, map-append, map-flat_map}
+use Rattle.apollo_canonical.proofs.Words.Syntax.{NameView, values_of, SourceSpan, type_extension, DefinitionParts, NodeView, same_text}
+use Rattle.apollo_canonical.proofs.Words.Types.{extension_location, by_origin, written_type, Component, ComponentName, ExtensionId, type_kind, type_name, type_location, type_description, type_components, write_type, ExtendedType, Object, Interface, Union, Enum, InputObject, first_of_each, same_key, ComponentOrigin, each-first, first_of_each-map, name_laws, first_of_each-distinct}
 use Rattle.apollo_canonical.proofs.Words.Meaning.{ListItem, Folding, first, TypePart, TypeBody, ScalarBody, ObjectBody, InterfaceBody, UnionBody, EnumBody, InputObjectBody, Sourced, body_fields, body_values, body_input_fields, interfaces_of, members_of, fields_of, field_entry, input_fields_of, input_field_entry, value_entry, distinct_names, distinct_entries, parts, type_of_kind, type_from, type_of}
-use Rattle.apollo_canonical.proofs.Words.Written.{HasSameComponents, as_parts, in_sections, node_with_origin, name_with_origin, type_sections, placed, HasWhatIsWritten, Sections, with_origins, joined, sections_of, HasEachNameOnce}
-use Rattle.graphql_ast.specs.declared.definition_parts.DefinitionPart.TheVariants as parts
+use Rattle.apollo_canonical.proofs.Words.Written.{HasSameComponents, in_sections, node_with_origin, name_with_origin, type_sections, placed, HasWhatIsWritten, Sections, with_origins, joined, sections_of, HasEachNameOnce}
 use Rattle.apollo_meaning.specs.Types.Components as components
-use Rattle.apollo_canonical.proofs.Lists.{each-map, each-of, map-each, map-flat_map, flat_map-none}
+use Rattle.apollo_canonical.proofs.Lists.{each-flat_map, each-made, each-of, map-each, flat_map-none}
 use Rattle.apollo_canonical.proofs.Sections.{written-keeps, written-parts-again}
 use Rattle.apollo_canonical.proofs.Items.{HaveEachNameOnce, interfaces_in, members_in, fields_in, values_in, input_fields_in}
 use Rattle.apollo_canonical.proofs.Types.WrittenParts.{written, definition_part, extension_of}
 
-nodes : {T : Type 0} (part : _ → DefinitionPart) (cs : List (Component T)) → map (λ c. (c.origin, part c.node)) cs ≡ as_parts part (map node_with_origin cs)
-nodes part cs = sym (map-map (λ x. (x.0, part x.1)) node_with_origin cs)
-
-names : (cs : List ComponentName) → map of_name cs ≡ as_parts parts.Name (map name_with_origin cs)
-names cs = sym (map-map (λ x. (x.0, parts.Name x.1)) name_with_origin cs)
-
-two : {X : Type 0} {xs ys us vs : List X} → xs ≡ us → ys ≡ vs → xs ++ ys ≡ us ++ (vs ++ [])
-two e f = simp (e, f, append-nil)
-
-three : {X : Type 0} {xs ys zs us vs ws : List X} → xs ≡ us → ys ≡ vs → zs ≡ ws → (xs ++ ys) ++ zs ≡ us ++ (vs ++ (ws ++ []))
-three e f g = simp (e, f, g, append_assoc, append-nil)
-
 -- the components of a type are those of its sections
 pub components-sections : (t : ExtendedType) → type_components t ≡ in_sections (type_sections t)
-components-sections (Scalar n) = nodes parts.Directive n.value.directives.0 ∙ sym (append-nil (as_parts parts.Directive (map node_with_origin n.value.directives.0)))
-components-sections (Object n) = three (nodes parts.Directive n.value.directives.0) (names n.value.implements_interfaces) (nodes parts.Field (values_of n.value.fields))
-components-sections (Interface n) = three (nodes parts.Directive n.value.directives.0) (names n.value.implements_interfaces) (nodes parts.Field (values_of n.value.fields))
-components-sections (Union n) = two (nodes parts.Directive n.value.directives.0) (names n.value.members)
-components-sections (Enum n) = two (nodes parts.Directive n.value.directives.0) (nodes parts.EnumValue (values_of n.value.values))
-components-sections (InputObject n) = two (nodes parts.Directive n.value.directives.0) (nodes parts.InputField (values_of n.value.fields))
+components-sections (Object n) = simp (map-map, append_assoc, append-nil)
+components-sections (Interface n) = simp (map-map, append_assoc, append-nil)
+components-sections t = simp (map-map, append-nil)
 
 -- what is made of extensions by their locations and their parts is the same where these are
 pub same-placed : {X : Type 0} (make : Option SourceSpan × DefinitionParts → X) (es fs : List (ExtensionId × DefinitionParts)) → placed es ≡ placed fs
@@ -96,9 +80,7 @@ module _ {T : Type 0} (name : NodeView T → NameView) where
   -- so do those that parts have
   pub all-named : (nodes : Sourced → List (NodeView T)) (entry : ComponentOrigin → NodeView T → NameView × Component T) → ((o : ComponentOrigin) (n : NodeView T) → IsNamed (entry o n)) → (ps : List Sourced)
       → AllByRecursion IsNamed (flat_map (λ s. map (entry s.0) (nodes s)) ps)
-  all-named nodes entry is [] = tt
-  all-named nodes entry is (s ∷ ps) =
-      each-append IsNamed (map (entry s.0) (nodes s)) (flat_map (λ s. map (entry s.0) (nodes s)) ps) (each-map IsNamed (entry s.0) (nodes s) (each-of (λ n. IsNamed (entry s.0 n)) (is s.0) (nodes s))) (all-named nodes entry is ps)
+  all-named nodes entry is ps = each-flat_map IsNamed (λ s. map (entry s.0) (nodes s)) ps (each-of _ (λ s. each-made IsNamed (entry s.0) (is s.0) (nodes s)) ps)
 
 module _ (head : TypePart) (ps : List Sourced) where
   made_fields-once : IsDistinct same_text (map (λ x. x.1.value.name) (map node_with_origin (values_of (distinct_entries (flat_map fields_of ps)))))

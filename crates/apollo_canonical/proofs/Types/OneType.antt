@@ -1,5 +1,5 @@
 -- A type that a list means, and the one that a list with its write-out means: they are equal, since they have the same components, and are written out alike.
-use Rattle.apollo_canonical.proofs.Words.Lists.{◌≡◌, ℕ, Bool, true, false, cond, ◌||◌, List, [], ◌∷◌, Option, None, Some, map, find, option_map, refl, sym, ap, subst, ◌∙◌, length, ◌==◌, list_any-IsPermutation, map-map, AllByRecursion, IsDistinct, flat_map, list_any, IsPermutation, length-map, ◌++◌, map-id, filter, append-nil, map-append, IsEquivalence, on_equiv, each-append, each-filter, each-weaken}
+use Rattle.apollo_canonical.proofs.Words.Lists.{◌≡◌, ℕ, Bool, true, false, cond, List, [], ◌∷◌, Option, None, map, find, option_map, refl, sym, ap, subst, ◌∙◌, length, ◌==◌, list_any-IsPermutation, map-map, AllByRecursion, IsDistinct, flat_map, list_any, IsPermutation, length-map, ◌++◌, map-id, filter, append-nil, map-append, IsEquivalence, on_equiv, each-filter, each-weaken, list_any-map, arith}
 use Rattle.apollo_canonical.proofs.Words.Syntax.{bare_name, entries_by_text, members_by_text, NameView, NodeView, by_text, same_text, lookup, values_of, TypeKind, bare_directive, bare_field_definition, bare_enum_value_definition, bare_input_value_definition, Directive, SourceSpan}
 use Rattle.apollo_canonical.proofs.Words.Types.{bare_component, same_key, Component, ComponentName, ComponentOrigin, BareType, bare_extended_type, type_kind, type_name, type_description, type_location, write_type, ExtendedType, Scalar, Object, Interface, Union, Enum, InputObject, each-first, name_laws, by_origin, Definition, PartsByOrigin, same_origin, first_of_each, of_origin, entry_laws}
 use Rattle.apollo_canonical.proofs.Words.Meaning.{TypePart, TypeBody, ScalarBody, ObjectBody, InterfaceBody, UnionBody, EnumBody, InputObjectBody, Sourced, body_fields, body_values, body_input_fields, fields_of, field_entry, input_fields_of, input_field_entry, value_entry, component, type_of_kind, type_from, extension_part, component_name, same_component_name, body_interfaces, body_members, distinct_names, distinct_entries}
@@ -9,7 +9,7 @@ use Rattle.graphql_ast.specs.declared.type_system.EnumValueDefinition.{EnumValue
 use Rattle.graphql_ast.specs.declared.type_system.FieldDefinition.{FieldDefinition}
 use Rattle.graphql_ast.specs.declared.type_system.InputValueDefinition.{InputValueDefinition}
 use Rattle.apollo_meaning.specs.Types.Components as components
-use Rattle.apollo_canonical.proofs.Lists.{found-permuted, new_to_these, first_of_each-append, all-first, each-of, map-each, each-map}
+use Rattle.apollo_canonical.proofs.Lists.{found-permuted, new_to_these, first_of_each-append, all-first, each-flat_map, each-made, each-of, map-each}
 use Rattle.apollo_canonical.proofs.Sections.{directives-in_order, of_origin-sections, parts_in, picked, picked-append, picked-of}
 use Rattle.apollo_canonical.proofs.Items.{HaveEachNameOnce}
 use Rattle.apollo_canonical.proofs.Types.WrittenParts.{written, definition_part, extension_of, part_from}
@@ -56,11 +56,7 @@ pub directives-bare : (cs : List (Component Directive)) → map (bare_component 
 directives-bare cs = simp map-map
 
 names-bare : (cs : List ComponentName) → members_by_text (λ c. c.name) cs ≡ (λ text. list_any (by_text text) (map (λ x. x.1) (map name_with_origin cs)))
-names-bare cs = λ i text. by text cs i
-  where
-    by : (text : List ℕ) (cs : List ComponentName) → list_any (λ c. by_text text c.name) cs ≡ list_any (by_text text) (map (λ x. x.1) (map name_with_origin cs))
-    by text [] = refl
-    by text (c ∷ cs) = ap (λ b. by_text text c.name || b) (by text cs)
+names-bare cs = λ i text. (sym (list_any-map (by_text text) (λ c. c.name) cs) ∙ ap (list_any (by_text text)) (sym (map-map (λ (x : ComponentOrigin × NameView). x.1) name_with_origin cs))) i
 
 entries-bare : {T B : Type 0} (name : NodeView T → NameView) (bare : T → B) (es : List (NameView × Component T)) → AllByRecursion (IsNamed name) es → entries_by_text (bare_component bare) es ≡ entries_in name bare (map node_with_origin (values_of es))
 entries-bare {T} {B} name bare es named = λ i text. by text es named i
@@ -68,9 +64,7 @@ entries-bare {T} {B} name bare es named = λ i text. by text es named i
     by : (text : List ℕ) (es : List (NameView × Component T)) → AllByRecursion (IsNamed name) es
         → option_map (bare_component bare) (lookup (by_text text) es) ≡ option_map (λ n. bare n.value) (find (λ n. by_text text (name n)) (map (λ x. x.1) (map node_with_origin (values_of es))))
     by text [] named = refl
-    by text (e ∷ es) named =
-        ap (λ k. option_map (bare_component bare) (cond (by_text text k) (Some e.1) (lookup (by_text text) es))) named.0
-        ∙ elim (by_text text (name e.1.node)) as (λ b. option_map (bare_component bare) (cond b (Some e.1) (lookup (by_text text) es)) ≡ option_map (λ n. bare n.value) (cond b (Some e.1.node) (find (λ n. by_text text (name n)) (map (λ x. x.1) (map node_with_origin (values_of es)))))) [ true ↦ refl | false ↦ by text es named.1 ]
+    by text (e ∷ es) named = grind (arith, named.0, by text es named.1)
 
 -- each entry stands under its own name
 abbrev pub HasNamedEntries : ExtendedType → Type 0
@@ -136,6 +130,7 @@ pub record IsMadeBy {P D : Type 0} (make : P → List (ℕ × P) → D) (d : D) 
 pub record IsAgain (t u : ExtendedType) : Type 0 where
   pub name : type_name u ≡ type_name t
   pub location : type_location u ≡ type_location t
+  pub kind : type_kind u ≡ type_kind t
   pub same : write_type u ≡ write_type t
   pub equal : bare_extended_type u ≡ bare_extended_type t
 
@@ -174,6 +169,7 @@ module _ (laws : MeaningLaws) (t : ExtendedType) (m : IsMadeBy made t) where
     again = record {
       name = has.name;
       location = has.location;
+      kind = has.kind;
       same = type-again t (type_again t is) has;
       equal = equal-types t (type_again t is) named (named-made (definition_part t).body (definition_part t) (sourced_again t is)) has.kind has.description has.name
           same_directives (components-again t (type_again t is) has) (once t m);
@@ -211,11 +207,8 @@ module _ {A C : Type 0} (view : C → ComponentOrigin × A) (make : ComponentOri
       ∙ (λ i. (ap (picked Definition) (views xs) ∙ picked-of Definition Definition xs) i ++ picked-none later a i) ∙ append-nil xs
 
   later-extensions : (of : TypePart → List A) (es : List (ℕ × TypePart)) → AllByRecursion IsLater (flat_map (λ s. map (make s.0) (of s.1)) (map extension_part es))
-  later-extensions of [] = tt
-  later-extensions of (e ∷ es) =
-      let origin : ComponentOrigin = (extension_part e).0 in
-      each-append IsLater (map (make origin) (of e.1)) (flat_map (λ s. map (make s.0) (of s.1)) (map extension_part es))
-      (each-map IsLater (make origin) (of e.1) (each-of (λ x. IsLater (make origin x)) (λ x. ap (λ v. same_origin Definition v.0) (is origin x)) (of e.1))) (later-extensions of es)
+  later-extensions of es = each-flat_map IsLater (λ s. map (make s.0) (of s.1)) (map extension_part es)
+      (each-made _ extension_part (λ e. each-made IsLater (make (extension_part e).0) (λ x. ap (λ v. same_origin Definition v.0) (is (extension_part e).0 x)) (of e.1)) es)
 
   -- the first of each are kept, and those of the definition come first
   kept-own : (same : C → C → Bool) → IsEquivalence same → (of : TypePart → List A) (head : TypePart) (es : List (ℕ × TypePart)) → first_of_each same (map (make Definition) (of head)) ≡ map (make Definition) (of head)

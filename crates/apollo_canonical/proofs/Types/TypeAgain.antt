@@ -1,10 +1,10 @@
 -- The type that written parts mean again, under any distinct numbers of the extensions, has what is written of the first.
-use Rattle.apollo_canonical.proofs.Words.Lists.{◌≡◌, ℕ, ◌+◌, ◌≤◌, Bool, true, false, cond, ◌==◌, List, [], ◌∷◌, Option, map, filter, length, refl, ap, arith, nat_tests, AllByRecursion, IsDistinct, filter_map, enumerate_from, ◌++◌, flat_map, sym, subst, ◌∙◌, map-map, each-weaken, flat_map-map}
+use Rattle.apollo_canonical.proofs.Words.Lists.{◌≡◌, ℕ, ◌+◌, ◌≤◌, Bool, true, false, cond, ◌==◌, List, [], ◌∷◌, Option, map, filter, length, refl, ap, arith, nat_tests, AllByRecursion, IsDistinct, filter_map, enumerate_from, ◌++◌, flat_map, sym, subst, ◌∙◌, map-map, each-weaken, flat_map-map, map-flat_map}
 use Rattle.apollo_canonical.proofs.Words.Syntax.{same, SourceSpan, NodeView, Directive, DefinitionParts, NameView, same_text, values_of}
 use Rattle.apollo_canonical.proofs.Words.Types.{ComponentOrigin, Extension, extension_id, extension_location, same_id, ExtensionId, by_origin, of_origin, identities, origins_in, Component, ComponentName, Definition, PartsByOrigin, type_kind, type_components, ExtendedType, Scalar, Object, Interface, Union, Enum, InputObject}
 use Rattle.apollo_canonical.proofs.Words.Meaning.{Folding, OfType, OfSchema, TypePart, SchemaPart, key_of, of_schema, of_type, Sourced, component, component_name, field_entry, value_entry, input_field_entry, body_interfaces, body_members, body_fields, body_values, body_input_fields, sourced_directives, distinct_names, distinct_entries, type_from}
 use Rattle.apollo_canonical.proofs.Words.Written.{placed, MeaningLaws, in_sections, with_origins, joined, sections_of, node_with_origin, name_with_origin, type_sections, HasWhatIsWritten, HasEachNameOnce}
-use Rattle.apollo_canonical.proofs.Lists.{map-each, all-first, map-flat_map}
+use Rattle.apollo_canonical.proofs.Lists.{distinct-by_keys, keys-distinct, map-each, all-first}
 use Rattle.apollo_canonical.proofs.Sections.{written-keeps, of_origin-sections, parts_in}
 use Rattle.apollo_canonical.proofs.Types.WrittenParts.{written, definition_part, extension_of, kind-body}
 use Rattle.apollo_canonical.proofs.Types.NamesOnce.{IsNamed, all-named, once-kept, components-sections, same-placed}
@@ -59,28 +59,12 @@ pub paired-self : {X : Type 0} (es : List (ℕ × X)) → es ≡ paired (map (λ
 paired-self [] = refl
 paired-self (e ∷ es) = ap (λ l. e ∷ l) (paired-self es)
 
--- the parts of extensions, each where it stands, under these numbers
-abbrev pub renumbered : List ℕ → List (ExtensionId × DefinitionParts) → List (ExtensionId × DefinitionParts)
-renumbered [] es = []
-renumbered (i ∷ is) [] = []
-renumbered (i ∷ is) (e ∷ es) = (extension_id i (extension_location e.0), e.1) ∷ renumbered is es
-
-pub renumbered-placed : (is : List ℕ) (es : List (ExtensionId × DefinitionParts)) → length is ≡ length es → placed (renumbered is es) ≡ placed es
-renumbered-placed [] [] h = refl
-renumbered-placed [] (e ∷ es) h = absurd (omega (arith, h))
-renumbered-placed (i ∷ is) [] h = absurd (omega (arith, h))
-renumbered-placed (i ∷ is) (e ∷ es) h = ap (λ l. (extension_location e.0, e.1) ∷ l) (renumbered-placed is es (omega (arith, h)))
-
-pub renumbered-distinct : (is : List ℕ) (es : List (ExtensionId × DefinitionParts)) → IsDistinct ◌==◌ is → IsDistinct same_id (map (λ e. e.0) (renumbered is es))
-unfolding IsDistinct
-renumbered-distinct [] es d = tt
-renumbered-distinct (i ∷ is) [] d = tt
-renumbered-distinct (i ∷ is) (e ∷ es) d = (apart is es d.0, renumbered-distinct is es d.1)
-  where
-    apart : (js : List ℕ) (fs : List (ExtensionId × DefinitionParts)) → AllByRecursion (λ k. (i == k) ≡ false) js → AllByRecursion (λ k. same_id (extension_id i (extension_location e.0)) k ≡ false) (map (λ f. f.0) (renumbered js fs))
-    apart [] fs a = tt
-    apart (j ∷ js) [] a = tt
-    apart (j ∷ js) (f ∷ fs) a = (a.0, apart js fs a.1)
+-- pairs of as many numbers and things have these numbers and these things
+pub pairs-are : {X : Type 0} (is : List ℕ) (xs : List X) → length is ≡ length xs → (map (λ e. e.0) (paired is xs) ≡ is) × (map (λ e. e.1) (paired is xs) ≡ xs)
+pairs-are [] [] h = (refl, refl)
+pairs-are [] (x ∷ xs) h = absurd (omega (arith, h))
+pairs-are (i ∷ is) [] h = absurd (omega (arith, h))
+pairs-are (i ∷ is) (x ∷ xs) h = let rest = pairs-are is xs (omega (arith, h)) in (ap (λ l. i ∷ l) rest.0, ap (λ l. x ∷ l) rest.1)
 
 -- the directives of a part alone
 abbrev pub directives_alone : List (NodeView Directive) → DefinitionParts
@@ -92,14 +76,22 @@ numbered_parts place parts e = (extension_id e.0 (place e.1), parts e.1)
 
 pub numbered-distinct : {P : Type 0} (place : P → Option SourceSpan) (parts : P → DefinitionParts) (fs : List (ℕ × P)) → IsDistinct ◌==◌ (map (λ e. e.0) fs)
     → IsDistinct same_id (map (λ e. e.0) (map (numbered_parts place parts) fs))
-unfolding IsDistinct
-numbered-distinct place parts [] d = tt
-numbered-distinct {P} place parts (f ∷ fs) d = (others fs d.0, numbered-distinct place parts fs d.1)
-  where
-    others : (gs : List (ℕ × P)) → AllByRecursion (λ k. (f.0 == k) ≡ false) (map (λ e. e.0) gs)
-        → AllByRecursion (λ k. same_id (extension_id f.0 (place f.1)) k ≡ false) (map (λ e. e.0) (map (numbered_parts place parts) gs))
-    others [] a = tt
-    others (g ∷ gs) a = (a.0, others gs a.1)
+numbered-distinct {P} place parts fs d =
+    let own : ℕ × P → ExtensionId = λ f. (numbered_parts place parts f).0 in
+    subst (IsDistinct same_id) (sym (map-map (λ (e : ExtensionId × DefinitionParts). e.0) (numbered_parts place parts) fs)) (keys-distinct same_id own fs (distinct-by_keys ◌==◌ (λ f. f.0) fs d))
+
+-- the parts of extensions, each where it stands, under these numbers
+abbrev pub renumbered : List ℕ → List (ExtensionId × DefinitionParts) → List (ExtensionId × DefinitionParts)
+renumbered is es = map (numbered_parts (λ e. extension_location e.0) (λ e. e.1)) (paired is es)
+
+module _ (is : List ℕ) (es : List (ExtensionId × DefinitionParts)) (many : length is ≡ length es) where
+  pub renumbered-placed : placed (renumbered is es) ≡ placed es
+  renumbered-placed =
+      map-map (λ (e : ExtensionId × DefinitionParts). (extension_location e.0, e.1)) (numbered_parts (λ e. extension_location e.0) (λ e. e.1)) (paired is es)
+      ∙ sym (map-map (λ (e : ExtensionId × DefinitionParts). (extension_location e.0, e.1)) (λ e. e.1) (paired is es)) ∙ ap placed (pairs-are is es many).1
+
+  pub renumbered-distinct : IsDistinct ◌==◌ is → IsDistinct same_id (map (λ e. e.0) (renumbered is es))
+  renumbered-distinct d = numbered-distinct (λ e. extension_location e.0) (λ e. e.1) (paired is es) (subst (IsDistinct ◌==◌) (sym (pairs-are is es many).0) d)
 
 -- written parts under their numbers are parts of a list under theirs
 pub numbered-written : {P : Type 0} (place : P → Option SourceSpan) (part : Option SourceSpan → DefinitionParts → P) → ((s : Option SourceSpan) (d : DefinitionParts) → place (part s d) ≡ s) → (is : List ℕ) (es : List (ExtensionId × DefinitionParts))
@@ -250,6 +242,6 @@ has-what-is-written laws t once is many apart = record {
   parts = parts_again t is;
   definition = refl;
   extensions = renumbered-placed is (written t).extensions many;
-  distinct = renumbered-distinct is (written t).extensions apart;
+  distinct = renumbered-distinct is (written t).extensions many apart;
   sections = sections-again t is (once_again t is many once);
 }

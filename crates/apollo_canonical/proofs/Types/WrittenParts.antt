@@ -1,11 +1,11 @@
 -- What a type is written out as, and types of a table, read as items of a list, and what that says of one name.
-use Rattle.apollo_canonical.proofs.Words.Lists.{◌≡◌, Bool, List, [], ◌∷◌, None, Option, map, refl, ℕ, true, false, cond, not, ◌++◌, Some, drop, filter, flat_map, ap, ◌∙◌, append-nil, map-append, filter-append, AllByRecursion, IsDistinct, list_any, option_map_or, map-map}
+use Rattle.apollo_canonical.proofs.Words.Lists.{◌≡◌, Bool, List, [], ◌∷◌, None, Option, map, refl, ℕ, true, false, cond, ◌++◌, filter, flat_map, ap, ◌∙◌, append-nil, map-append, filter-append, AllByRecursion, IsDistinct, list_any, option_map_or, map-map, arith, filter_map-unmade}
 use Rattle.apollo_canonical.proofs.Words.Syntax.{NameView, SourceSpan, TypeKind, type_definition, type_extension, DefinitionParts, is_built_in, same, same_text, by_text, HasUniqueKeys, keys_of, values_of, lookup, Definition}
 use Rattle.apollo_canonical.proofs.Words.Types.{extension_location, by_origin, ExtensionId, PartsByOrigin, type_kind, type_name, type_location, type_description, type_components, write_type, ExtendedType}
-use Rattle.apollo_canonical.proofs.Words.Meaning.{Defined, Extended, item_of, added, added_items, ignorable_if, ListItem, added_item, TypePart, TypeBody, ScalarBody, ObjectBody, InterfaceBody, UnionBody, EnumBody, InputObjectBody, body_kind, part_at, write_held_type}
+use Rattle.apollo_canonical.proofs.Words.Meaning.{Defined, Extended, item_of, added, added_items, ignorable_if, ListItem, added_item, TypePart, TypeBody, ScalarBody, ObjectBody, InterfaceBody, UnionBody, EnumBody, InputObjectBody, body_kind, part_at, write_held_type, TypeNamed, defined_part}
 use Rattle.graphql_nodes.specs.declared.type_kind.TypeKind.TheVariants as kinds
-use Rattle.apollo_canonical.proofs.Lists.{new_to_these, each-map, each-of, filter-alike}
-use Rattle.apollo_canonical.proofs.Items.{Name, about, is_about, lookup-absent, defined_names, defined_names-append}
+use Rattle.apollo_canonical.proofs.Lists.{new_to_these, each-made, filter-alike}
+use Rattle.apollo_canonical.proofs.Items.{about, is_about, lookup-past, defined_names, defined_names-append}
 
 -- a body of a kind, of these parts
 abbrev pub body_of : TypeKind → DefinitionParts → TypeBody
@@ -17,20 +17,17 @@ body_of kinds.Enum d = EnumBody d.values
 body_of kinds.InputObject d = InputObjectBody d.input_fields
 
 pub kind-body : (k : TypeKind) (d : DefinitionParts) → body_kind (body_of k d) ≡ k
-kind-body kinds.Scalar d = refl
-kind-body k d = refl
+kind-body k d = grind arith
 
 abbrev pub part_from : TypeKind → Option SourceSpan → NameView → Option NameView → DefinitionParts → TypePart
 part_from k place name description d = part_at place name description d.directives (body_of k d)
 
 item-defined : (k : TypeKind) (description : Option NameView) (name : NameView) (d : DefinitionParts) (place : Option SourceSpan)
     → item_of (type_definition k description name d place) ≡ Defined (part_from k place name description d)
-item-defined kinds.Scalar description name d place = refl
-item-defined k description name d place = refl
+item-defined k description name d place = grind arith
 
 item-extended : (k : TypeKind) (name : NameView) (d : DefinitionParts) (place : Option SourceSpan) → item_of (type_extension k name d place) ≡ Extended (part_from k place name None d)
-item-extended kinds.Scalar name d place = refl
-item-extended k name d place = refl
+item-extended k name d place = grind arith
 
 module _ (t : ExtendedType) where
   -- the parts of its definition and of its extensions
@@ -67,11 +64,7 @@ module _ (c : Bool) where
   held_items t = cond (is_built_in (type_location t)) (extension_items t) (Defined (record (definition_part t) { ignorable = c }) ∷ extension_items t)
 
   items-held : (t : ExtendedType) → document_items c (write_held_type t) ≡ held_items t
-  items-held t = by (is_built_in (type_location t))
-    where
-      by : (b : Bool) → document_items c (cond b (drop 1 (write_type t)) (write_type t)) ≡ cond b (extension_items t) (Defined (record (definition_part t) { ignorable = c }) ∷ extension_items t)
-      by true = items-extensions t c (written t).extensions
-      by false = items-written t c
+  items-held t = grind (arith, items-extensions t c (written t).extensions, items-written t c)
 
   pub items-types : (ts : List ExtendedType) → document_items c (flat_map write_held_type ts) ≡ flat_map held_items ts
   items-types [] = refl
@@ -79,40 +72,29 @@ module _ (c : Bool) where
 
   module _ (n : List ℕ) where
     -- the items of a type are about its name
-    each-held : (t : ExtendedType) → AllByRecursion (λ x. is_about (Name n) x ≡ same n (type_name t).text) (held_items t)
+    each-held : (t : ExtendedType) → AllByRecursion (λ x. is_about (TypeNamed n) x ≡ same n (type_name t).text) (held_items t)
     each-held t = by (is_built_in (type_location t))
       where
-        extensions : AllByRecursion (λ x. is_about (Name n) x ≡ same n (type_name t).text) (extension_items t)
-        extensions = each-map (λ x. is_about (Name n) x ≡ same n (type_name t).text) (λ e. Extended (extension_of t e)) (written t).extensions (each-of (λ e. same n (type_name t).text ≡ same n (type_name t).text) (λ e. refl) (written t).extensions)
+        extensions : AllByRecursion (λ x. is_about (TypeNamed n) x ≡ same n (type_name t).text) (extension_items t)
+        extensions = each-made (λ x. is_about (TypeNamed n) x ≡ same n (type_name t).text) (λ e. Extended (extension_of t e)) (λ e. refl) (written t).extensions
 
-        by : (b : Bool) → AllByRecursion (λ x. is_about (Name n) x ≡ same n (type_name t).text) (cond b (extension_items t) (Defined (record (definition_part t) { ignorable = c }) ∷ extension_items t))
+        by : (b : Bool) → AllByRecursion (λ x. is_about (TypeNamed n) x ≡ same n (type_name t).text) (cond b (extension_items t) (Defined (record (definition_part t) { ignorable = c }) ∷ extension_items t))
         by true = extensions
         by false = (refl, extensions)
 
     -- so a table of types says of a name what its type does
-    pub about-types : (es : List (NameView × ExtendedType)) → HasUniqueKeys same_text es → AllByRecursion (λ e. type_name e.1 ≡ e.0) es → about (Name n) (flat_map held_items (values_of es)) ≡ option_map_or held_items (lookup (by_text n) es) []
+    pub about-types : (es : List (NameView × ExtendedType)) → HasUniqueKeys same_text es → AllByRecursion (λ e. type_name e.1 ≡ e.0) es → about (TypeNamed n) (flat_map held_items (values_of es)) ≡ option_map_or held_items (lookup (by_text n) es) []
     unfolding IsDistinct
     about-types [] d named = refl
     about-types (e ∷ es) d named =
-        filter-append (is_about (Name n)) (held_items e.1) (flat_map held_items (values_of es))
-        ∙ (λ i. (filter-alike (is_about (Name n)) (same n (type_name e.1).text) (held_items e.1) (each-held e.1) ∙ ap (λ (k : NameView). cond (same n k.text) (held_items e.1) []) named.0) i ++ about-types es d.1 named.1 i)
-        ∙ by (same n e.0.text) refl
-      where
-        by : (b : Bool) → same n e.0.text ≡ b → cond b (held_items e.1) [] ++ option_map_or held_items (lookup (by_text n) es) [] ≡ option_map_or held_items (cond b (Some e.1) (lookup (by_text n) es)) []
-        by true h = ap (λ o. held_items e.1 ++ option_map_or held_items o []) (lookup-absent n e.0 es h d.0) ∙ append-nil (held_items e.1)
-        by false h = refl
+        let absent : same n e.0.text ≡ true → lookup (by_text n) es ≡ None = lookup-past n e es d in
+        filter-append (is_about (TypeNamed n)) (held_items e.1) (flat_map held_items (values_of es))
+        ∙ (λ i. (filter-alike (is_about (TypeNamed n)) (same n (type_name e.1).text) (held_items e.1) (each-held e.1) ∙ ap (λ (k : NameView). cond (same n k.text) (held_items e.1) []) named.0) i ++ about-types es d.1 named.1 i)
+        ∙ grind (arith, absent, append-nil (held_items e.1))
 
   -- and defines the types that aren't built in
   defines-held : (t : ExtendedType) → defined_names (held_items t) ≡ cond (is_built_in (type_location t)) [] (type_name t ∷ [])
-  defines-held t = by (is_built_in (type_location t))
-    where
-      none : (es : List (ExtensionId × DefinitionParts)) → defined_names (map (λ e. Extended (extension_of t e)) es) ≡ []
-      none [] = refl
-      none (e ∷ es) = none es
-
-      by : (b : Bool) → defined_names (cond b (extension_items t) (Defined (record (definition_part t) { ignorable = c }) ∷ extension_items t)) ≡ cond b [] (type_name t ∷ [])
-      by true = none (written t).extensions
-      by false = ap (λ l. type_name t ∷ l) (none (written t).extensions)
+  defines-held t = grind (arith, filter_map-unmade defined_part (λ e. Extended (extension_of t e)) (λ e. refl) (written t).extensions)
 
   pub defines-types : (known : List NameView) (es : List (NameView × ExtendedType)) → AllByRecursion (λ e. type_name e.1 ≡ e.0) es → AllByRecursion (λ e. is_built_in (type_location e.1) ≡ list_any (same_text e.0) known) es
       → defined_names (flat_map held_items (values_of es)) ≡ filter (new_to_these same_text known) (keys_of es)
@@ -120,8 +102,4 @@ module _ (c : Bool) where
   defines-types known (e ∷ es) named marked =
       defined_names-append (held_items e.1) (flat_map held_items (values_of es))
       ∙ (λ i. (defines-held e.1 ∙ (λ j. cond (marked.0 j) [] (named.0 j ∷ []))) i ++ defines-types known es named.1 marked.1 i)
-      ∙ by (list_any (same_text e.0) known)
-    where
-      by : (b : Bool) → cond b [] (e.0 ∷ []) ++ filter (new_to_these same_text known) (keys_of es) ≡ cond (not b) (e.0 ∷ filter (new_to_these same_text known) (keys_of es)) (filter (new_to_these same_text known) (keys_of es))
-      by true = refl
-      by false = refl
+      ∙ grind arith

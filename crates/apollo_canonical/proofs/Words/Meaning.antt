@@ -10,6 +10,7 @@ pub use Rattle.apollo_meaning.specs.Schema.Definition.{SourcedSchema, no_schema,
 pub use Rattle.apollo_meaning.specs.Schema.Whole.{folds, whole}
 pub use Rattle.apollo_meaning.specs.Types.Components.{Sourced, body_fields, body_input_fields, body_interfaces, body_members, body_values, component, component_name, sourced_directives, distinct_entries, distinct_names, field_entry, fields_of, input_field_entry, input_fields_of, interfaces_of, members_of, same_component_name, value_entry}
 pub use Rattle.apollo_meaning.specs.Types.Meaning.{AreTypesOf, extension_part, of_type, parts, type_of_kind, type_from, type_names, type_of}
+pub use Rattle.apollo_rearrangement.proofs.Subjects.{DirectiveNamed, NoSubject, Subject, TheSchema, TypeNamed, first-is, found_at-agree, in-subject, same_subject, subject, subject_laws}
 pub use Rattle.apollo_schema.specs.MeantSchema.{AreOf, MeansSchema}
 pub use Rattle.apollo_schema.specs.SchemaWriteOut.{write_directives, write_held_schema_definition, write_held_type, write_schema}
 pub use Rattle.apollo_schema.specs.declared.schema.Schema.{Schema}

@@ -10,7 +10,7 @@ pub use Rattle.graphql_nodes.specs.declared.operation_type.OperationType.{Operat
 pub use Rattle.graphql_nodes.specs.declared.operation_type.OperationType.TheVariants.{Mutation, Query, Subscription}
 pub use Rattle.graphql_nodes.specs.declared.source.SourceSpan.{SourceSpan}
 pub use Rattle.graphql_nodes.specs.declared.type_kind.TypeKind.{TypeKind}
-pub use Rattle.graphql_nodes.proofs.Texts.{same-flip, same-is, same-true}
+pub use Rattle.graphql_nodes.proofs.Texts.{same-is, same-true, same-refl}
 pub use Rattle.graphql_ast.specs.Bare.{bare_directive}
 pub use Rattle.graphql_ast.specs.BareTypeSystem.{bare_directive_definition, bare_enum_value_definition, bare_field_definition, bare_input_value_definition}
 pub use Rattle.graphql_ast.specs.DefinitionParts.{as_directive, as_field, as_input_field, as_name, as_root, schema_definition, schema_extension, type_definition, type_extension, as_value}

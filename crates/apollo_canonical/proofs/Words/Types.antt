@@ -10,7 +10,7 @@ pub use Rattle.apollo_component.specs.declared.extension.ComponentOrigin.{Compon
 pub use Rattle.apollo_component.specs.declared.extension.ComponentOrigin.TheVariants.{Definition, Extension}
 pub use Rattle.apollo_component.specs.declared.extension.ExtensionId.{ExtensionId}
 pub use Rattle.apollo_component.specs.declared.parts_by_origin.PartsByOrigin.{PartsByOrigin}
-pub use Rattle.apollo_component.proofs.FirstOfEachLemmas.{each-first, entry_laws, first_of_each-map, list_any-first_of_each, name_laws}
+pub use Rattle.apollo_component.proofs.FirstOfEachLemmas.{each-first, entry_laws, first_of_each-map, list_any-first_of_each, name_laws, find-first_of_each}
 pub use Rattle.apollo_component.proofs.LaterLemmas.{found-any}
 pub use Rattle.apollo_component.proofs.Tabled.{entries_from_lookups, first_of_each-distinct, given-by_keys}
 pub use Rattle.apollo_types.specs.BareTypes.{BareType, bare_extended_type, bare_schema_definition}
