@@ -1,6 +1,7 @@
 pub mod FieldsInLemmas
 pub mod FlagLemmas
 pub mod IntrospectionLemmas
+pub mod ItemLemmas
 pub mod NestingLemmas
 pub mod NextLemmas
 pub mod PlainLemmas

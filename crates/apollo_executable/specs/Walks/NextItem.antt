@@ -1,5 +1,5 @@
 -- What a call of `next` gives of a walk, and what it leaves.
-use Rattle.std.specs.Prelude.{◌≡◌, ◌<◌, ◌++◌, List, ℕ, suc, Bool, true, false, [], ◌∷◌, length, Option, None, Some, IfNone, IfSome, cond, Result, Ok, Err, OnErr}
+use Rattle.std.specs.Prelude.{◌≡◌, ◌<◌, ◌+◌, ◌++◌, List, ℕ, Bool, true, false, [], ◌∷◌, length, Option, None, Some, IfNone, IfSome, cond, Result, Ok, Err, OnErr}
 use Rattle.std.specs.Borrow.{Bor}
 use Rattle.std.specs.declared.alloc.AllocError.{AllocError}
 use Rattle.graphql_nodes.specs.NodeView.{NodeView}
@@ -49,6 +49,11 @@ pub record IsNext (deep : Bool) (old : WalkView) (item : Option Item) (new : Wal
   -- the error comes only where a list is opened beside that of the set
   pub wants : IfSome item (λ r. OnErr r (opens_lists deep new.start.selections ≡ true))
 
--- a field each, and the error, which may come after them all
+-- one, if the list has anything
+abbrev pub one_of_any : {A : Type 0} → List A → ℕ
+one_of_any [] = 0
+one_of_any (x ∷ xs) = 1
+
+-- a field each, and the error, which may come where a list is still to be opened
 abbrev pub most_items : WalkView → ℕ
-most_items walk = cond walk.ended 0 (suc (length walk.coming))
+most_items walk = cond walk.ended 0 (length walk.coming + one_of_any walk.opening)
