@@ -6,6 +6,7 @@ use Rattle.apollo_schema.specs.declared.schema.Schema.{Schema}
 use Rattle.apollo_executable.specs.declared.document.ExecutableDocument.{ExecutableDocument}
 use Rattle.apollo_executable.specs.declared.selection.Field.{Field}
 use Rattle.apollo_executable.specs.declared.selection.SelectionSet.{SelectionSet}
+use Rattle.apollo_executable.specs.Operations.{all_operations}
 use Rattle.apollo_executable.specs.SelectionSets.{sets_of}
 use Rattle.apollo_executable.specs.Walks.WalkView.{AreWalked}
 use Rattle.gqlbench_run.specs.declared.command.Command.{Command}
