@@ -14,7 +14,6 @@ use Rattle.apollo_executable.specs.Walks.FieldsIn.{fields_in}
 use Rattle.apollo_executable.specs.declared.document.ExecutableDocument.{ExecutableDocument}
 use Rattle.apollo_executable.specs.declared.selection.Field.{Field}
 use Rattle.apollo_executable.specs.declared.selection.Selection.{Selection}
-use Rattle.apollo_executable.specs.declared.selection.SelectionSet.{SelectionSet}
 use Rattle.leafcheck.specs.declared.leaf_fault.LeafFault.{LeafFault}
 use Rattle.leafcheck.specs.declared.leaf_fault.LeafKind.{LeafKind}
 use Rattle.leafcheck.specs.declared.leaf_fault.LeafKind.TheVariants.{MissingSubselection, SubselectionOnLeaf}
