@@ -3,7 +3,7 @@ pub mod DirectiveLemmas
 pub mod HeldLemmas
 pub mod JoiningLemmas
 pub mod KeptNames
-pub mod KindParts
+pub mod KindLemmas
 pub mod NameTables
 pub mod PartNames
 pub mod RefusalLemmas

@@ -14,15 +14,18 @@ use Rattle.apollo_meaning.specs.Items.ListItems.{ListItem, Defined, Extended, Sc
 -- what a kind holds besides directives
 abbrev pub body_seen : BodyView → TypeBody
 body_seen bodies.Scalar = ScalarBody
-body_seen (bodies.Object interfaces fields) = ObjectBody interfaces.now fields.now
-body_seen (bodies.Interface interfaces fields) = InterfaceBody interfaces.now fields.now
+body_seen (bodies.Object body) = ObjectBody body.interfaces.now body.fields.now
+body_seen (bodies.Interface body) = InterfaceBody body.interfaces.now body.fields.now
 body_seen (bodies.Union members) = UnionBody members.now
 body_seen (bodies.Enum values) = EnumBody values.now
 body_seen (bodies.InputObject fields) = InputObjectBody fields.now
 
--- a definition or extension of a type
+-- a definition or extension of a type, with this body
+abbrev pub part_with : TypeBody → PartView → TypePart
+part_with body v = part_at v.location v.name.now (option_copied v.description) v.directives.now body
+
 abbrev pub part_seen : PartView → TypePart
-part_seen v = part_at v.location v.name.now (option_copied v.description) v.directives.now (body_seen v.body)
+part_seen v = part_with (body_seen v.body) v
 
 -- a definition of a document
 abbrev pub item_seen : ItemView → ListItem

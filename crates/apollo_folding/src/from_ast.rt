@@ -9,7 +9,7 @@ ghost use Rattle.apollo_meaning.specs.Types.Meaning.{type_from};
 ghost use Rattle.apollo_meaning.specs.Faults.TypeFaults.{part_faults, kind_mismatch};
 ghost use Rattle.apollo_meaning.specs.Steps.Joining.{type_begun, type_begun_faults};
 ghost use Rattle.apollo_types.specs.TypeWriteOut.{type_kind};
-ghost use Rattle.apollo_folding.specs.Joins.{Extends, FindsJoining, JoinsOne, FindsOne, how_many};
+ghost use Rattle.apollo_folding.specs.Joins.{Extends, FindsJoining, how_many};
 ghost use Rattle.apollo_folding.specs.Refusals.{RefusedAs, SpentWith, after};
 ghost use Rattle.apollo_folding.specs.Views.{part_seen};
 
@@ -24,9 +24,9 @@ pub mod schema_definition;
 mod union_type;
 
 use crate::builder_error::BuilderError;
-use crate::from_ast::kind::{fold_into, type_of_definition};
+use crate::from_ast::kind::{extend_node, type_of_definition};
 use crate::views::{BodyView, ItemView, PartView};
-use apollo_component::extension::{ComponentOrigin, ExtensionSource};
+use apollo_component::extension::ExtensionSource;
 use apollo_meaning::build_error::{BuildError, Fault};
 use apollo_types::extended_type::ExtendedType;
 use graphql_ast::definition::Definition;
@@ -46,21 +46,23 @@ fn type_from_ast(
     ensures faults { OnOk result (faults.new ≡ faults.old ++ part_faults [] (part_seen head.now)) }
 {
     match head.body {
-        BodyView::Scalar => Ok(ExtendedType::Scalar(type_of_definition(
-            alloc, keys, head, faults,
-        )?)),
-        BodyView::Object(_, _) => {
-            Ok(ExtendedType::Object(type_of_definition(alloc, keys, head, faults)?))
+        BodyView::Scalar => {
+            Ok(ExtendedType::Scalar(type_of_definition(alloc, keys, head, (), faults)?))
         }
-        BodyView::Interface(_, _) => {
-            Ok(ExtendedType::Interface(type_of_definition(alloc, keys, head, faults)?))
+        BodyView::Object(body) => {
+            Ok(ExtendedType::Object(type_of_definition(alloc, keys, head, body, faults)?))
         }
-        BodyView::Union(_) => Ok(ExtendedType::Union(type_of_definition(
-            alloc, keys, head, faults,
-        )?)),
-        BodyView::Enum(_) => Ok(ExtendedType::Enum(type_of_definition(alloc, keys, head, faults)?)),
-        BodyView::InputObject(_) => {
-            Ok(ExtendedType::InputObject(type_of_definition(alloc, keys, head, faults)?))
+        BodyView::Interface(body) => {
+            Ok(ExtendedType::Interface(type_of_definition(alloc, keys, head, body, faults)?))
+        }
+        BodyView::Union(members) => {
+            Ok(ExtendedType::Union(type_of_definition(alloc, keys, head, members, faults)?))
+        }
+        BodyView::Enum(values) => {
+            Ok(ExtendedType::Enum(type_of_definition(alloc, keys, head, values, faults)?))
+        }
+        BodyView::InputObject(fields) => {
+            Ok(ExtendedType::InputObject(type_of_definition(alloc, keys, head, fields, faults)?))
         }
     }
 }
@@ -76,28 +78,6 @@ fn kind_mismatch(ty: &ExtendedType, part: &PartView<'_>) -> Result<Fault, AllocE
         describe_def: StaticText::new(ty.kind().describe()),
     };
     Ok((part.name.location(), error))
-}
-
-/// Folds the components of a part of the type's kind in under an origin. Components that are there already are noted.
-fn fold_part(
-    ty: &mut ExtendedType,
-    part: &PartView<'_>,
-    origin: ComponentOrigin,
-    faults: &mut Items<Fault>,
-) -> Result<(), AllocError>
-    ensures folded { OnOk result (kind_of (part_seen part.now) ≡ type_kind ty.old → JoinsOne type_from ty.old origin (part_seen part.now) ty.new) }
-    ensures faults { OnOk result (kind_of (part_seen part.now) ≡ type_kind ty.old → FindsOne type_from ty.old (part_seen part.now) faults.old faults.new) }
-    ensures kind { OnOk result (type_kind ty.new ≡ type_kind ty.old) }
-{
-    match ty {
-        ExtendedType::Scalar(node) => fold_into(node, part, origin, faults)?,
-        ExtendedType::Object(node) => fold_into(node, part, origin, faults)?,
-        ExtendedType::Interface(node) => fold_into(node, part, origin, faults)?,
-        ExtendedType::Union(node) => fold_into(node, part, origin, faults)?,
-        ExtendedType::Enum(node) => fold_into(node, part, origin, faults)?,
-        ExtendedType::InputObject(node) => fold_into(node, part, origin, faults)?,
-    }
-    Ok(())
 }
 
 /// Folds an extension in under the source's next identity, if it has the type's kind (section 3.4.3): what is there already is
@@ -116,13 +96,30 @@ pub fn extend_type(
     ensures next { OnOk result (ids.new ≡ after ids.old (how_many (type_kind ty.old) (part_seen extension.now ∷ []))) }
     ensures refused { IfErr result (λ error. RefusedAs error (SpentWith ids.old (how_many (type_kind ty.old) (part_seen extension.now ∷ [])))) }
 {
-    if extension.kind() != ty.kind() {
-        faults.push(kind_mismatch(ty, extension)?)?;
-        return Ok(());
+    match (&mut *ty, extension.body) {
+        (ExtendedType::Scalar(node), BodyView::Scalar) => {
+            extend_node(node, extension, (), ids, faults)
+        }
+        (ExtendedType::Object(node), BodyView::Object(body)) => {
+            extend_node(node, extension, body, ids, faults)
+        }
+        (ExtendedType::Interface(node), BodyView::Interface(body)) => {
+            extend_node(node, extension, body, ids, faults)
+        }
+        (ExtendedType::Union(node), BodyView::Union(members)) => {
+            extend_node(node, extension, members, ids, faults)
+        }
+        (ExtendedType::Enum(node), BodyView::Enum(values)) => {
+            extend_node(node, extension, values, ids, faults)
+        }
+        (ExtendedType::InputObject(node), BodyView::InputObject(fields)) => {
+            extend_node(node, extension, fields, ids, faults)
+        }
+        _ => {
+            faults.push(kind_mismatch(ty, extension)?)?;
+            Ok(())
+        }
     }
-    let id = ids.draw(extension.location)?;
-    fold_part(ty, extension, ComponentOrigin::Extension(id), faults)?;
-    Ok(())
 }
 
 /// Folds a definition in, if it is an extension of a type.

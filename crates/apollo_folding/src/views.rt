@@ -20,12 +20,19 @@ use graphql_nodes::source::SourceSpan;
 use graphql_nodes::type_kind::TypeKind;
 use std::alloc::AllocError;
 
+/// What a definition or extension of an object or interface type holds besides directives.
+#[derive(Clone, Copy)]
+pub struct FieldsView<'a> {
+    pub interfaces: &'a Items<Name>,
+    pub fields: &'a Items<Node<FieldDefinition>>,
+}
+
 /// What the definitions and extensions of one kind hold besides directives.
 #[derive(Clone, Copy)]
 pub enum BodyView<'a> {
     Scalar,
-    Object(&'a Items<Name>, &'a Items<Node<FieldDefinition>>),
-    Interface(&'a Items<Name>, &'a Items<Node<FieldDefinition>>),
+    Object(FieldsView<'a>),
+    Interface(FieldsView<'a>),
     Union(&'a Items<Name>),
     Enum(&'a Items<Node<EnumValueDefinition>>),
     InputObject(&'a Items<Node<InputValueDefinition>>),
@@ -60,8 +67,8 @@ impl<'a> PartView<'a> {
     {
         match self.body {
             BodyView::Scalar => TypeKind::Scalar,
-            BodyView::Object(_, _) => TypeKind::Object,
-            BodyView::Interface(_, _) => TypeKind::Interface,
+            BodyView::Object(_) => TypeKind::Object,
+            BodyView::Interface(_) => TypeKind::Interface,
             BodyView::Union(_) => TypeKind::Union,
             BodyView::Enum(_) => TypeKind::Enum,
             BodyView::InputObject(_) => TypeKind::InputObject,
@@ -141,11 +148,17 @@ impl<'a> ItemView<'a> {
                 )
             }
             Definition::ObjectTypeDefinition(node) => {
-                let body = BodyView::Object(&node.implements_interfaces, &node.fields);
+                let body = BodyView::Object(FieldsView {
+                    interfaces: &node.implements_interfaces,
+                    fields: &node.fields,
+                });
                 ItemView::defined(node, &node.description, &node.name, &node.directives, body)
             }
             Definition::InterfaceTypeDefinition(node) => {
-                let body = BodyView::Interface(&node.implements_interfaces, &node.fields);
+                let body = BodyView::Interface(FieldsView {
+                    interfaces: &node.implements_interfaces,
+                    fields: &node.fields,
+                });
                 ItemView::defined(node, &node.description, &node.name, &node.directives, body)
             }
             Definition::UnionTypeDefinition(node) => {
@@ -164,11 +177,17 @@ impl<'a> ItemView<'a> {
                 ItemView::extended(node, &node.name, &node.directives, BodyView::Scalar)
             }
             Definition::ObjectTypeExtension(node) => {
-                let body = BodyView::Object(&node.implements_interfaces, &node.fields);
+                let body = BodyView::Object(FieldsView {
+                    interfaces: &node.implements_interfaces,
+                    fields: &node.fields,
+                });
                 ItemView::extended(node, &node.name, &node.directives, body)
             }
             Definition::InterfaceTypeExtension(node) => {
-                let body = BodyView::Interface(&node.implements_interfaces, &node.fields);
+                let body = BodyView::Interface(FieldsView {
+                    interfaces: &node.implements_interfaces,
+                    fields: &node.fields,
+                });
                 ItemView::extended(node, &node.name, &node.directives, body)
             }
             Definition::UnionTypeExtension(node) => {

@@ -1,10 +1,14 @@
 //! Object types from what definitions and extensions say.
-ghost use Rattle.graphql_nodes.specs.declared.type_kind.TypeKind.TheVariants as kinds;
+ghost use Rattle.std.specs.Prelude.{◌≡◌, [], refl, IfOk};
+ghost use Rattle.apollo_meaning.specs.Items.Parts.{TypeBody, ObjectBody};
 ghost use Rattle.apollo_meaning.specs.Types.Meaning.{object_of};
+ghost use Rattle.apollo_types.specs.declared.extended_type.ExtendedType.TheVariants as types;
+ghost use Rattle.apollo_folding.specs.KindParts.{made_of};
+ghost use Rattle.apollo_folding.specs.Views.{part_with};
 
 use crate::from_ast::folding::{fold_directives, fold_named, fold_names};
 use crate::from_ast::kind::Kind;
-use crate::views::{BodyView, PartView};
+use crate::views::{FieldsView, PartView};
 use apollo_component::directive_list::DirectiveList;
 use apollo_component::extension::ComponentOrigin;
 use apollo_meaning::build_error::Fault;
@@ -16,12 +20,16 @@ use graphql_nodes::collections::key_set::KeySet;
 use graphql_nodes::collections::table::Table;
 use std::alloc::{AllocError, Global};
 
-impl Kind for ObjectType {
-    ghost kind = { kinds.Object };
+impl<'a> Kind<FieldsView<'a>> for ObjectType {
+    ghost seen = { λ body. ObjectBody body.interfaces.now body.fields.now };
 
     ghost made = { object_of };
 
-    fn bare(alloc: Global, keys: HashKeys, head: &PartView<'_>) -> Result<Self, AllocError> {
+    ghost wrapped = { types.Object };
+
+    fn bare(alloc: Global, keys: HashKeys, head: &PartView<'_>) -> Result<Self, AllocError>
+        ensures { IfOk result (λ ty. (body : TypeBody) → ty ≡ object_of (part_with body head.now) []) }
+    {
         Ok(ObjectType {
             description: head.description()?,
             name: head.name.clone()?,
@@ -34,16 +42,14 @@ impl Kind for ObjectType {
     fn fold(
         &mut self,
         part: &PartView<'_>,
+        body: FieldsView<'a>,
         origin: ComponentOrigin,
         faults: &mut Items<Fault>,
     ) -> Result<(), AllocError> {
-        let BodyView::Object(interfaces, fields) = part.body else {
-            return Ok(());
-        };
         fold_directives(&mut self.directives, part.directives.as_slice(), origin)?;
         fold_names(
             &mut self.implements_interfaces,
-            interfaces.as_slice(),
+            body.interfaces.as_slice(),
             origin,
             Collection::ObjectInterfaces,
             part.name,
@@ -51,7 +57,7 @@ impl Kind for ObjectType {
         )?;
         fold_named(
             &mut self.fields,
-            fields.as_slice(),
+            body.fields.as_slice(),
             origin,
             Collection::ObjectFields,
             part.name,
@@ -61,4 +67,8 @@ impl Kind for ObjectType {
     }
 
     ghost copies = { λ x y same. same };
+
+    ghost alike = { λ body node. refl };
+
+    ghost makes = { λ head done node. made_of head done (types.Object node) };
 }

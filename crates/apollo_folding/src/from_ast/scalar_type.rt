@@ -1,6 +1,9 @@
 //! Scalar types from what definitions and extensions say.
-ghost use Rattle.graphql_nodes.specs.declared.type_kind.TypeKind.TheVariants as kinds;
+ghost use Rattle.std.specs.Prelude.{refl};
+ghost use Rattle.apollo_meaning.specs.Items.Parts.{ScalarBody};
 ghost use Rattle.apollo_meaning.specs.Types.Meaning.{scalar_of};
+ghost use Rattle.apollo_types.specs.declared.extended_type.ExtendedType.TheVariants as types;
+ghost use Rattle.apollo_folding.specs.KindParts.{made_of};
 
 use crate::from_ast::folding::fold_directives;
 use crate::from_ast::kind::Kind;
@@ -13,10 +16,12 @@ use graphql_nodes::collections::hash_keys::HashKeys;
 use graphql_nodes::collections::items::Items;
 use std::alloc::{AllocError, Global};
 
-impl Kind for ScalarType {
-    ghost kind = { kinds.Scalar };
+impl Kind<()> for ScalarType {
+    ghost seen = { λ body. ScalarBody };
 
     ghost made = { scalar_of };
+
+    ghost wrapped = { types.Scalar };
 
     fn bare(alloc: Global, _keys: HashKeys, head: &PartView<'_>) -> Result<Self, AllocError> {
         Ok(ScalarType {
@@ -29,6 +34,7 @@ impl Kind for ScalarType {
     fn fold(
         &mut self,
         part: &PartView<'_>,
+        _body: (),
         origin: ComponentOrigin,
         _faults: &mut Items<Fault>,
     ) -> Result<(), AllocError> {
@@ -37,4 +43,8 @@ impl Kind for ScalarType {
     }
 
     ghost copies = { λ x y same. same };
+
+    ghost alike = { λ body node. refl };
+
+    ghost makes = { λ head done node. made_of head done (types.Scalar node) };
 }

@@ -131,9 +131,9 @@ fn push_values(
 fn push_body(text: &mut String, body: BodyView<'_>) -> Result<(), AllocError> {
     match body {
         BodyView::Scalar => Ok(()),
-        BodyView::Object(interfaces, fields) | BodyView::Interface(interfaces, fields) => {
-            push_names(text, interfaces)?;
-            push_fields(text, fields)
+        BodyView::Object(body) | BodyView::Interface(body) => {
+            push_names(text, body.interfaces)?;
+            push_fields(text, body.fields)
         }
         BodyView::Union(members) => push_names(text, members),
         BodyView::Enum(values) => push_values(text, values),

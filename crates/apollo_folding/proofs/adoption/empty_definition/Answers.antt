@@ -12,8 +12,8 @@ empty v = by v.body
   where
     by : (b : BodyView) → item_of (type_definition (kind_of (part_seen (record v { body = b }))) None v.name.now no_parts v.location) ≡ Defined (adopted_part (part_seen (record v { body = b })))
     by bodies.Scalar = refl
-    by (bodies.Object interfaces fields) = refl
-    by (bodies.Interface interfaces fields) = refl
+    by (bodies.Object body) = refl
+    by (bodies.Interface body) = refl
     by (bodies.Union members) = refl
     by (bodies.Enum values) = refl
     by (bodies.InputObject fields) = refl

@@ -1,16 +1,15 @@
 use Rattle.apollo_meaning.proofs.Prelude.{◌≡◌, ◌++◌, map, sym, ap, ◌∙◌, List, append_assoc, flat_map, NameView, collisions, body_faults, interface_names, field_names, name_entries, field_entries, ObjectBody, interfaces_of, fields_of}
 use Rattle.apollo_types.specs.declared.object_type.ObjectType.{ObjectType}
 use Rattle.apollo_meaning.specs.declared.collision.Collection.TheVariants as collections
-use Rattle.apollo_folding.specs.Views.{body_seen}
 use Rattle.apollo_folding.proofs.PartNames.{interfaces-joined, fields-joined}
-use Rattle.apollo_folding.proofs.from_ast.object_type.ObjectTypeKind.fold.Goals as goal
+use Rattle.apollo_folding.proofs.from_ast.object_type.ObjectTypeKindFieldsView.fold.Goals as goal
 
 pub returns-clause-faults : goal.returns-clause-faults
-returns-clause-faults c = λ same head done was.
+returns-clause-faults c = λ head done was.
     let ty = c.args.part.now.name.now in
     let before = c.args.faults.now in
     let parts = map (λ s. s.1) done in
-    let body : body_seen c.args.part.now.body ≡ ObjectBody c.as_slice-2.result.now c.as_slice-3.result.now = ap body_seen c.in-Object.is ∙ (λ i. ObjectBody (sym c.as_slice-2.ensures i) (sym c.as_slice-3.ensures i)) in
+    let body : ObjectBody c.args.body.interfaces.now c.args.body.fields.now ≡ ObjectBody c.as_slice-2.result.now c.as_slice-3.result.now = λ i. ObjectBody (sym c.as_slice-2.ensures i) (sym c.as_slice-3.ensures i) in
     let interfaces = λ (names : List NameView). collisions collections.ObjectInterfaces ty names (name_entries c.as_slice-2.result.now) in
     let fields = λ (names : List NameView). collisions collections.ObjectFields ty names (field_entries c.as_slice-3.result.now) in
     let first = c.in_ok-fold_names.ensures.faults (flat_map interfaces_of done) (ap (λ (t : ObjectType). t.implements_interfaces) was) ∙ ap (λ names. before ++ interfaces names) (interfaces-joined done) in

@@ -1,16 +1,15 @@
 use Rattle.apollo_meaning.proofs.Prelude.{◌≡◌, ◌++◌, map, sym, ap, ◌∙◌, List, append_assoc, flat_map, NameView, collisions, body_faults, interface_names, field_names, name_entries, field_entries, InterfaceBody, interfaces_of, fields_of}
 use Rattle.apollo_types.specs.declared.interface_type.InterfaceType.{InterfaceType}
 use Rattle.apollo_meaning.specs.declared.collision.Collection.TheVariants as collections
-use Rattle.apollo_folding.specs.Views.{body_seen}
 use Rattle.apollo_folding.proofs.PartNames.{interfaces-joined, fields-joined}
-use Rattle.apollo_folding.proofs.from_ast.interface_type.InterfaceTypeKind.fold.Goals as goal
+use Rattle.apollo_folding.proofs.from_ast.interface_type.InterfaceTypeKindFieldsView.fold.Goals as goal
 
 pub returns-clause-faults : goal.returns-clause-faults
-returns-clause-faults c = λ same head done was.
+returns-clause-faults c = λ head done was.
     let ty = c.args.part.now.name.now in
     let before = c.args.faults.now in
     let parts = map (λ s. s.1) done in
-    let body : body_seen c.args.part.now.body ≡ InterfaceBody c.as_slice-2.result.now c.as_slice-3.result.now = ap body_seen c.in-Interface.is ∙ (λ i. InterfaceBody (sym c.as_slice-2.ensures i) (sym c.as_slice-3.ensures i)) in
+    let body : InterfaceBody c.args.body.interfaces.now c.args.body.fields.now ≡ InterfaceBody c.as_slice-2.result.now c.as_slice-3.result.now = λ i. InterfaceBody (sym c.as_slice-2.ensures i) (sym c.as_slice-3.ensures i) in
     let interfaces = λ (names : List NameView). collisions collections.InterfaceInterfaces ty names (name_entries c.as_slice-2.result.now) in
     let fields = λ (names : List NameView). collisions collections.InterfaceFields ty names (field_entries c.as_slice-3.result.now) in
     let first = c.in_ok-fold_names.ensures.faults (flat_map interfaces_of done) (ap (λ (t : InterfaceType). t.implements_interfaces) was) ∙ ap (λ names. before ++ interfaces names) (interfaces-joined done) in

@@ -1,27 +1,17 @@
--- Which type parts make, by their kind.
-use Rattle.apollo_meaning.proofs.Prelude.{◌≡◌, List, ◌++◌, refl, sym, ap, subst, ◌∙◌, NodeView, ExtendedType, Scalar, Object, Interface, Union, Enum, InputObject, TypePart, TypeBody, ScalarBody, ObjectBody, InterfaceBody, UnionBody, EnumBody, InputObjectBody, Sourced, type_of_kind, type_from}
-use Rattle.apollo_meaning.specs.Types.Meaning.{scalar_of, object_of, interface_of, union_of, enum_of, input_object_of}
+-- Which type parts make, by the kind of the first: GraphQL specification of October 2021, sections 3.4.3, and 3.5 to 3.10.
+use Rattle.std.specs.Prelude.{◌≡◌, List, refl}
+use Rattle.std.proofs.Common.{sym, subst}
+use Rattle.graphql_nodes.specs.NodeView.{NodeView}
+use Rattle.apollo_types.specs.declared.extended_type.ExtendedType.{ExtendedType}
+use Rattle.apollo_types.specs.declared.extended_type.ExtendedType.TheVariants.{Scalar, Object, Interface, Union, Enum, InputObject}
+use Rattle.apollo_meaning.specs.Items.Parts.{TypePart, TypeBody, ScalarBody, ObjectBody, InterfaceBody, UnionBody, EnumBody, InputObjectBody}
+use Rattle.apollo_meaning.specs.Types.Components.{Sourced}
+use Rattle.apollo_meaning.specs.Types.Meaning.{scalar_of, object_of, interface_of, union_of, enum_of, input_object_of, type_of_kind, type_from}
 
 -- a node of one kind is what parts make, and others make such a node as well
 pub record IsOf {T : Type 0} (make : NodeView T → ExtendedType) (of : TypePart → List Sourced → T) (b : TypeBody) (head : TypePart) (done : List Sourced) (n : NodeView T) : Type 0 where
   pub node : n ≡ record { value = of head done; location = head.location }
   pub more : (parts : List Sourced) → type_of_kind b head parts ≡ make (record { value = of head parts; location = head.location })
-
--- the value is that of the parts
-pub IsOf-value : {T : Type 0} {make : NodeView T → ExtendedType} {of : TypePart → List Sourced → T} {b : TypeBody} {head : TypePart} {done : List Sourced} {n : NodeView T}
-    → IsOf make of b head done n → n.value ≡ of head done
-IsOf-value {T} is = ap (λ (n : NodeView T). n.value) is.node
-
--- a type that grew by more parts is that of the parts and of those
-pub IsOf-grown : {T : Type 0} {make : NodeView T → ExtendedType} {of : TypePart → List Sourced → T} {head : TypePart} {done : List Sourced} {n : NodeView T}
-    → IsOf make of head.body head done n → (grown : NodeView T) (more : List Sourced)
-    → grown.location ≡ n.location
-    → (n.value ≡ of head done → grown.value ≡ of head (done ++ more))
-    → make grown ≡ type_from head (done ++ more)
-IsOf-grown {T} {make} {of} {head} {done} is grown more same_location folded =
-    let value : grown.value ≡ of head (done ++ more) = folded (IsOf-value is) in
-    let location : grown.location ≡ head.location = same_location ∙ ap (λ (n : NodeView T). n.location) is.node in
-    (λ i. make (record { value = value i; location = location i })) ∙ sym (is.more (done ++ more))
 
 -- a type is what parts make, by its kind
 abbrev pub IsOfParts : TypeBody → TypePart → List Sourced → ExtendedType → Type 0
@@ -32,6 +22,7 @@ IsOfParts b head done (Union n) = IsOf Union union_of b head done n
 IsOfParts b head done (Enum n) = IsOf Enum enum_of b head done n
 IsOfParts b head done (InputObject n) = IsOf InputObject input_object_of b head done n
 
+-- each kind's own proof of that, which its `impl` gives
 made : (b : TypeBody) (head : TypePart) (done : List Sourced) → IsOfParts b head done (type_of_kind b head done)
 made ScalarBody head done = record { node = refl; more = λ parts. refl }
 made (ObjectBody interfaces fields) head done = record { node = refl; more = λ parts. refl }
