@@ -14,14 +14,14 @@ use Rattle.graphql_ast.specs.declared.type_system.EnumValueDefinition.{EnumValue
 use Rattle.graphql_ast.specs.declared.definition.Definition.{Definition}
 use Rattle.graphql_ast.specs.declared.definition.Definition.TheVariants as ast
 
-abbrev pub place : Option SourceSpan
-place = Some (record { file = record { 0 = 0 }; start = 0; end = 0 })
+abbrev pub built_in_location : Option SourceSpan
+built_in_location = Some (record { file = record { 0 = 0 }; start = 0; end = 0 })
 
 abbrev pub node : {T : Type 0} → T → NodeView T
-node value = record { value = value; location = place }
+node value = record { value = value; location = built_in_location }
 
 abbrev pub name : List ℕ → NameView
-name text = record { text = text; location = place }
+name text = record { text = text; location = built_in_location }
 
 abbrev pub no_directives : DirectiveList
 no_directives = record { 0 = [] }

@@ -8,7 +8,7 @@ use Rattle.apollo_component.specs.declared.extension.ComponentOrigin.TheVariants
 
 -- the identity with this number, of an extension at this location
 abbrev pub extension_id : ℕ → Option SourceSpan → ExtensionId
-extension_id n place = record { number = n; location = place }
+extension_id n location = record { number = n; location = location }
 
 abbrev pub number_of : ExtensionId → ℕ
 number_of e = e.number

@@ -52,8 +52,8 @@ by_origin cs = record { definition = of_origin origins.Definition cs; extensions
 
 -- the definition of a type, at this location, then its extensions, each where it stands
 abbrev pub written_type : TypeKind → Option NameView → NameView → PartsByOrigin → Option SourceSpan → List Definition
-written_type kind description name parts place = type_definition kind description name parts.definition place ∷ map (λ e. type_extension kind name e.1 (extension_location e.0)) parts.extensions
+written_type kind description name parts location = type_definition kind description name parts.definition location ∷ map (λ e. type_extension kind name e.1 (extension_location e.0)) parts.extensions
 
 -- the definition of the schema, at this location, if it is written, then its extensions, each where it stands
 abbrev pub written_schema : Bool → Option NameView → PartsByOrigin → Option SourceSpan → List Definition
-written_schema is_written description parts place = (if is_written then schema_definition description parts.definition place ∷ [] else []) ++ map (λ e. schema_extension e.1 (extension_location e.0)) parts.extensions
+written_schema is_written description parts location = (if is_written then schema_definition description parts.definition location ∷ [] else []) ++ map (λ e. schema_extension e.1 (extension_location e.0)) parts.extensions

@@ -110,7 +110,7 @@ Stands n = IsName n.text × (n.location ≡ None)
 bare_stands : (n : NameView) → Stands n → bare_name n ≡ n
 bare_stands n s = let e = s.1 in λ i. record { text = n.text; location = sym e i }
 
--- a coordinate that a text says has valid names, at no place
+-- a coordinate that a text says has valid names, at no location
 said_names : (d : SchemaCoordinate) → AllByRecursion Stands (coordinate_parts d) → HasNames d
 said_names (Ty d) s = (s.0.0, tt)
 said_names (TypeAttribute d) s = (s.0.0, (s.1.0.0, tt))

@@ -1,5 +1,5 @@
 //! Laws of coordinates and their texts, for those who build on them; and what `==` answers at coordinates and at what their
-//! lookups answer.
+//! lookups answer. Schema Coordinates RFC; names are those of section 2.1.9 of the GraphQL specification of October 2021.
 ghost use Rattle.std.specs.Prelude.{◌≡◌, ℕ, List, Result};
 ghost use Rattle.apollo_coordinate.specs.BareLookups.{bare_attribute_lookup, bare_lookup};
 ghost use Rattle.apollo_coordinate.specs.CoordinateText.{IsTypeText, IsAttributeText, IsFieldArgumentText, IsDirectiveText, IsDirectiveArgumentText, IsCoordinateText, HasNames, SaysCoordinate, coordinate_text, bare_coordinate, bare_type_coordinate, bare_attribute_coordinate, bare_field_argument_coordinate, bare_directive_coordinate, bare_directive_argument_coordinate};

@@ -1,4 +1,5 @@
-//! The builder of executable documents: documents of syntax go in, in any number, and a typed document comes out.
+//! The builder of executable documents: documents of syntax go in, in any number, and a typed document comes out. GraphQL
+//! specification of October 2021, section 2.
 ghost use Rattle.std.specs.Prelude.{◌≡◌, ◌↔◌, List, [], ◌++◌, Option, Err, OnOk, OnErr, IfOk};
 ghost use Rattle.std.specs.Option.{option_copied};
 ghost use Rattle.graphql_nodes.specs.Sources.{merged};

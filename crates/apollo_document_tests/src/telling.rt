@@ -71,8 +71,8 @@ fn path_of(error: &BuildError) -> Option<&SelectionPath> {
 
 /// Adds the location of a fault, its text and its path.
 fn tell_fault(alloc: Global, text: &mut String, fault: &Fault) -> Result<(), AllocError> {
-    if let Some(place) = fault.0 {
-        text.push_str(place.start.to_string(alloc)?.as_str())?;
+    if let Some(location) = fault.0 {
+        text.push_str(location.start.to_string(alloc)?.as_str())?;
     }
     text.push_str(": ")?;
     text.push_str(fault.1.to_string(alloc)?.as_str())?;

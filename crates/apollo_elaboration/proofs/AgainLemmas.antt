@@ -39,10 +39,10 @@ abbrev PS : Option Schema → Selection → Type 0
 PS s x = (ty : NameView) → IsTyped s ty x → (elaborated_selection s ty (erased x) ≡ Some x) × ((path : SelectionPath) → faults_of_selection s ty path (erased x) ≡ [])
 
 abbrev PF : Option Schema → Field → Type 0
-PF s x = (ty : NameView) → IsTypedField s ty x → (elaborated_field s ty (erased_field x) ≡ Some x) × ((place : Option SourceSpan) (path : SelectionPath) → faults_of_field s ty place path (erased_field x) ≡ [])
+PF s x = (ty : NameView) → IsTypedField s ty x → (elaborated_field s ty (erased_field x) ≡ Some x) × ((location : Option SourceSpan) (path : SelectionPath) → faults_of_field s ty location path (erased_field x) ≡ [])
 
 abbrev PI : Option Schema → InlineFragment → Type 0
-PI s x = (ty : NameView) → IsTypedFragment s ty x → (elaborated_fragment s ty (erased_inline_fragment x) ≡ Some x) × ((place : Option SourceSpan) (path : SelectionPath) → faults_of_fragment s ty place path (erased_inline_fragment x) ≡ [])
+PI s x = (ty : NameView) → IsTypedFragment s ty x → (elaborated_fragment s ty (erased_inline_fragment x) ≡ Some x) × ((location : Option SourceSpan) (path : SelectionPath) → faults_of_fragment s ty location path (erased_inline_fragment x) ≡ [])
 
 abbrev PL : Option Schema → SelectionSet → Type 0
 PL s x = (ty : NameView) → IsTypedSet s ty x → (elaborated s ty (erased_set x) ≡ x) × ((path : SelectionPath) → faults_of_selections s ty path (erased_set x) ≡ [])
@@ -87,8 +87,8 @@ field_again s y ty h =
     let within : SelectionPath → SelectionPath = λ path. inside path (response_key_of y.alias y.name) in (
       ap (elaborated_field s ty) r ∙ elaborated-field s ty z ∙ ap (if_typable (typed_field y.alias y.name y.arguments y.directives (typed_in s (erased_set y.selection_set.0)))) c
           ∙ (λ i. Some (roll-Field (record { definition = y.definition; alias = y.alias; name = y.name; arguments = y.arguments; directives = y.directives; selection_set = b.0 i }))),
-      λ place path. ap (faults_of_field s ty place path) r ∙ faults-field s ty place path z
-          ∙ ap (below_or_wrong (λ (d : NodeView FieldDefinition). faults_of_selections s (child_of d) (within path) (erased_set y.selection_set.0)) place (within path)) c ∙ b.1 (within path),
+      λ location path. ap (faults_of_field s ty location path) r ∙ faults-field s ty location path z
+          ∙ ap (below_or_wrong (λ (d : NodeView FieldDefinition). faults_of_selections s (child_of d) (within path) (erased_set y.selection_set.0)) location (within path)) c ∙ b.1 (within path),
     )
 
 fragment_again : (s : Option Schema) (y : typed_layer.InlineFragment-F (WS s) (WF s) (WI s) (WL s)) → PI s (roll-InlineFragment (typed_folds.map-InlineFragment (WS s) (WF s) (WI s) (WL s) Selection Field InlineFragment SelectionSet (λ e. e.0) (λ e. e.0) (λ e. e.0) (λ e. e.0) y))
@@ -100,8 +100,8 @@ fragment_again s y ty h =
     let b = y.selection_set.1 t.0 t.1.1 in (
       ap (elaborated_fragment s ty) r ∙ elaborated-fragment s ty z ∙ ap (if_typable (typed_inline_fragment y.type_condition y.directives (typed_in s (erased_set y.selection_set.0)))) t.1.0
           ∙ (λ i. Some (roll-InlineFragment (record { type_condition = y.type_condition; directives = y.directives; selection_set = b.0 i }))),
-      λ place path. ap (faults_of_fragment s ty place path) r ∙ faults-fragment s ty place path z
-          ∙ ap (below_or_wrong (λ (child : NameView). faults_of_selections s child path (erased_set y.selection_set.0)) place path) t.1.0 ∙ b.1 path,
+      λ location path. ap (faults_of_fragment s ty location path) r ∙ faults-fragment s ty location path z
+          ∙ ap (below_or_wrong (λ (child : NameView). faults_of_selections s child path (erased_set y.selection_set.0)) location path) t.1.0 ∙ b.1 path,
     )
 
 selection_again : (s : Option Schema) (y : typed_layer.Selection-F (WS s) (WF s) (WI s) (WL s)) → PS s (roll-Selection (typed_folds.map-Selection (WS s) (WF s) (WI s) (WL s) Selection Field InlineFragment SelectionSet (λ e. e.0) (λ e. e.0) (λ e. e.0) (λ e. e.0) y))

@@ -57,31 +57,31 @@ elaborated-fragment s ty f =
 each_fault : Option Schema → ast.Selection → FS
 each_fault s = folds.fold-Selection FS FN FN faults_step (field_faults_step s) (fragment_faults_step s)
 
-pub faults-field : (s : Option Schema) (ty : NameView) (place : Option SourceSpan) (path : SelectionPath) (f : ast_field.Field)
-    → faults_of_field s ty place path f ≡ below_or_wrong (λ d. faults_of_selections s (child_of d) (inside path (response_key_of f.alias f.name)) f.selection_set) place (inside path (response_key_of f.alias f.name)) (typable_field s ty f.name (is_bare f.selection_set))
+pub faults-field : (s : Option Schema) (ty : NameView) (location : Option SourceSpan) (path : SelectionPath) (f : ast_field.Field)
+    → faults_of_field s ty location path f ≡ below_or_wrong (λ d. faults_of_selections s (child_of d) (inside path (response_key_of f.alias f.name)) f.selection_set) location (inside path (response_key_of f.alias f.name)) (typable_field s ty f.name (is_bare f.selection_set))
 unfolding each_fault
-faults-field s ty place path f =
+faults-field s ty location path f =
     let within = inside path (response_key_of f.alias f.name) in
-    let e = ap (λ (u : FN). u ty place path) (folds.fold_out-Field FS FN FN faults_step (field_faults_step s) (fragment_faults_step s) f) in
+    let e = ap (λ (u : FN). u ty location path) (folds.fold_out-Field FS FN FN faults_step (field_faults_step s) (fragment_faults_step s) f) in
     let b : (t : NameView) (p : SelectionPath) → faults_below (map (each_fault s) f.selection_set) t p ≡ faults_of_selections s t p f.selection_set = λ t p. flat_map-map (λ (u : FS). u t p) (each_fault s) f.selection_set in
-    e ∙ (λ i. below_or_wrong (λ (d : NodeView FieldDefinition). b (child_of d) within i) place within (typable_field s ty f.name (is_bare-map (each_fault s) f.selection_set i)))
+    e ∙ (λ i. below_or_wrong (λ (d : NodeView FieldDefinition). b (child_of d) within i) location within (typable_field s ty f.name (is_bare-map (each_fault s) f.selection_set i)))
 
-pub faults-fragment : (s : Option Schema) (ty : NameView) (place : Option SourceSpan) (path : SelectionPath) (f : ast_inline.InlineFragment)
-    → faults_of_fragment s ty place path f ≡ below_or_wrong (λ child. faults_of_selections s child path f.selection_set) place path (typable_fragment s ty f.type_condition)
+pub faults-fragment : (s : Option Schema) (ty : NameView) (location : Option SourceSpan) (path : SelectionPath) (f : ast_inline.InlineFragment)
+    → faults_of_fragment s ty location path f ≡ below_or_wrong (λ child. faults_of_selections s child path f.selection_set) location path (typable_fragment s ty f.type_condition)
 unfolding each_fault
-faults-fragment s ty place path f =
-    let e = ap (λ (u : FN). u ty place path) (folds.fold_out-InlineFragment FS FN FN faults_step (field_faults_step s) (fragment_faults_step s) f) in
+faults-fragment s ty location path f =
+    let e = ap (λ (u : FN). u ty location path) (folds.fold_out-InlineFragment FS FN FN faults_step (field_faults_step s) (fragment_faults_step s) f) in
     let b : (t : NameView) (p : SelectionPath) → faults_below (map (each_fault s) f.selection_set) t p ≡ faults_of_selections s t p f.selection_set = λ t p. flat_map-map (λ (u : FS). u t p) (each_fault s) f.selection_set in
-    e ∙ (λ i. below_or_wrong (λ (t : NameView). b t path i) place path (typable_fragment s ty f.type_condition))
+    e ∙ (λ i. below_or_wrong (λ (t : NameView). b t path i) location path (typable_fragment s ty f.type_condition))
 
 -- the code finds what is typable as an option, and pushes what is wrong
 pub is_ok : {A E : Type 0} (r : Result A E) (a : A) → Some a ≡ if_typable (λ x. x) r → r ≡ Ok a
 is_ok {A} (Ok b) a h = ap Ok (sym (ap (λ (o : Option A). unwrap_or o b) h))
 is_ok (Err wrong) a h = cc
 
-pub none_found : {A : Type 0} (below : A → List Fault) (place : Option SourceSpan) (path : SelectionPath) (r : Result A Wrong) → None ≡ if_typable (λ x. x) r → below_or_wrong (λ _. []) place path r ≡ below_or_wrong below place path r
-none_found below place path (Ok b) h = cc
-none_found below place path (Err wrong) h = refl
+pub none_found : {A : Type 0} (below : A → List Fault) (location : Option SourceSpan) (path : SelectionPath) (r : Result A Wrong) → None ≡ if_typable (λ x. x) r → below_or_wrong (λ _. []) location path r ≡ below_or_wrong below location path r
+none_found below location path (Ok b) h = cc
+none_found below location path (Err wrong) h = refl
 
 abbrev fragment_judged : Option Schema → NameView → ast_inline.InlineFragment → Result NameView Wrong
 fragment_judged s ty f = typable_fragment s ty f.type_condition
@@ -90,30 +90,30 @@ pub field_stands : (s : Option Schema) (ty : NameView) (f : ast_field.Field) (d 
     → elaborated_field s ty f ≡ Some (typed_field f.alias f.name f.arguments f.directives (typed_in s f.selection_set) d)
 field_stands s ty f d h = elaborated-field s ty f ∙ ap (if_typable (typed_field f.alias f.name f.arguments f.directives (typed_in s f.selection_set))) (is_ok (field_judged s ty f) d h)
 
-pub field_stands_faults : (s : Option Schema) (ty : NameView) (place : Option SourceSpan) (path : SelectionPath) (f : ast_field.Field) (d : NodeView FieldDefinition) (before : List Fault) → Some d ≡ if_typable (λ d. d) (field_judged s ty f)
-    → (before ++ below_or_wrong (λ _. []) place path (field_judged s ty f)) ++ faults_of_selections s (child_of d) path f.selection_set ≡ before ++ faults_within s ty place path f
-field_stands_faults s ty place path f d before h =
+pub field_stands_faults : (s : Option Schema) (ty : NameView) (location : Option SourceSpan) (path : SelectionPath) (f : ast_field.Field) (d : NodeView FieldDefinition) (before : List Fault) → Some d ≡ if_typable (λ d. d) (field_judged s ty f)
+    → (before ++ below_or_wrong (λ _. []) location path (field_judged s ty f)) ++ faults_of_selections s (child_of d) path f.selection_set ≡ before ++ faults_within s ty location path f
+field_stands_faults s ty location path f d before h =
     let r = is_ok (field_judged s ty f) d h in
-    (λ i. (before ++ below_or_wrong (λ _. []) place path (r i)) ++ faults_of_selections s (child_of d) path f.selection_set)
+    (λ i. (before ++ below_or_wrong (λ _. []) location path (r i)) ++ faults_of_selections s (child_of d) path f.selection_set)
     ∙ ap (λ l. l ++ faults_of_selections s (child_of d) path f.selection_set) (append-nil before)
-    ∙ (λ i. before ++ below_or_wrong (λ (d : NodeView FieldDefinition). faults_of_selections s (child_of d) path f.selection_set) place path (sym r i))
+    ∙ (λ i. before ++ below_or_wrong (λ (d : NodeView FieldDefinition). faults_of_selections s (child_of d) path f.selection_set) location path (sym r i))
 
 pub fragment_stands : (s : Option Schema) (ty : NameView) (f : ast_inline.InlineFragment) (t : NameView) → Some t ≡ if_typable (λ t. t) (fragment_judged s ty f)
     → elaborated_fragment s ty f ≡ Some (typed_inline_fragment f.type_condition f.directives (typed_in s f.selection_set) t)
 fragment_stands s ty f t h = elaborated-fragment s ty f ∙ ap (if_typable (typed_inline_fragment f.type_condition f.directives (typed_in s f.selection_set))) (is_ok (fragment_judged s ty f) t h)
 
-pub fragment_falls_faults : (s : Option Schema) (ty : NameView) (place : Option SourceSpan) (path : SelectionPath) (f : ast_inline.InlineFragment) → None ≡ if_typable (λ t. t) (fragment_judged s ty f)
-    → below_or_wrong (λ _. []) place path (fragment_judged s ty f) ≡ faults_of_fragment s ty place path f
-fragment_falls_faults s ty place path f h = none_found (λ t. faults_of_selections s t path f.selection_set) place path (fragment_judged s ty f) h ∙ sym (faults-fragment s ty place path f)
+pub fragment_falls_faults : (s : Option Schema) (ty : NameView) (location : Option SourceSpan) (path : SelectionPath) (f : ast_inline.InlineFragment) → None ≡ if_typable (λ t. t) (fragment_judged s ty f)
+    → below_or_wrong (λ _. []) location path (fragment_judged s ty f) ≡ faults_of_fragment s ty location path f
+fragment_falls_faults s ty location path f h = none_found (λ t. faults_of_selections s t path f.selection_set) location path (fragment_judged s ty f) h ∙ sym (faults-fragment s ty location path f)
 
-pub fragment_stands_faults : (s : Option Schema) (ty : NameView) (place : Option SourceSpan) (path : SelectionPath) (f : ast_inline.InlineFragment) (t : NameView) (before : List Fault) → Some t ≡ if_typable (λ t. t) (fragment_judged s ty f)
-    → (before ++ below_or_wrong (λ _. []) place path (fragment_judged s ty f)) ++ faults_of_selections s t path f.selection_set ≡ before ++ faults_of_fragment s ty place path f
-fragment_stands_faults s ty place path f t before h =
+pub fragment_stands_faults : (s : Option Schema) (ty : NameView) (location : Option SourceSpan) (path : SelectionPath) (f : ast_inline.InlineFragment) (t : NameView) (before : List Fault) → Some t ≡ if_typable (λ t. t) (fragment_judged s ty f)
+    → (before ++ below_or_wrong (λ _. []) location path (fragment_judged s ty f)) ++ faults_of_selections s t path f.selection_set ≡ before ++ faults_of_fragment s ty location path f
+fragment_stands_faults s ty location path f t before h =
     let r = is_ok (fragment_judged s ty f) t h in
-    (λ i. (before ++ below_or_wrong (λ _. []) place path (r i)) ++ faults_of_selections s t path f.selection_set)
+    (λ i. (before ++ below_or_wrong (λ _. []) location path (r i)) ++ faults_of_selections s t path f.selection_set)
     ∙ ap (λ l. l ++ faults_of_selections s t path f.selection_set) (append-nil before)
-    ∙ (λ i. before ++ below_or_wrong (λ (t : NameView). faults_of_selections s t path f.selection_set) place path (sym r i))
-    ∙ ap (λ l. before ++ l) (sym (faults-fragment s ty place path f))
+    ∙ (λ i. before ++ below_or_wrong (λ (t : NameView). faults_of_selections s t path f.selection_set) location path (sym r i))
+    ∙ ap (λ l. before ++ l) (sym (faults-fragment s ty location path f))
 
 -- what the code makes of a field and of an inline fragment that are typable
 pub field_made : (s : Option Schema) (ty : NameView) (f g : ast_field.Field) (below : List ast.Selection) (d : NodeView FieldDefinition) (child : NameView) (set : SelectionSet) (made : Field) → Some d ≡ if_typable (λ d. d) (field_judged s ty f)

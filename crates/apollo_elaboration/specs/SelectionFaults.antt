@@ -39,25 +39,25 @@ faults_below ss ty path = flat_map (λ (s : FS). s ty path) ss
 
 -- those below what is typable, or what is wrong
 abbrev pub below_or_wrong : {A : Type 0} → (A → List Fault) → Option SourceSpan → SelectionPath → Result A Wrong → List Fault
-below_or_wrong below place path (Ok a) = below a
-below_or_wrong below place path (Err wrong) = wrong place path
+below_or_wrong below location path (Ok a) = below a
+below_or_wrong below location path (Err wrong) = wrong location path
 
 -- one level of a field, and of an inline fragment
 abbrev pub field_faults_step : Option Schema → Field-F FS FN FN → FN
-field_faults_step s f ty place path =
-    below_or_wrong (λ d. faults_below f.selection_set (child_of d) (inside path (response_key_of f.alias f.name))) place (inside path (response_key_of f.alias f.name)) (typable_field s ty f.name (is_bare f.selection_set))
+field_faults_step s f ty location path =
+    below_or_wrong (λ d. faults_below f.selection_set (child_of d) (inside path (response_key_of f.alias f.name))) location (inside path (response_key_of f.alias f.name)) (typable_field s ty f.name (is_bare f.selection_set))
 
 abbrev pub fragment_faults_step : Option Schema → InlineFragment-F FS FN FN → FN
-fragment_faults_step s f ty place path = below_or_wrong (λ child. faults_below f.selection_set child path) place path (typable_fragment s ty f.type_condition)
+fragment_faults_step s f ty location path = below_or_wrong (λ child. faults_below f.selection_set child path) location path (typable_fragment s ty f.type_condition)
 
 abbrev pub faults_of_selection : Option Schema → NameView → SelectionPath → Selection → List Fault
 faults_of_selection s ty path x = folds.fold-Selection FS FN FN faults_step (field_faults_step s) (fragment_faults_step s) x ty path
 
 abbrev pub faults_of_field : Option Schema → NameView → Option SourceSpan → SelectionPath → Field → List Fault
-faults_of_field s ty place path f = folds.fold-Field FS FN FN faults_step (field_faults_step s) (fragment_faults_step s) f ty place path
+faults_of_field s ty location path f = folds.fold-Field FS FN FN faults_step (field_faults_step s) (fragment_faults_step s) f ty location path
 
 abbrev pub faults_of_fragment : Option Schema → NameView → Option SourceSpan → SelectionPath → InlineFragment → List Fault
-faults_of_fragment s ty place path f = folds.fold-InlineFragment FS FN FN faults_step (field_faults_step s) (fragment_faults_step s) f ty place path
+faults_of_fragment s ty location path f = folds.fold-InlineFragment FS FN FN faults_step (field_faults_step s) (fragment_faults_step s) f ty location path
 
 -- those of a list
 abbrev pub faults_of_selections : Option Schema → NameView → SelectionPath → List Selection → List Fault

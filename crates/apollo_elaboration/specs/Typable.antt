@@ -33,8 +33,8 @@ unknown_field name = plain_node (record { description = None; name = name; argum
 
 -- a field that isn't defined is at fault, at its name, if the schema has its type; the fault has the name that the schema has that under
 abbrev pub undefined : NameView → Option NameView → Wrong
-undefined name (Some key) place path = (name.location, e.UndefinedField key name path) ∷ []
-undefined name None place path = []
+undefined name (Some key) location path = (name.location, e.UndefinedField key name path) ∷ []
+undefined name None location path = []
 
 -- the definition that a schema gives for a field, or what is wrong
 abbrev pub defined_as : NameView → Option NameView → Option (Component FieldDefinition) → Result (NodeView FieldDefinition) Wrong
@@ -52,8 +52,8 @@ definition_in (Some s) ty name = defined_in s ty name
 -- what is wrong with subselections from a type: it is a scalar or an enum. Types of the other kinds, and those that the
 -- schema lacks, may have some
 abbrev pub leaf_fault : NameView → Option ExtendedType → Option Wrong
-leaf_fault ty (Some (Scalar n)) = Some (λ place path. (place, e.SubselectionOnScalarType ty path) ∷ [])
-leaf_fault ty (Some (Enum n)) = Some (λ place path. (place, e.SubselectionOnEnumType ty path) ∷ [])
+leaf_fault ty (Some (Scalar n)) = Some (λ location path. (location, e.SubselectionOnScalarType ty path) ∷ [])
+leaf_fault ty (Some (Enum n)) = Some (λ location path. (location, e.SubselectionOnEnumType ty path) ∷ [])
 leaf_fault ty _ = None
 
 -- the type that subselections of a field are from: the name inside all lists of its type
@@ -92,7 +92,7 @@ has_type (Some s) ty = is_some (type_at s.types ty)
 
 abbrev pub if_there : Bool → NameView → Result NameView Wrong
 if_there true condition = Ok condition
-if_there false condition = Err (λ place path. (condition.location, e.UndefinedTypeInInlineFragmentTypeCondition condition path) ∷ [])
+if_there false condition = Err (λ location path. (condition.location, e.UndefinedTypeInInlineFragmentTypeCondition condition path) ∷ [])
 
 -- the child type of an inline fragment that is typable in a type, by its condition, or what is wrong with it
 abbrev pub typable_fragment : Option Schema → NameView → Option NameView → Result NameView Wrong

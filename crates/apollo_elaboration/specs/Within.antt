@@ -9,4 +9,4 @@ use Rattle.apollo_elaboration.specs.Typable.{Fault, child_of, is_bare, typable_f
 use Rattle.apollo_elaboration.specs.declared.selection_path.SelectionPath.{SelectionPath}
 
 abbrev pub faults_within : Option Schema → NameView → Option SourceSpan → SelectionPath → Field → List Fault
-faults_within s ty place path f = below_or_wrong (λ d. faults_of_selections s (child_of d) path f.selection_set) place path (typable_field s ty f.name (is_bare f.selection_set))
+faults_within s ty location path f = below_or_wrong (λ d. faults_of_selections s (child_of d) path f.selection_set) location path (typable_field s ty f.name (is_bare f.selection_set))

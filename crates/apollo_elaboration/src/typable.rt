@@ -69,12 +69,12 @@ fn definition_in(
 fn unless_leaf(
     schema: &Schema,
     definition: Node<FieldDefinition>,
-    place: Option<SourceSpan>,
+    location: Option<SourceSpan>,
     path: &SelectionPath,
     faults: &mut Items<Fault>,
 ) -> Result<Option<Node<FieldDefinition>>, AllocError>
     ensures kept { IfOk result (λ kept. kept ≡ if_typable (λ d. d) (spec.unless_leaf false definition (leaf_at schema.now definition))) }
-    ensures faults { OnOk result (faults.new ≡ faults.old ++ below_or_wrong (λ _. []) place path.now (spec.unless_leaf false definition (leaf_at schema.now definition))) }
+    ensures faults { OnOk result (faults.new ≡ faults.old ++ below_or_wrong (λ _. []) location path.now (spec.unless_leaf false definition (leaf_at schema.now definition))) }
 {
     let ty = definition.ty.inner_named_type();
     let error = match schema.types.get(ty) {
@@ -88,7 +88,7 @@ fn unless_leaf(
         },
         _ => return Ok(Some(definition)),
     };
-    faults.push((place, error))?;
+    faults.push((location, error))?;
     Ok(None)
 }
 
@@ -135,7 +135,7 @@ pub(crate) fn typable_fragment<'a>(
     faults: &mut Items<Fault>,
 ) -> Result<Option<&'a NamedType>, AllocError>
     ensures typable { IfOk result (λ child. option_copied child ≡ if_typable (λ t. t) (spec.typable_fragment (option_copied schema.entry) ty.now fragment.now.type_condition)) }
-    ensures faults { OnOk result ((place : Option SourceSpan) → faults.new ≡ faults.old ++ below_or_wrong (λ _. []) place path.now (spec.typable_fragment (option_copied schema.entry) ty.now fragment.now.type_condition)) }
+    ensures faults { OnOk result ((location : Option SourceSpan) → faults.new ≡ faults.old ++ below_or_wrong (λ _. []) location path.now (spec.typable_fragment (option_copied schema.entry) ty.now fragment.now.type_condition)) }
 {
     let Some(condition) = &fragment.type_condition else {
         return Ok(Some(ty));

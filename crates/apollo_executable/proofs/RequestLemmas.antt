@@ -29,5 +29,5 @@ put_back m None o h = only_put_back m.anonymous m.named o h
 pub put_anew : (m : OperationMap) (name : Option NameView) (o written : NodeView Operation) (w : Operation) (final : OperationMap) → requested m name ≡ Some o
     → written ≡ record { value = w; location = o.location } → final ≡ with_requested m name written → final ≡ with_requested m name (record { value = w; location = operation_location (requested m name) })
 put_anew m name o written w final there is put =
-    let place : o.location ≡ operation_location (requested m name) = ap operation_location (sym there) in
-    put ∙ ap (with_requested m name) is ∙ (λ i. with_requested m name (record { value = w; location = place i }))
+    let location : o.location ≡ operation_location (requested m name) = ap operation_location (sym there) in
+    put ∙ ap (with_requested m name) is ∙ (λ i. with_requested m name (record { value = w; location = location i }))

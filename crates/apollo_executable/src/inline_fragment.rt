@@ -91,7 +91,7 @@ impl InlineFragment {
 }
 
 impl FragmentSpread {
-    /// The selections of the fragment of this name, without directives. It takes no memory.
+    /// A spread of the fragment of this name, without directives (section 2.8). It takes no memory.
     pub fn new(alloc: Global, fragment_name: Name) -> FragmentSpread
         ensures { result ≡ record { fragment_name = fragment_name; directives = record { 0 = [] } } }
     {

@@ -143,7 +143,7 @@ impl OperationMap {
     /// was written: its location, its place in the map and the key that it stands under stay, and so do all other operations.
     ///
     /// An operation that is shared is copied first: [`RequestError::Memory`] is want of memory for that, and comes only where
-    /// there is such an operation. The other errors are those of `get`. After any error the map is as it was.
+    /// `get` finds an operation. The other errors are those of `get`. After any error the map is as it was.
     pub fn get_mut<'n>(
         &mut self,
         name: Option<&'n Name>,

@@ -47,7 +47,8 @@ impl SelectionSet {
     }
 
     /// A field of this name, to be added with [`push`](SelectionSet::push). It carries the definition that the schema's
-    /// [`type_field`](Schema::type_field) gives in the type of this set, and its own set selects from the type which that names.
+    /// [`type_field`](Schema::type_field) gives in the type of this set, and its own set selects from the type which that names,
+    /// inside all lists.
     ///
     /// [`NewFieldError::Lookup`] says that the schema has no such type, or the type no such field; [`NewFieldError::Memory`] is
     /// want of memory, and comes only where the type has the field. Either drops the name.

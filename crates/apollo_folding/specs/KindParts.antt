@@ -1,4 +1,4 @@
--- Which type parts make, by the kind of the first: GraphQL specification of October 2021, sections 3.4.3, and 3.5 to 3.10.
+-- The type that parts make, by the kind of their head: GraphQL specification of October 2021, sections 3.4.3, and 3.5 to 3.10.
 use Rattle.std.specs.Prelude.{◌≡◌, List, refl}
 use Rattle.std.proofs.Common.{sym, subst}
 use Rattle.graphql_nodes.specs.NodeView.{NodeView}
@@ -22,14 +22,15 @@ IsOfParts b head done (Union n) = IsOf Union union_of b head done n
 IsOfParts b head done (Enum n) = IsOf Enum enum_of b head done n
 IsOfParts b head done (InputObject n) = IsOf InputObject input_object_of b head done n
 
--- each kind's own proof of that, which its `impl` gives
-made : (b : TypeBody) (head : TypePart) (done : List Sourced) → IsOfParts b head done (type_of_kind b head done)
-made ScalarBody head done = record { node = refl; more = λ parts. refl }
-made (ObjectBody interfaces fields) head done = record { node = refl; more = λ parts. refl }
-made (InterfaceBody interfaces fields) head done = record { node = refl; more = λ parts. refl }
-made (UnionBody members) head done = record { node = refl; more = λ parts. refl }
-made (EnumBody values) head done = record { node = refl; more = λ parts. refl }
-made (InputObjectBody fields) head done = record { node = refl; more = λ parts. refl }
+-- what parts make is of the kind of their head
+of_parts : (b : TypeBody) (head : TypePart) (done : List Sourced) → IsOfParts b head done (type_of_kind b head done)
+of_parts ScalarBody head done = record { node = refl; more = λ parts. refl }
+of_parts (ObjectBody interfaces fields) head done = record { node = refl; more = λ parts. refl }
+of_parts (InterfaceBody interfaces fields) head done = record { node = refl; more = λ parts. refl }
+of_parts (UnionBody members) head done = record { node = refl; more = λ parts. refl }
+of_parts (EnumBody values) head done = record { node = refl; more = λ parts. refl }
+of_parts (InputObjectBody fields) head done = record { node = refl; more = λ parts. refl }
 
+-- so is a type that is what they make: each `impl` takes its case
 pub made_of : (head : TypePart) (done : List Sourced) (t : ExtendedType) → t ≡ type_from head done → IsOfParts head.body head done t
-made_of head done t h = subst (IsOfParts head.body head done) (sym h) (made head.body head done)
+made_of head done t h = subst (IsOfParts head.body head done) (sym h) (of_parts head.body head done)

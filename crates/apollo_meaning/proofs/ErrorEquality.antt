@@ -6,7 +6,7 @@ use Rattle.graphql_nodes.specs.Comparing.{bare_name}
 use Rattle.graphql_nodes.specs.declared.source.SourceSpan.{SourceSpan}
 use Rattle.graphql_nodes.specs.contracts.source.SourceSpanPartialEq.TheImpl as span
 use Rattle.graphql_nodes.proofs.Comparisons.{At, pairs, names, texts, options}
-use Rattle.graphql_nodes.proofs.PlaceEquality.{source_spans}
+use Rattle.graphql_nodes.proofs.LocationEquality.{source_spans}
 use Rattle.apollo_meaning.specs.Faults.BareErrors.{bare_build_error}
 use Rattle.apollo_meaning.specs.declared.build_error.BuildError.{BuildError}
 use Rattle.apollo_meaning.specs.declared.build_error.BuildError.TheVariants as e

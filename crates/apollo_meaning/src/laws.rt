@@ -99,7 +99,7 @@ pub fn adoption_leaves_no_orphan_names()
 
 /// The definitions on a list with an extension on either side of the definition: the locations of the extensions in folding
 /// order, and the write-out of the type that the name means, computed.
-pub fn extensions_on_either_side()
+pub fn extensions_around()
     ensures order { map folding_location (folding_order (whole false (added false extensions_around))) ≡ line 1 ∷ line 5 ∷ [] }
     ensures writes { option_map write_type (type_of 0 (folding_order (whole false (added false extensions_around))) (whole false (added false extensions_around)) (codes "Q")) ≡ Some written_around }
 {}
@@ -170,7 +170,7 @@ pub fn faults_item_by_item()
 {}
 
 /// The faults of a list, computed: they stand in the order in which they are found, and not in that of the list.
-pub fn faults_in_order_of_discovery()
+pub fn faulty_list()
     ensures { faults_of false (added false faulty_list) ≡ its_faults }
 {}
 
@@ -203,7 +203,7 @@ pub fn extensions_alone_orphaned()
 
 /// An object type `Query` alone, computed: it is the query root of a schema definition that nothing wrote, with adoption
 /// and without, and nothing is at fault. GraphQL specification of October 2021, section 3.3.1.
-pub fn query_type_implies_its_root()
+pub fn query_type_alone()
     ensures definition { schema_of 0 (folding_order (whole false (added false query_type_alone))) (whole false (added false query_type_alone)) ≡ Some implied_query }
     ensures faults { faults_of false (added false query_type_alone) ≡ [] }
     ensures adopting_definition { schema_of 0 (folding_order (whole true (added false query_type_alone))) (whole true (added false query_type_alone)) ≡ Some implied_query }

@@ -46,7 +46,7 @@ impl Schema {
     ghost use Rattle.apollo_schema.specs.SchemaWriteOut.{write_schema};
     ghost use Rattle.apollo_schema.specs.BuilderStands.{StandsFor, adopts, ignores, sources_of};
 
-    /// A builder of schemas. See [`SchemaBuilder::new`].
+    /// A builder of the built-in definitions alone, as [`SchemaBuilder::new`] makes it. The error is want of memory.
     pub fn builder(alloc: Global) -> Result<SchemaBuilder, AllocError>
         ensures stands { IfOk result (StandsFor 0 (added false built_in_definitions)) }
         ensures settings { IfOk result (λ builder. (adopts builder ≡ false) × (ignores builder ≡ false)) }
@@ -103,8 +103,9 @@ impl Schema {
     /// each type, in order, as its definition and its extensions (section 3).
     ///
     /// The schema definition is left out where it would be implied, or has no root of its own, as
-    /// [`SchemaDefinition::to_ast`] says; its extensions are always there. Built-in definitions of types and directives are left
-    /// out, but not the extensions of those types. The error is want of memory.
+    /// [`SchemaDefinition::to_ast`] says: its description and its own directives are not written then. Its extensions are always
+    /// there. Built-in definitions of types and directives are left out, but not the extensions of those types. The error is want
+    /// of memory.
     pub fn to_ast(&self, alloc: Global) -> Result<Vec<Definition>, AllocError>
         ensures { IfOk result (λ written. written.items ≡ write_schema self.now) }
     {

@@ -1,4 +1,5 @@
-//! The schema builder: documents go in, in any number and order of definitions, and a schema comes out.
+//! The schema builder: documents go in, in any number and order of definitions, and a schema comes out. GraphQL specification of
+//! October 2021, section 3.
 ghost use Rattle.std.specs.Prelude.{◌≡◌, false, true, ℕ, ◌+◌, ◌≤◌, List, [], ◌++◌, All, is_some, Err, OnOk, OnErr, IfOk, IfErr, ◌↔◌};
 ghost use Rattle.apollo_component.specs.Extensions.{next_number, source_at};
 ghost use Rattle.apollo_meaning.specs.Items.ListItems.{Added, added};

@@ -13,7 +13,7 @@ use graphql_nodes::collections::table::Table;
 use graphql_nodes::name::Name;
 use graphql_nodes::operation_type::OperationType;
 use graphql_nodes::source::SourceMap;
-use likeness::push_place;
+use likeness::push_location;
 use std::alloc::AllocError;
 
 /// Adds a component's name and where it comes from: the definition, or an extension by its number and line.
@@ -129,8 +129,8 @@ pub fn push_schema(text: &mut String, schema: &Schema) -> Result<(), AllocError>
 /// Adds faults, each with its location.
 /// No clause: it serves tests.
 pub fn push_faults(text: &mut String, faults: &[Fault]) -> Result<(), AllocError> {
-    for (place, error) in faults {
-        push_place(text, *place)?;
+    for (location, error) in faults {
+        push_location(text, *location)?;
         write!(text, "{error}\n")?;
     }
     Ok(())

@@ -28,8 +28,10 @@ fn first_two(alloc: Global) -> Option<(ExtensionId, ExtensionId)> {
 
 /// Whether these are the first two identities, and differ.
 fn are_first_two(first: &ExtensionId, second: &ExtensionId) -> bool {
-    let places = (first.location(), second.location());
-    (first.number(), second.number()) == (0, 1) && places == (Some(PLACE), None) && first != second
+    let locations = (first.location(), second.location());
+    (first.number(), second.number()) == (0, 1)
+        && locations == (Some(PLACE), None)
+        && first != second
 }
 
 /// Whether a node is made at the location of the identity.
@@ -41,7 +43,7 @@ fn is_beside(alloc: Global, id: &ExtensionId) -> bool {
 }
 
 /// Whether the first identity of another source is equal, without a location.
-fn is_place_left_out(first: &ExtensionId) -> bool {
+fn is_location_left_out(first: &ExtensionId) -> bool {
     match ExtensionSource::new().draw(None) {
         Ok(again) => are_alike(first, &again),
         Err(_) => false,
@@ -53,7 +55,7 @@ fn numbers_are_drawn_in_order(rt: HostRuntime) -> Result<(), Fail> {
     let alloc = rt.alloc();
     let (first, second) = first_two(alloc).ok_or("no two identities")?;
     assert!(rt; are_first_two(&first, &second));
-    assert!(rt; is_beside(alloc, &first) && is_place_left_out(&first));
+    assert!(rt; is_beside(alloc, &first) && is_location_left_out(&first));
     Ok(())
 }
 
@@ -144,7 +146,7 @@ fn copied(alloc: Global, origin: ComponentOrigin) -> Result<Component<char>, All
 }
 
 #[test]
-fn copies_keep_places_and_origins(rt: HostRuntime) -> Result<(), Fail> {
+fn copies_keep_locations_and_origins(rt: HostRuntime) -> Result<(), Fail> {
     let origin = origin()?;
     assert!(rt; is_of(copied(rt.alloc(), origin), origin));
     Ok(())

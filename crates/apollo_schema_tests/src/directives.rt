@@ -9,7 +9,7 @@ use graphql_nodes::source::{FileId, SourceSpan};
 use std::alloc::{AllocError, Global};
 
 /// The location that begins there.
-fn place(start: usize) -> SourceSpan {
+fn location(start: usize) -> SourceSpan {
     SourceSpan {
         file: FileId(5),
         start,
@@ -25,7 +25,7 @@ fn name(alloc: Global, text: &str) -> Result<Name, AllocError> {
 /// The directive of this name, at this location.
 fn directive(alloc: Global, text: &str, start: usize) -> Result<Component<Directive>, AllocError> {
     let directive = Directive::new(alloc, name(alloc, text)?);
-    let node = Node::new_opt_location(alloc, directive, Some(place(start)))?;
+    let node = Node::new_opt_location(alloc, directive, Some(location(start)))?;
     Ok(Component::from(node))
 }
 
@@ -50,7 +50,7 @@ fn list(alloc: Global) -> Result<DirectiveList, AllocError> {
 
 /// Where the directive begins.
 fn start_of(directive: &Component<Directive>) -> Option<usize> {
-    directive.location().map(|place| place.start)
+    directive.location().map(|location| location.start)
 }
 
 /// Whether `@a` is found at 1, and there are no others of the name than that and the one at 3.

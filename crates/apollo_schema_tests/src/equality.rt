@@ -85,7 +85,7 @@ fn schemas_that_differ_in_one_value_are_unequal(rt: HostRuntime) -> Result<(), F
 }
 
 #[test]
-fn schemas_that_differ_in_order_origin_or_place_are_equal(rt: HostRuntime) -> Result<(), Fail> {
+fn schemas_that_differ_in_order_origin_or_location_are_equal(rt: HostRuntime) -> Result<(), Fail> {
     // The order of types, of directive definitions, of fields, of interfaces, of members and of values; the origin of a
     // field, of a directive and of a root, each on its own line; locations alone, and documents.
     for (one, other) in [

@@ -123,7 +123,7 @@ fn push_made(alloc: Global, text: &mut String, ty: &ExtendedType) -> Result<(), 
     let made = made_again(alloc, ty)?;
     push_if(
         text,
-        "made again at no place",
+        "made again at no location",
         made == *ty && made.location().is_none(),
     )
 }
@@ -154,6 +154,6 @@ impl Question for Kinds {
 #[test]
 fn types_are_told_by_their_kinds(rt: HostRuntime) -> Result<(), Fail> {
     let expected =
-        "S: scalar leaf input output with directives made again at no place\nO: object output made again at no place\nI: interface output made again at no place\nU: union output made again at no place\nE: enum leaf input output made again at no place\nN: input object input made again at no place\n";
+        "S: scalar leaf input output with directives made again at no location\nO: object output made again at no location\nI: interface output made again at no location\nU: union output made again at no location\nE: enum leaf input output made again at no location\nN: input object input made again at no location\n";
     expect(&rt, &Kinds, KINDS, expected)
 }

@@ -53,4 +53,4 @@ is_written types s = has_own_root s && not (is_implied types s)
 
 -- the definition, if it is written, then an extension for each identity
 abbrev pub write_schema_definition : SchemaDefinition → Option SourceSpan → List (NameView × ExtendedType) → List Definition
-write_schema_definition s place types = written_schema (is_written types s) s.description (by_origin (schema_components s)) place
+write_schema_definition s location types = written_schema (is_written types s) s.description (by_origin (schema_components s)) location

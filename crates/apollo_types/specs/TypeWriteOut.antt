@@ -88,22 +88,22 @@ type_components (InputObject n) = input_object_components n.value
 
 -- the definition, at this location, then an extension for each identity
 abbrev pub write_scalar : ScalarType → Option SourceSpan → List Definition
-write_scalar t place = written_type kinds.Scalar t.description t.name (by_origin (scalar_components t)) place
+write_scalar t location = written_type kinds.Scalar t.description t.name (by_origin (scalar_components t)) location
 
 abbrev pub write_object : ObjectType → Option SourceSpan → List Definition
-write_object t place = written_type kinds.Object t.description t.name (by_origin (object_components t)) place
+write_object t location = written_type kinds.Object t.description t.name (by_origin (object_components t)) location
 
 abbrev pub write_interface : InterfaceType → Option SourceSpan → List Definition
-write_interface t place = written_type kinds.Interface t.description t.name (by_origin (interface_components t)) place
+write_interface t location = written_type kinds.Interface t.description t.name (by_origin (interface_components t)) location
 
 abbrev pub write_union : UnionType → Option SourceSpan → List Definition
-write_union t place = written_type kinds.Union t.description t.name (by_origin (union_components t)) place
+write_union t location = written_type kinds.Union t.description t.name (by_origin (union_components t)) location
 
 abbrev pub write_enum : EnumType → Option SourceSpan → List Definition
-write_enum t place = written_type kinds.Enum t.description t.name (by_origin (enum_components t)) place
+write_enum t location = written_type kinds.Enum t.description t.name (by_origin (enum_components t)) location
 
 abbrev pub write_input_object : InputObjectType → Option SourceSpan → List Definition
-write_input_object t place = written_type kinds.InputObject t.description t.name (by_origin (input_object_components t)) place
+write_input_object t location = written_type kinds.InputObject t.description t.name (by_origin (input_object_components t)) location
 
 -- the definition, where the type stands, then its extensions
 abbrev pub write_type : ExtendedType → List Definition

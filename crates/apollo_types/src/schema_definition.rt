@@ -138,7 +138,8 @@ impl SchemaDefinition {
     /// The schema definition is left out where none of its roots is the definition's, and where it says nothing: it has
     /// no description, no directive and no extension, and each operation type has just the root that it would have
     /// without a schema definition. That is the type of the default name (`Query`, `Mutation` or `Subscription`) where
-    /// `types` has an object type of this name, and else none. The extensions are always there.
+    /// `types` has an object type of this name, and else none. Where it has no root of its own, its description and its own
+    /// directives are not written. The extensions are always there.
     ///
     /// The error is want of memory.
     pub fn to_ast(

@@ -45,44 +45,44 @@ rest_is e = ap tail_of e
 pub other_word : {a b : List ℕ} {xs ys : List (List ℕ)} → false ≡ pointwise nat_eq a b → ¬ (a ∷ xs ≡ b ∷ ys)
 other_word {a = a} {b = b} test e = other_text a b test (ap (λ (l : List (List ℕ)). get_or l 0 []) e)
 
-pub no_field : (above : Above) (place : SourceSpan) (rest : List (List ℕ)) → ((name : NameView) (ty : TypeReference) → AreNameAndType place rest name ty → ¬ (has_fields (kind_above above) ≡ true)) → SayNoComponent above place (codes "field" ∷ rest)
-no_field above place rest none (c.Directive name) says may = other_word refl says.0
-no_field above place rest none (c.Implements name) says may = other_word refl says.0
-no_field above place rest none (c.Field name ty) says may = none name ty (rest_is says.0, says.1) may
-no_field above place rest none (c.FieldDirective name) says may = other_word refl says.0
-no_field above place rest none (c.Argument name ty) says may = other_word refl says.0
-no_field above place rest none (c.Member name) says may = other_word refl says.0
-no_field above place rest none (c.Value name) says may = other_word refl says.0
-no_field above place rest none (c.On location) says may = other_word refl says
-no_field above place rest none c.Repeatable says may = other_word refl says
-no_field above place rest none (c.Root operation name) says may = other_word refl says.0
-no_field above place rest none (c.Selection depth selected) says may = other_word refl says.0
+pub no_field : (above : Above) (location : SourceSpan) (rest : List (List ℕ)) → ((name : NameView) (ty : TypeReference) → AreNameAndType location rest name ty → ¬ (has_fields (kind_above above) ≡ true)) → SayNoComponent above location (codes "field" ∷ rest)
+no_field above location rest none (c.Directive name) says may = other_word refl says.0
+no_field above location rest none (c.Implements name) says may = other_word refl says.0
+no_field above location rest none (c.Field name ty) says may = none name ty (rest_is says.0, says.1) may
+no_field above location rest none (c.FieldDirective name) says may = other_word refl says.0
+no_field above location rest none (c.Argument name ty) says may = other_word refl says.0
+no_field above location rest none (c.Member name) says may = other_word refl says.0
+no_field above location rest none (c.Value name) says may = other_word refl says.0
+no_field above location rest none (c.On directive_location) says may = other_word refl says
+no_field above location rest none c.Repeatable says may = other_word refl says
+no_field above location rest none (c.Root operation name) says may = other_word refl says.0
+no_field above location rest none (c.Selection depth selected) says may = other_word refl says.0
 
-pub no_argument : (above : Above) (place : SourceSpan) (rest : List (List ℕ)) → ((name : NameView) (ty : TypeReference) → AreNameAndType place rest name ty → ¬ (takes_arguments above ≡ true)) → SayNoComponent above place (codes "arg" ∷ rest)
-no_argument above place rest none (c.Directive name) says may = other_word refl says.0
-no_argument above place rest none (c.Implements name) says may = other_word refl says.0
-no_argument above place rest none (c.Field name ty) says may = other_word refl says.0
-no_argument above place rest none (c.FieldDirective name) says may = other_word refl says.0
-no_argument above place rest none (c.Argument name ty) says may = none name ty (rest_is says.0, says.1) may
-no_argument above place rest none (c.Member name) says may = other_word refl says.0
-no_argument above place rest none (c.Value name) says may = other_word refl says.0
-no_argument above place rest none (c.On location) says may = other_word refl says
-no_argument above place rest none c.Repeatable says may = other_word refl says
-no_argument above place rest none (c.Root operation name) says may = other_word refl says.0
-no_argument above place rest none (c.Selection depth selected) says may = other_word refl says.0
+pub no_argument : (above : Above) (location : SourceSpan) (rest : List (List ℕ)) → ((name : NameView) (ty : TypeReference) → AreNameAndType location rest name ty → ¬ (takes_arguments above ≡ true)) → SayNoComponent above location (codes "arg" ∷ rest)
+no_argument above location rest none (c.Directive name) says may = other_word refl says.0
+no_argument above location rest none (c.Implements name) says may = other_word refl says.0
+no_argument above location rest none (c.Field name ty) says may = other_word refl says.0
+no_argument above location rest none (c.FieldDirective name) says may = other_word refl says.0
+no_argument above location rest none (c.Argument name ty) says may = none name ty (rest_is says.0, says.1) may
+no_argument above location rest none (c.Member name) says may = other_word refl says.0
+no_argument above location rest none (c.Value name) says may = other_word refl says.0
+no_argument above location rest none (c.On directive_location) says may = other_word refl says
+no_argument above location rest none c.Repeatable says may = other_word refl says
+no_argument above location rest none (c.Root operation name) says may = other_word refl says.0
+no_argument above location rest none (c.Selection depth selected) says may = other_word refl says.0
 
-pub no_selection : (above : Above) (place : SourceSpan) (rest : List (List ℕ)) → ((depth : ℕ) (selected : Selected) → AreSelection place rest depth selected → ¬ (nat_lt depth (levels_above above) ≡ true)) → SayNoComponent above place (codes "sel" ∷ rest)
-no_selection above place rest none (c.Directive name) says may = other_word refl says.0
-no_selection above place rest none (c.Implements name) says may = other_word refl says.0
-no_selection above place rest none (c.Field name ty) says may = other_word refl says.0
-no_selection above place rest none (c.FieldDirective name) says may = other_word refl says.0
-no_selection above place rest none (c.Argument name ty) says may = other_word refl says.0
-no_selection above place rest none (c.Member name) says may = other_word refl says.0
-no_selection above place rest none (c.Value name) says may = other_word refl says.0
-no_selection above place rest none (c.On location) says may = other_word refl says
-no_selection above place rest none c.Repeatable says may = other_word refl says
-no_selection above place rest none (c.Root operation name) says may = other_word refl says.0
-no_selection above place rest none (c.Selection depth selected) says may = none depth selected (rest_is says.0, says.1) may
+pub no_selection : (above : Above) (location : SourceSpan) (rest : List (List ℕ)) → ((depth : ℕ) (selected : Selected) → AreSelection location rest depth selected → ¬ (nat_lt depth (levels_above above) ≡ true)) → SayNoComponent above location (codes "sel" ∷ rest)
+no_selection above location rest none (c.Directive name) says may = other_word refl says.0
+no_selection above location rest none (c.Implements name) says may = other_word refl says.0
+no_selection above location rest none (c.Field name ty) says may = other_word refl says.0
+no_selection above location rest none (c.FieldDirective name) says may = other_word refl says.0
+no_selection above location rest none (c.Argument name ty) says may = other_word refl says.0
+no_selection above location rest none (c.Member name) says may = other_word refl says.0
+no_selection above location rest none (c.Value name) says may = other_word refl says.0
+no_selection above location rest none (c.On directive_location) says may = other_word refl says
+no_selection above location rest none c.Repeatable says may = other_word refl says
+no_selection above location rest none (c.Root operation name) says may = other_word refl says.0
+no_selection above location rest none (c.Selection depth selected) says may = none depth selected (rest_is says.0, says.1) may
 
 abbrev Differ : List ℕ → List ℕ → Type 0
 Differ word other = false ≡ pointwise nat_eq word other
@@ -103,84 +103,84 @@ record IsHeaderWord (word : List ℕ) : Type 0 where
   root : Differ word (codes "root")
   selection : Differ word (codes "sel")
 
-no_header : (position : Position) (place : SourceSpan) (word : List ℕ) (rest : List (List ℕ)) → IsHeaderWord word → ((header : Header) → ¬ SaysHeader place (word ∷ rest) header) → SayNoLine position place (word ∷ rest)
-no_header position place word rest is none l.Empty says may = says
-no_header position place word rest is none l.Break says may = other_word is.pause says
-no_header position place word rest is none l.Division says may = other_word is.division says
-no_header position place word rest is none (l.Header header) says may = none header says
-no_header position place word rest is none (l.Component (c.Directive name)) says may = other_word is.directive says.0
-no_header position place word rest is none (l.Component (c.Implements name)) says may = other_word is.implements says.0
-no_header position place word rest is none (l.Component (c.Field name ty)) says may = other_word is.field says.0
-no_header position place word rest is none (l.Component (c.FieldDirective name)) says may = other_word is.field_directive says.0
-no_header position place word rest is none (l.Component (c.Argument name ty)) says may = other_word is.argument says.0
-no_header position place word rest is none (l.Component (c.Member name)) says may = other_word is.member says.0
-no_header position place word rest is none (l.Component (c.Value name)) says may = other_word is.value says.0
-no_header position place word rest is none (l.Component (c.On location)) says may = other_word is.on says
-no_header position place word rest is none (l.Component c.Repeatable) says may = other_word is.repeatable says
-no_header position place word rest is none (l.Component (c.Root operation name)) says may = other_word is.root says.0
-no_header position place word rest is none (l.Component (c.Selection depth selected)) says may = other_word is.selection says.0
+no_header : (position : Position) (location : SourceSpan) (word : List ℕ) (rest : List (List ℕ)) → IsHeaderWord word → ((header : Header) → ¬ SaysHeader location (word ∷ rest) header) → SayNoLine position location (word ∷ rest)
+no_header position location word rest is none l.Empty says may = says
+no_header position location word rest is none l.Break says may = other_word is.pause says
+no_header position location word rest is none l.Division says may = other_word is.division says
+no_header position location word rest is none (l.Header header) says may = none header says
+no_header position location word rest is none (l.Component (c.Directive name)) says may = other_word is.directive says.0
+no_header position location word rest is none (l.Component (c.Implements name)) says may = other_word is.implements says.0
+no_header position location word rest is none (l.Component (c.Field name ty)) says may = other_word is.field says.0
+no_header position location word rest is none (l.Component (c.FieldDirective name)) says may = other_word is.field_directive says.0
+no_header position location word rest is none (l.Component (c.Argument name ty)) says may = other_word is.argument says.0
+no_header position location word rest is none (l.Component (c.Member name)) says may = other_word is.member says.0
+no_header position location word rest is none (l.Component (c.Value name)) says may = other_word is.value says.0
+no_header position location word rest is none (l.Component (c.On directive_location)) says may = other_word is.on says
+no_header position location word rest is none (l.Component c.Repeatable) says may = other_word is.repeatable says
+no_header position location word rest is none (l.Component (c.Root operation name)) says may = other_word is.root says.0
+no_header position location word rest is none (l.Component (c.Selection depth selected)) says may = other_word is.selection says.0
 
 -- a line that begins as the header of a type, and has no kind and name after that
-pub no_type_header : (position : Position) (place : SourceSpan) (role : Role) (rest : List (List ℕ)) → ((header : Header) → ¬ SaysHeader place (role_word role ∷ rest) header) → SayNoLine position place (role_word role ∷ rest)
-no_type_header position place r.Definition rest none =
-    no_header position place (codes "def") rest record { pause = refl; division = refl; directive = refl; implements = refl; field = refl; field_directive = refl; argument = refl; member = refl; value = refl; on = refl; repeatable = refl; root = refl; selection = refl } none
-no_type_header position place r.Extension rest none =
-    no_header position place (codes "ext") rest record { pause = refl; division = refl; directive = refl; implements = refl; field = refl; field_directive = refl; argument = refl; member = refl; value = refl; on = refl; repeatable = refl; root = refl; selection = refl } none
+pub no_type_header : (position : Position) (location : SourceSpan) (role : Role) (rest : List (List ℕ)) → ((header : Header) → ¬ SaysHeader location (role_word role ∷ rest) header) → SayNoLine position location (role_word role ∷ rest)
+no_type_header position location r.Definition rest none =
+    no_header position location (codes "def") rest record { pause = refl; division = refl; directive = refl; implements = refl; field = refl; field_directive = refl; argument = refl; member = refl; value = refl; on = refl; repeatable = refl; root = refl; selection = refl } none
+no_type_header position location r.Extension rest none =
+    no_header position location (codes "ext") rest record { pause = refl; division = refl; directive = refl; implements = refl; field = refl; field_directive = refl; argument = refl; member = refl; value = refl; on = refl; repeatable = refl; root = refl; selection = refl } none
 
-other_header : (place : SourceSpan) (rest : List (List ℕ)) → ((name : NameView) → ¬ AreName place rest name) → (header : Header) → ¬ SaysHeader place (codes "directive" ∷ rest) header
-other_header place rest none (h.Type r.Definition kind name) says = other_word refl says.0
-other_header place rest none (h.Type r.Extension kind name) says = other_word refl says.0
-other_header place rest none (h.Directive name) says = none name (rest_is says.0, says.1)
-other_header place rest none (h.Schema r.Definition) says = other_word refl says
-other_header place rest none (h.Schema r.Extension) says = other_word refl says
-other_header place rest none (h.Executable (x.Operation operation name)) says = other_word refl says.0
-other_header place rest none (h.Executable (x.Fragment name condition)) says = other_word refl says.0
+other_header : (location : SourceSpan) (rest : List (List ℕ)) → ((name : NameView) → ¬ AreName location rest name) → (header : Header) → ¬ SaysHeader location (codes "directive" ∷ rest) header
+other_header location rest none (h.Type r.Definition kind name) says = other_word refl says.0
+other_header location rest none (h.Type r.Extension kind name) says = other_word refl says.0
+other_header location rest none (h.Directive name) says = none name (rest_is says.0, says.1)
+other_header location rest none (h.Schema r.Definition) says = other_word refl says
+other_header location rest none (h.Schema r.Extension) says = other_word refl says
+other_header location rest none (h.Executable (x.Operation operation name)) says = other_word refl says.0
+other_header location rest none (h.Executable (x.Fragment name condition)) says = other_word refl says.0
 
 -- a line that begins as the header of a directive, and has no name after that
-pub no_directive_header : (position : Position) (place : SourceSpan) (rest : List (List ℕ)) → ((name : NameView) → ¬ AreName place rest name) → SayNoLine position place (codes "directive" ∷ rest)
-no_directive_header position place rest none =
-    no_header position place (codes "directive") rest record { pause = refl; division = refl; directive = refl; implements = refl; field = refl; field_directive = refl; argument = refl; member = refl; value = refl; on = refl; repeatable = refl; root = refl; selection = refl } (other_header place rest none)
+pub no_directive_header : (position : Position) (location : SourceSpan) (rest : List (List ℕ)) → ((name : NameView) → ¬ AreName location rest name) → SayNoLine position location (codes "directive" ∷ rest)
+no_directive_header position location rest none =
+    no_header position location (codes "directive") rest record { pause = refl; division = refl; directive = refl; implements = refl; field = refl; field_directive = refl; argument = refl; member = refl; value = refl; on = refl; repeatable = refl; root = refl; selection = refl } (other_header location rest none)
 
-not_operation : (place : SourceSpan) (rest : List (List ℕ)) → ((operation : OperationType) (name : Option NameView) → ¬ AreOperation place rest operation name) → (header : Header) → ¬ SaysHeader place (codes "operation" ∷ rest) header
-not_operation place rest none (h.Type r.Definition kind name) says = other_word refl says.0
-not_operation place rest none (h.Type r.Extension kind name) says = other_word refl says.0
-not_operation place rest none (h.Directive name) says = other_word refl says.0
-not_operation place rest none (h.Schema r.Definition) says = other_word refl says
-not_operation place rest none (h.Schema r.Extension) says = other_word refl says
-not_operation place rest none (h.Executable (x.Operation operation name)) says = none operation name (rest_is says.0, says.1)
-not_operation place rest none (h.Executable (x.Fragment name condition)) says = other_word refl says.0
+not_operation : (location : SourceSpan) (rest : List (List ℕ)) → ((operation : OperationType) (name : Option NameView) → ¬ AreOperation location rest operation name) → (header : Header) → ¬ SaysHeader location (codes "operation" ∷ rest) header
+not_operation location rest none (h.Type r.Definition kind name) says = other_word refl says.0
+not_operation location rest none (h.Type r.Extension kind name) says = other_word refl says.0
+not_operation location rest none (h.Directive name) says = other_word refl says.0
+not_operation location rest none (h.Schema r.Definition) says = other_word refl says
+not_operation location rest none (h.Schema r.Extension) says = other_word refl says
+not_operation location rest none (h.Executable (x.Operation operation name)) says = none operation name (rest_is says.0, says.1)
+not_operation location rest none (h.Executable (x.Fragment name condition)) says = other_word refl says.0
 
 -- a line that begins as the header of an operation, and has no kind and name after that
-pub no_operation_header : (position : Position) (place : SourceSpan) (rest : List (List ℕ)) → ((operation : OperationType) (name : Option NameView) → ¬ AreOperation place rest operation name) → SayNoLine position place (codes "operation" ∷ rest)
-no_operation_header position place rest none =
-    no_header position place (codes "operation") rest record { pause = refl; division = refl; directive = refl; implements = refl; field = refl; field_directive = refl; argument = refl; member = refl; value = refl; on = refl; repeatable = refl; root = refl; selection = refl } (not_operation place rest none)
+pub no_operation_header : (position : Position) (location : SourceSpan) (rest : List (List ℕ)) → ((operation : OperationType) (name : Option NameView) → ¬ AreOperation location rest operation name) → SayNoLine position location (codes "operation" ∷ rest)
+no_operation_header position location rest none =
+    no_header position location (codes "operation") rest record { pause = refl; division = refl; directive = refl; implements = refl; field = refl; field_directive = refl; argument = refl; member = refl; value = refl; on = refl; repeatable = refl; root = refl; selection = refl } (not_operation location rest none)
 
-not_fragment : (place : SourceSpan) (rest : List (List ℕ)) → ((name condition : NameView) → ¬ AreFragment place rest name condition) → (header : Header) → ¬ SaysHeader place (codes "fragment" ∷ rest) header
-not_fragment place rest none (h.Type r.Definition kind name) says = other_word refl says.0
-not_fragment place rest none (h.Type r.Extension kind name) says = other_word refl says.0
-not_fragment place rest none (h.Directive name) says = other_word refl says.0
-not_fragment place rest none (h.Schema r.Definition) says = other_word refl says
-not_fragment place rest none (h.Schema r.Extension) says = other_word refl says
-not_fragment place rest none (h.Executable (x.Operation operation name)) says = other_word refl says.0
-not_fragment place rest none (h.Executable (x.Fragment name condition)) says = none name condition (rest_is says.0, says.1)
+not_fragment : (location : SourceSpan) (rest : List (List ℕ)) → ((name condition : NameView) → ¬ AreFragment location rest name condition) → (header : Header) → ¬ SaysHeader location (codes "fragment" ∷ rest) header
+not_fragment location rest none (h.Type r.Definition kind name) says = other_word refl says.0
+not_fragment location rest none (h.Type r.Extension kind name) says = other_word refl says.0
+not_fragment location rest none (h.Directive name) says = other_word refl says.0
+not_fragment location rest none (h.Schema r.Definition) says = other_word refl says
+not_fragment location rest none (h.Schema r.Extension) says = other_word refl says
+not_fragment location rest none (h.Executable (x.Operation operation name)) says = other_word refl says.0
+not_fragment location rest none (h.Executable (x.Fragment name condition)) says = none name condition (rest_is says.0, says.1)
 
 -- a line that begins as the header of a fragment, and has no two names after that
-pub no_fragment_header : (position : Position) (place : SourceSpan) (rest : List (List ℕ)) → ((name condition : NameView) → ¬ AreFragment place rest name condition) → SayNoLine position place (codes "fragment" ∷ rest)
-no_fragment_header position place rest none =
-    no_header position place (codes "fragment") rest record { pause = refl; division = refl; directive = refl; implements = refl; field = refl; field_directive = refl; argument = refl; member = refl; value = refl; on = refl; repeatable = refl; root = refl; selection = refl } (not_fragment place rest none)
+pub no_fragment_header : (position : Position) (location : SourceSpan) (rest : List (List ℕ)) → ((name condition : NameView) → ¬ AreFragment location rest name condition) → SayNoLine position location (codes "fragment" ∷ rest)
+no_fragment_header position location rest none =
+    no_header position location (codes "fragment") rest record { pause = refl; division = refl; directive = refl; implements = refl; field = refl; field_directive = refl; argument = refl; member = refl; value = refl; on = refl; repeatable = refl; root = refl; selection = refl } (not_fragment location rest none)
 
 -- what its words say, a line says
-pub says_line : (place : SourceSpan) (text : List ℕ) (line : Line) → SayLine place (words_of text) line → Says place text line
-says_line place text l.Empty say = absurd say
-says_line place text l.Break say = say
-says_line place text l.Division say = say
-says_line place text (l.Header header) say = say
-says_line place text (l.Component component) say = say
+pub says_line : (location : SourceSpan) (text : List ℕ) (line : Line) → SayLine location (words_of text) line → Says location text line
+says_line location text l.Empty say = absurd say
+says_line location text l.Break say = say
+says_line location text l.Division say = say
+says_line location text (l.Header header) say = say
+says_line location text (l.Component component) say = say
 
 -- a line that is not empty, and whose words say no line
-pub says_nothing : (position : Position) (place : SourceSpan) (text : List ℕ) → ¬ (text ≡ []) → SayNoLine position place (words_of text) → SaysNothing position place text
-says_nothing position place text full none l.Empty says = absurd (full says)
-says_nothing position place text full none l.Break says = none l.Break says
-says_nothing position place text full none l.Division says = none l.Division says
-says_nothing position place text full none (l.Header header) says = none (l.Header header) says
-says_nothing position place text full none (l.Component component) says = none (l.Component component) says
+pub says_nothing : (position : Position) (location : SourceSpan) (text : List ℕ) → ¬ (text ≡ []) → SayNoLine position location (words_of text) → SaysNothing position location text
+says_nothing position location text full none l.Empty says = absurd (full says)
+says_nothing position location text full none l.Break says = none l.Break says
+says_nothing position location text full none l.Division says = none l.Division says
+says_nothing position location text full none (l.Header header) says = none (l.Header header) says
+says_nothing position location text full none (l.Component component) says = none (l.Component component) says

@@ -35,37 +35,37 @@ use Rattle.bench_notation.specs.declared.item.OpenItem.{OpenItem}
 
 -- a node that stands at this location
 abbrev pub node_at : {A : Type 0} → SourceSpan → A → NodeView A
-node_at place value = record { value = value; location = Some place }
+node_at location value = record { value = value; location = Some location }
 
 -- a directive without arguments
 abbrev pub applied_directive : NameView → SourceSpan → NodeView Directive
-applied_directive name place = node_at place record { name = name; arguments = [] }
+applied_directive name location = node_at location record { name = name; arguments = [] }
 
 -- an argument's definition, or that of a field of an input object
 abbrev pub input_value : NameView → TypeReference → DirectiveList → SourceSpan → NodeView InputValueDefinition
-input_value name ty directives place = node_at place record {
+input_value name ty directives location = node_at location record {
   description = None;
   name = name;
-  ty = node_at place ty;
+  ty = node_at location ty;
   default_value = None;
   directives = directives;
 }
 
 -- a value of an enum
 abbrev pub enum_value : NameView → SourceSpan → NodeView EnumValueDefinition
-enum_value name place = node_at place record { description = None; value = name; directives = record { 0 = [] } }
+enum_value name location = node_at location record { description = None; value = name; directives = record { 0 = [] } }
 
 -- a root of the schema
 abbrev pub root_operation : OperationType → NameView → SourceSpan → NodeView (OperationType × NameView)
-root_operation operation name place = node_at place (operation, name)
+root_operation operation name location = node_at location (operation, name)
 
 -- a field alone
 abbrev pub field_alone : NameView → TypeReference → SourceSpan → OpenField
-field_alone name ty place = record { place = place; name = name; ty = ty; arguments = []; directives = record { 0 = [] } }
+field_alone name ty location = record { location = location; name = name; ty = ty; arguments = []; directives = record { 0 = [] } }
 
 -- a field with its arguments and directives
 abbrev pub field_node : OpenField → NodeView FieldDefinition
-field_node field = node_at field.place record {
+field_node field = node_at field.location record {
   description = None;
   name = field.name;
   arguments = field.arguments;
@@ -75,7 +75,7 @@ field_node field = node_at field.place record {
 
 -- a field of an input object type with its directives
 abbrev pub input_field_node : OpenField → NodeView InputValueDefinition
-input_field_node field = input_value field.name field.ty field.directives field.place
+input_field_node field = input_value field.name field.ty field.directives field.location
 
 -- nothing that a directive's definition alone has
 abbrev pub no_directive_parts : DirectiveParts
@@ -83,7 +83,7 @@ no_directive_parts = record { arguments = []; is_repeatable = false; locations =
 
 -- a header alone
 abbrev pub header_alone : Header → SourceSpan → OpenItem
-header_alone header place = record { place = place; header = header; parts = no_parts; directive = no_directive_parts; last_field = None; selections = [] }
+header_alone header location = record { location = location; header = header; parts = no_parts; directive = no_directive_parts; last_field = None; selections = [] }
 
 -- at how many depths a selection may stand below this one, and at one where there is none
 abbrev pub levels_behind : Option SelectionLine → ℕ
@@ -142,36 +142,36 @@ with_own_part part item = record item { parts = with_part part item.parts }
 
 -- an item and one component more
 abbrev pub with_component : Component → SourceSpan → OpenItem → OpenItem
-with_component (c.Directive name) place item = with_own_part (p.Directive (applied_directive name place)) item
-with_component (c.Implements name) place item = with_own_part (p.Name name) item
-with_component (c.Field name ty) place item = record (field_closed item) { last_field = Some (field_alone name ty place) }
-with_component (c.FieldDirective name) place item = with_field_directive (applied_directive name place) item
-with_component (c.Argument name ty) place item = with_argument (input_value name ty (record { 0 = [] }) place) item
-with_component (c.Member name) place item = with_own_part (p.Name name) item
-with_component (c.Value name) place item = with_own_part (p.EnumValue (enum_value name place)) item
-with_component (c.On location) place item = record item { directive = record item.directive { locations = item.directive.locations ++ location ∷ [] } }
-with_component c.Repeatable place item = record item { directive = record item.directive { is_repeatable = true } }
-with_component (c.Root operation name) place item = with_own_part (p.Root (root_operation operation name place)) item
-with_component (c.Selection depth selected) place item = record item { selections = item.selections ++ record { depth = depth; place = place; selected = selected } ∷ [] }
+with_component (c.Directive name) location item = with_own_part (p.Directive (applied_directive name location)) item
+with_component (c.Implements name) location item = with_own_part (p.Name name) item
+with_component (c.Field name ty) location item = record (field_closed item) { last_field = Some (field_alone name ty location) }
+with_component (c.FieldDirective name) location item = with_field_directive (applied_directive name location) item
+with_component (c.Argument name ty) location item = with_argument (input_value name ty (record { 0 = [] }) location) item
+with_component (c.Member name) location item = with_own_part (p.Name name) item
+with_component (c.Value name) location item = with_own_part (p.EnumValue (enum_value name location)) item
+with_component (c.On directive_location) location item = record item { directive = record item.directive { locations = item.directive.locations ++ directive_location ∷ [] } }
+with_component c.Repeatable location item = record item { directive = record item.directive { is_repeatable = true } }
+with_component (c.Root operation name) location item = with_own_part (p.Root (root_operation operation name location)) item
+with_component (c.Selection depth selected) location item = record item { selections = item.selections ++ record { depth = depth; location = location; selected = selected } ∷ [] }
 
 -- the definition of a directive
 abbrev pub directive_definition : NameView → DirectiveParts → SourceSpan → Definition
-directive_definition name parts place = d.DirectiveDefinition (node_at place record { description = None; name = name; arguments = parts.arguments; repeatable = parts.is_repeatable; locations = parts.locations })
+directive_definition name parts location = d.DirectiveDefinition (node_at location record { description = None; name = name; arguments = parts.arguments; repeatable = parts.is_repeatable; locations = parts.locations })
 
 -- an operation or fragment with these directives and selections
 abbrev pub executable_definition : ExecutableHeader → DirectiveList → List Selection → SourceSpan → Definition
-executable_definition (x.Operation operation name) directives selections place = d.OperationDefinition (node_at place record { operation_type = operation; name = name; variables = []; directives = directives; selection_set = selections })
-executable_definition (x.Fragment name condition) directives selections place = d.FragmentDefinition (node_at place record { name = name; type_condition = condition; directives = directives; selection_set = selections })
+executable_definition (x.Operation operation name) directives selections location = d.OperationDefinition (node_at location record { operation_type = operation; name = name; variables = []; directives = directives; selection_set = selections })
+executable_definition (x.Fragment name condition) directives selections location = d.FragmentDefinition (node_at location record { name = name; type_condition = condition; directives = directives; selection_set = selections })
 
 -- the definition or extension of a header with these components
 abbrev pub definition_with : Header → DefinitionParts → DirectiveParts → List SelectionLine → SourceSpan → Definition
-definition_with (h.Type r.Definition kind name) parts directive lines place = type_definition kind None name parts (Some place)
-definition_with (h.Type r.Extension kind name) parts directive lines place = type_extension kind name parts (Some place)
-definition_with (h.Directive name) parts directive lines place = directive_definition name directive place
-definition_with (h.Schema r.Definition) parts directive lines place = schema_definition None parts (Some place)
-definition_with (h.Schema r.Extension) parts directive lines place = schema_extension parts (Some place)
-definition_with (h.Executable header) parts directive lines place = executable_definition header parts.directives (selections_at 0 lines) place
+definition_with (h.Type r.Definition kind name) parts directive lines location = type_definition kind None name parts (Some location)
+definition_with (h.Type r.Extension kind name) parts directive lines location = type_extension kind name parts (Some location)
+definition_with (h.Directive name) parts directive lines location = directive_definition name directive location
+definition_with (h.Schema r.Definition) parts directive lines location = schema_definition None parts (Some location)
+definition_with (h.Schema r.Extension) parts directive lines location = schema_extension parts (Some location)
+definition_with (h.Executable header) parts directive lines location = executable_definition header parts.directives (selections_at 0 lines) location
 
 -- the definition or extension that an item says
 abbrev pub whole_item : OpenItem → Definition
-whole_item item = definition_with item.header (field_closed item).parts item.directive item.selections item.place
+whole_item item = definition_with item.header (field_closed item).parts item.directive item.selections item.location

@@ -16,7 +16,7 @@ use Rattle.bench_notation.specs.Components.{above_below, header_alone, whole_ite
 use Rattle.bench_notation.specs.declared.refusal.RefusedLine.{RefusedLine}
 use Rattle.bench_notation.specs.declared.refusal.ReadError.{ReadError}
 use Rattle.bench_notation.specs.declared.refusal.ReadError.TheVariants as e
-use Rattle.bench_notation.specs.Line.{IsLine, Says, line_place, lines_of}
+use Rattle.bench_notation.specs.Line.{IsLine, Says, line_location, lines_of}
 use Rattle.bench_notation.specs.Places.{StandsBelow}
 use Rattle.bench_notation.specs.Refusals.{SaysNothing}
 
@@ -46,11 +46,11 @@ divided reader = nothing_read (v.After (document_ended reader).documents)
 
 -- after one line more
 abbrev pub line_added : Line → SourceSpan → DocumentReader → DocumentReader
-line_added l.Empty place reader = reader
-line_added l.Break place reader = document_ended reader
-line_added l.Division place reader = divided reader
-line_added (l.Header header) place reader = record (item_ended reader) { item = Some (header_alone header place) }
-line_added (l.Component component) place reader = record reader { item = option_map (with_component component place) reader.item }
+line_added l.Empty location reader = reader
+line_added l.Break location reader = document_ended reader
+line_added l.Division location reader = divided reader
+line_added (l.Header header) location reader = record (item_ended reader) { item = Some (header_alone header location) }
+line_added (l.Component component) location reader = record reader { item = option_map (with_component component location) reader.item }
 
 -- what stands above the next line, where this item is being read, or none
 abbrev pub above_next : Option OpenItem → Above
@@ -71,16 +71,16 @@ abbrev pub MayStand : Line → DocumentReader → Type 0
 MayStand line reader = StandsBelow (position_next reader) line
 
 -- one line leads from a state of the reading to another
-pub record Takes (text : List ℕ) (place : SourceSpan) (old new : DocumentReader) : Type 0 where
+pub record Takes (text : List ℕ) (location : SourceSpan) (old new : DocumentReader) : Type 0 where
   pub line : Line
-  pub says : Says place text line
+  pub says : Says location text line
   pub stands : MayStand line old
-  pub added : new ≡ line_added line place old
+  pub added : new ≡ line_added line location old
 
 -- these lines, of which the first has this number, lead from a state of the reading to another
 abbrev pub LeadTo : ℕ → List (List ℕ) → DocumentReader → DocumentReader → Type 0
 LeadTo number [] old new = old ≡ new
-LeadTo number (text ∷ texts) old new = (next : DocumentReader) × (Takes text (line_place number) old next × LeadTo (number + 1) texts next new)
+LeadTo number (text ∷ texts) old new = (next : DocumentReader) × (Takes text (line_location number) old next × LeadTo (number + 1) texts next new)
 
 -- the documents that a text says: its lines lead to them, counted from 1, and none divides them
 pub record AreDocumentsOf (text : List ℕ) (documents : List Document) : Type 0 where
@@ -104,7 +104,7 @@ pub record IsFirstRefusedFrom (start : DocumentReader) (lines : List (List ℕ))
   pub read : All IsLine (take before lines)
   pub reader : DocumentReader
   pub leads : LeadTo 1 (take before lines) start reader
-  pub nothing : SaysNothing (position_next reader) (line_place refused.number) (get_or lines before [])
+  pub nothing : SaysNothing (position_next reader) (line_location refused.number) (get_or lines before [])
 
 -- an error of taking these lines in a state of the reading; want of memory says nothing
 abbrev pub IsLinesError : DocumentReader → List (List ℕ) → ReadError → Type 0

@@ -30,12 +30,12 @@ IsBody word body false = (word ≡ body) × ((front : List ℕ) → ¬ (word ≡
 
 -- no component that may stand below this is said by these words
 abbrev pub SayNoComponent : Above → SourceSpan → List (List ℕ) → Type 0
-SayNoComponent above place words = (component : Component) → SaysComponent place words component → ¬ (stands above component ≡ true)
+SayNoComponent above location words = (component : Component) → SaysComponent location words component → ¬ (stands above component ≡ true)
 
 -- no line that may stand here and is not empty is said by these words
 abbrev pub SayNoLine : Position → SourceSpan → List (List ℕ) → Type 0
-SayNoLine position place words = (line : Line) → SayLine place words line → ¬ StandsBelow position line
+SayNoLine position location words = (line : Line) → SayLine location words line → ¬ StandsBelow position line
 
 -- a line says nothing that may stand here
 abbrev pub SaysNothing : Position → SourceSpan → List ℕ → Type 0
-SaysNothing position place text = (line : Line) → Says place text line → ¬ StandsBelow position line
+SaysNothing position location text = (line : Line) → Says location text line → ¬ StandsBelow position line

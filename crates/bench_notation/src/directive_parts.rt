@@ -48,9 +48,9 @@ impl DirectiveParts {
         self,
         alloc: Global,
         name: Name,
-        place: SourceSpan,
+        location: SourceSpan,
     ) -> Result<Definition, AllocError>
-        ensures { IfOk result (λ definition. definition ≡ directive_definition name self place) }
+        ensures { IfOk result (λ definition. definition ≡ directive_definition name self location) }
     {
         let DirectiveParts {
             arguments,
@@ -64,7 +64,7 @@ impl DirectiveParts {
             repeatable: is_repeatable,
             locations,
         };
-        let definition = Node::new_opt_location(alloc, definition, Some(place))?;
+        let definition = Node::new_opt_location(alloc, definition, Some(location))?;
         Ok(Definition::DirectiveDefinition(definition))
     }
 }

@@ -30,9 +30,9 @@ impl ExecutableHeader {
         alloc: Global,
         directives: DirectiveList,
         selection_set: Items<Selection>,
-        place: SourceSpan,
+        location: SourceSpan,
     ) -> Result<Definition, AllocError>
-        ensures { IfOk result (λ definition. definition ≡ executable_definition self directives selection_set place) }
+        ensures { IfOk result (λ definition. definition ≡ executable_definition self directives selection_set location) }
     {
         match self {
             ExecutableHeader::Operation(operation_type, name) => {
@@ -43,7 +43,7 @@ impl ExecutableHeader {
                     directives,
                     selection_set,
                 };
-                let operation = Node::new_opt_location(alloc, operation, Some(place))?;
+                let operation = Node::new_opt_location(alloc, operation, Some(location))?;
                 Ok(Definition::OperationDefinition(operation))
             }
             ExecutableHeader::Fragment(name, type_condition) => {
@@ -53,7 +53,7 @@ impl ExecutableHeader {
                     directives,
                     selection_set,
                 };
-                let fragment = Node::new_opt_location(alloc, fragment, Some(place))?;
+                let fragment = Node::new_opt_location(alloc, fragment, Some(location))?;
                 Ok(Definition::FragmentDefinition(fragment))
             }
         }

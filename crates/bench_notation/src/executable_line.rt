@@ -24,10 +24,10 @@ use graphql_nodes::source::SourceSpan;
 pub fn operation_and_its_name(
     names: &mut Names,
     words: &[&str],
-    place: SourceSpan,
+    location: SourceSpan,
 ) -> Result<(OperationType, Option<Name>), LineError>
-    ensures says { IfOk result (λ both. AreOperation place (texts_of words.now) both.0 both.1) }
-    ensures refused { IfErr result (WhenRefused ((operation : OperationType) (name : Option NameView) → ¬ AreOperation place (texts_of words.now) operation name)) }
+    ensures says { IfOk result (λ both. AreOperation location (texts_of words.now) both.0 both.1) }
+    ensures refused { IfErr result (WhenRefused ((operation : OperationType) (name : Option NameView) → ¬ AreOperation location (texts_of words.now) operation name)) }
 {
     let [operation, name] = words else {
         return Err(LineError::Refused(Reason::WrongNumberOfWords));
@@ -37,7 +37,7 @@ pub fn operation_and_its_name(
     };
     match *name {
         "-" => Ok((operation, None)),
-        name => Ok((operation, Some(names.read(name, place)?))),
+        name => Ok((operation, Some(names.read(name, location)?))),
     }
 }
 
@@ -45,16 +45,16 @@ pub fn operation_and_its_name(
 pub fn fragment_names(
     names: &mut Names,
     words: &[&str],
-    place: SourceSpan,
+    location: SourceSpan,
 ) -> Result<(Name, NamedType), LineError>
-    ensures says { IfOk result (λ both. AreFragment place (texts_of words.now) both.0 both.1) }
-    ensures refused { IfErr result (WhenRefused ((name condition : NameView) → ¬ AreFragment place (texts_of words.now) name condition)) }
+    ensures says { IfOk result (λ both. AreFragment location (texts_of words.now) both.0 both.1) }
+    ensures refused { IfErr result (WhenRefused ((name condition : NameView) → ¬ AreFragment location (texts_of words.now) name condition)) }
 {
     let [name, condition] = words else {
         return Err(LineError::Refused(Reason::WrongNumberOfWords));
     };
-    let name = names.read(*name, place)?;
-    Ok((name, names.read(*condition, place)?))
+    let name = names.read(*name, location)?;
+    Ok((name, names.read(*condition, location)?))
 }
 
 /// The words of a selection: its depth, what it is, and its names.
@@ -62,11 +62,11 @@ pub fn selection(
     names: &mut Names,
     above: Above,
     words: &[&str],
-    place: SourceSpan,
+    location: SourceSpan,
 ) -> Result<(u8, Selected), LineError>
-    ensures says { IfOk result (λ both. AreSelection place (texts_of words.now) both.0 both.1) }
+    ensures says { IfOk result (λ both. AreSelection location (texts_of words.now) both.0 both.1) }
     ensures stands { IfOk result (λ both. nat_lt both.0 (levels_above above) ≡ true) }
-    ensures refused { IfErr result (WhenRefused ((depth : ℕ) (selected : Selected) → AreSelection place (texts_of words.now) depth selected → ¬ (nat_lt depth (levels_above above) ≡ true))) }
+    ensures refused { IfErr result (WhenRefused ((depth : ℕ) (selected : Selected) → AreSelection location (texts_of words.now) depth selected → ¬ (nat_lt depth (levels_above above) ≡ true))) }
 {
     let levels = above.levels();
     if levels == 0 {
@@ -78,7 +78,7 @@ pub fn selection(
     let Some((kind, rest)) = rest.split_first() else {
         return Err(LineError::Refused(Reason::WrongNumberOfWords));
     };
-    let selected = selected(names, *kind, rest, place)?;
+    let selected = selected(names, *kind, rest, location)?;
     let Some(depth) = depth_of_word(*depth) else {
         return Err(LineError::Refused(Reason::BadWord));
     };
@@ -93,18 +93,18 @@ fn selected(
     names: &mut Names,
     kind: &str,
     words: &[&str],
-    place: SourceSpan,
+    location: SourceSpan,
 ) -> Result<Selected, LineError>
-    ensures says { IfOk result (AreSelected place (kind.now ∷ texts_of words.now)) }
-    ensures refused { IfErr result (WhenRefused ((selected : Selected) → ¬ AreSelected place (kind.now ∷ texts_of words.now) selected)) }
+    ensures says { IfOk result (AreSelected location (kind.now ∷ texts_of words.now)) }
+    ensures refused { IfErr result (WhenRefused ((selected : Selected) → ¬ AreSelected location (kind.now ∷ texts_of words.now) selected)) }
 {
     match kind {
         "field" => {
-            let (name, alias) = name_and_alias(names, words, place)?;
+            let (name, alias) = name_and_alias(names, words, location)?;
             Ok(Selected::Field(name, alias))
         }
-        "spread" => Ok(Selected::Spread(only_name(names, words, place)?)),
-        "inline" => Ok(Selected::Inline(optional_name(names, words, place)?)),
+        "spread" => Ok(Selected::Spread(only_name(names, words, location)?)),
+        "inline" => Ok(Selected::Inline(optional_name(names, words, location)?)),
         _ if words.len() > 2 => Err(LineError::Refused(Reason::WrongNumberOfWords)),
         _ => Err(LineError::Refused(Reason::BadWord)),
     }

@@ -24,7 +24,7 @@ use std::mem;
 
 /// A definition or extension whose components may still come.
 pub struct OpenItem {
-    place: SourceSpan,
+    location: SourceSpan,
     header: Header,
     /// The components, without the last field, and without those that a directive's definition alone has.
     parts: DefinitionParts,
@@ -37,7 +37,7 @@ pub struct OpenItem {
 impl Drop for OpenItem {
     fn drop(self) {
         let Self {
-            place: _,
+            location: _,
             header: _,
             parts: _,
             directive: _,
@@ -52,11 +52,11 @@ impl OpenItem {
     ghost use Rattle.bench_notation.specs.declared.line.Component.TheVariants.{Argument, Field};
 
     /// The item of a header, without components.
-    pub fn new(alloc: Global, header: Header, place: SourceSpan) -> OpenItem
-        ensures { result ≡ header_alone header place }
+    pub fn new(alloc: Global, header: Header, location: SourceSpan) -> OpenItem
+        ensures { result ≡ header_alone header location }
     {
         OpenItem {
-            place,
+            location,
             header,
             parts: DefinitionParts::new(alloc),
             directive: DirectiveParts::new(alloc),
@@ -94,26 +94,26 @@ impl OpenItem {
         &mut self,
         alloc: Global,
         component: Component,
-        place: SourceSpan,
+        location: SourceSpan,
     ) -> Result<(), AllocError>
-        ensures { OnOk result (self.new ≡ with_component component place self.old) }
+        ensures { OnOk result (self.new ≡ with_component component location self.old) }
     {
         match component {
             Component::Directive(name) => {
-                let directive = applied_directive(alloc, name, place)?;
+                let directive = applied_directive(alloc, name, location)?;
                 self.parts.push(DefinitionPart::Directive(directive))
             }
             Component::Implements(name) | Component::Member(name) => {
                 self.parts.push(DefinitionPart::Name(name))
             }
-            Component::Field(name, ty) => self.open_field(alloc, name, ty, place),
+            Component::Field(name, ty) => self.open_field(alloc, name, ty, location),
             Component::FieldDirective(name) => {
-                let directive = applied_directive(alloc, name, place)?;
+                let directive = applied_directive(alloc, name, location)?;
                 self.add_field_directive(directive)
             }
-            Component::Argument(name, ty) => self.add_argument(alloc, name, ty, place),
+            Component::Argument(name, ty) => self.add_argument(alloc, name, ty, location),
             Component::Value(name) => {
-                let value = enum_value(alloc, name, place)?;
+                let value = enum_value(alloc, name, location)?;
                 self.parts.push(DefinitionPart::EnumValue(value))
             }
             Component::On(location) => self.directive.locations.push(location),
@@ -122,12 +122,12 @@ impl OpenItem {
                 Ok(())
             }
             Component::Root(operation, name) => {
-                let root = root_operation(alloc, operation, name, place)?;
+                let root = root_operation(alloc, operation, name, location)?;
                 self.parts.push(DefinitionPart::Root(root))
             }
             Component::Selection(depth, selected) => self.selections.push(SelectionLine {
                 depth,
-                place,
+                location,
                 selected,
             }),
         }
@@ -149,11 +149,11 @@ impl OpenItem {
         alloc: Global,
         name: Name,
         ty: Type,
-        place: SourceSpan,
+        location: SourceSpan,
     ) -> Result<(), AllocError>
-        ensures { OnOk result (self.new ≡ with_component (Argument name ty) place self.old) }
+        ensures { OnOk result (self.new ≡ with_component (Argument name ty) location self.old) }
     {
-        let argument = input_value(alloc, name, ty, DirectiveList::new(alloc), place)?;
+        let argument = input_value(alloc, name, ty, DirectiveList::new(alloc), location)?;
         match &mut self.last_field {
             Some(field) => field.arguments.push(argument),
             None => self.directive.arguments.push(argument),
@@ -166,11 +166,11 @@ impl OpenItem {
         alloc: Global,
         name: Name,
         ty: Type,
-        place: SourceSpan,
+        location: SourceSpan,
     ) -> Result<(), AllocError>
-        ensures { OnOk result (self.new ≡ with_component (Field name ty) place self.old) }
+        ensures { OnOk result (self.new ≡ with_component (Field name ty) location self.old) }
     {
-        let next = OpenField::new(alloc, name, ty, place);
+        let next = OpenField::new(alloc, name, ty, location);
         let is_input = is_input_object(&self.header);
         match mem::replace(&mut self.last_field, Some(next)) {
             Some(field) => self.parts.push(field.close_as_part(alloc, is_input)?),
@@ -183,7 +183,7 @@ impl OpenItem {
         ensures { IfOk result (λ definition. definition ≡ whole_item self) }
     {
         let OpenItem {
-            place,
+            location,
             header,
             mut parts,
             directive,
@@ -195,19 +195,19 @@ impl OpenItem {
         }
         match header {
             Header::Type(Role::Definition, kind, name) => {
-                parts.into_definition(alloc, kind, None, name, Some(place))
+                parts.into_definition(alloc, kind, None, name, Some(location))
             }
             Header::Type(Role::Extension, kind, name) => {
-                parts.into_extension(alloc, kind, name, Some(place))
+                parts.into_extension(alloc, kind, name, Some(location))
             }
-            Header::Directive(name) => directive.into_definition(alloc, name, place),
+            Header::Directive(name) => directive.into_definition(alloc, name, location),
             Header::Schema(Role::Definition) => {
-                parts.into_schema_definition(alloc, None, Some(place))
+                parts.into_schema_definition(alloc, None, Some(location))
             }
-            Header::Schema(Role::Extension) => parts.into_schema_extension(alloc, Some(place)),
+            Header::Schema(Role::Extension) => parts.into_schema_extension(alloc, Some(location)),
             Header::Executable(header) => {
                 let directives = mem::replace(&mut parts.directives, DirectiveList::new(alloc));
-                header.into_definition(alloc, directives, nested(alloc, selections)?, place)
+                header.into_definition(alloc, directives, nested(alloc, selections)?, location)
             }
         }
     }

@@ -86,17 +86,17 @@ pub(crate) fn read_line(
     text: &str,
     words: &[&str],
     position: Position,
-    place: SourceSpan,
+    location: SourceSpan,
 ) -> Result<Line, LineError>
     requires { texts_of words.now ≡ words_of text.now }
-    ensures says { IfOk result (Says place text.now) }
+    ensures says { IfOk result (Says location text.now) }
     ensures stands { IfOk result (StandsBelow position) }
-    ensures refused { IfErr result (WhenRefused (SaysNothing position place text.now)) }
+    ensures refused { IfErr result (WhenRefused (SaysNothing position location text.now)) }
 {
     if text.is_empty() {
         return Ok(Line::Empty);
     }
-    read_words(names, words, position, place)
+    read_words(names, words, position, location)
 }
 
 /// The words of a line that is not empty.
@@ -104,11 +104,11 @@ fn read_words(
     names: &mut Names,
     words: &[&str],
     position: Position,
-    place: SourceSpan,
+    location: SourceSpan,
 ) -> Result<Line, LineError>
-    ensures says { IfOk result (SayLine place (texts_of words.now)) }
+    ensures says { IfOk result (SayLine location (texts_of words.now)) }
     ensures stands { IfOk result (StandsBelow position) }
-    ensures refused { IfErr result (WhenRefused (SayNoLine position place (texts_of words.now))) }
+    ensures refused { IfErr result (WhenRefused (SayNoLine position location (texts_of words.now))) }
 {
     let Some((first, rest)) = words.split_first() else {
         return Err(LineError::Refused(Reason::UnknownLine));
@@ -123,9 +123,9 @@ fn read_words(
             end_of_words(rest)?;
             Ok(Line::Division)
         }
-        "def" => Ok(Line::Header(read_type_header(names, Role::Definition, rest, place)?)),
-        "ext" => Ok(Line::Header(read_type_header(names, Role::Extension, rest, place)?)),
-        "directive" => Ok(Line::Header(Header::Directive(only_name(names, rest, place)?))),
+        "def" => Ok(Line::Header(read_type_header(names, Role::Definition, rest, location)?)),
+        "ext" => Ok(Line::Header(read_type_header(names, Role::Extension, rest, location)?)),
+        "directive" => Ok(Line::Header(Header::Directive(only_name(names, rest, location)?))),
         "schema" => {
             end_of_words(rest)?;
             Ok(Line::Header(Header::Schema(Role::Definition)))
@@ -135,15 +135,15 @@ fn read_words(
             Ok(Line::Header(Header::Schema(Role::Extension)))
         }
         "operation" => {
-            let (operation, name) = operation_and_its_name(names, rest, place)?;
+            let (operation, name) = operation_and_its_name(names, rest, location)?;
             Ok(Line::Header(Header::Executable(ExecutableHeader::Operation(operation, name))))
         }
         "fragment" => {
-            let (name, condition) = fragment_names(names, rest, place)?;
+            let (name, condition) = fragment_names(names, rest, location)?;
             Ok(Line::Header(Header::Executable(ExecutableHeader::Fragment(name, condition))))
         }
         word => {
-            let component = read_component(names, word, rest, position.above, place)?;
+            let component = read_component(names, word, rest, position.above, location)?;
             Ok(Line::Component(component))
         }
     }
@@ -155,39 +155,39 @@ fn read_component(
     first: &str,
     rest: &[&str],
     above: Above,
-    place: SourceSpan,
+    location: SourceSpan,
 ) -> Result<Component, LineError>
-    ensures says { IfOk result (SaysComponent place (first.now ∷ texts_of rest.now)) }
+    ensures says { IfOk result (SaysComponent location (first.now ∷ texts_of rest.now)) }
     ensures stands { IfOk result (λ component. stands above component ≡ true) }
-    ensures refused { IfErr result (WhenRefused (SayNoComponent above place (first.now ∷ texts_of rest.now))) }
+    ensures refused { IfErr result (WhenRefused (SayNoComponent above location (first.now ∷ texts_of rest.now))) }
 {
     match first {
         "@" => {
-            let name = allowed_name(names, above.takes_directives(), rest, place)?;
+            let name = allowed_name(names, above.takes_directives(), rest, location)?;
             Ok(Component::Directive(name))
         }
         "implements" => {
-            let name = allowed_name(names, above.is_object_or_interface(), rest, place)?;
+            let name = allowed_name(names, above.is_object_or_interface(), rest, location)?;
             Ok(Component::Implements(name))
         }
         "field" => {
-            let (name, ty) = name_and_type(names, above.has_fields(), rest, place)?;
+            let (name, ty) = name_and_type(names, above.has_fields(), rest, location)?;
             Ok(Component::Field(name, ty))
         }
         "field@" => {
-            let name = allowed_name(names, above.is_field(), rest, place)?;
+            let name = allowed_name(names, above.is_field(), rest, location)?;
             Ok(Component::FieldDirective(name))
         }
         "arg" => {
-            let (name, ty) = name_and_type(names, above.takes_arguments(), rest, place)?;
+            let (name, ty) = name_and_type(names, above.takes_arguments(), rest, location)?;
             Ok(Component::Argument(name, ty))
         }
         "member" => {
-            let name = allowed_name(names, above.is_union(), rest, place)?;
+            let name = allowed_name(names, above.is_union(), rest, location)?;
             Ok(Component::Member(name))
         }
         "value" => {
-            let name = allowed_name(names, above.is_enum(), rest, place)?;
+            let name = allowed_name(names, above.is_enum(), rest, location)?;
             Ok(Component::Value(name))
         }
         "on" => {
@@ -200,11 +200,11 @@ fn read_component(
             Ok(Component::Repeatable)
         }
         "root" => {
-            let (operation, name) = operation_and_name(names, above.is_schema(), rest, place)?;
+            let (operation, name) = operation_and_name(names, above.is_schema(), rest, location)?;
             Ok(Component::Root(operation, name))
         }
         "sel" => {
-            let (depth, selected) = selection(names, above, rest, place)?;
+            let (depth, selected) = selection(names, above, rest, location)?;
             Ok(Component::Selection(depth, selected))
         }
         _ => Err(LineError::Refused(Reason::UnknownLine)),
@@ -238,10 +238,10 @@ fn read_type_header(
     names: &mut Names,
     role: Role,
     words: &[&str],
-    place: SourceSpan,
+    location: SourceSpan,
 ) -> Result<Header, LineError>
-    ensures says { IfOk result (SaysHeader place (role_word role ∷ texts_of words.now)) }
-    ensures refused { IfErr result (WhenRefused ((header : Header) → ¬ SaysHeader place (role_word role ∷ texts_of words.now) header)) }
+    ensures says { IfOk result (SaysHeader location (role_word role ∷ texts_of words.now)) }
+    ensures refused { IfErr result (WhenRefused ((header : Header) → ¬ SaysHeader location (role_word role ∷ texts_of words.now) header)) }
 {
     let [kind, name] = words else {
         return Err(LineError::Refused(Reason::WrongNumberOfWords));
@@ -249,7 +249,7 @@ fn read_type_header(
     let Some(kind) = kind_of_word(*kind) else {
         return Err(LineError::Refused(Reason::BadWord));
     };
-    Ok(Header::Type(role, kind, names.read(*name, place)?))
+    Ok(Header::Type(role, kind, names.read(*name, location)?))
 }
 
 /// The only word that follows, a name, on a line that is allowed here or not.
@@ -257,14 +257,14 @@ fn allowed_name(
     names: &mut Names,
     is_allowed: bool,
     words: &[&str],
-    place: SourceSpan,
+    location: SourceSpan,
 ) -> Result<Name, LineError>
     ensures allowed { IfOk result (λ _. is_allowed ≡ true) }
-    ensures says { IfOk result (AreName place (texts_of words.now)) }
-    ensures refused { IfErr result (WhenRefused ((name : NameView) → AreName place (texts_of words.now) name → ¬ (is_allowed ≡ true))) }
+    ensures says { IfOk result (AreName location (texts_of words.now)) }
+    ensures refused { IfErr result (WhenRefused ((name : NameView) → AreName location (texts_of words.now) name → ¬ (is_allowed ≡ true))) }
 {
     allow(is_allowed)?;
-    only_name(names, words, place)
+    only_name(names, words, location)
 }
 
 /// The two words that follow, a name and a type, on a line that is allowed here or not.
@@ -272,18 +272,18 @@ fn name_and_type(
     names: &mut Names,
     is_allowed: bool,
     words: &[&str],
-    place: SourceSpan,
+    location: SourceSpan,
 ) -> Result<(Name, Type), LineError>
     ensures allowed { IfOk result (λ _. is_allowed ≡ true) }
-    ensures says { IfOk result (λ both. AreNameAndType place (texts_of words.now) both.0 both.1) }
-    ensures refused { IfErr result (WhenRefused ((name : NameView) (ty : TypeReference) → AreNameAndType place (texts_of words.now) name ty → ¬ (is_allowed ≡ true))) }
+    ensures says { IfOk result (λ both. AreNameAndType location (texts_of words.now) both.0 both.1) }
+    ensures refused { IfErr result (WhenRefused ((name : NameView) (ty : TypeReference) → AreNameAndType location (texts_of words.now) name ty → ¬ (is_allowed ≡ true))) }
 {
     allow(is_allowed)?;
     let [name, ty] = words else {
         return Err(LineError::Refused(Reason::WrongNumberOfWords));
     };
-    let name = names.read(*name, place)?;
-    let ty = read_type(names, *ty, MOST_BRACKETS, place)?;
+    let name = names.read(*name, location)?;
+    let ty = read_type(names, *ty, MOST_BRACKETS, location)?;
     Ok((name, ty))
 }
 
@@ -305,11 +305,11 @@ fn operation_and_name(
     names: &mut Names,
     is_allowed: bool,
     words: &[&str],
-    place: SourceSpan,
+    location: SourceSpan,
 ) -> Result<(OperationType, NamedType), LineError>
     ensures allowed { IfOk result (λ _. is_allowed ≡ true) }
-    ensures says { IfOk result (λ both. AreRoot place (texts_of words.now) both.0 both.1) }
-    ensures refused { IfErr result (WhenRefused ((operation : OperationType) (name : NameView) → AreRoot place (texts_of words.now) operation name → ¬ (is_allowed ≡ true))) }
+    ensures says { IfOk result (λ both. AreRoot location (texts_of words.now) both.0 both.1) }
+    ensures refused { IfErr result (WhenRefused ((operation : OperationType) (name : NameView) → AreRoot location (texts_of words.now) operation name → ¬ (is_allowed ≡ true))) }
 {
     allow(is_allowed)?;
     let [operation, name] = words else {
@@ -318,5 +318,5 @@ fn operation_and_name(
     let Some(operation) = operation_of_word(*operation) else {
         return Err(LineError::Refused(Reason::BadWord));
     };
-    Ok((operation, names.read(*name, place)?))
+    Ok((operation, names.read(*name, location)?))
 }

@@ -11,28 +11,28 @@ use graphql_nodes::name::Name;
 use graphql_nodes::source::SourceSpan;
 
 /// One name.
-pub fn only_name(names: &mut Names, words: &[&str], place: SourceSpan) -> Result<Name, LineError>
-    ensures says { IfOk result (AreName place (texts_of words.now)) }
-    ensures refused { IfErr result (WhenRefused ((name : NameView) → ¬ AreName place (texts_of words.now) name)) }
+pub fn only_name(names: &mut Names, words: &[&str], location: SourceSpan) -> Result<Name, LineError>
+    ensures says { IfOk result (AreName location (texts_of words.now)) }
+    ensures refused { IfErr result (WhenRefused ((name : NameView) → ¬ AreName location (texts_of words.now) name)) }
 {
     let [name] = words else {
         return Err(LineError::Refused(Reason::WrongNumberOfWords));
     };
-    names.read(*name, place)
+    names.read(*name, location)
 }
 
 /// One name or none.
 pub fn optional_name(
     names: &mut Names,
     words: &[&str],
-    place: SourceSpan,
+    location: SourceSpan,
 ) -> Result<Option<Name>, LineError>
-    ensures says { IfOk result (AreOptionalName place (texts_of words.now)) }
-    ensures refused { IfErr result (WhenRefused ((name : Option NameView) → ¬ AreOptionalName place (texts_of words.now) name)) }
+    ensures says { IfOk result (AreOptionalName location (texts_of words.now)) }
+    ensures refused { IfErr result (WhenRefused ((name : Option NameView) → ¬ AreOptionalName location (texts_of words.now) name)) }
 {
     match words {
         [] => Ok(None),
-        [name] => Ok(Some(names.read(*name, place)?)),
+        [name] => Ok(Some(names.read(*name, location)?)),
         _ => Err(LineError::Refused(Reason::WrongNumberOfWords)),
     }
 }
@@ -41,10 +41,10 @@ pub fn optional_name(
 pub fn name_and_alias(
     names: &mut Names,
     words: &[&str],
-    place: SourceSpan,
+    location: SourceSpan,
 ) -> Result<(Name, Option<Name>), LineError>
-    ensures says { IfOk result (λ both. AreNameAndAlias place (texts_of words.now) both.0 both.1) }
-    ensures refused { IfErr result (WhenRefused ((name : NameView) (alias : Option NameView) → ¬ AreNameAndAlias place (texts_of words.now) name alias)) }
+    ensures says { IfOk result (λ both. AreNameAndAlias location (texts_of words.now) both.0 both.1) }
+    ensures refused { IfErr result (WhenRefused ((name : NameView) (alias : Option NameView) → ¬ AreNameAndAlias location (texts_of words.now) name alias)) }
 {
     let Some((name, rest)) = words.split_first() else {
         return Err(LineError::Refused(Reason::WrongNumberOfWords));
@@ -52,6 +52,6 @@ pub fn name_and_alias(
     if rest.len() > 1 {
         return Err(LineError::Refused(Reason::WrongNumberOfWords));
     }
-    let name = names.read(*name, place)?;
-    Ok((name, optional_name(names, rest, place)?))
+    let name = names.read(*name, location)?;
+    Ok((name, optional_name(names, rest, location)?))
 }

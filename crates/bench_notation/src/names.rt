@@ -54,12 +54,12 @@ impl Names {
 
     /// The name that a word is, at this location. A word that is no name is refused as a bad word; `Memory` is want of memory,
     /// and says nothing of the word.
-    pub fn read(&mut self, word: &str, place: SourceSpan) -> Result<Name, LineError>
+    pub fn read(&mut self, word: &str, location: SourceSpan) -> Result<Name, LineError>
         ensures text { IfOk result (λ name. name.text ≡ word.now) }
-        ensures name { IfOk result (IsNameAt place) }
+        ensures name { IfOk result (IsNameAt location) }
         ensures refused { IfErr result (WhenRefused (¬ IsName word.now)) }
     {
-        Ok(self.shared(word)?.with_location(place))
+        Ok(self.shared(word)?.with_location(location))
     }
 
     /// The name that a word is, which is at hand from now on if its place is free. What is at hand was looked at before.

@@ -16,15 +16,15 @@ use std::alloc::{AllocError, Global};
 pub fn applied_directive(
     alloc: Global,
     name: Name,
-    place: SourceSpan,
+    location: SourceSpan,
 ) -> Result<Node<Directive>, AllocError>
-    ensures { IfOk result (λ node. node ≡ applied_directive name place) }
+    ensures { IfOk result (λ node. node ≡ applied_directive name location) }
 {
     let directive = Directive {
         name,
         arguments: Items::new(alloc),
     };
-    Node::new_opt_location(alloc, directive, Some(place))
+    Node::new_opt_location(alloc, directive, Some(location))
 }
 
 /// An argument, or a field of an input object type.
@@ -33,34 +33,34 @@ pub fn input_value(
     name: Name,
     ty: Type,
     directives: DirectiveList,
-    place: SourceSpan,
+    location: SourceSpan,
 ) -> Result<Node<InputValueDefinition>, AllocError>
-    ensures { IfOk result (λ node. node ≡ input_value name ty directives place) }
+    ensures { IfOk result (λ node. node ≡ input_value name ty directives location) }
 {
     let value = InputValueDefinition {
         description: None,
         name,
-        ty: Node::new_opt_location(alloc, ty, Some(place))?,
+        ty: Node::new_opt_location(alloc, ty, Some(location))?,
         default_value: None,
         directives,
     };
-    Node::new_opt_location(alloc, value, Some(place))
+    Node::new_opt_location(alloc, value, Some(location))
 }
 
 /// A value of an enum.
 pub fn enum_value(
     alloc: Global,
     value: Name,
-    place: SourceSpan,
+    location: SourceSpan,
 ) -> Result<Node<EnumValueDefinition>, AllocError>
-    ensures { IfOk result (λ node. node ≡ enum_value value place) }
+    ensures { IfOk result (λ node. node ≡ enum_value value location) }
 {
     let value = EnumValueDefinition {
         description: None,
         value,
         directives: DirectiveList::new(alloc),
     };
-    Node::new_opt_location(alloc, value, Some(place))
+    Node::new_opt_location(alloc, value, Some(location))
 }
 
 /// A root of the schema.
@@ -68,9 +68,9 @@ pub fn root_operation(
     alloc: Global,
     operation: OperationType,
     name: NamedType,
-    place: SourceSpan,
+    location: SourceSpan,
 ) -> Result<Node<(OperationType, NamedType)>, AllocError>
-    ensures { IfOk result (λ node. node ≡ root_operation operation name place) }
+    ensures { IfOk result (λ node. node ≡ root_operation operation name location) }
 {
-    Node::new_opt_location(alloc, (operation, name), Some(place))
+    Node::new_opt_location(alloc, (operation, name), Some(location))
 }

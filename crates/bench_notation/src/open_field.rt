@@ -14,7 +14,7 @@ use std::alloc::{AllocError, Global};
 
 /// A field whose directives and arguments may still come.
 pub struct OpenField {
-    pub place: SourceSpan,
+    pub location: SourceSpan,
     pub name: Name,
     pub ty: Type,
     pub arguments: Items<Node<InputValueDefinition>>,
@@ -24,7 +24,7 @@ pub struct OpenField {
 impl Drop for OpenField {
     fn drop(self) {
         let Self {
-            place: _,
+            location: _,
             name: _,
             ty: _,
             arguments: _,
@@ -37,11 +37,11 @@ impl OpenField {
     ghost use Rattle.bench_notation.specs.Components.{field_alone, field_node, input_field_node, field_part};
 
     /// A field without arguments and directives.
-    pub fn new(alloc: Global, name: Name, ty: Type, place: SourceSpan) -> OpenField
-        ensures { result ≡ field_alone name ty place }
+    pub fn new(alloc: Global, name: Name, ty: Type, location: SourceSpan) -> OpenField
+        ensures { result ≡ field_alone name ty location }
     {
         OpenField {
-            place,
+            location,
             name,
             ty,
             arguments: Items::new(alloc),
@@ -54,7 +54,7 @@ impl OpenField {
         ensures { IfOk result (λ node. node ≡ field_node self) }
     {
         let OpenField {
-            place,
+            location,
             name,
             ty,
             arguments,
@@ -67,7 +67,7 @@ impl OpenField {
             ty,
             directives,
         };
-        Node::new_opt_location(alloc, definition, Some(place))
+        Node::new_opt_location(alloc, definition, Some(location))
     }
 
     /// The field as one of an input object type, where it has no arguments.
@@ -75,13 +75,13 @@ impl OpenField {
         ensures { IfOk result (λ node. node ≡ input_field_node self) }
     {
         let OpenField {
-            place,
+            location,
             name,
             ty,
             arguments: _,
             directives,
         } = self;
-        input_value(alloc, name, ty, directives, place)
+        input_value(alloc, name, ty, directives, location)
     }
 
     /// The field as a part of an input object type, or of another. The error is want of memory.

@@ -2,7 +2,7 @@
 ghost use Rattle.std.specs.Prelude.{◌≡◌, All, IfErr, IfOk, OnOk, Some};
 ghost use Rattle.bench_notation.specs.Components.{header_alone};
 ghost use Rattle.bench_notation.specs.Documents.{AreDividedDocumentsOf, AreDocumentsOf, IsDividedReadError, IsLinesError, IsReadError, LeadTo};
-ghost use Rattle.bench_notation.specs.Line.{IsLine, lines_of, line_place, texts_of, words_of};
+ghost use Rattle.bench_notation.specs.Line.{IsLine, lines_of, line_location, texts_of, words_of};
 ghost use Rattle.bench_notation.specs.Refusals.{SaysNothing, WhenRefused};
 
 use crate::above::{Above, Position};
@@ -22,8 +22,8 @@ use std::mem;
 pub const INPUT_FILE: FileId = FileId(1);
 
 /// The location of what stands on a line of the input.
-fn line_place(number: usize) -> SourceSpan
-    ensures { result ≡ line_place number }
+fn line_location(number: usize) -> SourceSpan
+    ensures { result ≡ line_location number }
 {
     SourceSpan {
         file: INPUT_FILE,
@@ -100,25 +100,25 @@ impl DocumentReader {
         number: usize,
     ) -> Result<(), LineError>
         requires { texts_of words.now ≡ words_of text.now }
-        ensures taken { OnOk result (Takes text.now (line_place number) self.old self.new) }
-        ensures refused { IfErr result (WhenRefused (SaysNothing (position_next self.old) (line_place number) text.now)) }
+        ensures taken { OnOk result (Takes text.now (line_location number) self.old self.new) }
+        ensures refused { IfErr result (WhenRefused (SaysNothing (position_next self.old) (line_location number) text.now)) }
     {
-        let place = line_place(number);
-        let line = read_line(names, text, words, self.position(), place)?;
-        Ok(self.add(names.alloc(), line, place)?)
+        let location = line_location(number);
+        let line = read_line(names, text, words, self.position(), location)?;
+        Ok(self.add(names.alloc(), line, location)?)
     }
 
     /// Adds what a line says. A component with no header above it adds nothing.
-    fn add(&mut self, alloc: Global, line: Line, place: SourceSpan) -> Result<(), AllocError>
-        ensures { OnOk result (self.new ≡ line_added line place self.old) }
+    fn add(&mut self, alloc: Global, line: Line, location: SourceSpan) -> Result<(), AllocError>
+        ensures { OnOk result (self.new ≡ line_added line location self.old) }
     {
         match line {
             Line::Empty => Ok(()),
             Line::Break => self.end_document(alloc),
             Line::Division => self.divide(alloc),
-            Line::Header(header) => self.begin_item(alloc, header, place),
+            Line::Header(header) => self.begin_item(alloc, header, location),
             Line::Component(component) => match &mut self.item {
-                Some(item) => item.add(alloc, component, place),
+                Some(item) => item.add(alloc, component, location),
                 None => Ok(()),
             },
         }
@@ -129,11 +129,11 @@ impl DocumentReader {
         &mut self,
         alloc: Global,
         header: Header,
-        place: SourceSpan,
+        location: SourceSpan,
     ) -> Result<(), AllocError>
-        ensures { OnOk result (self.new ≡ record (item_ended self.old) { item = Some (header_alone header place) }) }
+        ensures { OnOk result (self.new ≡ record (item_ended self.old) { item = Some (header_alone header location) }) }
     {
-        self.end_item(alloc, Some(OpenItem::new(alloc, header, place)))
+        self.end_item(alloc, Some(OpenItem::new(alloc, header, location)))
     }
 
     /// Ends the item that is being read, after which the next is read, if there is one.

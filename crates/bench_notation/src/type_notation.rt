@@ -22,16 +22,16 @@ pub fn read_type(
     names: &mut Names,
     word: &str,
     brackets: u8,
-    place: SourceSpan,
+    location: SourceSpan,
 ) -> Result<Type, LineError>
     ensures text { IfOk result (λ ty. type_text ty ≡ word.now) }
     ensures depth { IfOk result (λ ty. opened_brackets ty ≤ brackets) }
-    ensures name { IfOk result (λ ty. IsNameAt place (inner_name ty)) }
+    ensures name { IfOk result (λ ty. IsNameAt location (inner_name ty)) }
     ensures refused { IfErr result (WhenRefused (IsNoType brackets word.now)) }
 {
     let (body, is_required) = body_of(word);
     let Some(opened) = after(body, b'[') else {
-        let name = names.read(body, place)?;
+        let name = names.read(body, location)?;
         return Ok(if is_required {
             Type::NonNullNamed(name)
         } else {
@@ -44,7 +44,7 @@ pub fn read_type(
     if brackets == 0 {
         return Err(LineError::Refused(Reason::BadWord));
     }
-    let element = read_type(names, inner, brackets - 1, place)?;
+    let element = read_type(names, inner, brackets - 1, location)?;
     let element = Boxed::new(names.alloc(), element)?;
     Ok(if is_required {
         Type::NonNullList(element)

@@ -22,19 +22,19 @@ levels_below line = if takes_selections line.selected then line.depth + 1 + 1 el
 
 -- what is selected at a location, with these selections, without arguments and directives
 abbrev pub selection_with : Selected → SourceSpan → List Selection → Selection
-selection_with (w.Field name alias) place selections = s.Field record {
+selection_with (w.Field name alias) location selections = s.Field record {
   value = roll-Field (record { alias = alias; name = name; arguments = []; directives = record { 0 = [] }; selection_set = selections });
-  location = Some place;
+  location = Some location;
 }
-selection_with (w.Spread name) place selections = s.FragmentSpread record { value = record { fragment_name = name; directives = record { 0 = [] } }; location = Some place }
-selection_with (w.Inline condition) place selections = s.InlineFragment record {
+selection_with (w.Spread name) location selections = s.FragmentSpread record { value = record { fragment_name = name; directives = record { 0 = [] } }; location = Some location }
+selection_with (w.Inline condition) location selections = s.InlineFragment record {
   value = roll-InlineFragment (record { type_condition = condition; directives = record { 0 = [] }; selection_set = selections });
-  location = Some place;
+  location = Some location;
 }
 
 -- the selection that a line says, with these selections
 abbrev pub selection_of : SelectionLine → List Selection → Selection
-selection_of line selections = selection_with line.selected line.place selections
+selection_of line selections = selection_with line.selected line.location selections
 
 -- the selections of a depth that stand in the lines from the first on, up to a line that is less deep. Each has those of
 -- the next depth that stand in the lines below it

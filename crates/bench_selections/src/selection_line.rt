@@ -41,7 +41,7 @@ pub struct SelectionLine {
     /// In how many other selections it stands.
     pub depth: u8,
     /// Its location.
-    pub place: SourceSpan,
+    pub location: SourceSpan,
     pub selected: Selected,
 }
 
@@ -49,7 +49,7 @@ impl Drop for SelectionLine {
     fn drop(self) {
         let Self {
             depth: _,
-            place: _,
+            location: _,
             selected: _,
         } = self;
     }
@@ -79,7 +79,7 @@ impl SelectionLine {
     {
         let SelectionLine {
             depth: _,
-            place,
+            location,
             selected,
         } = self;
         match selected {
@@ -91,12 +91,12 @@ impl SelectionLine {
                     directives: DirectiveList::new(alloc),
                     selection_set: selections,
                 };
-                let node = Node::new_opt_location(alloc, field, Some(place))?;
+                let node = Node::new_opt_location(alloc, field, Some(location))?;
                 Ok(Selection::Field(node))
             }
             Selected::Spread(name) => {
                 let spread = FragmentSpread::new(alloc, name);
-                let node = Node::new_opt_location(alloc, spread, Some(place))?;
+                let node = Node::new_opt_location(alloc, spread, Some(location))?;
                 Ok(Selection::FragmentSpread(node))
             }
             Selected::Inline(type_condition) => {
@@ -105,7 +105,7 @@ impl SelectionLine {
                     directives: DirectiveList::new(alloc),
                     selection_set: selections,
                 };
-                let node = Node::new_opt_location(alloc, fragment, Some(place))?;
+                let node = Node::new_opt_location(alloc, fragment, Some(location))?;
                 Ok(Selection::InlineFragment(node))
             }
         }

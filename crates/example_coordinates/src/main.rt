@@ -1,7 +1,7 @@
 //! Schema coordinates, as `Type.field(argument:)`: read from texts, looked up in a schema, and each way in which that fails.
 #![tactic(auto)]
 
-use anyhow::{Context, Result, bail};
+use anyhow::{Result, bail};
 use apollo_compiler::coordinate::{
     SchemaCoordinate, SchemaCoordinateLookup, SchemaCoordinateParseError, SchemaLookupError,
 };

@@ -18,12 +18,12 @@ fn field(
     alloc: Global,
     name: &str,
     type_name: &str,
-    place: (u64, usize),
+    at: (u64, usize),
 ) -> Result<Node<FieldDefinition>> {
     let location = SourceSpan {
-        file: FileId(place.0),
-        start: place.1,
-        end: place.1.saturating_add(name.len()),
+        file: FileId(at.0),
+        start: at.1,
+        end: at.1.saturating_add(name.len()),
     };
     // `Name::new` refuses what is no name of GraphQL. Every other call here fails for want of memory alone.
     let name = Name::new(alloc, name)?.with_location(location);
@@ -66,8 +66,8 @@ fn builder(alloc: Global) -> Result<SchemaBuilder> {
 
 /// The faults, each with its location, and the schema that could be built.
 fn print_faults(rt: &HostRuntime, found: WithErrors<Schema>) -> Result<Schema> {
-    for (place, fault) in found.errors.iter() {
-        match place {
+    for (location, fault) in found.errors.iter() {
+        match location {
             Some(span) => println!(rt; "file {}, byte {}: {fault}", span.file.0, span.start)?,
             None => println!(rt; "somewhere: {fault}")?,
         }

@@ -33,8 +33,8 @@ use std::time::Clock;
 /// Runs the program on the words that follow its name: reads the input once, takes the times, and writes the report.
 ///
 /// `Done`: the report stands on `output`, behind what was there. `Refused` and `Exhausted`: nothing was written on `output`.
-/// Words that are no command are refused before anything is read. `NotWritten`: there was a report, and not all of it was
-/// written; nothing is said of what went out. `Faults` doesn't come: a report tells how many faults there are.
+/// Words that are no command are refused before anything is read. `NotWritten`: there was a report, and the writer failed, or
+/// its flush did; nothing is said of what went out. `Faults` doesn't come: a report tells how many faults there are.
 ///
 /// The output is written only once all of it is there. What is wrong is said on `errors`, in one line, and so is how far a
 /// long run is; that it cannot be said there changes nothing. A clock that can't be read ends the run as want of memory

@@ -4,10 +4,10 @@ use crate::inputs::{DOCUMENTS, SCHEMAS, SERVED, SchemaInput, documents, executab
 use crate::stop::{Stop, Told};
 use crate::tell::Tell;
 use crate::tell::faults::{push_document_faults, push_schema_faults};
-use crate::tell::places::push_definitions;
+use crate::tell::locations::push_definitions;
 use apollo_compiler::{CompileError, CompileOptions, Compiled, Document, compile};
 use leafcheck::leaf_faults;
-use likeness::push_place;
+use likeness::push_location;
 use std::alloc::Global;
 
 fn push_schemas(alloc: Global, text: &mut String, compiled: &Compiled) -> Told {
@@ -82,7 +82,7 @@ pub fn both(alloc: Global, text: &mut String) -> Told {
 
 fn push_leaf_faults(alloc: Global, text: &mut String, compiled: &Compiled) -> Told {
     for fault in leaf_faults(alloc, &compiled.schema, &compiled.document)? {
-        push_place(text, fault.location)?;
+        push_location(text, fault.location)?;
         write!(text, "{fault} {fault:?}\n")?;
     }
     Ok(())

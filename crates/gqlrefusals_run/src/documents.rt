@@ -4,7 +4,7 @@ use crate::inputs::{DOCUMENTS, SERVED, executable, schema};
 use crate::stop::{Stop, Told, expect};
 use crate::tell::Tell;
 use crate::tell::faults::push_document_faults;
-use crate::tell::places::{push_definitions, push_selection};
+use crate::tell::locations::{push_definitions, push_selection};
 use apollo_document::ExecutableDocumentBuilder;
 use apollo_elaboration::build_error::Faults;
 use apollo_elaboration::field_set::FieldSet;

@@ -1,7 +1,7 @@
 //! Calls that make maps of operations, or change them.
 
 use crate::changing::{Change, changed};
-use crate::parts::{full_set, name, place};
+use crate::parts::{full_set, location, name};
 use crate::stop::{Stop, Told, expect};
 use crate::tell::Tell;
 use apollo_executable::{Operation, OperationMap, RequestError};
@@ -26,7 +26,7 @@ fn operation(alloc: Global, text: &str) -> Result<Node<Operation>, AllocError> {
         directives: DirectiveList::new(alloc),
         selection_set: full_set(alloc, 1)?,
     };
-    Node::new_opt_location(alloc, operation, Some(place(9)))
+    Node::new_opt_location(alloc, operation, Some(location(9)))
 }
 
 /// A map of operations of these names, with room for no more: its copy.

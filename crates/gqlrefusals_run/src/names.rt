@@ -1,19 +1,19 @@
 //! Names, nodes and fields that are made.
 
-use crate::parts::{name, place};
+use crate::parts::{location, name};
 use crate::stop::{Stop, Told, expect};
-use crate::tell::places::push_field;
+use crate::tell::locations::push_field;
 use crate::tell::{push_at, push_name};
 use apollo_component::extension::{ExtensionId, ExtensionSource};
 use apollo_schema::meta_fields::MetaFields;
 use graphql_nodes::name::{InvalidNameError, Name, NameError};
 use graphql_nodes::node::Node;
-use likeness::push_place;
+use likeness::push_location;
 use std::alloc::Global;
 
 fn tell_refused(text: &mut String, refused: &InvalidNameError) -> Told {
     write!(text, "{refused} {refused:?} ")?;
-    push_place(text, refused.location)?;
+    push_location(text, refused.location)?;
     Ok(())
 }
 
@@ -48,7 +48,7 @@ pub fn new(alloc: Global, text: &mut String) -> Told {
 }
 
 fn located(alloc: Global, text: &str) -> Result<Node<Name>, Stop> {
-    Ok(Node::new_opt_location(alloc, name(alloc, text)?, Some(place(12)))?)
+    Ok(Node::new_opt_location(alloc, name(alloc, text)?, Some(location(12)))?)
 }
 
 /// `Node::same_location` and `ExtensionId::same_location`.

@@ -12,7 +12,7 @@ use std::alloc::{AllocError, Global};
 
 /// A location.
 /// No clause: it serves the scenarios, which say what they see.
-pub fn place(line: usize) -> SourceSpan {
+pub fn location(line: usize) -> SourceSpan {
     SourceSpan {
         file: FileId(7),
         start: line,
@@ -23,7 +23,7 @@ pub fn place(line: usize) -> SourceSpan {
 /// A name with a location.
 /// No clause: it serves the scenarios, which say what they see.
 pub fn name(alloc: Global, text: &str) -> Result<Name, AllocError> {
-    Ok(Name::new_unchecked(alloc, text)?.with_location(place(text.len())))
+    Ok(Name::new_unchecked(alloc, text)?.with_location(location(text.len())))
 }
 
 fn definition(alloc: Global) -> Result<FieldDefinition, AllocError> {
@@ -39,14 +39,14 @@ fn definition(alloc: Global) -> Result<FieldDefinition, AllocError> {
 /// The definition of a field, with locations.
 /// No clause: it serves the scenarios, which say what they see.
 pub fn definition_node(alloc: Global) -> Result<Node<FieldDefinition>, AllocError> {
-    Node::new_opt_location(alloc, definition(alloc)?, Some(place(3)))
+    Node::new_opt_location(alloc, definition(alloc)?, Some(location(3)))
 }
 
 /// A spread, with locations.
 /// No clause: it serves the scenarios, which say what they see.
 pub fn spread(alloc: Global, text: &str) -> Result<Selection, AllocError> {
     let spread = FragmentSpread::new(alloc, name(alloc, text)?);
-    let node = Node::new_opt_location(alloc, spread, Some(place(4)))?;
+    let node = Node::new_opt_location(alloc, spread, Some(location(4)))?;
     Ok(Selection::FragmentSpread(node))
 }
 
@@ -70,5 +70,5 @@ pub fn full_set(alloc: Global, count: usize) -> Result<SelectionSet, AllocError>
 /// No clause: it serves the scenarios, which say what they see.
 pub fn directive(alloc: Global) -> Result<Node<Directive>, AllocError> {
     let directive = Directive::new(alloc, name(alloc, "d")?);
-    Node::new_opt_location(alloc, directive, Some(place(6)))
+    Node::new_opt_location(alloc, directive, Some(location(6)))
 }

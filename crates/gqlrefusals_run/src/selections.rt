@@ -1,7 +1,7 @@
 //! The calls that make selections.
 
 use crate::inputs::{SERVED, schema};
-use crate::parts::{definition_node, directive, empty_set, name, place, spread};
+use crate::parts::{definition_node, directive, empty_set, location, name, spread};
 use crate::stop::{Stop, Told};
 use crate::tell::Tell;
 use apollo_executable::{
@@ -13,11 +13,11 @@ use graphql_nodes::node::Node;
 use std::alloc::{AllocError, Global};
 
 fn argument(alloc: Global, text: &str) -> Result<Node<Argument>, AllocError> {
-    let value = Node::new_opt_location(alloc, Value::Boolean(true), Some(place(8)))?;
+    let value = Node::new_opt_location(alloc, Value::Boolean(true), Some(location(8)))?;
     Node::new_opt_location(
         alloc,
         Argument::new(name(alloc, text)?, value),
-        Some(place(5)),
+        Some(location(5)),
     )
 }
 

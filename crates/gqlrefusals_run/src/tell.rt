@@ -3,12 +3,12 @@
 use graphql_nodes::name::Name;
 use graphql_nodes::node_str::NodeStr;
 use graphql_nodes::source::SourceSpan;
-use likeness::push_place;
+use likeness::push_location;
 use std::alloc::AllocError;
 
 pub mod components;
 pub mod faults;
-pub mod places;
+pub mod locations;
 pub mod schemas;
 pub mod typed;
 
@@ -23,15 +23,19 @@ pub trait Tell {
 pub fn push_name(text: &mut String, name: &Name) -> Result<(), AllocError> {
     text.push_str(name.as_str())?;
     text.push_str(" ")?;
-    push_place(text, name.location())
+    push_location(text, name.location())
 }
 
 /// Adds a word, and a location.
 /// No clause: it serves the scenarios, which say what they see.
-pub fn push_at(text: &mut String, word: &str, place: Option<SourceSpan>) -> Result<(), AllocError> {
+pub fn push_at(
+    text: &mut String,
+    word: &str,
+    location: Option<SourceSpan>,
+) -> Result<(), AllocError> {
     text.push_str(word)?;
     text.push_str(" ")?;
-    push_place(text, place)
+    push_location(text, location)
 }
 
 /// Adds a name and its location, if there is one.

@@ -3,7 +3,7 @@
 use crate::inputs::{DEFINITIONS, KINDS, SCHEMAS, SchemaInput, schema};
 use crate::stop::{Stop, Told};
 use crate::tell::components::push_identities;
-use crate::tell::places::push_definitions;
+use crate::tell::locations::push_definitions;
 use crate::tell::push_name;
 use apollo_component::extension::ExtensionId;
 use apollo_schema::implementers::Implementers;

@@ -28,7 +28,8 @@ impl Drop for Outcome {
 ///
 /// With status 0 or 1 the output is exactly the answer, and there is nothing on standard error. With 2 or 3 there is no output,
 /// and there is a cause; but with 3 the output of `walk` may be a beginning of its answer. With 4 there was an answer, and no
-/// memory for all of the output, which is a beginning of it. So want of memory is a status too.
+/// memory for all of the output, which is a beginning of it. So want of memory is a status too. What the run built is left to the
+/// end of the process.
 pub fn outcome_of(alloc: Global, words: &[&str], input: &str) -> Outcome
     ensures { IsOutcome (map (λ word. word.now) words.now) input.now result.status result.output.items result.errors.items }
 {

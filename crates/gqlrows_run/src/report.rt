@@ -134,7 +134,8 @@ fn push_count(
 }
 
 /// Runs rows, in order, and reports on them: for each that differs its title and what came, and then how many rows there are and
-/// how many differ. The error is want of memory for the report; a run that wants memory ends with its own status.
+/// how many differ. The error is want of memory for the report; a run that wants memory ends with its own status. What the runs
+/// built is left to the end of the process.
 pub fn run_all(alloc: Global, rows: &[Row<'_>]) -> Result<Report, AllocError>
     ensures { IfOk result (λ report. (runs : List Ran) × (AreRunsOf (map row_view rows.now) runs × ((report.text.items ≡ report_text runs) × (report.differing ≡ count_by differs runs)))) }
 {

@@ -20,7 +20,7 @@ use std::io::{self, Write};
 /// and nothing was written on `errors`. `Refused` is the answer where the file can't be read or one of its lines says nothing
 /// where it stands, and `Exhausted` where memory is wanting: then nothing was written on `output`. `NotWritten` is the answer
 /// where the report cannot be written, and nothing is said of what went out. What is wrong is said on `errors`, in one line;
-/// that it cannot be said there changes nothing.
+/// that it cannot be said there changes nothing. What the runs built is left to the end of the process.
 pub fn run_rows<R: Input, O: Write, E: Write>(
     alloc: Global,
     reader: &mut R,

@@ -3,13 +3,13 @@ use Rattle.std.specs.Prelude.{◌≡◌, ℕ, List, [], ◌∷◌, ◌++◌, Opt
 use Rattle.graphql_nodes.specs.declared.source.SourceSpan.{SourceSpan}
 
 -- the line where a fault stands, or that it stands nowhere
-abbrev pub place_text : Option SourceSpan → List ℕ
-place_text None = codes "-"
-place_text (Some span) = decimal span.start
+abbrev pub location_line : Option SourceSpan → List ℕ
+location_line None = codes "-"
+location_line (Some span) = decimal span.start
 
 -- a fault's line, with what is said of it
 abbrev pub fault_line : Option SourceSpan → List ℕ → List ℕ
-fault_line place said = codes "fault " ++ place_text place ++ codes " " ++ said ++ codes "\n"
+fault_line location said = codes "fault " ++ location_line location ++ codes " " ++ said ++ codes "\n"
 
 -- the lines of faults, in order, each at its location, with something said of it
 abbrev pub AreFaultLines : {E : Type 0} → List (Option SourceSpan × E) → List ℕ → Type 0

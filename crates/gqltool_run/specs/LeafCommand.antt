@@ -10,7 +10,7 @@ use Rattle.apollo_meaning.specs.Faults.Collisions.{Fault}
 use Rattle.apollo_schema.specs.declared.schema.Schema.{Schema}
 use Rattle.apollo_elaboration.specs.Typable.{Fault as DocumentFault}
 use Rattle.gqltool_run.specs.DocumentBuilding.{IsBuiltDocument}
-use Rattle.gqltool_run.specs.FaultLines.{AreFaultLines, place_text}
+use Rattle.gqltool_run.specs.FaultLines.{AreFaultLines, location_line}
 
 -- the word of the way in which a field is at fault
 abbrev pub leaf_kind_word : LeafKind → List ℕ
@@ -19,7 +19,7 @@ leaf_kind_word MissingSubselection = codes "missing-subselection"
 
 -- the line of a field that is at fault: where it stands, its response key, and in which way
 abbrev pub leaf_line : LeafFault → List ℕ
-leaf_line fault = codes "leaf " ++ place_text fault.location ++ codes " " ++ fault.response_key.text ++ codes " " ++ leaf_kind_word fault.kind ++ codes "\n"
+leaf_line fault = codes "leaf " ++ location_line fault.location ++ codes " " ++ fault.response_key.text ++ codes " " ++ leaf_kind_word fault.kind ++ codes "\n"
 
 -- the text has a line for each leaf fault of the typed document that the input means, over its schema, and then those of the
 -- schema's faults and the document's own; something is at fault unless there is no line

@@ -29,8 +29,8 @@ IsCauseTo words held may_fail failure = IsRefusalOf words failure ⊎ ((task : T
 abbrev pub HaveCause : List (List ℕ) → Option (List ℕ) → Type 0 → Status → Type 0
 HaveCause words held may_fail status = (failure : Failure) × ((status_of failure ≡ status) × IsCauseTo words held may_fail failure)
 
--- a run that has its whole answer ends so: the text is appended, and whether there are faults decides; or not all could be written,
--- and a beginning is
+-- a run that has its whole answer ends so: the text is appended, and whether there are faults decides; or the writer failed, or its
+-- flush did, and a beginning of the text is appended
 abbrev pub IsWritten : List ℕ → Bool → Option (List ℕ) → Option (List ℕ) → Status → Type 0
 IsWritten text has_faults old new s.Done = (has_faults ≡ false) × Appends old new text
 IsWritten text has_faults old new s.Faults = (has_faults ≡ true) × Appends old new text

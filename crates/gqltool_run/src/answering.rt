@@ -27,7 +27,7 @@ use std::alloc::Global;
 /// the input can't be read as a text: of [`BytesAtHand`](crate::input::BytesAtHand) only where it isn't UTF-8. `RefusedLine`
 /// tells the first line of it that says nothing where it stands, and `NoDivision` that none divides it, for `doc`, `walk` and
 /// `leaf`. `ExtensionIds` comes only where the numbers don't suffice for the extensions of the input; `Memory` is want of
-/// memory, and says nothing of the words or the input. There is no other error.
+/// memory, and says nothing of the words or the input. There is no other error. What was built is left to the end of the process.
 pub fn answer_to<R: Input>(
     alloc: Global,
     keys: HashKeys,

@@ -1,6 +1,6 @@
 //! Faults as text.
 ghost use Rattle.std.specs.Prelude.{◌≡◌, ℕ, List, ◌++◌, OnErr, OnOk, string_bytes};
-ghost use Rattle.gqltool_run.specs.FaultLines.{AreFaultLines, fault_line, place_text};
+ghost use Rattle.gqltool_run.specs.FaultLines.{AreFaultLines, fault_line, location_line};
 ghost use Rattle.gqltool_run.specs.Pieces.{IsCutShort, IsSaid};
 
 use crate::outlet::{CutShort, Kept, Outlet};
@@ -43,13 +43,13 @@ pub(crate) fn say_faults<O: Outlet, E: Display>(
 fn push_fault<E: Display>(
     alloc: Global,
     text: &mut String,
-    place: Option<SourceSpan>,
+    location: Option<SourceSpan>,
     error: &E,
 ) -> Result<(), AllocError>
-    ensures { OnOk result ((said : List ℕ) × (string_bytes text.new ≡ string_bytes text.old ++ fault_line place said)) }
+    ensures { OnOk result ((said : List ℕ) × (string_bytes text.new ≡ string_bytes text.old ++ fault_line location said)) }
 {
     text.push_str("fault ")?;
-    push_place(alloc, text, place)?;
+    push_location(alloc, text, location)?;
     text.push_str(" ")?;
     let said = error.to_string(alloc)?;
     text.push_str(said.as_str())?;
@@ -58,14 +58,14 @@ fn push_fault<E: Display>(
 
 /// Adds the number with which a location starts, or `-` where there is none: of what was read the line. The error is want of
 /// memory.
-pub(crate) fn push_place(
+pub(crate) fn push_location(
     alloc: Global,
     text: &mut String,
-    place: Option<SourceSpan>,
+    location: Option<SourceSpan>,
 ) -> Result<(), AllocError>
-    ensures { OnOk result (string_bytes text.new ≡ string_bytes text.old ++ place_text place) }
+    ensures { OnOk result (string_bytes text.new ≡ string_bytes text.old ++ location_line location) }
 {
-    match place {
+    match location {
         Some(span) => text.push_str(span.start.to_string(alloc)?.as_str()),
         None => text.push_str("-"),
     }

@@ -8,7 +8,7 @@ ghost use Rattle.gqltool_run.specs.LeafCommand.{IsLeafAnswer, leaf_kind_word, le
 use crate::answer::Answer;
 use crate::document_building::{compile_documents, has_faults};
 use crate::failure::Failure;
-use crate::fault_printing::{push_faults, push_place};
+use crate::fault_printing::{push_faults, push_location};
 use crate::leaving::leave;
 use apollo_compiler::compiled::Compiled;
 use graphql_nodes::collections::hash_keys::HashKeys;
@@ -65,7 +65,7 @@ fn push_leaf_fault(alloc: Global, text: &mut String, fault: &LeafFault) -> Resul
     ensures { OnOk result (string_bytes text.new ≡ string_bytes text.old ++ leaf_line fault.now) }
 {
     text.push_str("leaf ")?;
-    push_place(alloc, text, fault.location)?;
+    push_location(alloc, text, fault.location)?;
     text.push_str(" ")?;
     text.push_str(fault.response_key.as_str())?;
     text.push_str(" ")?;

@@ -33,14 +33,14 @@ use std::io::{self, Write};
 /// or as more where the text of `coord` has line feeds. Words that are no command, and `coord` with a text of no coordinate, are
 /// refused before anything is read.
 ///
-/// `NotWritten`: there was an answer, and not all of it was written: what went out is a beginning of it. `cannot write output`
-/// is written on `errors`.
+/// `NotWritten`: there was an answer, and the writer failed, or its flush did: what went out is a beginning of the answer, perhaps
+/// all of it. `cannot write output` is written on `errors`.
 ///
 /// That something cannot be said on `errors` changes nothing, and but for `Done` and `Faults` no clause says what stands there.
 /// Tables hash by fixed keys: for an input from strangers, take [`run_with_keys`].
 ///
-/// What was built of the input is left in memory, since a program ends after its run, which is faster by a third. A process
-/// that goes on takes the libraries' calls, which free what they make.
+/// What was built of the input is left to the end of the process, since a program ends after its run, which is faster by a third.
+/// A process that goes on takes the calls of `apollo_compiler`, which free what they make.
 pub fn run<R: Input, O: Write, E: Write>(
     alloc: Global,
     words: &[&str],

@@ -12,7 +12,7 @@ pub enum Status {
     /// Memory or extension identities were wanting; in `gqlbench` also the clock, or random keys. No output is written, but of
     /// `gqltool walk` there may be a beginning.
     Exhausted,
-    /// Not all of the output could be written.
+    /// The output could not be written to its end, or not be flushed.
     NotWritten,
 }
 

@@ -6,7 +6,7 @@ use Rattle.graphql_nodes.specs.NameView.{NameView}
 use Rattle.graphql_nodes.specs.declared.operation_type.OperationType.{OperationType}
 use Rattle.graphql_nodes.specs.declared.directive_location.DirectiveLocation.{DirectiveLocation}
 use Rattle.graphql_nodes.specs.contracts.operation_type.OperationType as kind
-use Rattle.graphql_nodes.specs.contracts.directive_location.DirectiveLocation as place
+use Rattle.graphql_nodes.specs.contracts.directive_location.DirectiveLocation as location
 use Rattle.graphql_ast.specs.BareTypeSystem.{bare_root_operation, bare_input_value_definition, bare_field_definition, bare_enum_value_definition, bare_directive_definition, bare_schema_definition, bare_scalar_type_definition, bare_object_type_definition, bare_interface_type_definition, bare_union_type_definition, bare_enum_type_definition, bare_input_object_type_definition, bare_schema_extension, bare_scalar_type_extension, bare_object_type_extension, bare_interface_type_extension, bare_union_type_extension, bare_enum_type_extension, bare_input_object_type_extension}
 use Rattle.graphql_ast.specs.declared.type_system.InputValueDefinition.{InputValueDefinition}
 use Rattle.graphql_ast.specs.declared.type_system.FieldDefinition.{FieldDefinition}
@@ -52,8 +52,8 @@ use Rattle.graphql_ast.proofs.DirectiveEquality.{directive_lists}
 pub operation_types : Compares (sameb kind.the_type) (λ (k : OperationType). k)
 operation_types = kinds kind.the_type tt
 
-places : Compares (pointwise (sameb place.the_type)) (λ (l : List DirectiveLocation). l)
-places = subst (Compares (pointwise (sameb place.the_type))) (λ i l. own l i) (lists (kinds place.the_type tt))
+locations : Compares (pointwise (sameb location.the_type)) (λ (l : List DirectiveLocation). l)
+locations = subst (Compares (pointwise (sameb location.the_type))) (λ i l. own l i) (lists (kinds location.the_type tt))
 
 abbrev root_eq : OperationType × NameView → OperationType × NameView → Bool
 root_eq a b = sameb kind.the_type a.0 b.0 && pointwise nat_eq a.1.text b.1.text
@@ -75,7 +75,7 @@ enum_value_definitions = made (λ p. record { description = p.0; value = p.1.0; 
 
 pub directive_definitions : Compares directive_definition.ghosts.eq bare_directive_definition
 directive_definitions = made (λ p. record { description = p.0; name = p.1.0; arguments = p.1.1.0; repeatable = p.1.1.1.0; locations = p.1.1.1.1 }) (λ d. (d.description, (d.name, (d.arguments, (d.repeatable, d.locations))))) (λ _. refl)
-    (and_then (of_part (λ (d : DirectiveDefinition). d.description) (options names)) (and_then (of_part (λ (d : DirectiveDefinition). d.name) names) (and_then (of_part (λ (d : DirectiveDefinition). d.arguments) (lists (nodes input_value_definitions))) (and_then (of_part (λ (d : DirectiveDefinition). d.repeatable) flags) (of_part (λ (d : DirectiveDefinition). d.locations) places)))))
+    (and_then (of_part (λ (d : DirectiveDefinition). d.description) (options names)) (and_then (of_part (λ (d : DirectiveDefinition). d.name) names) (and_then (of_part (λ (d : DirectiveDefinition). d.arguments) (lists (nodes input_value_definitions))) (and_then (of_part (λ (d : DirectiveDefinition). d.repeatable) flags) (of_part (λ (d : DirectiveDefinition). d.locations) locations)))))
 
 pub schema_definitions : Compares schema_definition.ghosts.eq bare_schema_definition
 schema_definitions = made (λ p. record { description = p.0; directives = p.1.0; root_operations = p.1.1 }) (λ d. (d.description, (d.directives, d.root_operations))) (λ _. refl)

@@ -75,26 +75,26 @@ with_part part parts = record {
 
 -- the definition of a type of this kind
 abbrev pub type_definition : TypeKind → Option NameView → NameView → DefinitionParts → Option SourceSpan → Definition
-type_definition k.Scalar description name parts place = d.ScalarTypeDefinition (record { value = record { description = description; name = name; directives = parts.directives }; location = place })
-type_definition k.Object description name parts place = d.ObjectTypeDefinition (record { value = record { description = description; name = name; implements_interfaces = parts.names; directives = parts.directives; fields = parts.fields }; location = place })
-type_definition k.Interface description name parts place = d.InterfaceTypeDefinition (record { value = record { description = description; name = name; implements_interfaces = parts.names; directives = parts.directives; fields = parts.fields }; location = place })
-type_definition k.Union description name parts place = d.UnionTypeDefinition (record { value = record { description = description; name = name; directives = parts.directives; members = parts.names }; location = place })
-type_definition k.Enum description name parts place = d.EnumTypeDefinition (record { value = record { description = description; name = name; directives = parts.directives; values = parts.values }; location = place })
-type_definition k.InputObject description name parts place = d.InputObjectTypeDefinition (record { value = record { description = description; name = name; directives = parts.directives; fields = parts.input_fields }; location = place })
+type_definition k.Scalar description name parts location = d.ScalarTypeDefinition (record { value = record { description = description; name = name; directives = parts.directives }; location = location })
+type_definition k.Object description name parts location = d.ObjectTypeDefinition (record { value = record { description = description; name = name; implements_interfaces = parts.names; directives = parts.directives; fields = parts.fields }; location = location })
+type_definition k.Interface description name parts location = d.InterfaceTypeDefinition (record { value = record { description = description; name = name; implements_interfaces = parts.names; directives = parts.directives; fields = parts.fields }; location = location })
+type_definition k.Union description name parts location = d.UnionTypeDefinition (record { value = record { description = description; name = name; directives = parts.directives; members = parts.names }; location = location })
+type_definition k.Enum description name parts location = d.EnumTypeDefinition (record { value = record { description = description; name = name; directives = parts.directives; values = parts.values }; location = location })
+type_definition k.InputObject description name parts location = d.InputObjectTypeDefinition (record { value = record { description = description; name = name; directives = parts.directives; fields = parts.input_fields }; location = location })
 
 -- the extension of a type of this kind
 abbrev pub type_extension : TypeKind → NameView → DefinitionParts → Option SourceSpan → Definition
-type_extension k.Scalar name parts place = d.ScalarTypeExtension (record { value = record { name = name; directives = parts.directives }; location = place })
-type_extension k.Object name parts place = d.ObjectTypeExtension (record { value = record { name = name; implements_interfaces = parts.names; directives = parts.directives; fields = parts.fields }; location = place })
-type_extension k.Interface name parts place = d.InterfaceTypeExtension (record { value = record { name = name; implements_interfaces = parts.names; directives = parts.directives; fields = parts.fields }; location = place })
-type_extension k.Union name parts place = d.UnionTypeExtension (record { value = record { name = name; directives = parts.directives; members = parts.names }; location = place })
-type_extension k.Enum name parts place = d.EnumTypeExtension (record { value = record { name = name; directives = parts.directives; values = parts.values }; location = place })
-type_extension k.InputObject name parts place = d.InputObjectTypeExtension (record { value = record { name = name; directives = parts.directives; fields = parts.input_fields }; location = place })
+type_extension k.Scalar name parts location = d.ScalarTypeExtension (record { value = record { name = name; directives = parts.directives }; location = location })
+type_extension k.Object name parts location = d.ObjectTypeExtension (record { value = record { name = name; implements_interfaces = parts.names; directives = parts.directives; fields = parts.fields }; location = location })
+type_extension k.Interface name parts location = d.InterfaceTypeExtension (record { value = record { name = name; implements_interfaces = parts.names; directives = parts.directives; fields = parts.fields }; location = location })
+type_extension k.Union name parts location = d.UnionTypeExtension (record { value = record { name = name; directives = parts.directives; members = parts.names }; location = location })
+type_extension k.Enum name parts location = d.EnumTypeExtension (record { value = record { name = name; directives = parts.directives; values = parts.values }; location = location })
+type_extension k.InputObject name parts location = d.InputObjectTypeExtension (record { value = record { name = name; directives = parts.directives; fields = parts.input_fields }; location = location })
 
 -- the definition of the schema
 abbrev pub schema_definition : Option NameView → DefinitionParts → Option SourceSpan → Definition
-schema_definition description parts place = d.SchemaDefinition (record { value = record { description = description; directives = parts.directives; root_operations = parts.roots }; location = place })
+schema_definition description parts location = d.SchemaDefinition (record { value = record { description = description; directives = parts.directives; root_operations = parts.roots }; location = location })
 
 -- an extension of the schema
 abbrev pub schema_extension : DefinitionParts → Option SourceSpan → Definition
-schema_extension parts place = d.SchemaExtension (record { value = record { directives = parts.directives; root_operations = parts.roots }; location = place })
+schema_extension parts location = d.SchemaExtension (record { value = record { directives = parts.directives; root_operations = parts.roots }; location = location })

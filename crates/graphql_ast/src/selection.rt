@@ -72,7 +72,7 @@ impl Drop for FragmentSpread {
 }
 
 impl FragmentSpread {
-    /// The selections of the fragment of this name, without directives.
+    /// A spread of the fragment of this name, without directives (section 2.8). It takes no memory.
     pub fn new(alloc: Global, fragment_name: Name) -> FragmentSpread
         ensures { result ≡ record { fragment_name = fragment_name; directives = record { 0 = [] } } }
     {

@@ -2,8 +2,8 @@ pub mod Comparisons
 pub mod KeySetClones
 pub mod KeysTried
 pub mod LineColumnLemmas
+pub mod LocationEquality
 pub mod NameEquality
-pub mod PlaceEquality
 pub mod SameLength
 pub mod TableEquality
 pub mod TableLemmas

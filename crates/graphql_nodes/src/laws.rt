@@ -50,7 +50,7 @@ pub fn equality_of_names()
 {}
 
 /// Locations, source files, kinds and keys are equal exactly where they are one.
-pub fn equality_of_places_and_kinds()
+pub fn equality_of_locations_and_kinds()
     ensures file_id { ComparesBy ⟦<FileId as PartialEq>⟧.eq (λ id. id) }
     ensures source_span { ComparesBy ⟦<SourceSpan as PartialEq>⟧.eq (λ span. span) }
     ensures source_file { ComparesBy ⟦<SourceFile as PartialEq>⟧.eq (λ file. file) }

@@ -70,14 +70,14 @@ impl From<AllocError> for NameError {
 /// Names are equal, and are ordered and hashed, by their texts: the location is left out. `Display` is the text.
 pub struct Name {
     shared: Rc<NameText>,
-    place: Option<SourceSpan>,
+    location: Option<SourceSpan>,
 }
 
 impl Drop for Name {
     fn drop(self) {
         let Self {
             shared: _,
-            place: _,
+            location: _,
         } = self;
     }
 }
@@ -93,7 +93,7 @@ impl Model for Name {
 
     ghost coded = { name_view_code };
 
-    ghost view = { λ n. record { text = name_text n.shared.value; location = n.place } };
+    ghost view = { λ n. record { text = name_text n.shared.value; location = n.location } };
 }
 
 fn is_name_start(byte: u8) -> bool
@@ -146,7 +146,7 @@ impl Name {
     {
         Ok(Name {
             shared: Rc::new(alloc, NameText::from_str(alloc, text)?)?,
-            place: None,
+            location: None,
         })
     }
 
@@ -154,7 +154,7 @@ impl Name {
     pub fn with_location(mut self, location: SourceSpan) -> Name
         ensures { result ≡ record self { location = Some location } }
     {
-        self.place = Some(location);
+        self.location = Some(location);
         self
     }
 
@@ -169,7 +169,7 @@ impl Name {
     pub fn location(&self) -> Option<SourceSpan>
         ensures { result ≡ self.now.location }
     {
-        self.place
+        self.location
     }
 }
 
@@ -180,7 +180,7 @@ impl Clone for Name {
     fn clone(&self) -> Result<Name, AllocError> {
         Ok(Name {
             shared: self.shared.clone()?,
-            place: self.place,
+            location: self.location,
         })
     }
 }

@@ -15,22 +15,25 @@ use std::ops::Deref;
 use std::rc::Rc;
 
 struct Held<T> {
-    place: Option<SourceSpan>,
+    location: Option<SourceSpan>,
     value: T,
 }
 
 impl<T: Drop> Drop for Held<T> {
     fn drop(self) {
-        let Self { place: _, value: _ } = self;
+        let Self {
+            location: _,
+            value: _,
+        } = self;
     }
 }
 
 impl<T: Clone + Drop> Clone for Held<T> {
-    ghost is_clone = { λ a b. (b.place ≡ a.place) × T.is_clone a.value b.value };
+    ghost is_clone = { λ a b. (b.location ≡ a.location) × T.is_clone a.value b.value };
 
     fn clone(&self) -> Result<Held<T>, AllocError> {
         Ok(Held {
-            place: self.place,
+            location: self.location,
             value: self.value.clone()?,
         })
     }
@@ -56,7 +59,7 @@ impl<T> Model for Node<T> {
 
     ghost coded = { node_view_code T.code };
 
-    ghost view = { λ n. record { value = n.shared.value.value; location = n.shared.value.place } };
+    ghost view = { λ n. record { value = n.shared.value.value; location = n.shared.value.location } };
 }
 
 impl<T> Node<T> {
@@ -80,7 +83,7 @@ impl<T> Node<T> {
         ensures { IfOk result (λ n. n ≡ record { value = value; location = location }) }
     {
         let held = Held {
-            place: location,
+            location: location,
             value,
         };
         Ok(Node {
@@ -92,14 +95,14 @@ impl<T> Node<T> {
     pub fn location(&self) -> Option<SourceSpan>
         ensures { result ≡ self.now.location }
     {
-        self.shared.place
+        self.shared.location
     }
 
     /// Whether the node has a location in the file of the built-in definitions, [`FileId::BUILT_IN`].
     pub fn is_built_in(&self) -> bool
         ensures { result ≡ is_built_in self.now.location }
     {
-        match self.shared.place {
+        match self.shared.location {
             Some(span) => span.file == FileId::BUILT_IN,
             None => false,
         }
@@ -109,7 +112,7 @@ impl<T> Node<T> {
     pub fn same_location<U: Drop>(&self, alloc: Global, value: U) -> Result<Node<U>, AllocError>
         ensures { IfOk result (λ n. n ≡ record { value = value; location = self.now.location }) }
     {
-        Node::new_opt_location(alloc, value, self.shared.place)
+        Node::new_opt_location(alloc, value, self.shared.location)
     }
 }
 

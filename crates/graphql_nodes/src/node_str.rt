@@ -19,14 +19,14 @@ use std::rc::RcStr;
 /// A shared text, and the location of this copy of it.
 struct Placed {
     shared: RcStr,
-    place: Option<SourceSpan>,
+    location: Option<SourceSpan>,
 }
 
 impl Drop for Placed {
     fn drop(self) {
         let Self {
             shared: _,
-            place: _,
+            location: _,
         } = self;
     }
 }
@@ -52,7 +52,7 @@ impl Model for NodeStr {
 
     ghost coded = { name_view_code };
 
-    ghost view = { λ n. record { text = rc_str_bytes n.placed.shared; location = n.placed.place } };
+    ghost view = { λ n. record { text = rc_str_bytes n.placed.shared; location = n.placed.location } };
 }
 
 impl NodeStr {
@@ -62,7 +62,7 @@ impl NodeStr {
     {
         let placed = Placed {
             shared: RcStr::from_str(alloc, text)?,
-            place: None,
+            location: None,
         };
         Ok(NodeStr {
             placed: Boxed::new(alloc, placed)?,
@@ -73,7 +73,7 @@ impl NodeStr {
     pub fn with_location(mut self, location: SourceSpan) -> NodeStr
         ensures { result ≡ record self { location = Some location } }
     {
-        self.placed.place = Some(location);
+        self.placed.location = Some(location);
         self
     }
 
@@ -88,7 +88,7 @@ impl NodeStr {
     pub fn location(&self) -> Option<SourceSpan>
         ensures { result ≡ self.now.location }
     {
-        self.placed.place
+        self.placed.location
     }
 }
 
@@ -99,7 +99,7 @@ impl Clone for NodeStr {
     fn clone(&self) -> Result<NodeStr, AllocError> {
         let placed = Placed {
             shared: self.placed.shared.clone()?,
-            place: self.placed.place,
+            location: self.placed.location,
         };
         Ok(NodeStr {
             placed: self.placed.same_allocator(placed)?,

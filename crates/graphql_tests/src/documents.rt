@@ -6,9 +6,9 @@ use graphql_nodes::{FileId, Node, Shared, SourceFile, SourceMap, SourceSpan, Tab
 use likeness::{are_equal, is_copied_so};
 use std::alloc::{AllocError, Global};
 
-/// A definition of the schema at this place.
-fn definitions(alloc: Global, place: Option<SourceSpan>) -> Result<Vec<Definition>, AllocError> {
-    let schema = Node::new_opt_location(alloc, SchemaDefinition::new(alloc), place)?;
+/// A definition of the schema at this location.
+fn definitions(alloc: Global, location: Option<SourceSpan>) -> Result<Vec<Definition>, AllocError> {
+    let schema = Node::new_opt_location(alloc, SchemaDefinition::new(alloc), location)?;
     let mut definitions = Vec::new(alloc);
     definitions.push(schema.into())?;
     Ok(definitions)
@@ -27,7 +27,7 @@ fn document(alloc: Global) -> Result<Document, AllocError> {
     Ok(Document::from_definitions(alloc, definitions))
 }
 
-/// That document with a source, and the definition at the place.
+/// That document with a source, and the definition at the location.
 fn with_source(alloc: Global) -> Result<Document, AllocError> {
     let mut document = Document::from_definitions(alloc, definitions(alloc, Some(PLACE))?);
     document.sources = sources(alloc)?;
@@ -49,7 +49,7 @@ fn has_source(document: &Document) -> bool {
     }
 }
 
-/// Whether the document's definition is at the place.
+/// Whether the document's definition is at the location.
 fn is_in_place(document: &Document) -> bool {
     match document.definitions.get(0) {
         Some(first) => first.location() == Some(PLACE),

@@ -36,16 +36,22 @@ fn at(line: usize, column: usize) -> LineColumn {
 }
 
 /// Whether the offsets of the text have these lines and columns, and the one after its end has none.
-fn are_places(file: &SourceFile, places: &[(usize, usize)]) -> bool {
-    let are_so = places.iter().enumerate().all(|(offset, place)| file.get_line_column(offset)
-        == Some(at(place.0, place.1)));
-    are_so && file.get_line_column(places.len()).is_none()
+fn are_line_columns(file: &SourceFile, line_columns: &[(usize, usize)]) -> bool {
+    let are_so = line_columns.iter().enumerate().all(|(offset, line_column)| file.get_line_column(
+        offset,
+    ) == Some(at(line_column.0, line_column.1)));
+    are_so && file.get_line_column(line_columns.len()).is_none()
 }
 
 #[test]
 fn lines_and_columns_of_offsets(rt: HostRuntime) {
-    for (text, places) in EXAMPLES.iter() {
-        assert!(rt; is_so(file(rt.alloc(), text), |file| are_places(file, places)));
+    for (text, line_columns) in EXAMPLES.iter() {
+        assert!(rt;
+            is_so(
+                file(rt.alloc(), text),
+                |file| are_line_columns(file, line_columns)
+            )
+        );
     }
 }
 

@@ -37,7 +37,7 @@ fn is_placed(name: &Name, placed: &Name) -> bool {
 }
 
 /// The location of a copy, if one is made.
-fn place_of_copy(name: &Name) -> Option<SourceSpan> {
+fn location_of_copy(name: &Name) -> Option<SourceSpan> {
     match name.clone() {
         Ok(copy) => copy.location(),
         Err(_) => None,
@@ -49,7 +49,7 @@ fn is_kept(name: &Name) -> bool {
     match name.clone() {
         Ok(copy) => {
             let placed = copy.with_location(PLACE);
-            is_placed(name, &placed) && place_of_copy(&placed) == Some(PLACE)
+            is_placed(name, &placed) && location_of_copy(&placed) == Some(PLACE)
         }
         Err(_) => false,
     }
@@ -77,7 +77,7 @@ fn is_field_kept(alloc: Global) -> bool {
 }
 
 #[test]
-fn names_carry_text_and_place(rt: HostRuntime) {
+fn names_carry_text_and_location(rt: HostRuntime) {
     assert!(rt; is_field_kept(rt.alloc()));
 }
 
@@ -113,7 +113,7 @@ fn refused_names(rt: HostRuntime) {
 }
 
 /// Whether a copy of the refusal at another location is equal.
-fn is_equal_at_place(error: &InvalidNameError) -> bool {
+fn is_equal_at_location(error: &InvalidNameError) -> bool {
     match error.clone() {
         Ok(mut placed) => {
             placed.location = Some(PLACE);
@@ -124,13 +124,13 @@ fn is_equal_at_place(error: &InvalidNameError) -> bool {
 }
 
 #[test]
-fn refusals_are_equal_without_places(rt: HostRuntime) {
+fn refusals_are_equal_without_locations(rt: HostRuntime) {
     let error = refusal(rt.alloc(), "9a");
-    assert!(rt; error.is_some_and(|error| is_equal_at_place(&error)));
+    assert!(rt; error.is_some_and(|error| is_equal_at_location(&error)));
 }
 
 /// Whether a text and its copy at a location differ in the location alone.
-fn is_text_placed(text: &NodeStr, placed: &NodeStr) -> bool {
+fn is_text_located(text: &NodeStr, placed: &NodeStr) -> bool {
     (text.location(), placed.location()) == (None, Some(PLACE))
         && placed.as_str() == "A type, \"quoted\"."
         && are_alike(text, placed)
@@ -145,7 +145,7 @@ fn quoted(alloc: Global) -> Result<NodeStr, AllocError> {
 fn is_text_kept(alloc: Global) -> Result<bool, AllocError> {
     let text = quoted(alloc)?;
     let placed = text.clone()?.with_location(PLACE);
-    Ok(is_text_placed(&text, &placed))
+    Ok(is_text_located(&text, &placed))
 }
 
 #[test]

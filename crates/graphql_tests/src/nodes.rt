@@ -23,18 +23,18 @@ const BUILT_IN: SourceSpan = SourceSpan {
 /// Whether the node was made, and is at this location.
 fn is_at(
     node: Result<Node<i32>, AllocError>,
-    place: Option<SourceSpan>,
+    location: Option<SourceSpan>,
     is_built_in: bool,
 ) -> bool {
     match node {
-        Ok(node) => (node.location(), node.is_built_in()) == (place, is_built_in),
+        Ok(node) => (node.location(), node.is_built_in()) == (location, is_built_in),
         Err(_) => false,
     }
 }
 
 /// A node that holds 7 at this location.
-fn seven(alloc: Global, place: Option<SourceSpan>) -> Result<Node<i32>, AllocError> {
-    Node::new_opt_location(alloc, 7, place)
+fn seven(alloc: Global, location: Option<SourceSpan>) -> Result<Node<i32>, AllocError> {
+    Node::new_opt_location(alloc, 7, location)
 }
 
 /// A node that holds `a` at the location of another.
@@ -51,7 +51,7 @@ fn is_beside(node: Result<Node<char>, AllocError>) -> bool {
 }
 
 #[test]
-fn places(rt: HostRuntime) {
+fn locations(rt: HostRuntime) {
     let alloc = rt.alloc();
     assert!(rt; is_at(Node::new(alloc, 7), None, false));
     assert!(rt; is_at(seven(alloc, None), None, false));
@@ -61,15 +61,15 @@ fn places(rt: HostRuntime) {
 }
 
 /// Whether a node of 7 and one of 7 at this location are equal, and hashed the same.
-fn is_alike_at(alloc: Global, place: Option<SourceSpan>) -> bool {
-    match (Node::new(alloc, 7), seven(alloc, place)) {
+fn is_alike_at(alloc: Global, location: Option<SourceSpan>) -> bool {
+    match (Node::new(alloc, 7), seven(alloc, location)) {
         (Ok(nowhere), Ok(node)) => are_alike(&nowhere, &node),
         _ => false,
     }
 }
 
 #[test]
-fn nodes_are_equal_without_places(rt: HostRuntime) {
+fn nodes_are_equal_without_locations(rt: HostRuntime) {
     let alloc = rt.alloc();
     assert!(rt; is_alike_at(alloc, None));
     assert!(rt; is_alike_at(alloc, Some(PLACE)));
@@ -92,8 +92,8 @@ fn rename(alloc: Global, node: &mut Node<Name>, name: &str) -> Result<(), AllocE
 
 /// Whether the nodes have these names, both at the location.
 fn are_named(first: &Node<Name>, second: &Node<Name>, names: (&str, &str)) -> bool {
-    let places = (first.location(), second.location());
-    (first.as_str(), second.as_str()) == names && places == (Some(PLACE), Some(PLACE))
+    let locations = (first.location(), second.location());
+    (first.as_str(), second.as_str()) == names && locations == (Some(PLACE), Some(PLACE))
 }
 
 /// Whether a write to the second of two equal nodes leaves the first, and another makes them equal again.

@@ -1,7 +1,7 @@
 //! Parts of operations and of types, files and texts: their copies.
 
 use crate::arguments::{field, int_type, number, with_default};
-use crate::samples::placed_name;
+use crate::samples::located_name;
 use graphql_ast::directive::DirectiveList;
 use graphql_ast::operation::VariableDefinition;
 use graphql_ast::selection::FragmentSpread;
@@ -16,7 +16,7 @@ fn variable_definition(alloc: Global) -> Result<VariableDefinition, AllocError> 
     let default_value = Some(number(alloc, "10")?);
     let ty = int_type(alloc, true)?;
     Ok(VariableDefinition {
-        name: placed_name(alloc)?,
+        name: located_name(alloc)?,
         ty,
         default_value,
         directives: DirectiveList::new(alloc),
@@ -25,7 +25,7 @@ fn variable_definition(alloc: Global) -> Result<VariableDefinition, AllocError> 
 
 fn spread(alloc: Global) -> Result<FragmentSpread, AllocError> {
     Ok(FragmentSpread {
-        fragment_name: placed_name(alloc)?,
+        fragment_name: located_name(alloc)?,
         directives: DirectiveList::new(alloc),
     })
 }
@@ -33,7 +33,7 @@ fn spread(alloc: Global) -> Result<FragmentSpread, AllocError> {
 fn enum_value(alloc: Global) -> Result<EnumValueDefinition, AllocError> {
     Ok(EnumValueDefinition {
         description: None,
-        value: placed_name(alloc)?,
+        value: located_name(alloc)?,
         directives: DirectiveList::new(alloc),
     })
 }

@@ -7,7 +7,7 @@ use graphql_ast::definition::Definition;
 use graphql_ast::document::Document;
 use graphql_ast::type_system::{InputObjectTypeDefinition, SchemaDefinition};
 use graphql_nodes::node::Node;
-use likeness::push_place;
+use likeness::push_location;
 use std::alloc::{AllocError, Global};
 use std::test::Fail;
 
@@ -110,43 +110,46 @@ fn a_text_is_divided_once(rt: HostRuntime) -> Result<(), Fail> {
 }
 
 /// Adds the locations of an input object type, its name, its fields and their parts.
-fn push_input_places(
+fn push_input_locations(
     text: &mut String,
     node: &Node<InputObjectTypeDefinition>,
 ) -> Result<(), AllocError> {
-    push_place(text, node.location())?;
-    push_place(text, node.name.location())?;
+    push_location(text, node.location())?;
+    push_location(text, node.name.location())?;
     for field in node.fields.as_slice() {
-        push_place(text, field.location())?;
-        push_place(text, field.name.location())?;
-        push_place(text, field.ty.location())?;
+        push_location(text, field.location())?;
+        push_location(text, field.name.location())?;
+        push_location(text, field.ty.location())?;
     }
     Ok(())
 }
 
 /// Adds the locations of a schema definition, its directives and its roots.
-fn push_schema_places(text: &mut String, node: &Node<SchemaDefinition>) -> Result<(), AllocError> {
-    push_place(text, node.location())?;
+fn push_schema_locations(
+    text: &mut String,
+    node: &Node<SchemaDefinition>,
+) -> Result<(), AllocError> {
+    push_location(text, node.location())?;
     for directive in node.directives.as_slice() {
-        push_place(text, directive.location())?;
-        push_place(text, directive.name.location())?;
+        push_location(text, directive.location())?;
+        push_location(text, directive.name.location())?;
     }
     for root in node.root_operations.as_slice() {
         let (operation, name) = &**root;
         write!(text, "{operation} {name} ")?;
-        push_place(text, root.location())?;
-        push_place(text, name.location())?;
+        push_location(text, root.location())?;
+        push_location(text, name.location())?;
     }
     Ok(())
 }
 
 /// Adds the locations of what stands in input object types and schema definitions.
-fn push_places(text: &mut String, documents: &[Document]) -> Result<(), AllocError> {
+fn push_locations(text: &mut String, documents: &[Document]) -> Result<(), AllocError> {
     for document in documents {
         for definition in document.definitions.as_slice() {
             match definition {
-                Definition::InputObjectTypeDefinition(node) => push_input_places(text, node)?,
-                Definition::SchemaDefinition(node) => push_schema_places(text, node)?,
+                Definition::InputObjectTypeDefinition(node) => push_input_locations(text, node)?,
+                Definition::SchemaDefinition(node) => push_schema_locations(text, node)?,
                 _ => {}
             }
         }
@@ -162,7 +165,7 @@ fn nodes_stand_at_their_lines(rt: HostRuntime) -> Result<(), Fail> {
         "\ndef input P\n\nfield a Int\n\nschema\n@ d\n\nroot mutation M",
     )?;
     let mut text = String::new(alloc);
-    push_places(&mut text, documents.as_slice())?;
+    push_locations(&mut text, documents.as_slice())?;
     assert_eq!(rt;
         text.as_str(),
         "1:2-2 1:2-2 1:4-4 1:4-4 1:4-4 1:6-6 1:7-7 1:7-7 mutation M 1:9-9 1:9-9 "

@@ -21,16 +21,16 @@ pub fn placed<T: Drop>(alloc: Global, value: T) -> Result<Node<T>, AllocError> {
 
 /// The name `n`, at the location.
 /// No clause: it serves tests.
-pub fn placed_name(alloc: Global) -> Result<Name, AllocError> {
+pub fn located_name(alloc: Global) -> Result<Name, AllocError> {
     name(alloc, "n", Some(PLACE))
 }
 
 /// The name of this text, at a location if one is given.
 /// No clause: it serves tests.
-pub fn name(alloc: Global, text: &str, place: Option<SourceSpan>) -> Result<Name, AllocError> {
+pub fn name(alloc: Global, text: &str, location: Option<SourceSpan>) -> Result<Name, AllocError> {
     let name = Name::new_unchecked(alloc, text)?;
-    match place {
-        Some(place) => Ok(name.with_location(place)),
+    match location {
+        Some(location) => Ok(name.with_location(location)),
         None => Ok(name),
     }
 }

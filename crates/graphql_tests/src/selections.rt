@@ -10,61 +10,64 @@ use likeness::{are_made_alike, is_copied_so, is_held_copied, is_made_copied, is_
 use std::alloc::{AllocError, Global};
 
 /// The argument `where: ..`, all at one location.
-fn argument(alloc: Global, place: Option<SourceSpan>) -> Result<Node<Argument>, AllocError> {
-    let value = Node::new_opt_location(alloc, value(alloc, place)?, place)?;
-    let name = name(alloc, "where", place)?;
-    Node::new_opt_location(alloc, Argument::new(name, value), place)
+fn argument(alloc: Global, location: Option<SourceSpan>) -> Result<Node<Argument>, AllocError> {
+    let value = Node::new_opt_location(alloc, value(alloc, location)?, location)?;
+    let name = name(alloc, "where", location)?;
+    Node::new_opt_location(alloc, Argument::new(name, value), location)
 }
 
 /// The directive `@on(where: ..)`, all at one location.
-fn directive(alloc: Global, place: Option<SourceSpan>) -> Result<Node<Directive>, AllocError> {
-    let arguments = list(alloc, argument(alloc, place)?)?;
-    let name = name(alloc, "on", place)?;
-    Node::new_opt_location(alloc, Directive { name, arguments }, place)
+fn directive(alloc: Global, location: Option<SourceSpan>) -> Result<Node<Directive>, AllocError> {
+    let arguments = list(alloc, argument(alloc, location)?)?;
+    let name = name(alloc, "on", location)?;
+    Node::new_opt_location(alloc, Directive { name, arguments }, location)
 }
 
 /// The directives `@on(where: ..)`, all at one location.
-fn directives(alloc: Global, place: Option<SourceSpan>) -> Result<DirectiveList, AllocError> {
-    Ok(DirectiveList(list(alloc, directive(alloc, place)?)?))
+fn directives(alloc: Global, location: Option<SourceSpan>) -> Result<DirectiveList, AllocError> {
+    Ok(DirectiveList(list(alloc, directive(alloc, location)?)?))
 }
 
 /// The field `other: key`, all at one location.
-fn field(alloc: Global, place: Option<SourceSpan>) -> Result<Node<Field>, AllocError> {
-    let alias = name(alloc, "other", place)?;
-    let mut field = Field::new(alloc, name(alloc, "key", place)?);
+fn field(alloc: Global, location: Option<SourceSpan>) -> Result<Node<Field>, AllocError> {
+    let alias = name(alloc, "other", location)?;
+    let mut field = Field::new(alloc, name(alloc, "key", location)?);
     field.alias = Some(alias);
-    Node::new_opt_location(alloc, field, place)
+    Node::new_opt_location(alloc, field, location)
 }
 
 /// The selections `{ other: key }`, all at one location.
-fn selections(alloc: Global, place: Option<SourceSpan>) -> Result<Items<Selection>, AllocError> {
-    list(alloc, Selection::from(field(alloc, place)?))
+fn selections(alloc: Global, location: Option<SourceSpan>) -> Result<Items<Selection>, AllocError> {
+    list(alloc, Selection::from(field(alloc, location)?))
 }
 
 /// The fragment `... on T @on(..) { other: key }`, all at one location.
-fn fragment(alloc: Global, place: Option<SourceSpan>) -> Result<Node<InlineFragment>, AllocError> {
-    let directives = directives(alloc, place)?;
-    let selection_set = selections(alloc, place)?;
-    let ty = name(alloc, "T", place)?;
+fn fragment(
+    alloc: Global,
+    location: Option<SourceSpan>,
+) -> Result<Node<InlineFragment>, AllocError> {
+    let directives = directives(alloc, location)?;
+    let selection_set = selections(alloc, location)?;
+    let ty = name(alloc, "T", location)?;
     let mut fragment = InlineFragment::with_type_condition(alloc, ty);
     fragment.directives = directives;
     fragment.selection_set = selection_set;
-    Node::new_opt_location(alloc, fragment, place)
+    Node::new_opt_location(alloc, fragment, location)
 }
 
 /// That fragment as a selection.
-fn selection(alloc: Global, place: Option<SourceSpan>) -> Result<Selection, AllocError> {
-    Ok(Selection::from(fragment(alloc, place)?))
+fn selection(alloc: Global, location: Option<SourceSpan>) -> Result<Selection, AllocError> {
+    Ok(Selection::from(fragment(alloc, location)?))
 }
 
 #[test]
-fn trees_are_equal_without_places(rt: HostRuntime) {
+fn trees_are_equal_without_locations(rt: HostRuntime) {
     let alloc = rt.alloc();
     assert!(rt; are_made_alike(selection(alloc, Some(PLACE)), selection(alloc, None)));
 }
 
 /// The location of the type condition.
-fn place_of_condition(node: &Node<InlineFragment>) -> Option<SourceSpan> {
+fn location_of_condition(node: &Node<InlineFragment>) -> Option<SourceSpan> {
     match node.type_condition.as_ref() {
         Some(condition) => condition.location(),
         None => None,
@@ -75,14 +78,14 @@ fn place_of_condition(node: &Node<InlineFragment>) -> Option<SourceSpan> {
 fn is_in_place(selection: &Selection) -> bool {
     match selection {
         Selection::InlineFragment(node) => {
-            (node.location(), place_of_condition(node)) == (Some(PLACE), Some(PLACE))
+            (node.location(), location_of_condition(node)) == (Some(PLACE), Some(PLACE))
         }
         _ => false,
     }
 }
 
 #[test]
-fn copies_keep_places(rt: HostRuntime) {
+fn copies_keep_locations(rt: HostRuntime) {
     let here = selection(rt.alloc(), Some(PLACE));
     assert!(rt; is_copied_so(here, is_in_place));
 }

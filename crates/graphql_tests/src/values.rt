@@ -9,28 +9,28 @@ use likeness::{are_equal, is_held_copied, is_made_copied};
 use std::alloc::{AllocError, Global};
 
 /// The value `$id` at this location.
-fn variable(alloc: Global, place: Option<SourceSpan>) -> Result<Node<Value>, AllocError> {
-    let variable = Value::Variable(name(alloc, "id", place)?);
-    Node::new_opt_location(alloc, variable, place)
+fn variable(alloc: Global, location: Option<SourceSpan>) -> Result<Node<Value>, AllocError> {
+    let variable = Value::Variable(name(alloc, "id", location)?);
+    Node::new_opt_location(alloc, variable, location)
 }
 
 /// The value `ONE` at this location.
-fn constant(alloc: Global, place: Option<SourceSpan>) -> Result<Node<Value>, AllocError> {
-    let constant = Value::Enum(name(alloc, "ONE", place)?);
-    Node::new_opt_location(alloc, constant, place)
+fn constant(alloc: Global, location: Option<SourceSpan>) -> Result<Node<Value>, AllocError> {
+    let constant = Value::Enum(name(alloc, "ONE", location)?);
+    Node::new_opt_location(alloc, constant, location)
 }
 
 /// The list `[$id, ONE]`, all at one location.
-fn ids(alloc: Global, place: Option<SourceSpan>) -> Result<Node<Value>, AllocError> {
-    let mut ids = list(alloc, variable(alloc, place)?)?;
-    ids.push(constant(alloc, place)?)?;
-    Node::new_opt_location(alloc, Value::List(ids), place)
+fn ids(alloc: Global, location: Option<SourceSpan>) -> Result<Node<Value>, AllocError> {
+    let mut ids = list(alloc, variable(alloc, location)?)?;
+    ids.push(constant(alloc, location)?)?;
+    Node::new_opt_location(alloc, Value::List(ids), location)
 }
 
 /// The value `{ids: [$id, ONE]}`, all at one location.
 /// No clause: it serves tests.
-pub fn value(alloc: Global, place: Option<SourceSpan>) -> Result<Value, AllocError> {
-    let member = (name(alloc, "ids", place)?, ids(alloc, place)?);
+pub fn value(alloc: Global, location: Option<SourceSpan>) -> Result<Value, AllocError> {
+    let member = (name(alloc, "ids", location)?, ids(alloc, location)?);
     Ok(Value::Object(list(alloc, member)?))
 }
 

@@ -61,11 +61,11 @@ nodes-faults s set ns k n at some none = filled-at (λ n. leaf_faults_in s (set 
 
 -- and a document where one of its operations has, or one of its fragments
 module _ (s : Schema) (document : ExecutableDocument) where
-  abbrev faults_of : SelectionSet → List LeafFault
-  faults_of set = leaf_faults_in s set.selections
+  abbrev faults_below : SelectionSet → List LeafFault
+  faults_below set = leaf_faults_in s set.selections
 
-  without-faults : leaf_faults s document ≡ [] → (flat_map faults_of (map operation_set (all_operations document.operations)) ≡ []) × (flat_map faults_of (map fragment_set (values_of document.fragments)) ≡ [])
-  without-faults none = both-none _ _ (sym (flat_map-append faults_of (map operation_set (all_operations document.operations)) (map fragment_set (values_of document.fragments))) ∙ none)
+  without-faults : leaf_faults s document ≡ [] → (flat_map faults_below (map operation_set (all_operations document.operations)) ≡ []) × (flat_map faults_below (map fragment_set (values_of document.fragments)) ≡ [])
+  without-faults none = both-none _ _ (sym (flat_map-append faults_below (map operation_set (all_operations document.operations)) (map fragment_set (values_of document.fragments))) ∙ none)
 
   pub operation-faults : (k : ℕ) (n : NodeView Operation) → slice_get (all_operations document.operations) k ≡ Some n → leaf_faults_in s n.value.selection_set.selections ≢ [] → leaf_faults s document ≢ []
   operation-faults k n at some none = nodes-faults s operation_set (all_operations document.operations) k n at some (without-faults none).0

@@ -6,7 +6,7 @@ ghost use Rattle.graphql_nodes.specs.Comparing.{ComparesBy};
 ghost use Rattle.leafcheck.specs.BareFaults.{bare_fault};
 
 use crate::leaf_fault::{LeafFault, LeafKind};
-use graphql_nodes::laws::{equality_of_names, equality_of_places_and_kinds};
+use graphql_nodes::laws::{equality_of_locations_and_kinds, equality_of_names};
 
 /// Kinds are equal exactly where they are one, and faults exactly where they are one without the location of the key.
 pub fn equality_of_faults()
@@ -14,7 +14,7 @@ pub fn equality_of_faults()
     ensures fault { ComparesBy ⟦<LeafFault as PartialEq>⟧.eq bare_fault }
 {
     equality_of_names();
-    equality_of_places_and_kinds();
+    equality_of_locations_and_kinds();
 }
 
 /// Each clone of a fault is the original, with the location of its key, and so is each clone of its kind.

@@ -119,8 +119,8 @@ pub fn is_printed<T: Display>(alloc: Global, value: &T, text: &str) -> bool {
 
 /// Adds a location: the number of its file, and from where to where it goes.
 /// No clause: it serves tests.
-pub fn push_place(text: &mut String, place: Option<SourceSpan>) -> Result<(), AllocError> {
-    match place {
+pub fn push_location(text: &mut String, location: Option<SourceSpan>) -> Result<(), AllocError> {
+    match location {
         Some(span) => {
             let SourceSpan { file, start, end } = span;
             let number = file.0;

@@ -6,7 +6,7 @@ use Rattle.apollo_canonical.proofs.Words.Meaning.{Root, SchemaPart, root_in, roo
 use Rattle.apollo_canonical.proofs.Words.Written.{Sections, in_sections, joined, with_origins, no_components, node_with_origin, placed}
 use Rattle.apollo_canonical.proofs.Lists.{in_order, option_map-twice}
 use Rattle.apollo_canonical.proofs.Sections.{kept, origins-split, roots-there, HasOrigins, directives-in_order}
-use Rattle.apollo_canonical.proofs.Types.{same-placed, directives_alone, numbered-distinct, numbered-written, numbered_parts, paired, paired-self, renumbered, renumbered-distinct, renumbered-placed, directives-numbered, shown-joined, shown-made, shown_in, IsMadeBy}
+use Rattle.apollo_canonical.proofs.Types.{same-located, directives_alone, numbered-distinct, numbered-written, numbered_parts, paired, paired-self, renumbered, renumbered-distinct, renumbered-placed, directives-numbered, shown-joined, shown-made, shown_in, IsMadeBy}
 use Rattle.apollo_canonical.proofs.Definitions.SchemaSections.{IsSchemaRow, entries, is_op, roots-origin, roots_for, schema-components, schema-in_order, schema-row, schema_sections, schema_sorts, filter-joined, from-values, in_operation_order, schema-parts_again}
 
 -- an extension's identity with what is written of it
@@ -108,7 +108,7 @@ module _ (d : SchemaDefinition) (m : IsMadeBy made_schema d) (head : SchemaPart)
   many = length-map es (λ e. e.0) ∙ sym (length-map es (λ e. e.1)) ∙ ap length written ∙ length-map (written_parts_of d).extensions schema_extension_of
 
   same_exts : map (λ e. e.1) gs ≡ map (λ e. e.1) (written_parts_of d).extensions
-  same_exts = same-placed (λ w. w.1) gs (written_parts_of d).extensions (renumbered-placed is (written_parts_of d).extensions many)
+  same_exts = same-located (λ w. w.1) gs (written_parts_of d).extensions (renumbered-placed is (written_parts_of d).extensions many)
 
   same_definition : p.definition ≡ of_origin Definition (in_sections s)
   same_definition = ap (of_origin Definition) (schema-components d)

@@ -9,7 +9,7 @@ use Rattle.std.specs.Cmp.Lexicographic.{pointwise}
 use Rattle.apollo_component.specs.declared.extension.ComponentOrigin.TheVariants as origins
 use Rattle.apollo_canonical.proofs.Sections.{has_none, definition-alone, has_some, of-alone, picked}
 use Rattle.apollo_canonical.proofs.Lists.{distinct-from_first, option_map-twice}
-use Rattle.apollo_canonical.proofs.Types.{directives_alone, numbered_parts, same-placed}
+use Rattle.apollo_canonical.proofs.Types.{directives_alone, numbered_parts, same-located}
 use Rattle.apollo_canonical.proofs.Definitions.SchemaSections.{entries, of_schema-origin, picked-roots}
 use Rattle.apollo_canonical.proofs.Definitions.OneSchema.{IsSchemaAgain, directives-in_parts, extension_written, made_schema, root_under, written_parts_of}
 
@@ -94,12 +94,12 @@ module _ (d u : SchemaDefinition) (a : IsSchemaAgain d u) (types others : List (
   implied-root : (op : OperationType) → has_implied_root others u op ≡ has_implied_root types d op
   implied-root op = (λ i. option_eq (pointwise nat_eq) (text-of d u a op i) (same op i))
 
-  abbrev place_part : ExtensionId × DefinitionParts → Option SourceSpan × DefinitionParts
-  place_part e = (extension_location e.0, e.1)
+  abbrev location_part : ExtensionId × DefinitionParts → Option SourceSpan × DefinitionParts
+  location_part e = (extension_location e.0, e.1)
 
   counted : (c : SchemaDefinition) → length (identities (origins_in (schema_components c))) ≡ length (placed (written_parts_of c).extensions)
   counted c =
-      sym (length-map (written_parts_of c).extensions place_part ∙ length-map (identities (origins_in (schema_components c))) (extension_written c))
+      sym (length-map (written_parts_of c).extensions location_part ∙ length-map (identities (origins_in (schema_components c))) (extension_written c))
 
   directive_count : length u.directives.0 ≡ length d.directives.0
   directive_count = sym (length-map u.directives.0 (λ (c : Component Directive). c.node)) ∙ ap length a.directives ∙ length-map d.directives.0 (λ (c : Component Directive). c.node)
@@ -112,14 +112,14 @@ module _ (d u : SchemaDefinition) (a : IsSchemaAgain d u) (types others : List (
       own = own-said u ∙ ap (λ q. has_some q.roots) a.definition ∙ sym (own-said d)
 
   -- schema definitions that say the same are written out alike
-  pub written-alike : (place other : Option SourceSpan) → (is_written types d ≡ true → other ≡ place) → write_schema_definition u other others ≡ write_schema_definition d place types
-  written-alike place other at = (λ i. whole i ++ same-placed (λ w. schema_extension w.1 w.0) (written_parts_of u).extensions (written_parts_of d).extensions a.extensions i)
+  pub written-alike : (location other : Option SourceSpan) → (is_written types d ≡ true → other ≡ location) → write_schema_definition u other others ≡ write_schema_definition d location types
+  written-alike location other at = (λ i. whole i ++ same-located (λ w. schema_extension w.1 w.0) (written_parts_of u).extensions (written_parts_of d).extensions a.extensions i)
     where
-      by : (b : Bool) → is_written types d ≡ b → (cond b (schema_definition u.description (written_parts_of u).definition other ∷ []) []) ≡ (cond b (schema_definition d.description (written_parts_of d).definition place ∷ []) [])
+      by : (b : Bool) → is_written types d ≡ b → (cond b (schema_definition u.description (written_parts_of u).definition other ∷ []) []) ≡ (cond b (schema_definition d.description (written_parts_of d).definition location ∷ []) [])
       by true e = (λ i. schema_definition (a.description i) (a.definition i) (at e i) ∷ [])
       by false e = refl
 
-      whole : (cond (is_written others u) (schema_definition u.description (written_parts_of u).definition other ∷ []) []) ≡ (cond (is_written types d) (schema_definition d.description (written_parts_of d).definition place ∷ []) [])
+      whole : (cond (is_written others u) (schema_definition u.description (written_parts_of u).definition other ∷ []) []) ≡ (cond (is_written types d) (schema_definition d.description (written_parts_of d).definition location ∷ []) [])
       whole = ap (λ b. cond b (schema_definition u.description (written_parts_of u).definition other ∷ []) []) same-written ∙ by (is_written types d) refl
 
 -- A schema definition that is left out: its roots are those that no schema definition would have to name.
@@ -217,13 +217,13 @@ module _ (types : List (NameView × ExtendedType)) (q m s : Bool) (are : (op : O
   implied-again = (λ i. is_none (implied_schema_of q m s).description && (length (implied_schema_of q m s).directives.0 == 0) && (length (unextended q m s i) == 0) && (root-implied Query i && (root-implied Mutation i && (root-implied Subscription i && true))))
 
 -- nothing is written of it
-pub left-out-written : (d : SchemaDefinition) (place : Option SourceSpan) (types : List (NameView × ExtendedType)) → is_implied types d ≡ true → identities (origins_in (schema_components d)) ≡ [] → write_schema_definition d place types ≡ []
-left-out-written d place types implied none =
-    (λ i. (cond (unwritten i) (schema_definition d.description (written_parts_of d).definition place ∷ []) []) ++ map (λ e. schema_extension e.1 (extension_location e.0)) (map (extension_written d) (none i)))
+pub left-out-written : (d : SchemaDefinition) (location : Option SourceSpan) (types : List (NameView × ExtendedType)) → is_implied types d ≡ true → identities (origins_in (schema_components d)) ≡ [] → write_schema_definition d location types ≡ []
+left-out-written d location types implied none =
+    (λ i. (cond (unwritten i) (schema_definition d.description (written_parts_of d).definition location ∷ []) []) ++ map (λ e. schema_extension e.1 (extension_location e.0)) (map (extension_written d) (none i)))
   where
     unwritten : is_written types d ≡ false
     unwritten = ap (λ b. has_own_root d && not b) implied ∙ grind arith
 
-pub implied-unwritten : (types : List (NameView × ExtendedType)) (q m s : Bool) → ((op : OperationType) → implied_name types op ≡ cond (has_one q m s op) (Some (default_type_text op)) None) → (place : Option SourceSpan)
-    → write_schema_definition (implied_schema_of q m s) place types ≡ []
-implied-unwritten types q m s are place = left-out-written (implied_schema_of q m s) place types (implied-again types q m s are) (unextended q m s)
+pub implied-unwritten : (types : List (NameView × ExtendedType)) (q m s : Bool) → ((op : OperationType) → implied_name types op ≡ cond (has_one q m s op) (Some (default_type_text op)) None) → (location : Option SourceSpan)
+    → write_schema_definition (implied_schema_of q m s) location types ≡ []
+implied-unwritten types q m s are location = left-out-written (implied_schema_of q m s) location types (implied-again types q m s are) (unextended q m s)

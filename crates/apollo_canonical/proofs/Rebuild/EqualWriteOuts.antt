@@ -14,11 +14,11 @@ abbrev IsUnmarked : Definition → Type 0
 IsUnmarked d = is_built_in_directive d ≡ false
 
 -- what types are written out as is of types
-unmarked-definition : (k : TypeKind) (description : Option NameView) (name : NameView) (parts : DefinitionParts) (place : Option SourceSpan) → IsUnmarked (type_definition k description name parts place)
-unmarked-definition k description name parts place = grind arith
+unmarked-definition : (k : TypeKind) (description : Option NameView) (name : NameView) (parts : DefinitionParts) (location : Option SourceSpan) → IsUnmarked (type_definition k description name parts location)
+unmarked-definition k description name parts location = grind arith
 
-unmarked-extension : (k : TypeKind) (name : NameView) (parts : DefinitionParts) (place : Option SourceSpan) → IsUnmarked (type_extension k name parts place)
-unmarked-extension k name parts place = grind arith
+unmarked-extension : (k : TypeKind) (name : NameView) (parts : DefinitionParts) (location : Option SourceSpan) → IsUnmarked (type_extension k name parts location)
+unmarked-extension k name parts location = grind arith
 
 unmarked-type : (t : ExtendedType) → AllByRecursion IsUnmarked (write_held_type t)
 unmarked-type t = by (is_built_in (type_location t))

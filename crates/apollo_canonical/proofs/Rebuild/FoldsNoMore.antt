@@ -98,10 +98,10 @@ written-among ids cs a =
           (λ e h. among-there ids e cs a (sym (list_any-first_of_each same_id same_id-equiv e (ids_in cs)) ∙ h)),
     )
 
-module _ {P : Type 0} (place : P → Option SourceSpan) where
+module _ {P : Type 0} (location : P → Option SourceSpan) where
   -- extensions with numbers, and their origins
   abbrev extensions_from : List (ℕ × P) → List (ComponentOrigin × P)
-  extensions_from es = map (λ e. (Extension (extension_id e.0 (place e.1)), e.1)) es
+  extensions_from es = map (λ e. (Extension (extension_id e.0 (location e.1)), e.1)) es
 
   ids-counted : (es : List (ℕ × P)) → length (ids_in (extensions_from es)) ≡ length es
   ids-counted [] = refl
@@ -213,10 +213,10 @@ module _ (c : Bool) where
       → extensions_in (added_items (written_again c schema)) ≡ length (filter_map extended_part (flat_map (held_items c) (values_of schema.types))) + length (written_parts_of schema.schema_definition.value).extensions
   written-counted schema =
       let d : SchemaDefinition = schema.schema_definition.value in
-      let place : Option SourceSpan = schema.schema_definition.location in
+      let location : Option SourceSpan = schema.schema_definition.location in
       let ds : Directives = filter is_handed_in (values_of schema.directive_definitions) in
       let ts : List ExtendedType = values_of schema.types in
-      rw (items-listed c schema, list-extended c d place schema.types ds ts, list-schema_extensions c d place schema.types ds ts, length-map (written_parts_of d).extensions schema_extension_of) refl
+      rw (items-listed c schema, list-extended c d location schema.types ds ts, list-schema_extensions c d location schema.types ds ts, length-map (written_parts_of d).extensions schema_extension_of) refl
 
 module _ (laws : MeaningLaws) (start : ℕ) (adopts : Bool) (xs : List Added) (schema : Schema) (means : MeansSchema start adopts xs schema) where
   abbrev items : List ListItem

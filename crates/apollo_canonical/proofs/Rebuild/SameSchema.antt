@@ -25,8 +25,8 @@ module _ (laws : MeaningLaws) (schema : Schema) (list : IsMeantByList schema) (c
   abbrev types : List (NameView × ExtendedType)
   types = schema.types
 
-  abbrev place : Option SourceSpan
-  place = (node laws schema list c).location
+  abbrev location : Option SourceSpan
+  location = (node laws schema list c).location
 
   -- the written list, what it is completed with, and all
   abbrev ys : List ListItem
@@ -57,13 +57,13 @@ module _ (laws : MeaningLaws) (schema : Schema) (list : IsMeantByList schema) (c
   apart = rising-distinct again (schema_numbers again (folding_order zs)) (schema_numbers-rise again (folding_order zs))
 
   abbrev Same : NodeView SchemaDefinition → Type 0
-  Same u = (bare_schema_definition u.value ≡ bare_schema_definition d) × (write_schema_definition u.value u.location types_again ≡ write_schema_definition d place types)
+  Same u = (bare_schema_definition u.value ≡ bare_schema_definition d) × (write_schema_definition u.value u.location types_again ≡ write_schema_definition d location types)
 
   -- what follows from a head that is written
-  from-head : (head : SchemaPart) → first_schema zs ≡ Some head → schema_extensions zs ≡ map schema_extension_of (written_parts_of d).extensions → IsWrittenHead d head → (is_written types d ≡ true → head.location ≡ place) → Same (schema_node again zs)
+  from-head : (head : SchemaPart) → first_schema zs ≡ Some head → schema_extensions zs ≡ map schema_extension_of (written_parts_of d).extensions → IsWrittenHead d head → (is_written types d ≡ true → head.location ≡ location) → Same (schema_node again zs)
   from-head head here exts h at =
       let a : IsSchemaAgain d (made_schema head (schema_numbers again (folding_order zs))) = schema-again d m.made head h (schema_numbers again (folding_order zs)) apart (schema_numbers-parts laws again zs head here ∙ exts) in
-      subst Same (sym (node-of again zs head here)) (equal-again d (made_schema head (schema_numbers again (folding_order zs))) a, written-alike d (made_schema head (schema_numbers again (folding_order zs))) a types types_again same_implied place head.location at)
+      subst Same (sym (node-of again zs head here)) (equal-again d (made_schema head (schema_numbers again (folding_order zs))) a, written-alike d (made_schema head (schema_numbers again (folding_order zs))) a types types_again same_implied location head.location at)
 
   exts-ys : schema_extensions ys ≡ map schema_extension_of (written_parts_of d).extensions
   exts-ys = exts-Y laws schema list c
@@ -72,7 +72,7 @@ module _ (laws : MeaningLaws) (schema : Schema) (list : IsMeantByList schema) (c
   where-written : is_written types d ≡ true → Same (schema_node again zs)
   where-written e =
       let both = written-Y laws schema list c e in
-      from-head (written_head d place) (first_schema-append ys end_items ∙ (λ i. option_or (both.0 i) (first_schema end_items)))
+      from-head (written_head d location) (first_schema-append ys end_items ∙ (λ i. option_or (both.0 i) (first_schema end_items)))
       (filter_map-append extended_schema ys end_items ∙ (λ i. exts-ys i ++ filter_map extended_schema (both.1 i)) ∙ append-nil (map schema_extension_of (written_parts_of d).extensions))
       (record { description = refl; directives = refl; roots = refl }) (λ _. refl)
 
@@ -97,7 +97,7 @@ module _ (laws : MeaningLaws) (schema : Schema) (list : IsMeantByList schema) (c
         subst Same (sym (node-of again zs (schema_of_roots (implied_here laws schema list c)) here.0 ∙ ap of_extensions none)) (
           left-out-equal types (object_at types Query) (object_at types Mutation) (object_at types Subscription) (implied-cond types) d l,
           implied-unwritten types_again (object_at types Query) (object_at types Mutation) (object_at types Subscription) (λ op. same_implied op ∙ implied-cond types op) None
-              ∙ sym (left-out-written d place types f l.extensions),
+              ∙ sym (left-out-written d location types f l.extensions),
         )
       where
         of_extensions : List (ℕ × SchemaPart) → NodeView SchemaDefinition

@@ -42,24 +42,24 @@ module _ (c : Bool) where
 
 -- the definition's part
 abbrev pub written_head : SchemaDefinition → Option SourceSpan → SchemaPart
-written_head d place = record { location = place; description = d.description; directives = (written_parts_of d).definition.directives.0; roots = (written_parts_of d).definition.roots }
+written_head d location = record { location = location; description = d.description; directives = (written_parts_of d).definition.directives.0; roots = (written_parts_of d).definition.roots }
 
-module _ (c : Bool) (d : SchemaDefinition) (place : Option SourceSpan) (types : List (NameView × ExtendedType)) where
+module _ (c : Bool) (d : SchemaDefinition) (location : Option SourceSpan) (types : List (NameView × ExtendedType)) where
   abbrev pub schema_items : List ListItem
-  schema_items = document_items c (write_schema_definition d place types)
+  schema_items = document_items c (write_schema_definition d location types)
 
   abbrev pub head_items : List ListItem
-  head_items = cond (is_written types d) (SchemaDefined (written_head d place) ∷ []) []
+  head_items = cond (is_written types d) (SchemaDefined (written_head d location) ∷ []) []
 
   abbrev pub schema_extension_items : List (ExtensionId × DefinitionParts) → List ListItem
   schema_extension_items es = map (λ e. SchemaExtended (schema_extension_of e)) es
 
   pub schema-listed : schema_items ≡ head_items ++ schema_extension_items (written_parts_of d).extensions
   schema-listed =
-      document_items-append c (cond (is_written types d) (schema_definition d.description (written_parts_of d).definition place ∷ []) []) (map (λ e. schema_extension e.1 (extension_location e.0)) (written_parts_of d).extensions)
+      document_items-append c (cond (is_written types d) (schema_definition d.description (written_parts_of d).definition location ∷ []) []) (map (λ e. schema_extension e.1 (extension_location e.0)) (written_parts_of d).extensions)
       ∙ (λ i. head (is_written types d) i ++ later (written_parts_of d).extensions i)
     where
-      head : (b : Bool) → document_items c (cond b (schema_definition d.description (written_parts_of d).definition place ∷ []) []) ≡ cond b (SchemaDefined (written_head d place) ∷ []) []
+      head : (b : Bool) → document_items c (cond b (schema_definition d.description (written_parts_of d).definition location ∷ []) []) ≡ cond b (SchemaDefined (written_head d location) ∷ []) []
       head b = grind arith
 
       later : (es : List (ExtensionId × DefinitionParts)) → document_items c (map (λ e. schema_extension e.1 (extension_location e.0)) es) ≡ schema_extension_items es
@@ -72,7 +72,7 @@ module _ (c : Bool) (d : SchemaDefinition) (place : Option SourceSpan) (types : 
       exts : (es : List (ExtensionId × DefinitionParts)) → AllByRecursion IsOfSchema (schema_extension_items es)
       exts = each-made IsOfSchema (λ e. SchemaExtended (schema_extension_of e)) (λ e. (refl, refl, (refl, refl)))
 
-      by : (b : Bool) → AllByRecursion IsOfSchema (cond b (SchemaDefined (written_head d place) ∷ []) [] ++ schema_extension_items (written_parts_of d).extensions)
+      by : (b : Bool) → AllByRecursion IsOfSchema (cond b (SchemaDefined (written_head d location) ∷ []) [] ++ schema_extension_items (written_parts_of d).extensions)
       by true = ((refl, refl, (refl, refl)), exts (written_parts_of d).extensions)
       by false = exts (written_parts_of d).extensions
 
@@ -96,39 +96,39 @@ pub directives-of_items : (ds : Directives) → directive_definitions (directive
 directives-of_items ds = filter_map-made directive_part (λ d. Other (ast.DirectiveDefinition d)) (λ d. refl) ds
 
 -- the whole written list
-module _ (c : Bool) (d : SchemaDefinition) (place : Option SourceSpan) (types : List (NameView × ExtendedType)) (ds : Directives) (ts : List ExtendedType) where
+module _ (c : Bool) (d : SchemaDefinition) (location : Option SourceSpan) (types : List (NameView × ExtendedType)) (ds : Directives) (ts : List ExtendedType) where
   abbrev pub written_list : List ListItem
-  written_list = built_ins ++ ((schema_items c d place types ++ directive_items ds) ++ flat_map (held_items c) ts)
+  written_list = built_ins ++ ((schema_items c d location types ++ directive_items ds) ++ flat_map (held_items c) ts)
 
   -- what is about the schema, and what about directives, of the three parts after the built-in definitions
-  about-parts : (topic : Subject) (ss os : List ListItem) → about topic (schema_items c d place types) ≡ ss → about topic (directive_items ds) ≡ os → about topic (flat_map (held_items c) ts) ≡ [] → about topic written_list ≡ about topic built_ins ++ (ss ++ os)
+  about-parts : (topic : Subject) (ss os : List ListItem) → about topic (schema_items c d location types) ≡ ss → about topic (directive_items ds) ≡ os → about topic (flat_map (held_items c) ts) ≡ [] → about topic written_list ≡ about topic built_ins ++ (ss ++ os)
   about-parts topic ss os s o t = simp (filter-append (is_about topic), s, o, t, append-nil)
 
-  pub list-about_schema : about TheSchema written_list ≡ schema_items c d place types
+  pub list-about_schema : about TheSchema written_list ≡ schema_items c d location types
   list-about_schema =
-      about-parts TheSchema (schema_items c d place types) [] (filter-all (is_about TheSchema) (schema_items c d place types) (each-weaken IsOfSchema (λ x. is_about TheSchema x ≡ true) (λ x h. h.0) (schema_items c d place types) (each-schema c d place types)))
+      about-parts TheSchema (schema_items c d location types) [] (filter-all (is_about TheSchema) (schema_items c d location types) (each-weaken IsOfSchema (λ x. is_about TheSchema x ≡ true) (λ x h. h.0) (schema_items c d location types) (each-schema c d location types)))
       (filter-fails IsElse (is_about TheSchema) (λ x h. h.0) (directive_items ds) (each-directive ds)) (filter-fails (IsOfType c) (is_about TheSchema) (λ x h. h.0) (flat_map (held_items c) ts) (each-type c ts))
-      ∙ (λ i. no-schema-built_in i ++ append-nil (schema_items c d place types) i)
+      ∙ (λ i. no-schema-built_in i ++ append-nil (schema_items c d location types) i)
 
   pub list-about_others : about NoSubject written_list ≡ about NoSubject built_ins ++ directive_items ds
   list-about_others =
-      about-parts NoSubject [] (directive_items ds) (filter-fails IsOfSchema (is_about NoSubject) (λ x h. h.1) (schema_items c d place types) (each-schema c d place types))
+      about-parts NoSubject [] (directive_items ds) (filter-fails IsOfSchema (is_about NoSubject) (λ x h. h.1) (schema_items c d location types) (each-schema c d location types))
       (filter-all (is_about NoSubject) (directive_items ds) (each-weaken IsElse (λ x. is_about NoSubject x ≡ true) (λ x h. h.1) (directive_items ds) (each-directive ds))) (filter-fails (IsOfType c) (is_about NoSubject) (λ x h. h.1) (flat_map (held_items c) ts) (each-type c ts))
 
-  exts-all : (es : List (ExtensionId × DefinitionParts)) → filter_map extended_schema (schema_extension_items c d place types es) ≡ map schema_extension_of es
+  exts-all : (es : List (ExtensionId × DefinitionParts)) → filter_map extended_schema (schema_extension_items c d location types es) ≡ map schema_extension_of es
   exts-all es = ap (filter_map extended_schema) (sym (map-map SchemaExtended schema_extension_of es)) ∙ filter_map-made extended_schema SchemaExtended (λ s. refl) (map schema_extension_of es)
 
-  pub list-first_schema : first_schema written_list ≡ cond (is_written types d) (Some (written_head d place)) None
-  list-first_schema = first_schema-about written_list ∙ ap first_schema (list-about_schema ∙ schema-listed c d place types) ∙ by (is_written types d)
+  pub list-first_schema : first_schema written_list ≡ cond (is_written types d) (Some (written_head d location)) None
+  list-first_schema = first_schema-about written_list ∙ ap first_schema (list-about_schema ∙ schema-listed c d location types) ∙ by (is_written types d)
     where
-      by : (b : Bool) → first_schema (cond b (SchemaDefined (written_head d place) ∷ []) [] ++ schema_extension_items c d place types (written_parts_of d).extensions) ≡ cond b (Some (written_head d place)) None
+      by : (b : Bool) → first_schema (cond b (SchemaDefined (written_head d location) ∷ []) [] ++ schema_extension_items c d location types (written_parts_of d).extensions) ≡ cond b (Some (written_head d location)) None
       by true = refl
       by false = ap (λ l. slice_get l 0) (filter_map-unmade defined_schema (λ e. SchemaExtended (schema_extension_of e)) (λ e. refl) (written_parts_of d).extensions)
 
   pub list-schema_extensions : schema_extensions written_list ≡ map schema_extension_of (written_parts_of d).extensions
-  list-schema_extensions = schema_extensions-about written_list ∙ ap schema_extensions (list-about_schema ∙ schema-listed c d place types) ∙ by (is_written types d)
+  list-schema_extensions = schema_extensions-about written_list ∙ ap schema_extensions (list-about_schema ∙ schema-listed c d location types) ∙ by (is_written types d)
     where
-      by : (b : Bool) → schema_extensions (cond b (SchemaDefined (written_head d place) ∷ []) [] ++ schema_extension_items c d place types (written_parts_of d).extensions) ≡ map schema_extension_of (written_parts_of d).extensions
+      by : (b : Bool) → schema_extensions (cond b (SchemaDefined (written_head d location) ∷ []) [] ++ schema_extension_items c d location types (written_parts_of d).extensions) ≡ map schema_extension_of (written_parts_of d).extensions
       by true = exts-all (written_parts_of d).extensions
       by false = exts-all (written_parts_of d).extensions
 
@@ -138,7 +138,7 @@ module _ (c : Bool) (d : SchemaDefinition) (place : Option SourceSpan) (types : 
   -- types alone have extensions of types
   pub list-extended : filter_map extended_part written_list ≡ filter_map extended_part (flat_map (held_items c) ts)
   list-extended =
-      simp (filter_map-append, no-extensions, extends-quiet (schema_items c d place types) (schema-quiet c d place types), extends-quiet (directive_items ds) (directives-quiet ds))
+      simp (filter_map-append, no-extensions, extends-quiet (schema_items c d location types) (schema-quiet c d location types), extends-quiet (directive_items ds) (directives-quiet ds))
 
 -- The list with a write-out, and what it is completed with.
 

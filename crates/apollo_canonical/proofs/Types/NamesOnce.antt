@@ -17,13 +17,13 @@ components-sections (Interface n) = simp (map-map, append_assoc, append-nil)
 components-sections t = simp (map-map, append-nil)
 
 -- what is made of extensions by their locations and their parts is the same where these are
-pub same-placed : {X : Type 0} (make : Option SourceSpan × DefinitionParts → X) (es fs : List (ExtensionId × DefinitionParts)) → placed es ≡ placed fs
+pub same-located : {X : Type 0} (make : Option SourceSpan × DefinitionParts → X) (es fs : List (ExtensionId × DefinitionParts)) → placed es ≡ placed fs
     → map (λ e. make (extension_location e.0, e.1)) es ≡ map (λ e. make (extension_location e.0, e.1)) fs
-same-placed make es fs e = sym (map-map make (λ e. (extension_location e.0, e.1)) es) ∙ ap (map make) e ∙ map-map make (λ e. (extension_location e.0, e.1)) fs
+same-located make es fs e = sym (map-map make (λ e. (extension_location e.0, e.1)) es) ∙ ap (map make) e ∙ map-map make (λ e. (extension_location e.0, e.1)) fs
 
 module _ (t u : ExtendedType) (h : HasWhatIsWritten t u) where
   pub same_parts : map (λ e. e.1) h.parts.extensions ≡ map (λ e. e.1) (by_origin (in_sections (type_sections t))).extensions
-  same_parts = same-placed (λ w. w.1) h.parts.extensions (by_origin (type_components t)).extensions h.extensions ∙ ap (λ cs. map (λ e. e.1) (by_origin cs).extensions) (components-sections t)
+  same_parts = same-located (λ w. w.1) h.parts.extensions (by_origin (type_components t)).extensions h.extensions ∙ ap (λ cs. map (λ e. e.1) (by_origin cs).extensions) (components-sections t)
 
   parts-again : by_origin (type_components u) ≡ h.parts
   parts-again = ap by_origin (components-sections u ∙ ap in_sections h.sections) ∙ written-parts-again (type_sections t) h.parts same_parts h.distinct
@@ -32,7 +32,7 @@ module _ (t u : ExtendedType) (h : HasWhatIsWritten t u) where
   type-again =
       (λ i. written_type (h.kind i) (h.description i) (h.name i) (parts-again i) (h.location i))
       ∙ (λ i. written_type (type_kind t) (type_description t) (type_name t) (record { definition = h.definition i; extensions = h.parts.extensions }) (type_location t))
-      ∙ (λ i. written_type (type_kind t) (type_description t) (type_name t) (record { definition = (by_origin (type_components t)).definition; extensions = [] }) (type_location t) ++ same-placed (λ w. type_extension (type_kind t) (type_name t) w.1 w.0) h.parts.extensions (by_origin (type_components t)).extensions h.extensions i)
+      ∙ (λ i. written_type (type_kind t) (type_description t) (type_name t) (record { definition = (by_origin (type_components t)).definition; extensions = [] }) (type_location t) ++ same-located (λ w. type_extension (type_kind t) (type_name t) w.1 w.0) h.parts.extensions (by_origin (type_components t)).extensions h.extensions i)
 
   pub components-again : HasSameComponents (type_sections t) (type_sections u)
   components-again = subst (HasSameComponents (type_sections t)) (sym h.sections) (written-keeps (type_sections t) h.parts (h.definition ∙ ap (λ cs. (by_origin cs).definition) (components-sections t)) same_parts)

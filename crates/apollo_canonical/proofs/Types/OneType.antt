@@ -235,9 +235,9 @@ entries-own {T} name entry is named of head es d =
     ∙ kept-own (λ (e : NameView × Component T). node_with_origin e.1) entry is (λ a b. same_text a.0 b.0) entry_laws of head es
     (all-first same_text (λ (e : NameView × Component T). e.0) (map (entry Definition) (of head)) (subst (IsDistinct same_text) (append-nil (map name (of head)) ∙ sym (map-map (λ (e : NameView × Component T). e.0) (entry Definition) (of head) ∙ map-each (λ n. (entry Definition n).0) name (of head) (each-of (λ n. (entry Definition n).0 ≡ name n) (named Definition) (of head)))) d))
 
-module _ (name : NameView) (place : Option SourceSpan) (description : Option NameView) (directives : List (NodeView Directive)) (es : List (ℕ × TypePart)) where
+module _ (name : NameView) (location : Option SourceSpan) (description : Option NameView) (directives : List (NodeView Directive)) (es : List (ℕ × TypePart)) where
   abbrev part_with : TypeBody → TypePart
-  part_with body = record { name = name; location = place; description = description; directives = directives; body = body; ignorable = false }
+  part_with body = record { name = name; location = location; description = description; directives = directives; body = body; ignorable = false }
 
   abbrev written_with : TypeBody → TypePart
   written_with body = definition_part (made (part_with body) es)

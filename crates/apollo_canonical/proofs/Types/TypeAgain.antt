@@ -7,7 +7,7 @@ use Rattle.apollo_canonical.proofs.Words.Written.{placed, MeaningLaws, in_sectio
 use Rattle.apollo_canonical.proofs.Lists.{distinct-by_keys, keys-distinct, map-each, all-first}
 use Rattle.apollo_canonical.proofs.Sections.{written-keeps, of_origin-sections, parts_in}
 use Rattle.apollo_canonical.proofs.Types.WrittenParts.{written, definition_part, extension_of, kind-body}
-use Rattle.apollo_canonical.proofs.Types.NamesOnce.{IsNamed, all-named, once-kept, components-sections, same-placed}
+use Rattle.apollo_canonical.proofs.Types.NamesOnce.{IsNamed, all-named, once-kept, components-sections, same-located}
 
 -- numbers that rise from this one
 abbrev pub Rises : {X : Type 0} → ℕ → List (ℕ × X) → Type 0
@@ -72,13 +72,13 @@ directives_alone ds = record { directives = record { 0 = ds }; names = []; field
 
 -- a part of any kind under its number, where it stands
 abbrev pub numbered_parts : {P : Type 0} → (P → Option SourceSpan) → (P → DefinitionParts) → ℕ × P → ExtensionId × DefinitionParts
-numbered_parts place parts e = (extension_id e.0 (place e.1), parts e.1)
+numbered_parts location parts e = (extension_id e.0 (location e.1), parts e.1)
 
-pub numbered-distinct : {P : Type 0} (place : P → Option SourceSpan) (parts : P → DefinitionParts) (fs : List (ℕ × P)) → IsDistinct ◌==◌ (map (λ e. e.0) fs)
-    → IsDistinct same_id (map (λ e. e.0) (map (numbered_parts place parts) fs))
-numbered-distinct {P} place parts fs d =
-    let own : ℕ × P → ExtensionId = λ f. (numbered_parts place parts f).0 in
-    subst (IsDistinct same_id) (sym (map-map (λ (e : ExtensionId × DefinitionParts). e.0) (numbered_parts place parts) fs)) (keys-distinct same_id own fs (distinct-by_keys ◌==◌ (λ f. f.0) fs d))
+pub numbered-distinct : {P : Type 0} (location : P → Option SourceSpan) (parts : P → DefinitionParts) (fs : List (ℕ × P)) → IsDistinct ◌==◌ (map (λ e. e.0) fs)
+    → IsDistinct same_id (map (λ e. e.0) (map (numbered_parts location parts) fs))
+numbered-distinct {P} location parts fs d =
+    let own : ℕ × P → ExtensionId = λ f. (numbered_parts location parts f).0 in
+    subst (IsDistinct same_id) (sym (map-map (λ (e : ExtensionId × DefinitionParts). e.0) (numbered_parts location parts) fs)) (keys-distinct same_id own fs (distinct-by_keys ◌==◌ (λ f. f.0) fs d))
 
 -- the parts of extensions, each where it stands, under these numbers
 abbrev pub renumbered : List ℕ → List (ExtensionId × DefinitionParts) → List (ExtensionId × DefinitionParts)
@@ -94,11 +94,11 @@ module _ (is : List ℕ) (es : List (ExtensionId × DefinitionParts)) (many : le
   renumbered-distinct d = numbered-distinct (λ e. extension_location e.0) (λ e. e.1) (paired is es) (subst (IsDistinct ◌==◌) (sym (pairs-are is es many).0) d)
 
 -- written parts under their numbers are parts of a list under theirs
-pub numbered-written : {P : Type 0} (place : P → Option SourceSpan) (part : Option SourceSpan → DefinitionParts → P) → ((s : Option SourceSpan) (d : DefinitionParts) → place (part s d) ≡ s) → (is : List ℕ) (es : List (ExtensionId × DefinitionParts))
-    → map {B = ComponentOrigin × P} (λ e. (Extension (extension_id e.0 (place e.1)), e.1)) (paired is (map (λ e. part (extension_location e.0) e.1) es)) ≡ map (λ g. (Extension g.0, part (extension_location g.0) g.1)) (renumbered is es)
-numbered-written place part at [] es = refl
-numbered-written place part at (i ∷ is) [] = refl
-numbered-written place part at (i ∷ is) (e ∷ es) = (λ j. (Extension (extension_id i (at (extension_location e.0) e.1 j)), part (extension_location e.0) e.1) ∷ numbered-written place part at is es j)
+pub numbered-written : {P : Type 0} (location : P → Option SourceSpan) (part : Option SourceSpan → DefinitionParts → P) → ((s : Option SourceSpan) (d : DefinitionParts) → location (part s d) ≡ s) → (is : List ℕ) (es : List (ExtensionId × DefinitionParts))
+    → map {B = ComponentOrigin × P} (λ e. (Extension (extension_id e.0 (location e.1)), e.1)) (paired is (map (λ e. part (extension_location e.0) e.1) es)) ≡ map (λ g. (Extension g.0, part (extension_location g.0) g.1)) (renumbered is es)
+numbered-written location part at [] es = refl
+numbered-written location part at (i ∷ is) [] = refl
+numbered-written location part at (i ∷ is) (e ∷ es) = (λ j. (Extension (extension_id i (at (extension_location e.0) e.1 j)), part (extension_location e.0) e.1) ∷ numbered-written location part at is es j)
 
 -- The type that written parts mean again, under any distinct numbers of the extensions, has what is written of the first.
 
@@ -115,11 +115,11 @@ pub shown-joined : {P G A : Type 0} (of : P → List A) (sort : DefinitionParts 
 shown-joined of sort origin part parts is gs = simp flat_map-map (λ i. flat_map (λ g. map (λ x. (origin g, x)) (is g i)) gs)
 
 -- the directives of a part and of parts with numbers
-pub directives-numbered : {P : Type 0} (place : P → Option SourceSpan) (of : P → List (NodeView Directive)) (head : P) (es : List (ℕ × P))
-    → shown_in of ((Definition, head) ∷ map (λ e. (Extension (extension_id e.0 (place e.1)), e.1)) es) ≡ joined (λ d. d.directives.0) (with_origins (record { definition = directives_alone (of head); extensions = map (numbered_parts place (λ p. directives_alone (of p))) es }))
-directives-numbered place of head es =
-    ap (λ l. map (λ x. (Definition, x)) (of head) ++ l) (shown-joined of (λ d. d.directives.0) (λ e. Extension (extension_id e.0 (place e.1))) (λ e. e.1) (λ e. directives_alone (of e.1)) (λ e. refl) es
-    ∙ ap (joined (λ d. d.directives.0)) (sym (map-map (λ (e : ExtensionId × DefinitionParts). (Extension e.0, e.1)) (numbered_parts place (λ p. directives_alone (of p))) es)))
+pub directives-numbered : {P : Type 0} (location : P → Option SourceSpan) (of : P → List (NodeView Directive)) (head : P) (es : List (ℕ × P))
+    → shown_in of ((Definition, head) ∷ map (λ e. (Extension (extension_id e.0 (location e.1)), e.1)) es) ≡ joined (λ d. d.directives.0) (with_origins (record { definition = directives_alone (of head); extensions = map (numbered_parts location (λ p. directives_alone (of p))) es }))
+directives-numbered location of head es =
+    ap (λ l. map (λ x. (Definition, x)) (of head) ++ l) (shown-joined of (λ d. d.directives.0) (λ e. Extension (extension_id e.0 (location e.1))) (λ e. e.1) (λ e. directives_alone (of e.1)) (λ e. refl) es
+    ∙ ap (joined (λ d. d.directives.0)) (sym (map-map (λ (e : ExtensionId × DefinitionParts). (Extension e.0, e.1)) (numbered_parts location (λ p. directives_alone (of p))) es)))
 
 -- names that differ are all kept
 names-kept : (cs : List ComponentName) (js : List (ComponentOrigin × NameView)) → map name_with_origin cs ≡ js → IsDistinct same_text (map (λ n. n.1) js) → map name_with_origin (distinct_names cs) ≡ js
@@ -186,7 +186,7 @@ module _ (t : ExtendedType) (is : List ℕ) where
   module _ (many : length is ≡ length (written t).extensions) (once : HasEachNameOnce (type_sections t)) where
     same_parts : map (λ e. e.1) parts_again.extensions ≡ map (λ e. e.1) (by_origin (in_sections (type_sections t))).extensions
     same_parts =
-        same-placed (λ w. w.1) parts_again.extensions (written t).extensions (renumbered-placed is (written t).extensions many)
+        same-located (λ w. w.1) parts_again.extensions (written t).extensions (renumbered-placed is (written t).extensions many)
         ∙ ap (λ cs. map (λ e. e.1) (by_origin cs).extensions) (components-sections t)
 
     -- they have the same components, so each name once

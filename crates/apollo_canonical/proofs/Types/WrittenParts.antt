@@ -20,14 +20,14 @@ pub kind-body : (k : TypeKind) (d : DefinitionParts) → body_kind (body_of k d)
 kind-body k d = grind arith
 
 abbrev pub part_from : TypeKind → Option SourceSpan → NameView → Option NameView → DefinitionParts → TypePart
-part_from k place name description d = part_at place name description d.directives (body_of k d)
+part_from k location name description d = part_at location name description d.directives (body_of k d)
 
-item-defined : (k : TypeKind) (description : Option NameView) (name : NameView) (d : DefinitionParts) (place : Option SourceSpan)
-    → item_of (type_definition k description name d place) ≡ Defined (part_from k place name description d)
-item-defined k description name d place = grind arith
+item-defined : (k : TypeKind) (description : Option NameView) (name : NameView) (d : DefinitionParts) (location : Option SourceSpan)
+    → item_of (type_definition k description name d location) ≡ Defined (part_from k location name description d)
+item-defined k description name d location = grind arith
 
-item-extended : (k : TypeKind) (name : NameView) (d : DefinitionParts) (place : Option SourceSpan) → item_of (type_extension k name d place) ≡ Extended (part_from k place name None d)
-item-extended k name d place = grind arith
+item-extended : (k : TypeKind) (name : NameView) (d : DefinitionParts) (location : Option SourceSpan) → item_of (type_extension k name d location) ≡ Extended (part_from k location name None d)
+item-extended k name d location = grind arith
 
 module _ (t : ExtendedType) where
   -- the parts of its definition and of its extensions

@@ -79,7 +79,7 @@ impl<'doc> Iterator for AllFields<'doc> {
 
     /// The first field that is to come, in its turn, or the one error, want of memory, no later than that turn. None says that
     /// the walk has ended. After the error, or after none, there is none for good, and the walk stays as it is.
-    /// The error comes only where the set has a fragment, or a field that has selections.
+    /// The error comes only where the set has a fragment, or a field that has selections, and in a turn that opens a list.
     fn next(&mut self) -> Option<Result<&'doc Node<Field>, AllocError>> {
         self.walk.advance()
     }

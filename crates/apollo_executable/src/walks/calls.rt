@@ -1,4 +1,4 @@
-//! Walks over selection sets and operations.
+//! Walks over selection sets and operations: GraphQL specification of October 2021, sections 2.3, 2.4 and 2.8.
 ghost use Rattle.std.specs.Prelude.{◌≢◌, [], IfOk, OnErr, map, true, false};
 ghost use Rattle.apollo_executable.specs.Walks.WalkView.{AreWalked, IsNewWalk};
 

@@ -55,8 +55,8 @@ pub trait Kind<Body: Copy>: Clone + Drop {
     /// A part with such a body has the kind of these types.
     ghost alike: { (body : Body) (node : NodeView Self) → body_kind (seen body) ≡ type_kind (wrapped node) };
 
-    /// A node of this kind that is the type of parts has the value that they make, and their head's location. Under that head all
-    /// parts make such a node.
+    /// A node of this kind that parts make has the value that they make, and their head's location; and under that head any parts
+    /// make a node of this kind.
     ghost makes: { (head : TypePart) (done : List Sourced) (node : NodeView Self) → wrapped node ≡ type_from head done → IsOf wrapped made head.body head done node };
 }
 

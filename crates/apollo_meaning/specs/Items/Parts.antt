@@ -74,9 +74,9 @@ pub record TypePart : Type 0 where
 
 -- a part that stands at this location
 abbrev pub part_at : Option SourceSpan → NameView → Option NameView → DirectiveList → TypeBody → TypePart
-part_at place name description directives body = record {
+part_at location name description directives body = record {
   name = name;
-  location = place;
+  location = location;
   description = description;
   directives = directives.0;
   body = body;

@@ -6,10 +6,10 @@ use apollo_component::extension::ExtensionSource;
 use std::alloc::AllocError;
 
 /// Puts a copy of a value in the place of another.
-fn copy_into<T: Clone + Drop>(place: &mut T, original: &T) -> Result<(), AllocError>
-    ensures { OnOk result (T.Clone.is_clone original.now place.new) }
+fn copy_into<T: Clone + Drop>(target: &mut T, original: &T) -> Result<(), AllocError>
+    ensures { OnOk result (T.Clone.is_clone original.now target.new) }
 {
-    *place = original.clone()?;
+    *target = original.clone()?;
     Ok(())
 }
 

@@ -127,7 +127,7 @@ fn expect(
 }
 
 #[test]
-fn places_and_origins_are_left_out(rt: HostRuntime) -> Result<(), Fail> {
+fn locations_and_origins_are_left_out(rt: HostRuntime) -> Result<(), Fail> {
     expect(&rt, FIRST, SECOND, "same same same same same same same ")
 }
 

@@ -1,6 +1,6 @@
 //! Components, each with where it comes from.
 
-use crate::tell::places::{push_directive, push_field, push_input, push_value};
+use crate::tell::locations::{push_directive, push_field, push_input, push_value};
 use crate::tell::{Tell, push_at, push_name};
 use apollo_component::component::{Component, ComponentName};
 use apollo_component::directive_list::DirectiveList;

@@ -2,14 +2,14 @@
 
 use apollo_elaboration::build_error as document;
 use apollo_meaning::build_error as schema;
-use likeness::push_place;
+use likeness::push_location;
 use std::alloc::AllocError;
 
 /// Adds the faults of a schema, a line for each.
 /// No clause: it serves the scenarios, which say what they see.
 pub fn push_schema_faults(text: &mut String, faults: &[schema::Fault]) -> Result<(), AllocError> {
-    for (place, error) in faults {
-        push_place(text, *place)?;
+    for (location, error) in faults {
+        push_location(text, *location)?;
         write!(text, "{error} {error:?}\n")?;
     }
     Ok(())
@@ -21,8 +21,8 @@ pub fn push_document_faults(
     text: &mut String,
     faults: &[document::Fault],
 ) -> Result<(), AllocError> {
-    for (place, error) in faults {
-        push_place(text, *place)?;
+    for (location, error) in faults {
+        push_location(text, *location)?;
         write!(text, "{error} {error:?}\n")?;
     }
     Ok(())

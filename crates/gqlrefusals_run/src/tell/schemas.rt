@@ -4,7 +4,7 @@ use crate::tell::components::{
     push_component_name, push_component_names, push_directives, push_fields, push_inputs,
     push_values,
 };
-use crate::tell::places::push_directive_definition;
+use crate::tell::locations::push_directive_definition;
 use crate::tell::{Tell, push_at, push_description, push_name};
 use apollo_component::component::ComponentName;
 use apollo_component::extension::ComponentOrigin;

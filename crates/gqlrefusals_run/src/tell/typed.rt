@@ -1,6 +1,6 @@
 //! Typed documents, their maps and their selections.
 
-use crate::tell::places::{push_arguments, push_directives, push_field};
+use crate::tell::locations::{push_arguments, push_directives, push_field};
 use crate::tell::{Tell, push_at, push_name, push_name_or_none};
 use apollo_executable::{
     ExecutableDocument, Field, Fragment, InlineFragment, Operation, OperationMap, Selection,

@@ -17,12 +17,12 @@ elaborate_field-returns-clause-faults t c =
     let ty = c.args.parent.now.ty.now in
     let path = c.args.path.now in
     let faults = c.args.faults.now in
-    let place = c.args.node.now.location in
+    let location = c.args.node.now.location in
     let f = c.args.node.now.value in
     let pushed : c.push.new.self ≡ path.nested_fields ++ response_key_of f.alias f.name ∷ [] = search rules in
     c.in_ok-field.ensures.faults
-    ∙ (λ i. faults ++ faults_within s ty place (record { root = path.root; nested_fields = pushed i }) f)
-    ∙ ap (λ (l : List Fault). faults ++ l) (sym (faults-field s ty place path f))
+    ∙ (λ i. faults ++ faults_within s ty location (record { root = path.root; nested_fields = pushed i }) f)
+    ∙ ap (λ (l : List Fault). faults ++ l) (sym (faults-field s ty location path f))
 
 pub elaborate_fragment-returns-in_default-clause-faults : goal.elaborate_fragment-returns-in_default-clause-faults
 elaborate_fragment-returns-in_default-clause-faults t c =
@@ -30,12 +30,12 @@ elaborate_fragment-returns-in_default-clause-faults t c =
     let ty = c.args.parent.now.ty.now in
     let path = c.args.path.now in
     let faults = c.args.faults.now in
-    let place = c.args.node.now.location in
+    let location = c.args.node.now.location in
     let f = c.deref.result.now in
     let none : None ≡ if_typable (λ (t : NameView). t) (typable_fragment s ty f.type_condition) = sym (ap option_copied c.in_default.is) ∙ c.in_ok-child.ensures.typable in
-    c.in_ok-child.ensures.faults place
-    ∙ ap (λ (l : List Fault). faults ++ l) (fragment_falls_faults s ty place path f none)
-    ∙ (λ i. faults ++ faults_of_fragment s ty place path (c.deref.ensures i))
+    c.in_ok-child.ensures.faults location
+    ∙ ap (λ (l : List Fault). faults ++ l) (fragment_falls_faults s ty location path f none)
+    ∙ (λ i. faults ++ faults_of_fragment s ty location path (c.deref.ensures i))
 
 pub elaborate_fragment-returns-clause-typed : goal.elaborate_fragment-returns-clause-typed
 elaborate_fragment-returns-clause-typed t c =
@@ -54,15 +54,15 @@ elaborate_fragment-returns-clause-faults t c =
     let ty = c.args.parent.now.ty.now in
     let path = c.args.path.now in
     let faults = c.args.faults.now in
-    let place = c.args.node.now.location in
+    let location = c.args.node.now.location in
     let f = c.args.node.now.value in
     let child = c.in-Some.child.now in
     let some : Some child ≡ if_typable (λ (t : NameView). t) (typable_fragment s ty f.type_condition) =
     sym (ap option_copied c.in-Some.is) ∙ c.in_ok-child.ensures.typable ∙ (λ i. if_typable (λ (t : NameView). t) (typable_fragment s ty (c.deref.ensures i).type_condition)) in
-    let so_far : c.typable_fragment.new.faults ≡ faults ++ below_or_wrong (λ _. []) place path (typable_fragment s ty f.type_condition) =
-    c.in_ok-child.ensures.faults place ∙ (λ i. faults ++ below_or_wrong (λ _. []) place path (typable_fragment s ty (c.deref.ensures i).type_condition)) in
+    let so_far : c.typable_fragment.new.faults ≡ faults ++ below_or_wrong (λ _. []) location path (typable_fragment s ty f.type_condition) =
+    c.in_ok-child.ensures.faults location ∙ (λ i. faults ++ below_or_wrong (λ _. []) location path (typable_fragment s ty (c.deref.ensures i).type_condition)) in
     let below : c.as_slice.result.now ≡ f.selection_set = c.as_slice.ensures ∙ (λ i. (c.deref-2.ensures i).selection_set) in
-    c.in_ok-set.ensures.faults ∙ (λ i. so_far i ++ faults_of_selections s child path (below i)) ∙ fragment_stands_faults s ty place path f child faults some
+    c.in_ok-set.ensures.faults ∙ (λ i. so_far i ++ faults_of_selections s child path (below i)) ∙ fragment_stands_faults s ty location path f child faults some
 
 pub elaborate_all-loop-selection-preserved : goal.elaborate_all-loop-selection-preserved
 elaborate_all-loop-selection-preserved t c =
@@ -96,9 +96,9 @@ elaborate_within-returns-clause-faults t c =
     let ty = c.args.parent.now.ty.now in
     let path = c.args.path.now in
     let faults = c.args.faults.now in
-    let place = c.args.node.now.location in
+    let location = c.args.node.now.location in
     let f = c.args.node.now.value in
     let d = c.in-Some.definition in
     let is : c.inner_named_type-child.result.now ≡ child_of d = c.inner_named_type-child.ensures ∙ (λ i. inner_name (c.deref.ensures i).ty) in
     let below : c.as_slice.result.now ≡ f.selection_set = c.as_slice.ensures ∙ (λ i. (c.deref-2.ensures i).selection_set) in
-    c.in_ok-set.ensures.faults ∙ (λ i. c.in_ok-definition.ensures.faults i ++ faults_of_selections s (is i) path (below i)) ∙ field_stands_faults s ty place path f d faults (sym c.in-Some.is ∙ c.in_ok-definition.ensures.typable)
+    c.in_ok-set.ensures.faults ∙ (λ i. c.in_ok-definition.ensures.faults i ++ faults_of_selections s (is i) path (below i)) ∙ field_stands_faults s ty location path f d faults (sym c.in-Some.is ∙ c.in_ok-definition.ensures.typable)

@@ -11,7 +11,7 @@ returns-in_err-read_type_header-in-def-clause-refused c =
     let rest : List (List ℕ) = texts_of c.in-Some.rest.now in
     let words : texts_of c.args.words.now ≡ codes "def" ∷ rest = search rules in
     passes c.from_residual-in_err-read_type_header-in-def.result c.in_err-read_type_header-in-def.field-0.0 c.from_residual-in_err-read_type_header-in-def.ensures.1
-    (λ none. subst (SayNoLine c.args.position c.args.place) (sym words) (no_type_header c.args.position c.args.place r.Definition rest none))
+    (λ none. subst (SayNoLine c.args.position c.args.location) (sym words) (no_type_header c.args.position c.args.location r.Definition rest none))
     c.in_err-read_type_header-in-def.ensures.refused
 
 pub returns-in_err-read_type_header-in-ext-clause-refused : goal.returns-in_err-read_type_header-in-ext-clause-refused
@@ -19,7 +19,7 @@ returns-in_err-read_type_header-in-ext-clause-refused c =
     let rest : List (List ℕ) = texts_of c.in-Some.rest.now in
     let words : texts_of c.args.words.now ≡ codes "ext" ∷ rest = search rules in
     passes c.from_residual-in_err-read_type_header-in-ext.result c.in_err-read_type_header-in-ext.field-0.0 c.from_residual-in_err-read_type_header-in-ext.ensures.1
-    (λ none. subst (SayNoLine c.args.position c.args.place) (sym words) (no_type_header c.args.position c.args.place r.Extension rest none))
+    (λ none. subst (SayNoLine c.args.position c.args.location) (sym words) (no_type_header c.args.position c.args.location r.Extension rest none))
     c.in_err-read_type_header-in-ext.ensures.refused
 
 pub returns-in_err-only_name-in-directive-clause-refused : goal.returns-in_err-only_name-in-directive-clause-refused
@@ -27,7 +27,7 @@ returns-in_err-only_name-in-directive-clause-refused c =
     let rest : List (List ℕ) = texts_of c.in-Some.rest.now in
     let words : texts_of c.args.words.now ≡ codes "directive" ∷ rest = search rules in
     passes c.from_residual-in_err-only_name-in-directive.result c.in_err-only_name-in-directive.field-0.0 c.from_residual-in_err-only_name-in-directive.ensures.1
-    (λ none. subst (SayNoLine c.args.position c.args.place) (sym words) (no_directive_header c.args.position c.args.place rest none))
+    (λ none. subst (SayNoLine c.args.position c.args.location) (sym words) (no_directive_header c.args.position c.args.location rest none))
     c.in_err-only_name-in-directive.ensures.refused
 
 pub returns-in_err-operation-in-operation-clause-refused : goal.returns-in_err-operation-in-operation-clause-refused
@@ -35,7 +35,7 @@ returns-in_err-operation-in-operation-clause-refused c =
     let rest : List (List ℕ) = texts_of c.in-Some.rest.now in
     let words : texts_of c.args.words.now ≡ codes "operation" ∷ rest = search rules in
     passes c.from_residual-in_err-operation-in-operation.result c.in_err-operation-in-operation.field-0.0 c.from_residual-in_err-operation-in-operation.ensures.1
-    (λ none. subst (SayNoLine c.args.position c.args.place) (sym words) (no_operation_header c.args.position c.args.place rest none))
+    (λ none. subst (SayNoLine c.args.position c.args.location) (sym words) (no_operation_header c.args.position c.args.location rest none))
     c.in_err-operation-in-operation.ensures.refused
 
 pub returns-in_err-name-in-fragment-clause-refused : goal.returns-in_err-name-in-fragment-clause-refused
@@ -43,5 +43,5 @@ returns-in_err-name-in-fragment-clause-refused c =
     let rest : List (List ℕ) = texts_of c.in-Some.rest.now in
     let words : texts_of c.args.words.now ≡ codes "fragment" ∷ rest = search rules in
     passes c.from_residual-in_err-name-in-fragment.result c.in_err-name-in-fragment.field-0.0 c.from_residual-in_err-name-in-fragment.ensures.1
-    (λ none. subst (SayNoLine c.args.position c.args.place) (sym words) (no_fragment_header c.args.position c.args.place rest none))
+    (λ none. subst (SayNoLine c.args.position c.args.location) (sym words) (no_fragment_header c.args.position c.args.location rest none))
     c.in_err-name-in-fragment.ensures.refused

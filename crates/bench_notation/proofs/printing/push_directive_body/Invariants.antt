@@ -1,4 +1,4 @@
--- What was added is the lines of the places so far.
+-- What was added is the lines of the locations so far.
 use Rattle.std.proofs.Common.{◌≡◌, ◌++◌, string_bytes, take}
 use Rattle.bench_notation.specs.Text.{locations_text}
 use Rattle.bench_notation.proofs.printing.push_directive_body.Given as goal

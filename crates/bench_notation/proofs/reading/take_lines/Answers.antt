@@ -4,26 +4,26 @@ use Rattle.std.proofs.lemmas.List.{drop_more, length-take-le, take-append-drop, 
 use Rattle.std.proofs.lemmas.Grind.{common_steps}
 use Rattle.std.proofs.lemmas.List.Elements.{All-more}
 use Rattle.graphql_nodes.specs.declared.source.SourceSpan.{SourceSpan}
-use Rattle.bench_notation.specs.Line.{IsLine, bytes_left, line_place, lines_of, pieces_left, texts_of}
+use Rattle.bench_notation.specs.Line.{IsLine, bytes_left, line_location, lines_of, pieces_left, texts_of}
 use Rattle.bench_notation.specs.Documents.{LeadTo, Takes}
 use Rattle.bench_notation.specs.declared.reading.DocumentReader.{DocumentReader}
 use Rattle.bench_notation.proofs.reading.take_lines.Goals as goal
 
-is_line : {text : List ℕ} {place : SourceSpan} {old new : DocumentReader} → Takes text place old new → IsLine text
-is_line {place = place} takes = record { place = place; line = takes.line; says = takes.says }
+is_line : {text : List ℕ} {location : SourceSpan} {old new : DocumentReader} → Takes text location old new → IsLine text
+is_line {location = location} takes = record { location = location; line = takes.line; says = takes.says }
 
-led_more : (number : ℕ) (texts : List (List ℕ)) (text : List ℕ) (first reader next : DocumentReader) → LeadTo number texts first reader → Takes text (line_place (number + length texts)) reader next → LeadTo number (texts ++ text ∷ []) first next
+led_more : (number : ℕ) (texts : List (List ℕ)) (text : List ℕ) (first reader next : DocumentReader) → LeadTo number texts first reader → Takes text (line_location (number + length texts)) reader next → LeadTo number (texts ++ text ∷ []) first next
 led_more number [] text first reader next is takes =
-    (next, (subst (λ (old : DocumentReader). Takes text (line_place number) old next) (sym is) (rw add-zero at takes), refl))
+    (next, (subst (λ (old : DocumentReader). Takes text (line_location number) old next) (sym is) (rw add-zero at takes), refl))
 led_more number (other ∷ texts) text first reader next (second, (leads, rest)) takes =
     let count : number + length (other ∷ texts) ≡ number + 1 + length texts = omega arith in
-    (second, (leads, led_more (number + 1) texts text second reader next rest (subst (λ (n : ℕ). Takes text (line_place n) reader next) count takes)))
+    (second, (leads, led_more (number + 1) texts text second reader next rest (subst (λ (n : ℕ). Takes text (line_location n) reader next) count takes)))
 
-led_to : (lines : List (List ℕ)) (i : ℕ) (start reader next : DocumentReader) → i < length lines → LeadTo 1 (take i lines) start reader → Takes (get_or lines i []) (line_place (i + 1)) reader next → LeadTo 1 (take (i + 1) lines) start next
+led_to : (lines : List (List ℕ)) (i : ℕ) (start reader next : DocumentReader) → i < length lines → LeadTo 1 (take i lines) start reader → Takes (get_or lines i []) (line_location (i + 1)) reader next → LeadTo 1 (take (i + 1) lines) start next
 led_to lines i start reader next lt led takes =
     let count : i + 1 ≡ 1 + length (take i lines) = grind (arith, length-take-le) in
     let more : take i lines ++ get_or lines i [] ∷ [] ≡ take (i + 1) lines = grind (arith, common_steps, take_more) in
-    subst (λ (l : List (List ℕ)). LeadTo 1 l start next) more (led_more 1 (take i lines) (get_or lines i []) start reader next led (subst (λ (n : ℕ). Takes (get_or lines i []) (line_place n) reader next) count takes))
+    subst (λ (l : List (List ℕ)). LeadTo 1 l start next) more (led_more 1 (take i lines) (get_or lines i []) start reader next led (subst (λ (n : ℕ). Takes (get_or lines i []) (line_location n) reader next) count takes))
 
 abbrev behind : List (List ℕ) → List (List ℕ)
 behind [] = []
@@ -57,7 +57,7 @@ pub loop-left-preserved : goal.loop-left-preserved
 loop-left-preserved c =
     let lines : List (List ℕ) = lines_of c.args.text.now in
     let next : IsNext lines c.loop-left.number c.in_ok-line.line.now (pieces_left 10 c.in_ok-line.behind) = next_line lines c.loop-left.number c.in_ok-line.line.now (pieces_left 10 c.in_ok-line.behind) (c.loop-left.invariant.rest ∙ ap (pieces_left 10) c.in-Some.is ∙ c.in_ok-line.ensures.lines) in
-    let takes : Takes (get_or lines c.loop-left.number []) (line_place (c.loop-left.number + 1)) c.loop-left.reader c.take_line.new.self = rw next.here c.in-Ok.ensures.taken in
+    let takes : Takes (get_or lines c.loop-left.number []) (line_location (c.loop-left.number + 1)) c.loop-left.reader c.take_line.new.self = rw next.here c.in-Ok.ensures.taken in
     record {
       read = All-more IsLine lines c.loop-left.number [] next.within c.loop-left.invariant.read (is_line takes);
       led = led_to lines c.loop-left.number c.args.reader.now c.loop-left.reader c.take_line.new.self next.within c.loop-left.invariant.led takes;

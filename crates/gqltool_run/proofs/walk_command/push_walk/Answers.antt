@@ -13,6 +13,7 @@ use Rattle.gqltool_run.specs.Pieces.{GoesOut, IsBegun}
 use Rattle.gqltool_run.specs.WalkCommand.{field_line, turns_line}
 use Rattle.gqltool_run.proofs.PieceLemmas.{goes-nowhere}
 use Rattle.gqltool_run.proofs.WalkTextLemmas.{lines-cut, lines-turn, walk-cut, walk-end, walk-end-cut}
+use Rattle.gqltool_run.proofs.walk_command.push_walk.Given.{Over}
 use Rattle.gqltool_run.proofs.walk_command.push_walk.Goals as goal
 
 -- the turns of a walk over a set, once it is over
@@ -79,31 +80,33 @@ returns-in_err-say_line-clause-begun g c =
     rw (exit.1) (walk-cut g.W.FieldWalk.deep c.args.word.now c.args.turns_word.now document set (string_bytes c.args.text.now) (sent c.args.outlet.now) (seen c.over-walk.result).coming c.over-walk.ensures.coming turns.0 turns.1 (sent c.say_line.new.outlet)
     (lines-cut (field_line c.args.word.now) whole text (sent c.args.outlet.now) (sent c.loop-field.outlet) (sent c.say_line.new.outlet) field.now (seen c.loop-field.walk).coming (seen c.next_field.new.self).coming c.loop-field.invariant.says first.0 line))
 
+taken : (g : Over) (c : goal.After-drop-walk-2 g) → TakesAllTurns g.W.FieldWalk.deep c.args.document.now c.args.set.now (g.W.FieldWalk.seen c.next_field.new.self).taken
+taken g c =
+    let was = c.loop-field.invariant in
+    let steps = c.in_default.ensures in
+    all-turns g.W.FieldWalk.deep (g.W.FieldWalk.seen c.next_field.new.self) c.args.document.now c.args.set.now (steps.document ∙ was.document) (steps.start ∙ was.start) (steps.over was.goes_on).0
+
 pub returns-clause-said : goal.returns-clause-said
 returns-clause-said g c =
     let was = c.loop-field.invariant in
-    let steps = c.in_default.ensures in
     let ended = g.W.FieldWalk.seen c.next_field.new.self in
-    let takes = all-turns g.W.FieldWalk.deep ended c.args.document.now c.args.set.now (steps.document ∙ was.document) (steps.start ∙ was.start) (steps.over was.goes_on).0 in
     let sent = g.O.Outlet.sent in
     let seen = g.W.FieldWalk.seen in
     let text = string_bytes c.loop-field.text in
     let left = string_bytes c.say_turns.new.text in
     on_ok_weaker c.say_turns.result
-    (λ goes. walk-end g.W.FieldWalk.deep c.args.word.now c.args.turns_word.now c.args.document.now c.args.set.now (string_bytes c.args.text.now) (sent c.args.outlet.now) (seen c.over-walk.result).coming c.over-walk.ensures.coming ended.taken takes (sent c.loop-field.outlet) (sent c.say_turns.new.outlet) text left (seen c.loop-field.walk).coming was.says steps.gives.0
+    (λ goes. walk-end g.W.FieldWalk.deep c.args.word.now c.args.turns_word.now c.args.document.now c.args.set.now (string_bytes c.args.text.now) (sent c.args.outlet.now) (seen c.over-walk.result).coming c.over-walk.ensures.coming ended.taken (taken g c) (sent c.loop-field.outlet) (sent c.say_turns.new.outlet) text left (seen c.loop-field.walk).coming was.says c.in_default.ensures.gives.0
     (subst (λ (n : ℕ). GoesOut (text ++ turns_line c.args.turns_word.now n) (sent c.loop-field.outlet) (sent c.say_turns.new.outlet) left) c.turns_so_far.ensures goes))
     c.say_turns.ensures.held
 
 pub returns-clause-begun : goal.returns-clause-begun
 returns-clause-begun g c =
     let was = c.loop-field.invariant in
-    let steps = c.in_default.ensures in
     let ended = g.W.FieldWalk.seen c.next_field.new.self in
-    let takes = all-turns g.W.FieldWalk.deep ended c.args.document.now c.args.set.now (steps.document ∙ was.document) (steps.start ∙ was.start) (steps.over was.goes_on).0 in
     let sent = g.O.Outlet.sent in
     let seen = g.W.FieldWalk.seen in
     let text = string_bytes c.loop-field.text in
     on_err_weaker c.say_turns.result
-    (λ cut. walk-end-cut g.W.FieldWalk.deep c.args.word.now c.args.turns_word.now c.args.document.now c.args.set.now (string_bytes c.args.text.now) (sent c.args.outlet.now) (seen c.over-walk.result).coming c.over-walk.ensures.coming ended.taken takes (sent c.loop-field.outlet) (sent c.say_turns.new.outlet) text (seen c.loop-field.walk).coming was.says steps.gives.0
+    (λ cut. walk-end-cut g.W.FieldWalk.deep c.args.word.now c.args.turns_word.now c.args.document.now c.args.set.now (string_bytes c.args.text.now) (sent c.args.outlet.now) (seen c.over-walk.result).coming c.over-walk.ensures.coming ended.taken (taken g c) (sent c.loop-field.outlet) (sent c.say_turns.new.outlet) text (seen c.loop-field.walk).coming was.says c.in_default.ensures.gives.0
     (subst (λ (n : ℕ). IsBegun (text ++ turns_line c.args.turns_word.now n) (sent c.loop-field.outlet) (sent c.say_turns.new.outlet)) c.turns_so_far.ensures cut))
     c.say_turns.ensures.begun

@@ -37,8 +37,8 @@ abbrev pub the_weighed : {g : Former {0}} → Weighed g → Weighed (the_former 
 the_weighed w = record { weight = λ X μ n. w.weight X μ n.value; puts = λ X μ n. w.puts X μ n.value }
 
 abbrev fields : Former {0}
-fields = via (pair (const Ptr) (pair this (const (Option SourceSpan)))) Inside (λ X a. (a.shared.ptr, (a.shared.value.value, a.shared.value.place)))
-    (λ X v. record { shared = record { ptr = v.0; value = record { place = v.1.1; value = v.1.0 } } }) (λ X a. refl) (λ X v. refl)
+fields = via (pair (const Ptr) (pair this (const (Option SourceSpan)))) Inside (λ X a. (a.shared.ptr, (a.shared.value.value, a.shared.value.location)))
+    (λ X v. record { shared = record { ptr = v.0; value = record { location = v.1.1; value = v.1.0 } } }) (λ X a. refl) (λ X v. refl)
 
 abbrev with_value : {X Y : Type 0} → Rc X Global → Y → Rc Y Global
 with_value b y = record { ptr = b.ptr; value = y }
@@ -56,7 +56,7 @@ rc_places R S h a = record {
 
 module _ (R S : RattleType) (h : R.Denot → S.Denot) where
   abbrev held : Held R.Denot → Held S.Denot
-  held d = record { place = d.place; value = h d.value }
+  held d = record { location = d.location; value = h d.value }
 
   held_places : Alike R S h → Alike (H.the_row R) (H.the_row S) held
   held_places a = struct_places (H.the_type R) (H.the_type S) ((λ n. n), (h, tt)) _ (λ d. refl) refl ((refl, (λ n. refl, λ n. refl)), (laid _ _ _ a, tt))

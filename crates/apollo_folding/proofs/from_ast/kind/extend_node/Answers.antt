@@ -1,18 +1,16 @@
-use Rattle.apollo_meaning.proofs.Prelude.{rules, ◌≡◌, true, [], ◌∷◌, ◌++◌, map, sym, ap, ◌∙◌, if◌then◌else◌, type_kind, kind_of, same_kind, of_kind, type_from, part_faults}
+use Rattle.apollo_meaning.proofs.Prelude.{rules, ◌≡◌, [], ◌∷◌, ◌++◌, map, sym, ap, ◌∙◌, if◌then◌else◌, kind_of, of_kind, type_from, part_faults}
 use Rattle.apollo_component.specs.declared.extension.ComponentOrigin.TheVariants as origins
 use Rattle.apollo_meaning.specs.Faults.TypeFaults.{kind_mismatch}
-use Rattle.apollo_meaning.proofs.Order.FoldingLemmas.{same_kind-refl, type_kind-from}
 use Rattle.apollo_folding.specs.Joins.{with_numbers}
 use Rattle.apollo_folding.specs.Views.{part_with}
 use Rattle.apollo_folding.proofs.JoiningLemmas.{joining-one}
-use Rattle.apollo_folding.proofs.KindLemmas.{IsOf-value, IsOf-grown}
+use Rattle.apollo_folding.proofs.KindLemmas.{IsOf-value, IsOf-grown, same_kind-made}
 use Rattle.apollo_folding.proofs.from_ast.kind.extend_node.Goals as goal
 
 pub returns-clause-folded : goal.returns-clause-folded
 returns-clause-folded g c = λ head done was.
     let e = part_with (g.K.Kind.seen c.args.body) c.args.extension.now in
-    let alike : same_kind (kind_of head) (kind_of e) ≡ true =
-    ap (λ k. same_kind k (kind_of e)) (sym (g.met.K.Kind.alike c.args.body c.args.node.now ∙ ap type_kind was ∙ type_kind-from head done)) ∙ same_kind-refl (kind_of e) in
+    let alike = same_kind-made (g.K.Kind.wrapped c.args.node.now) (kind_of e) head done (g.met.K.Kind.alike c.args.body c.args.node.now) was in
     let node = c.make_mut.follows.lender c.fold.new.self in
     let location : node.location ≡ c.args.node.now.location = search rules in
     let value : node.value ≡ c.fold.new.self = search rules in
@@ -27,7 +25,6 @@ returns-clause-faults g c = λ head done was.
     let e = part_with (g.K.Kind.seen c.args.body) c.args.extension.now in
     let before = c.args.faults.now in
     let parts = map (λ s. s.1) done in
-    let alike : same_kind (kind_of head) (kind_of e) ≡ true =
-    ap (λ k. same_kind k (kind_of e)) (sym (g.met.K.Kind.alike c.args.body c.args.node.now ∙ ap type_kind was ∙ type_kind-from head done)) ∙ same_kind-refl (kind_of e) in
+    let alike = same_kind-made (g.K.Kind.wrapped c.args.node.now) (kind_of e) head done (g.met.K.Kind.alike c.args.body c.args.node.now) was in
     c.in_ok-fold.ensures.faults head done (c.in_ok-ty.ensures.value ∙ IsOf-value (g.met.K.Kind.makes head done c.args.node.now was))
     ∙ ap (λ l. before ++ l) (sym (joining-one head parts e ∙ ap (λ b. if b then part_faults parts e else kind_mismatch head e ∷ []) alike))

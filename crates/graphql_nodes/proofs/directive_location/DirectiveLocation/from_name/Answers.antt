@@ -1,4 +1,4 @@
--- Each place stands among those that were tried.
+-- Each location stands among those that were tried.
 use Rattle.std.proofs.Common.{◌≢◌, All, arith, lit<, ◌∙◌}
 use Rattle.std.proofs.lemmas.List.{take_all}
 use Rattle.std.proofs.lemmas.List.Elements.{All-more}
@@ -9,7 +9,7 @@ use Rattle.graphql_nodes.specs.declared.directive_location.DirectiveLocation.The
 use Rattle.graphql_nodes.specs.declared.directive_location.TheConstants.DirectiveLocation.{ALL}
 use Rattle.graphql_nodes.proofs.directive_location.DirectiveLocation.from_name.Goals as goal
 
--- what holds of all places on the list holds of each place
+-- what holds of all locations on the list holds of each location
 of_each : (P : DirectiveLocation → Type 0) → All P ALL → (location : DirectiveLocation) → P location
 of_each P all at.Query = all 0 at.Query (lit< tt)
 of_each P all at.Mutation = all 1 at.Mutation (lit< tt)

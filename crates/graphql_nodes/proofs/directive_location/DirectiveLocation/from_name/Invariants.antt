@@ -1,4 +1,4 @@
--- No place so far has the name.
+-- No location so far has the name.
 use Rattle.std.proofs.Common.{◌≢◌, All, take}
 use Rattle.graphql_nodes.specs.LocationTexts.{location_text}
 use Rattle.graphql_nodes.proofs.directive_location.DirectiveLocation.from_name.Given as goal

@@ -2,8 +2,8 @@ use Rattle.graphql_nodes.specs.contracts.operation_type.OperationType as operati
 use Rattle.graphql_nodes.specs.contracts.type_kind.TypeKind as kind
 use Rattle.graphql_nodes.specs.contracts.directive_location.DirectiveLocation as location
 use Rattle.graphql_nodes.proofs.Comparisons.{kinds}
-use Rattle.graphql_nodes.proofs.PlaceEquality.{file_ids, source_spans, source_files, hash_keys}
-use Rattle.graphql_nodes.proofs.laws.equality_of_places_and_kinds.Goals as goal
+use Rattle.graphql_nodes.proofs.LocationEquality.{file_ids, source_spans, source_files, hash_keys}
+use Rattle.graphql_nodes.proofs.laws.equality_of_locations_and_kinds.Goals as goal
 
 pub returns-clause-file_id : goal.returns-clause-file_id
 returns-clause-file_id c = file_ids.at

@@ -156,11 +156,11 @@ fn push_root(text: &mut String, root: &Node<(OperationType, NamedType)>) -> Resu
 
 fn push_schema(
     text: &mut String,
-    place: Option<SourceSpan>,
+    location: Option<SourceSpan>,
     directives: &DirectiveList,
     roots: &Items<Node<(OperationType, NamedType)>>,
 ) -> Result<(), AllocError> {
-    push_at(text, "schema", place)?;
+    push_at(text, "schema", location)?;
     push_directives(text, directives)?;
     for root in roots {
         push_root(text, root)?;
@@ -199,7 +199,7 @@ fn push_fragment(text: &mut String, node: &Node<FragmentDefinition>) -> Result<(
     push_selections(text, &node.selection_set)
 }
 
-#[cycle(places)]
+#[cycle(locations)]
 fn push_selected(text: &mut String, field: &Field) -> Result<(), AllocError> {
     push_name_or_none(text, &field.alias)?;
     push_name(text, &field.name)?;
@@ -208,7 +208,7 @@ fn push_selected(text: &mut String, field: &Field) -> Result<(), AllocError> {
     push_selections(text, &field.selection_set)
 }
 
-#[cycle(places)]
+#[cycle(locations)]
 fn push_inline(text: &mut String, inline: &InlineFragment) -> Result<(), AllocError> {
     push_name_or_none(text, &inline.type_condition)?;
     push_directives(text, &inline.directives)?;
@@ -217,7 +217,7 @@ fn push_inline(text: &mut String, inline: &InlineFragment) -> Result<(), AllocEr
 
 /// Adds a selection, with its locations.
 /// No clause: it serves the scenarios, which say what they see.
-#[cycle(places)]
+#[cycle(locations)]
 pub fn push_selection(text: &mut String, selection: &Selection) -> Result<(), AllocError> {
     match selection {
         Selection::Field(node) => {
@@ -236,7 +236,7 @@ pub fn push_selection(text: &mut String, selection: &Selection) -> Result<(), Al
     }
 }
 
-#[cycle(places)]
+#[cycle(locations)]
 fn push_selections(text: &mut String, selections: &Items<Selection>) -> Result<(), AllocError> {
     text.push_str("{ ")?;
     for selection in selections {
@@ -272,7 +272,7 @@ fn push_item(text: &mut String, item: ItemView<'_>) -> Result<(), AllocError> {
 }
 
 /// Adds the locations of each definition, a line for each.
-fn push_places(text: &mut String, definitions: &[Definition]) -> Result<(), AllocError> {
+fn push_locations(text: &mut String, definitions: &[Definition]) -> Result<(), AllocError> {
     for definition in definitions {
         push_item(text, ItemView::of(definition))?;
         text.push_str("\n")?;
@@ -289,7 +289,7 @@ pub fn push_definitions(
 ) -> Result<(), AllocError> {
     let printed = print(alloc, definitions)?;
     text.push_str(printed.as_str())?;
-    push_places(text, definitions)
+    push_locations(text, definitions)
 }
 
 impl Tell for DirectiveList {

@@ -1,4 +1,4 @@
--- Equality of places, source files and keys.
+-- Equality of locations, source files and keys.
 use Rattle.std.proofs.Common.{refl}
 use Rattle.graphql_nodes.specs.declared.source.FileId.{FileId}
 use Rattle.graphql_nodes.specs.declared.source.SourceSpan.{SourceSpan}
