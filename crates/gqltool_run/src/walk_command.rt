@@ -176,8 +176,26 @@ fn push_set<O: Outlet>(
     ensures begun { OnErr result (IsCutShort (IsSetText document.now set.now) (O.sent outlet.old) (O.sent outlet.new) (string_bytes text.old)) }
 {
     walks_have_texts();
-    push_walk(alloc, text, outlet, document, set, false, "root ", "root-turns ")?;
-    push_walk(alloc, text, outlet, document, set, true, "all ", "all-turns ")
+    push_walk(
+        alloc,
+        text,
+        outlet,
+        document,
+        set,
+        false,
+        "root ",
+        "root-turns ",
+    )?;
+    push_walk(
+        alloc,
+        text,
+        outlet,
+        document,
+        set,
+        true,
+        "all ",
+        "all-turns ",
+    )
 }
 
 /// A walk over a set, below fields too if it is `deep`.

@@ -1,5 +1,5 @@
 -- A walk has fewer items to give after each one.
-use Rattle.std.proofs.Common.{◌≡◌, ◌+◌, true, false, length, Option, None, Some, Ok, Err, ap, arith}
+use Rattle.std.proofs.Common.{◌≡◌, ◌+◌, true, false, length, Option, None, Some, Ok, Err, refl, ap, arith}
 use Rattle.std.specs.Iterator.{at_most, MakesProgress}
 use Rattle.apollo_executable.specs.Walks.NextItem.{IsNext, Item, most_items}
 use Rattle.apollo_executable.specs.Walks.WalkView.{WalkView}

@@ -1,5 +1,5 @@
 -- What a call of `next` gives, by the last turn that it takes.
-use Rattle.std.proofs.Common.{◌≡◌, ◌≤◌, ◌<◌, ◌+◌, ◌-◌, ◌||◌, ℕ, List, Bool, true, false, [], ◌∷◌, Option, None, Some, Result, Ok, Err, is_err, refl, sym, ap, ◌∙◌, arith, true≢false}
+use Rattle.std.proofs.Common.{◌≡◌, ◌≤◌, ◌+◌, ◌-◌, ℕ, List, Bool, true, false, [], ◌∷◌, Option, None, Some, Result, Ok, Err, is_err, refl, sym, ap, ◌∙◌, arith, true≢false}
 use Rattle.std.specs.Borrow.{Bor}
 use Rattle.std.specs.declared.alloc.AllocError.{AllocError}
 use Rattle.graphql_nodes.specs.NodeView.{NodeView}
@@ -9,7 +9,7 @@ use Rattle.apollo_walks.specs.ToCome.{ToCome}
 use Rattle.apollo_walks.specs.Turns.{AreAllTurns, AreWithinTurns}
 use Rattle.apollo_executable.specs.Walks.Plain.{Plain}
 use Rattle.apollo_executable.specs.Walks.WalkView.{IsWithinTurns}
-use Rattle.apollo_executable.specs.Walks.NextItem.{IsNext, IsOver}
+use Rattle.apollo_executable.specs.Walks.NextItem.{IsNext}
 use Rattle.apollo_executable.specs.Walks.Left.{left_of, whole_walk, names_opened, IsTurn}
 use Rattle.apollo_executable.specs.Walks.Seen.{seen}
 use Rattle.apollo_executable.specs.declared.selection.Field.{Field}
@@ -38,12 +38,12 @@ pub record IsLater (old now : Walk) : Type 0 where
   pub less : (left now).turns ≤ (left old).turns
 
 -- what a turn does to a walk
-pub record IsWalkTurn (now : Walk) (turn : Result (Option (Bor (NodeView Field))) AllocError) (new : Walk) : Type 0 where
+pub record IsWalkTurn (now : Walk) (did : Result (Option (Bor (NodeView Field))) AllocError) (new : Walk) : Type 0 where
   pub document : new.lists.document ≡ now.lists.document
   pub start : new.start ≡ now.start
   pub deep : new.lists.deep ≡ now.lists.deep
-  pub refused : new.refused ≡ is_err turn
-  pub turn : IsTurn now.lists turn new.lists
+  pub refused : new.refused ≡ is_err did
+  pub turn : IsTurn now.lists did new.lists
 
 same-whole : (now new : Walk) → new.lists.deep ≡ now.lists.deep → new.lists.document ≡ now.lists.document → new.start ≡ now.start → whole_of new ≡ whole_of now
 same-whole now new deep document start =

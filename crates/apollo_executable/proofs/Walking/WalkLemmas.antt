@@ -1,5 +1,5 @@
 -- What the parts of a walk say of its open lists.
-use Rattle.std.proofs.Common.{◌≡◌, ◌≤◌, ◌<◌, ◌+◌, ◌-◌, ℕ, Bool, true, false, List, [], ◌∷◌, ◌++◌, map, reverse, Option, None, Some, Result, Ok, Err, OnOk, is_ok, is_err, length, arith, refl, sym, ap, subst, ◌∙◌}
+use Rattle.std.proofs.Common.{◌≡◌, ◌≤◌, ◌<◌, ◌+◌, true, false, List, [], ◌∷◌, ◌++◌, map, reverse, Option, None, Some, Result, Ok, Err, OnOk, OnErr, is_ok, is_err, length, arith, refl, sym, ap, ◌∙◌}
 use Rattle.std.proofs.lemmas.List.{reverse-append, map-append}
 use Rattle.std.specs.Prelude.{nat_eq}
 use Rattle.std.specs.Borrow.{Bor}
@@ -12,7 +12,7 @@ use Rattle.apollo_executable.specs.Walks.Taken.{turns_taken}
 use Rattle.apollo_executable.specs.declared.selection.Selection.{Selection}
 use Rattle.apollo_executable.specs.declared.selection.Field.{Field}
 use Rattle.apollo_executable.specs.declared.walks.open_lists.OpenLists.{OpenLists}
-use Rattle.apollo_executable.proofs.Walking.WholeLemmas.{WalkLaws, left-itself, left-is, left-positive}
+use Rattle.apollo_executable.proofs.Walking.WholeLemmas.{WalkLaws, left-itself, left-is, left-ends, left-positive}
 
 pub waiting-push : (lists : List (Bor (List Selection))) (l : Bor (List Selection)) → waiting_lists (lists ++ l ∷ []) ≡ l.now ∷ waiting_lists lists
 unfolding waiting_lists
@@ -31,6 +31,10 @@ OnOk-both A B C (Err e) a b f = tt
 pub OnOk-when : {T E : Type 0} (A : Type 0) (r : Result T E) → is_ok r ≡ true → OnOk r A → A
 OnOk-when A (Ok x) is a = a
 OnOk-when A (Err e) is a = absurd (cc)
+
+pub OnErr-always : {T E : Type 0} (A : Type 0) (r : Result T E) → A → OnErr r A
+OnErr-always A (Ok x) a = tt
+OnErr-always A (Err e) a = a
 
 pub cons-by-length : {A : Type 0} (xs : List A) → (nat_eq (length xs) 0) ≡ false → (x : A) × (ys : List A) × (xs ≡ x ∷ ys)
 cons-by-length [] is = absurd (cc)
@@ -59,7 +63,7 @@ module _ (laws : WalkLaws) where
 
   -- where nothing is left, the names that are opened are those at the end
   pub ended-leaves : (w : OpenLists) → w.ended ≡ true → left_of w ≡ record { fields = []; opened = names_opened w; turns = 0 }
-  ended-leaves w ended = one-left w (record { fields = []; opened = names_opened w; turns = 0 }) (rw ended ?)
+  ended-leaves w ended = one-left w (record { fields = []; opened = names_opened w; turns = 0 }) (rw ended (left-ends laws w.deep w.document.now (names_opened w)))
 
   -- a turn is one more
   pub turn-counts : (whole : ToCome (NodeView Field)) (old new : OpenLists) (turn : Result (Option (Bor (NodeView Field))) AllocError) → Leaves old turn new → 0 < (left_of old).turns → (left_of old).turns ≤ whole.turns

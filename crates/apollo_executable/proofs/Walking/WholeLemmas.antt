@@ -1,5 +1,5 @@
 -- What is left of a walk, and what a whole walk over a set gives.
-use Rattle.std.proofs.Common.{◌≡◌, ◌≤◌, ◌<◌, ◌↔◌, Bool, ℕ, List, [], ◌∷◌, map, true, false, Some, sym, subst, ◌∙◌, arith}
+use Rattle.std.proofs.Common.{◌≡◌, ◌≤◌, ◌<◌, Bool, ℕ, List, [], ◌∷◌, map, Some, sym, subst, ◌∙◌, arith}
 use Rattle.graphql_nodes.specs.NodeView.{NodeView}
 use Rattle.apollo_walks.specs.Selections.{Fragments, Names, no_names, fragment_of}
 use Rattle.apollo_walks.specs.Reachable.{Reachable}
@@ -9,7 +9,7 @@ use Rattle.apollo_walks.specs.Turns.{AreAllTurns, AreWithinTurns}
 use Rattle.apollo_walks.proofs.Steps.{what_is_to_come}
 use Rattle.apollo_executable.specs.Walks.Plain.{Plain, plain, fragments_of}
 use Rattle.apollo_executable.specs.Walks.Left.{IsLeft, left_in, whole_walk, opened_names}
-use Rattle.apollo_executable.specs.Walks.WalkView.{AreWalked, IsWithinTurns, TakesAllTurns, AreReachedNames}
+use Rattle.apollo_executable.specs.Walks.WalkView.{IsWithinTurns, TakesAllTurns, AreReachedNames}
 use Rattle.apollo_executable.specs.declared.selection.Field.{Field}
 use Rattle.apollo_executable.specs.declared.selection.Selection.{Selection}
 use Rattle.apollo_executable.specs.declared.selection.SelectionSet.{SelectionSet}
@@ -30,6 +30,11 @@ module _ (deep : Bool) (document : ExecutableDocument) (names : Names) (lists : 
   pub left-is : WalkLaws → (x : ToCome (NodeView Field)) → IsLeft deep document names lists x → left_in deep document names lists ≡ x
   unfolding IsLeft
   left-is laws x is = laws.one (fragments_of deep document) names (map (plain deep) lists) (left_in deep document names lists) x left-itself is
+
+-- nothing is left where no list is open
+pub left-ends : WalkLaws → (deep : Bool) (document : ExecutableDocument) (names : Names) → IsLeft deep document names [] (record { fields = []; opened = names; turns = 0 })
+unfolding IsLeft
+left-ends laws deep document names = (laws.steps (fragments_of deep document) names).ends
 
 -- there is a turn left where a list is open
 pub left-positive : WalkLaws → (deep : Bool) (document : ExecutableDocument) (names : Names) (list : List Selection) (lists : List (List Selection)) → 0 < (left_in deep document names (list ∷ lists)).turns

@@ -10,10 +10,7 @@ use graphql_nodes::node::Node;
 use std::alloc::{AllocError, Global};
 
 /// What a walk is still to give. The error is that memory ran out.
-fn collect<'doc>(
-    alloc: Global,
-    walk: FieldWalk<'doc>,
-) -> Result<Vec<&'doc Node<Field>>, AllocError>
+fn collect<'doc>(alloc: Global, walk: FieldWalk<'doc>) -> Result<Vec<&'doc Node<Field>>, AllocError>
     ensures { IfOk result (λ fields. map (λ field. field.now) fields.items ≡ walk.entry.coming) }
 {
     let mut fields = Vec::new(alloc);

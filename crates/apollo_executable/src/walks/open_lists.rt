@@ -50,17 +50,13 @@ impl<'doc> OpenLists<'doc> {
     }
 
     /// Opens a list, and leaves the rest of the innermost one for later. After the error, that memory ran out, all is as it was.
-    fn open(
-        &mut self,
-        list: &'doc [Selection],
-        rest: &'doc [Selection],
-    ) -> Result<(), AllocError>
+    fn open(&mut self, list: &'doc [Selection], rest: &'doc [Selection]) -> Result<(), AllocError>
         ensures document { self.new.document ≡ self.old.document }
         ensures opened { self.new.opened ≡ self.old.opened }
         ensures deep { self.new.deep ≡ self.old.deep }
         ensures ended { self.new.ended ≡ self.old.ended }
         ensures current { OnOk result (self.new.current.now ≡ list.now) }
-        ensures waiting { OnOk result (self.new.waiting.items ≡ self.old.waiting.items ++ rest ∷ []) }
+        ensures waiting { OnOk result (self.new.waiting.items ≡ self.old.waiting.items ++ rest.entry ∷ []) }
         ensures refused { OnErr result (AreSameLists self.old self.new) }
     {
         self.waiting.push(rest)?;

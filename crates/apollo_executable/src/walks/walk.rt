@@ -7,9 +7,7 @@ ghost use Rattle.apollo_executable.specs.Walks.Taken.{turns_taken};
 use crate::document::ExecutableDocument;
 use crate::selection::{Field, SelectionSet};
 use crate::walks::open_lists::OpenLists;
-use apollo_walks::laws::{
-    walks_go_turn_by_turn, walks_open_what_is_reached, walks_take_few_turns,
-};
+use apollo_walks::laws::{walks_go_turn_by_turn, walks_open_what_is_reached, walks_take_few_turns};
 use graphql_nodes::node::Node;
 use std::alloc::{AllocError, Global};
 
