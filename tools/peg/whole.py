@@ -2,7 +2,7 @@
 
 An item is a list of lines, its header first. Its components stand in the order in which GraphQL has them.
 """
-from fuzzing.inputs import KINDS, LOCATIONS, OPERATIONS, ROOTS
+from peg.inputs import KINDS, LOCATIONS, OPERATIONS, ROOTS
 
 SCALARS = ["Int", "String", "ID", "Boolean", "Float"]
 NAMES = ["a", "b", "c", "d", "e", "f"]

@@ -7,7 +7,7 @@ import resource
 import tempfile
 from typing import NamedTuple
 
-TOP = pathlib.Path(__file__).resolve().parent.parent
+TOP = pathlib.Path(__file__).resolve().parent.parent.parent
 # A run that takes more seconds of the processor than this is ended.
 LIMIT = 300
 

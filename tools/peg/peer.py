@@ -12,9 +12,9 @@ import shutil
 import subprocess
 import threading
 
-from fuzzing import whole
-from fuzzing.answers import described, divided, joined
-from fuzzing.graphql_text import as_graphql
+from peg import whole
+from peg.answers import described, divided, joined
+from peg.graphql_text import as_graphql
 
 SCRIPT = pathlib.Path(__file__).with_name("peer.js")
 EXPLAINED = {

@@ -1,8 +1,8 @@
 """What each run of `gqltool` promises, as far as one program can tell: `broken` names what a run doesn't keep."""
 import re
 
-from fuzzing.answers import described, divided, joined, pointed_to
-from fuzzing.inputs import BUILT_IN, META
+from peg.answers import described, divided, joined, pointed_to
+from peg.inputs import BUILT_IN, META
 
 # Small inputs stay far below both.
 SECONDS = 10

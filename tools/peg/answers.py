@@ -1,7 +1,7 @@
 """What the answers of `gqltool` say."""
 import re
 
-from fuzzing.inputs import ROOTS
+from peg.inputs import ROOTS
 
 ATTRIBUTES = {"object": "field", "interface": "field", "input": "input-field", "enum": "enum-value"}
 
