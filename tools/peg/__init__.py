@@ -72,3 +72,14 @@ def count(findings):
         failed += finding is not None and not isinstance(finding, Skipped)
     print(last_line(passed, failed, skipped))
     return int(failed != 0)
+
+
+def check(findings, doc):
+    """Runs a tool that takes no words and says what it finds."""
+
+    def main(words):
+        if words:
+            raise Usage
+        return count(findings())
+
+    run(main, doc)
