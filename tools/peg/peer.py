@@ -12,9 +12,9 @@ import shutil
 import subprocess
 import threading
 
-from fuzzing import whole
-from fuzzing.answers import described, divided, joined
-from fuzzing.graphql_text import as_graphql
+from peg import notation, promises, whole
+from peg.notation import as_graphql, described
+from peg.promises import answered
 
 SCRIPT = pathlib.Path(__file__).with_name("peer.js")
 EXPLAINED = {
@@ -91,17 +91,16 @@ def ordered(said):
     return said | {"applied": sorted(said["applied"])}
 
 
-def compare_whole(chance, program):
+def compare_whole(chance):
     lines = [line for item in whole.Schema(chance).items for line in item]
-    answered = program.run([b"schema"], joined(lines))
-    text = as_graphql(lines)
-    theirs = ask(sort="whole", schema=text)
-    if answered.status != 0:
-        return [f"status {answered.status}"], lines
-    ours = described(answered.output.decode().splitlines())
+    ended = promises.run([b"schema"], notation.text(lines))
+    given = as_graphql(lines)
+    if ended.status != 0:
+        return [f"status {ended.status}"], lines
+    ours, theirs = described(ended.output.decode().splitlines()), ask(sort="whole", schema=given)
     explain("order", ours["types"] != theirs["types"])
     wrong = [] if ordered(ours) == ordered(theirs) else [f"ours: {ours}", f"peer: {theirs}"]
-    return wrong + compare_lines(lines, text), lines
+    return wrong + compare_lines(lines, given), lines
 
 
 # The rules by which the peer refuses what these faults say.
@@ -132,9 +131,9 @@ def difference(ours, theirs):
     return [f"ours alone: {sorted(ours - theirs)}", f"peer alone: {sorted(theirs - ours)}"] if ours != theirs else []
 
 
-def compare_twice(chance, program):
+def compare_twice(chance):
     lines = [line for item in whole.twice(chance, whole.Schema(chance)) for line in item]
-    ours = by_rule(divided(program.run([b"schema"], joined(lines)).output)[1])
+    ours = by_rule(answered(b"schema", lines)[1])
     theirs = {(rule, line) for rule, line in ask(sort="twice", schema=as_graphql(lines))}
     if "schema" not in lines:
         # What is implied has its roots here before any extension, and there they are not looked at.
@@ -142,69 +141,65 @@ def compare_twice(chance, program):
         explain("implied", len(implied))
         ours, theirs = ours - implied, theirs - implied
     kinds = {}
-    for _, kind, name in (line.split(" ") for line in lines if line.startswith("def ")):
-        kinds.setdefault(name, kind)
+    for item in notation.items(lines):
+        if item.words[0] == "def":
+            kinds.setdefault(item.words[2], item.words[1])
     strange = {it for it in ours if it[0] == "implement" and kinds.get(lines[it[1] - 1].split(" ")[1]) != "interface"}
     explain("strange", len(strange))
     return difference(ours - strange, theirs), lines
 
 
-def is_header(line):
-    return not re.match("sel |@ ", line)
-
-
-def below(lines, fallen):
+def below(items, fallen):
     """The numbers of the lines that stand in fallen items, their headers too, and below fallen selections."""
-    inside, depth = set(), None
-    for number, line in enumerate(lines, 1):
-        if is_header(line):
-            depth = -1 if number in fallen else None
-            if number in fallen:
-                inside.add(number)
-            continue
-        if line.startswith("@"):
-            continue
-        own_depth = int(line.split(" ")[1])
-        if depth is not None and own_depth <= depth:
-            depth = None
-        if depth is not None:
+    inside = set()
+
+    def fall(selections):
+        for number, _, its in selections:
             inside.add(number)
-        elif number in fallen:
-            depth = own_depth
+            fall(its)
+
+    def look(selections):
+        for number, _, its in selections:
+            (fall if number in fallen else look)(its)
+
+    for item in items:
+        if item.number in fallen:
+            inside.add(item.number)
+            fall(notation.selections(item))
+        else:
+            look(notation.selections(item))
     return inside
 
 
-def compare_document(chance, program):
+def compare_document(chance):
     schema = whole.Schema(chance)
     document = whole.Document(chance, schema)
     before = [line for item in schema.items for line in item] + ["==="]
     lines = before + document.lines
     texts = as_graphql(before[:-1]), as_graphql(document.lines)
-    said = ask(sort="document", schema=texts[0], document=texts[1])
-    theirs = {(rule, line + len(before)) for rule, line in said}
-    answered = program.run([b"doc"], joined(lines))
-    answer, faults = divided(answered.output)
+    theirs = {(rule, line + len(before)) for rule, line in ask(sort="document", schema=texts[0], document=texts[1])}
+    answer, faults = answered(b"doc", lines)
     ours, fallen = by_rule(faults), {int(fault.split(" ")[1]) for fault in faults}
+    items = [item for item in notation.items(lines) if item.words[0] in ("operation", "fragment")]
+    headers = {item.number for item in items}
 
     # The anonymous operation that is kept does not fall, though it is ambiguous.
-    anonymous = [number for number, line in enumerate(lines, 1) if re.match("operation .* -$", line)]
+    anonymous = [item.number for item in items if item.words[-1] == "-"]
     rootless = {line for rule, line in theirs if rule == "rootless"}
     if answer and re.match("operation .* -$", answer[0]):
         fallen.discard(next(number for number in anonymous if number not in rootless))
 
     leaves = by_rule(fault for fault in faults if is_of_leaf(fault, schema))
     explain("leaves", len(leaves))
-    ours -= leaves
-    if "leaf" in program.commands:
-        ours |= missing_subselections(program, lines)
-    else:
-        theirs = {it for it in theirs if it[0] != "missing"}
+    ours = ours - leaves | missing_subselections(lines)
 
-    inside = below(lines, fallen)
-    is_below = {it for it in theirs if it[1] in inside and not is_header(lines[it[1] - 1])}
+    inside = below(items, fallen) - headers
+    is_below = {it for it in theirs if it[1] in inside}
     explain("below", len(is_below))
     # Of an item each side says no more than that it is refused: it may be refused for more than one reason.
-    ours, theirs = ({by_item(lines, it) for it in some} for some in (ours, theirs - is_below))
+    ours, theirs = (
+        {("item" if number in headers else rule, number) for rule, number in some} for some in (ours, theirs - is_below)
+    )
     if rootless:
         skipped = {it for it in ours ^ theirs if it[1] in anonymous}
         explain("rootless", len(skipped))
@@ -212,20 +207,15 @@ def compare_document(chance, program):
     return difference(ours, theirs) + compare_lines(lines, *texts), lines
 
 
-def by_item(lines, refusal):
-    rule, number = refusal
-    return "item" if is_header(lines[number - 1]) else rule, number
-
-
 def is_of_leaf(fault, schema):
     """Whether a field is asked of what has none, as of an enum that is a fragment's condition."""
     said = re.fullmatch("fault [0-9]+ type `(.*)` does not have a field `.*`", fault)
-    return said is not None and said[1] in [*whole.SCALARS, *schema.of_kinds("scalar", "enum", "input")]
+    return said is not None and said[1] in [*notation.SCALARS, *schema.of_kinds("scalar", "enum", "input")]
 
 
-def missing_subselections(program, lines):
+def missing_subselections(lines):
     """The lines on which a selection is missing, but for those below which all selections fell."""
-    answer, _ = divided(program.run([b"leaf"], joined(lines)).output)
+    answer, _ = answered(b"leaf", lines)
     numbers = {int(line.split(" ")[1]) for line in answer if line.endswith(" missing-subselection")}
     emptied = {number for number in numbers if depth_of(lines, number + 1) > depth_of(lines, number)}
     explain("emptied", len(emptied))
@@ -240,12 +230,11 @@ def depth_of(lines, number):
 SORTS = {"whole schema": compare_whole, "schema with names twice": compare_twice, "document": compare_document}
 
 
-def tried(program, name):
+def tried(name):
     """What is wrong with the input of this name, which begins with its sort, and its lines."""
     compare = next(compare for sort, compare in SORTS.items() if name.startswith(sort))
     try:
-        wrong, lines = compare(random.Random(name), program)
+        wrong, lines = compare(random.Random(name))
     except RuntimeError as error:
-        return [str(error)], str(error)
-    numbered = [f"{number:5} {line}" for number, line in enumerate(lines, 1)]
-    return wrong, "\n".join([*wrong, *numbered])
+        return [str(error)], []
+    return wrong, ["", *lines]

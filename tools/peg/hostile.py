@@ -5,6 +5,8 @@ Texts of coordinates longer than a command line may have are run as rows, by `gq
 import re
 from typing import Callable, NamedTuple
 
+from peg import programs
+
 QUERY = b"def object Query\nfield q Query\nfield a Int\n===\n"
 # A larger size may take so many times the time for each byte or turn; times below this many seconds say nothing.
 AT_MOST, SECONDS = 3, 0.1
@@ -142,29 +144,21 @@ def work(text, run):
     return len(text) + len(run.output) + len(run.errors) + turns
 
 
-def tried(gqltool, gqlrows, case):
-    """The runs of both sizes, and what is wrong with them."""
-    runs, wrong, rates = [], [], []
-    for size in case.sizes:
-        text = case.text(size)
-        run = gqltool.run(case.words, text) if case.words else gqlrows.run([], text)
-        if not case.is_right(size)(run):
-            wrong.append(f"{case.name}, {size:,}: status {run.status}, {run.output[:200]!r}, {run.errors[:200]!r}")
-        runs.append(run)
-        rates.append(max(run.seconds, SECONDS) / work(text, run))
-    if runs[1].seconds > SECONDS and rates[1] > AT_MOST * rates[0]:
-        wrong.append(f"{case.name}: {case.sizes[1]:,} take more than their share of time")
-    return runs, wrong
-
-
-def main(gqltool, gqlrows):
-    """Runs all cases, and prints a table of their times."""
-    passed = failed = 0
+def findings():
+    """Runs all cases, prints a table of their times, and answers what is wrong with each."""
     print("| input | size | s | size | s |\n|---|---|---|---|---|")
     for case in CASES:
-        runs, wrong = tried(gqltool, gqlrows, case)
+        program = programs.path("gqltool" if case.words else "gqlrows")
+        texts = [case.text(size) for size in case.sizes]
+        runs = [programs.run(program, case.words, text) for text in texts]
         cells = [f"{size:,} | {run.seconds:.2f}" for size, run in zip(case.sizes, runs)]
-        print(" | ".join([f"| {case.name}", *cells]) + " |", *wrong, sep="\n", flush=True)
-        passed, failed = passed + (not wrong), failed + bool(wrong)
-    print(f"{passed} passed, {failed} failed")
-    return 0 if failed == 0 else 1
+        print(" | ".join([f"| {case.name}", *cells]) + " |", flush=True)
+        wrong = [
+            f"{case.name}, {size:,}: status {run.status}, {run.output[:200]!r}, {run.errors[:200]!r}"
+            for size, run in zip(case.sizes, runs)
+            if not case.is_right(size)(run)
+        ]
+        rates = [max(run.seconds, SECONDS) / work(text, run) for text, run in zip(texts, runs)]
+        if runs[1].seconds > SECONDS and rates[1] > AT_MOST * rates[0]:
+            wrong.append(f"{case.name}: {case.sizes[1]:,} take more than their share of time")
+        yield "\n".join(wrong) or None

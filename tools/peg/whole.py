@@ -2,9 +2,8 @@
 
 An item is a list of lines, its header first. Its components stand in the order in which GraphQL has them.
 """
-from fuzzing.inputs import KINDS, LOCATIONS, OPERATIONS, ROOTS
+from peg.notation import KINDS, LOCATIONS, OPERATIONS, ROOTS, SCALARS
 
-SCALARS = ["Int", "String", "ID", "Boolean", "Float"]
 NAMES = ["a", "b", "c", "d", "e", "f"]
 # The fields of the introspection types that October 2021 has, by what they are selected in.
 META = {

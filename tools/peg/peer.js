@@ -6,9 +6,8 @@ const {
   FieldsOnCorrectTypeRule, KnownTypeNamesRule, LoneAnonymousOperationRule, LoneSchemaDefinitionRule,
   PossibleTypeExtensionsRule, ScalarLeafsRule, UniqueDirectiveNamesRule, UniqueEnumValueNamesRule,
   UniqueFieldDefinitionNamesRule, UniqueFragmentNamesRule, UniqueOperationNamesRule, UniqueOperationTypesRule,
-  UniqueTypeNamesRule,
-} = require('./graphql_js');
-const { kindWord, notation } = require('./notation');
+  UniqueTypeNamesRule, kindWord, notation,
+} = require('./graphql');
 
 const lineOf = (node) => node.loc.startToken.line;
 const named = (rule) => rule.name.replace(/Rule$/, '');

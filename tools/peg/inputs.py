@@ -1,12 +1,9 @@
 """Random inputs in the bench notation, for each command of `gqltool`. The names are few, so that they collide."""
 from typing import NamedTuple
 
-KINDS = ["scalar", "object", "interface", "union", "enum", "input"]
-OPERATIONS = ["query", "mutation", "subscription"]
-ROOTS = ["Query", "Mutation", "Subscription"]
-BUILT_IN = ["Int", "String", "ID", "Boolean", "Float", "__Type", "__Schema", "__TypeKind"]
-META = ["__typename", "__schema", "__type"]
-LOCATIONS = ["QUERY", "FIELD", "SCHEMA", "OBJECT", "FIELD_DEFINITION", "INPUT_FIELD_DEFINITION"]
+from peg.notation import BUILT_IN, KINDS, LOCATIONS, META, OPERATIONS, ROOTS, text
+
+COMMANDS = ["schema", "coord", "doc", "walk", "leaf"]
 # What a changed line may get: what ends words and lines elsewhere, what has no letter, and what is no UTF-8.
 ODD = [b" ", b"\t", b"\r", b"\0", b"\n", b"\xef\xbb\xbf", "\u2192".encode(), b"\xff"]
 ODD += [b"!", b"[", b"]", b"-", b"9", b"_", b"sel", b"201"]
@@ -185,18 +182,18 @@ def words_of(random, command, maker):
     return [command.encode(), *random.sample(options, random.randint(0, len(options)))]
 
 
-def case(random, commands):
-    """A random run of one of these commands."""
+def case(random):
+    """A random run of one of the commands."""
     maker = Maker(random)
-    command = random.choice(commands)
+    command = random.choice(COMMANDS)
     words = words_of(random, command, maker)
     if command in ("schema", "coord"):
         maker.schema()
     else:
         maker.divided()
-    text = "".join(f"{line}\n" for line in maker.lines).encode()
+    given = text(maker.lines)
     if random.random() < 0.3:
-        return Case(words, changed_lines(random, text), False)
+        return Case(words, changed_lines(random, given), False)
     if random.random() < 0.03:
-        return Case(random.choice([words[1:], [*words, b""], [*words, words[0]], [b"\xff"]]), text, False)
-    return Case(words, text, True)
+        return Case(random.choice([words[1:], [*words, b""], [*words, words[0]], [b"\xff"]]), given, False)
+    return Case(words, given, True)

@@ -1,8 +1,8 @@
 """What each run of `gqltool` promises, as far as one program can tell: `broken` names what a run doesn't keep."""
 import re
 
-from fuzzing.answers import described, divided, joined, pointed_to
-from fuzzing.inputs import BUILT_IN, META
+from peg import notation, programs
+from peg.notation import BUILT_IN, META, described, text
 
 # Small inputs stay far below both.
 SECONDS = 10
@@ -23,7 +23,6 @@ PLACES = [
     (f"(?:object|interface) type `{NAME}` implements interface `{NAME}` more than once", r"implements {1}$"),
     (f"duplicate definitions for the `{NAME}` (field|value|member) of [a-z ]+ type `{NAME}`", r"{1} {0}(?: |$)"),
     ("an executable document must not contain an? .*", r"(?:def|ext|directive|schema|ext-schema)(?: |$)"),
-    ("anonymous operation cannot be selected when the document contains other operations", r"operation [a-z]+ -$"),
     (f"the operation `{NAME}` is defined multiple times in the document", r"operation [a-z]+ {0}$"),
     (f"the fragment `{NAME}` is defined multiple times in the document", r"fragment {0} "),
     ("`([a-z]+)` root operation type is not defined", r"operation {0} "),
@@ -32,11 +31,29 @@ PLACES = [
     (f"field selection of (?:scalar|enum) type `{NAME}` must not have subselections", r"sel [0-9]+ field "),
     (f"type `{NAME}` does not have a field `{NAME}`", r"sel [0-9]+ field {1}(?: |$)"),
 ]
-AMBIGUOUS = PLACES[12][0]
+AMBIGUOUS = "anonymous operation cannot be selected when the document contains other operations"
+PLACES.append((AMBIGUOUS, r"operation [a-z]+ -$"))
 REASONS = "unknown line|misplaced line|wrong number of words|bad word"
 # The forms of coordinates, and how their texts begin.
 FORMS = [("directive-argument", r"@.*\("), ("directive", "@")]
 FORMS += [("field-argument", r"[^.]*\..*\("), ("attribute", r"[^.]*\."), ("type", "")]
+ATTRIBUTES = {"object": "field", "interface": "field", "input": "input-field", "enum": "enum-value"}
+
+
+def run(words, given):
+    return programs.run(programs.path("gqltool"), words, given)
+
+
+def divided(output):
+    """The lines of an answer, and those of its faults."""
+    lines = output.decode().splitlines()
+    at = next((at for at, line in enumerate(lines) if line.startswith("fault ")), len(lines))
+    return lines[:at], lines[at:]
+
+
+def answered(command, lines):
+    """The lines of an answer to these lines, and those of its faults."""
+    return divided(run([command], text(lines)).output)
 
 
 def stands(fault, lines):
@@ -44,48 +61,34 @@ def stands(fault, lines):
     said = re.fullmatch("fault ([0-9]+) (.*)", fault)
     if not said or not 1 <= int(said[1]) <= len(lines):
         return False
-    line = lines[int(said[1]) - 1]
-    for text, place in PLACES:
-        names = re.fullmatch(text, said[2])
-        if names:
-            return re.match(place.format(*names.groups()), line) is not None
-    return False
+    known = ((re.fullmatch(words, said[2]), place) for words, place in PLACES)
+    names, place = next((pair for pair in known if pair[0]), (None, ""))
+    return names is not None and re.match(place.format(*names.groups()), lines[int(said[1]) - 1]) is not None
 
 
-def each_schema_has_a_root(lines):
-    """Whether each schema definition names a root, so that the write-out is promised to be built again."""
-    items = re.split(r"(?m)^(?=schema$|ext-schema$|def |ext |directive |operation |fragment |---$|===$)", "\n".join(lines))
-    return all("\nroot " in item for item in items if re.match(r"schema$", item, re.M))
-
-
-def run(program, words, lines):
-    return program.run(words, joined(lines))
-
-
-def broken(program, case):
+def broken(case):
     """What the run of this case, and runs that go with it, do not keep."""
-    first = program.run(case.words, case.text)
-    if first.answer != program.run(case.words, case.text).answer:
+    first = run(case.words, case.text)
+    if first.answer != run(case.words, case.text).answer:
         yield "another answer the second time"
     if first.seconds > SECONDS or first.memory > MEBIBYTES:
         yield f"took {first.seconds:.1f} s and {first.memory:.0f} MiB"
     if first.status == 2:
-        yield from broken_refusal(program, case, first)
+        yield from broken_refusal(case, first)
     elif first.status in (0, 1):
-        yield from broken_answer(program, case, first)
+        yield from broken_answer(case, first)
     else:
         yield f"status {first.status}"
 
 
-def is_utf8(text):
+def is_utf8(given):
     try:
-        text.decode()
+        return given.decode() is not None
     except UnicodeDecodeError:
         return False
-    return True
 
 
-def broken_refusal(program, case, refused):
+def broken_refusal(case, refused):
     errors = refused.errors.decode(errors="replace")
     if refused.output:
         yield "status 2 with standard output"
@@ -93,7 +96,7 @@ def broken_refusal(program, case, refused):
         yield "a clean input is refused"
     at_line = re.fullmatch(f"line ([0-9]+): (?:{REASONS})\n", errors)
     if at_line:
-        yield from broken_line(program, case, refused, int(at_line[1]))
+        yield from broken_line(case, refused, int(at_line[1]))
     elif errors == "cannot read input\n":
         if is_utf8(case.text):
             yield "UTF-8 that can't be read"
@@ -106,88 +109,95 @@ def broken_refusal(program, case, refused):
         yield "a refused text without a text"
 
 
-def broken_line(program, case, refused, number):
+def broken_line(case, refused, number):
     """The lines before it are not refused, and those up to it are refused so."""
     lines = case.text.split(b"\n")
     if not 1 <= number <= len(lines):
         yield "the refused line isn't there"
         return
-    before = program.run(case.words, b"\n".join(lines[: number - 1])).errors
-    if before not in (b"", b"missing ===\n"):
+    if run(case.words, b"\n".join(lines[: number - 1])).errors not in (b"", b"missing ===\n"):
         yield "a line above is refused too"
-    if program.run(case.words, b"\n".join(lines[:number])).answer != refused.answer:
+    if run(case.words, b"\n".join(lines[:number])).answer != refused.answer:
         yield "the line is refused for what is below it"
 
 
-def broken_answer(program, case, answered):
+def broken_answer(case, ended):
     lines = case.text.decode().split("\n")
-    answer, faults = divided(answered.output)
-    if answered.errors:
+    answer, faults = divided(ended.output)
+    if ended.errors:
         yield "standard error with an answer"
-    for fault in faults:
-        if not stands(fault, lines):
-            yield f"a fault whose line does not say so: {fault}"
+    yield from (f"a fault whose line does not say so: {fault}" for fault in faults if not stands(fault, lines))
     command = case.words[0].decode()
-    is_wrong = bool(faults)
-    if command == "coord":
-        is_wrong |= answer[1:2] != [] and answer[1].startswith("missing ")
-    elif command == "leaf":
-        is_wrong |= bool(answer)
-    if answered.status != is_wrong:
-        yield f"status {answered.status}"
-    yield from BROKEN[command](program, case, lines, answer, faults)
+    finds_nothing = command == "coord" and answer[1:2] != [] and answer[1].startswith("missing ")
+    if ended.status != bool(faults or finds_nothing or command == "leaf" and answer):
+        yield f"status {ended.status}"
+    yield from BROKEN[command](case, lines, answer, faults)
 
 
-def broken_schema(program, case, lines, answer, _):
-    """The write-out, read again, gives itself."""
-    if each_schema_has_a_root(lines):
-        again = run(program, [b"schema", b"--adopt"], answer)
-        if again.answer != (0, joined(answer), b""):
+def broken_schema(_, lines, answer, __):
+    """The write-out, read again, gives itself, where each schema definition names a root."""
+    if all(item.all("root") for item in notation.items(lines) if item.words == ["schema"]):
+        if run([b"schema", b"--adopt"], text(answer)).answer != (0, text(answer), b""):
             yield "the write-out, built again, is another"
 
 
-def broken_coord(program, case, lines, answer, faults):
+def broken_coord(case, lines, answer, faults):
     """What the coordinate points to, by the schema's write-out, which has no built-in definitions."""
-    text = case.words[1].decode()
-    written, told = divided(run(program, [b"schema"], lines).output)
+    asked = case.words[1].decode()
+    written, told = answered(b"schema", lines)
     if faults != told:
         yield "other faults than those of the schema"
-    form = next(form for form, marks in FORMS if re.match(marks, text))
-    if len(answer) != 2 or answer[0] != f"{form} {text}":
+    form = next(form for form, marks in FORMS if re.match(marks, asked))
+    if len(answer) != 2 or answer[0] != f"{form} {asked}":
         yield "no answer on a coordinate"
-    elif not re.search(rf"^@?(?:{'|'.join([*BUILT_IN, 'skip'])})\b|\.(?:{'|'.join(META)})\b", text):
-        wanted = pointed_to(described(written), text)
+    elif not re.search(rf"^@?(?:{'|'.join([*BUILT_IN, 'skip'])})\b|\.(?:{'|'.join(META)})\b", asked):
+        wanted = pointed_to(described(written), asked)
         if answer[1] != wanted:
             yield f"not {wanted}"
 
 
-def broken_doc(program, case, lines, answer, faults):
+def attribute(types, name, attribute):
+    """What an attribute of a type is, or why it is not there, and the arguments that it has."""
+    if name not in types:
+        return f"missing type `{name}` does not exist", None
+    ty = types[name]
+    if ty["kind"] not in ATTRIBUTES:
+        return "missing type does not have attributes", None
+    if attribute not in [*ty["fields"], *ty["values"]]:
+        return f"missing type does not have attribute `{attribute}`", None
+    arguments = ty["fields"][attribute][1] if ATTRIBUTES[ty["kind"]] == "field" else None
+    return f"found {ATTRIBUTES[ty['kind']]}", arguments
+
+
+def pointed_to(said, coordinate):
+    """What a coordinate points to in a schema whose write-out says this, or why to nothing."""
+    directive, name, attribute_name, argument = re.fullmatch(r"(@?)(\w+)(?:\.(\w+))?(?:\((\w+):\))?", coordinate).groups()
+    if attribute_name:
+        answer, arguments = attribute(said["types"], name, attribute_name)
+    elif name not in said["directives" if directive else "types"]:
+        return f"missing type `{name}` does not exist"
+    else:
+        answer, arguments = ("found directive", said["directives"][name][0]) if directive else ("found type", [])
+    if argument is None or answer.startswith("missing"):
+        return answer
+    if arguments is None:
+        return f"missing type attribute `{attribute_name}` is not a field and can not have arguments"
+    if argument not in [name for name, _ in arguments]:
+        return f"missing field or directive does not have argument `{argument}`"
+    return "found argument"
+
+
+def broken_doc(_, lines, answer, faults):
     """The faults of the schema come first, and the write-out over the same schema gives itself."""
     of_schema = lines[: lines.index("===") + 1]
-    schema_faults = divided(run(program, [b"schema"], of_schema[:-1]).output)[1]
+    schema_faults = answered(b"schema", of_schema[:-1])[1]
     if faults[: len(schema_faults)] != schema_faults:
         yield "the faults of the schema do not come first"
-    again, further = divided(run(program, [b"doc"], [*of_schema, *answer]).output)
-    named = [line for line in answer if re.match("operation [a-z]+ [^-]", line)]
-    is_ambiguous = answer[:1] != [] and answer[0].startswith("operation ") and answer[0].endswith(" -")
-    wanted = [f"fault {len(of_schema) + 1} {AMBIGUOUS}"] * (len(named) if is_ambiguous else 0)
+    again, further = answered(b"doc", [*of_schema, *answer])
+    names = [item.words[2] for item in notation.items(answer) if item.words[0] == "operation"]
+    wanted = [f"fault {len(of_schema) + 1} {AMBIGUOUS}"] * (len(names) - 1 if names[:1] == ["-"] else 0)
     if again != answer or further != [*schema_faults, *wanted]:
         yield "the document, built again, is another"
-
-
-def selections(lines):
-    """The selections of each item of a write-out, by its first words: pairs of words and of what stands below."""
-    items = {}
-    for line in lines:
-        words = line.split(" ")
-        if words[0] in ("operation", "fragment"):
-            lists = [items.setdefault(" ".join(words[: 3 if words[0] == "operation" else 2]), [])]
-        elif words[0] == "sel":
-            del lists[int(words[1]) + 1 :]
-            below = []
-            lists[-1].append((words[2:], below))
-            lists.append(below)
-    return items
 
 
 def walk(items, start, is_all):
@@ -195,7 +205,7 @@ def walk(items, start, is_all):
     keys, turns, opened, lists = [], 0, set(), [iter(start)]
     while lists:
         turns += 1
-        words, below = next(lists[-1], (["end"], []))
+        _, words, below = next(lists[-1], (0, ["end"], []))
         if words[0] == "end":
             lists.pop()
         elif words[0] == "field":
@@ -210,7 +220,10 @@ def walk(items, start, is_all):
     return keys, turns
 
 
-def walks(items):
+def walks(written):
+    """What walks over a document give, whose write-out this is."""
+    kept = {"operation": 3, "fragment": 2}
+    items = {" ".join(item.words[: kept[item.words[0]]]): notation.selections(item) for item in notation.items(written)}
     for item, start in items.items():
         yield f"walk {item}"
         for word, is_all in (("root", False), ("all", True)):
@@ -218,18 +231,18 @@ def walks(items):
             yield from [*(f"{word} {key}" for key in keys), f"{word}-turns {turns}"]
 
 
-def broken_walk(program, case, lines, answer, faults):
+def broken_walk(_, lines, answer, faults):
     """Walks over what `doc` writes, and its faults."""
-    written, told = divided(run(program, [b"doc"], lines).output)
+    written, told = answered(b"doc", lines)
     if told != faults:
         yield "other faults than those of the document"
-    if answer != list(walks(selections(written))):
+    if answer != list(walks(written)):
         yield "walks over the document give something else"
 
 
-def broken_leaf(program, case, lines, answer, faults):
+def broken_leaf(_, lines, answer, faults):
     """Each line is of a field of that key, and the faults are those of the document."""
-    if divided(run(program, [b"doc"], lines).output)[1] != faults:
+    if answered(b"doc", lines)[1] != faults:
         yield "other faults than those of the document"
     for line in answer:
         said = re.fullmatch(f"leaf ([0-9]+) {NAME} (?:missing-subselection|subselection-on-leaf)", line)

@@ -1,6 +1,17 @@
-// GraphQL documents, as graphql-js parses them, in the notation of docs/NOTATION.md.
+// graphql-js 16, where node finds it or where Debian's package node-graphql has it, and the documents that it parses in the notation
+// of docs/NOTATION.md.
 'use strict';
-const { isExecutableDefinitionNode, print, visit } = require('./graphql_js');
+
+function load(name) {
+  try {
+    return require(name);
+  } catch {
+    return require(`/usr/share/nodejs/${name}`);
+  }
+}
+
+const graphql = { ...load('graphql'), validateSDL: load('graphql/validation/validate').validateSDL };
+const { isExecutableDefinitionNode, print, visit } = graphql;
 
 const KINDS = {
   Scalar: 'scalar', Object: 'object', Interface: 'interface', Union: 'union', Enum: 'enum', InputObject: 'input',
@@ -122,4 +133,4 @@ function leftOut(documents) {
   return counts;
 }
 
-module.exports = { kindWord, leftOut, notation };
+module.exports = { ...graphql, kindWord, leftOut, notation };
