@@ -17,7 +17,7 @@ class Row:
 
 def files():
     """The files of the worked rows."""
-    return sorted((CRATES / "gqlrows/data").glob("*.rows")) or [CRATES / "gqlrows/stdin"]
+    return sorted((CRATES / "gqlrows/data").glob("*.rows"))
 
 
 def read(path):
