@@ -59,6 +59,7 @@ def of_both(*words):
     return [
         command("tools/fuzz", "--hostile"),
         command("tools/fuzz", "2000", "1"),
+        command("tools/fuzz", "--peer", "100", "1"),
         command("tools/checked_examples", *words),
         *(command(f"tools/{check}") for check in checks),
     ]
