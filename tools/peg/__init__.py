@@ -1,4 +1,5 @@
 """What the tools share: where the repository is, and how a tool is called and ends."""
+import os
 import pathlib
 import re
 import signal
@@ -16,11 +17,18 @@ class Skipped(str):
     """Why something was not looked at."""
 
 
+def end(number, _):
+    """Ends the tool and what it started at a signal, so that what is temporary goes."""
+    for children in pathlib.Path("/proc/self/task").glob("*/children"):
+        for child in children.read_text().split():
+            os.kill(int(child), signal.SIGTERM)
+    sys.exit(128 + number)
+
+
 def run(main, doc):
     """Runs a tool with the words behind its name; `--help` says what it is."""
     for number in (signal.SIGTERM, signal.SIGHUP):
-        # What is open is closed, and what is temporary goes.
-        signal.signal(number, lambda number, _: sys.exit(128 + number))
+        signal.signal(number, end)
     words = sys.argv[1:]
     if words in (["--help"], ["-h"]):
         print(doc.strip())
