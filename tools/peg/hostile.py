@@ -101,7 +101,9 @@ CASES = {
     ),
     "line feeds": Hostile(DOC, lines(b"\n"), ends(2, errors=b"missing ===\n")),
     "ends of documents": Hostile(SCHEMA, lines(b"---\n"), ends(0)),
-    "letters of each part of a coordinate": Hostile(ROW, coordinate(lambda size: b"T" * size + b"." + b"T" * size, unknown), IS_ROW),
+    "letters of each part of a coordinate": Hostile(
+        ROW, coordinate(lambda size: b"T" * size + b"." + b"T" * size, unknown), IS_ROW
+    ),
     "dots of a coordinate": Hostile(
         ROW, coordinate(lines(b"T."), lambda size: b"! `%s` is not a valid GraphQL name\n? 2" % (b"T." * size)), IS_ROW
     ),

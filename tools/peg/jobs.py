@@ -44,7 +44,8 @@ def run(jobs, side_by_side=2):
     try:
         for job, future in [(job, pool.submit(job.run)) for job in jobs]:
             ended = future.result()
-            shown = ended.said.rstrip("\n").split("\n") if ended.failed else re.findall(r"^skipped: .*", ended.said, re.MULTILINE)
+            skipped = re.findall(r"^skipped: .*", ended.said, re.MULTILINE)
+            shown = ended.said.rstrip("\n").split("\n") if ended.failed else skipped
             print(f"{job.name}: {last_line(*ended[:3])}", *shown, sep="\n", flush=True)
             sums = [sum(pair) for pair in zip(sums, ended)]
     finally:

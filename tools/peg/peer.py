@@ -202,7 +202,8 @@ SORTS = {"whole schema": compare_whole, "schema with names twice": compare_twice
 
 def trials(names):
     """Of each of these names, which begins with the sort of its input: what is wrong, and the lines of the input."""
-    compared = [next(compare for sort, compare in SORTS.items() if name.startswith(sort))(random.Random(name)) for name in names]
+    sorts = [next(compare for sort, compare in SORTS.items() if name.startswith(sort)) for name in names]
+    compared = [compare(random.Random(name)) for compare, name in zip(sorts, names)]
     requests = [next(comparison) for comparison in compared]
     answers = iter(asked(itertools.chain(*requests)))
     for name, comparison, own in zip(names, compared, requests):
