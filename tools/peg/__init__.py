@@ -31,13 +31,14 @@ def run(main, doc):
         signal.signal(number, end)
     words = sys.argv[1:]
     if words in (["--help"], ["-h"]):
-        print(doc.strip())
-        sys.exit(0)
+        sys.exit(write(doc.strip().split("\n")))
     try:
         sys.exit(main(words))
     except Usage as wrong:
         print(f"{name()}: {wrong}" if str(wrong) else doc.strip(), file=sys.stderr)
         sys.exit(2)
+    except BrokenPipeError:
+        sys.exit(unwritten())
 
 
 def name():
@@ -50,12 +51,16 @@ def write(lines):
         sys.stdout.reconfigure(encoding="utf-8")
         sys.stdout.writelines(f"{line}\n" for line in lines)
         sys.stdout.flush()
+        return 0
     except OSError:
-        # What is still to be written goes nowhere, so that Python says nothing of it at its end.
-        sys.stdout = None
-        print(f"{name()}: cannot write output", file=sys.stderr)
-        return 4
-    return 0
+        return unwritten()
+
+
+def unwritten():
+    # What is still to be written goes nowhere, so that Python says nothing of it at its end.
+    sys.stdout = None
+    print(f"{name()}: cannot write output", file=sys.stderr)
+    return 4
 
 
 def last_line(passed, failed, skipped):
