@@ -1,4 +1,5 @@
 """What the tools share: where the repository is, and how a tool is called and ends."""
+import os
 import pathlib
 import re
 import signal
@@ -16,20 +17,28 @@ class Skipped(str):
     """Why something was not looked at."""
 
 
+def end(number, _):
+    """Ends the tool and what it started at a signal, so that what is temporary goes."""
+    for children in pathlib.Path("/proc/self/task").glob("*/children"):
+        for child in children.read_text().split():
+            os.kill(int(child), signal.SIGTERM)
+    sys.exit(128 + number)
+
+
 def run(main, doc):
     """Runs a tool with the words behind its name; `--help` says what it is."""
     for number in (signal.SIGTERM, signal.SIGHUP):
-        # What is open is closed, and what is temporary goes.
-        signal.signal(number, lambda number, _: sys.exit(128 + number))
+        signal.signal(number, end)
     words = sys.argv[1:]
     if words in (["--help"], ["-h"]):
-        print(doc.strip())
-        sys.exit(0)
+        sys.exit(write(doc.strip().split("\n")))
     try:
         sys.exit(main(words))
     except Usage as wrong:
         print(f"{name()}: {wrong}" if str(wrong) else doc.strip(), file=sys.stderr)
         sys.exit(2)
+    except BrokenPipeError:
+        sys.exit(unwritten())
 
 
 def name():
@@ -42,12 +51,16 @@ def write(lines):
         sys.stdout.reconfigure(encoding="utf-8")
         sys.stdout.writelines(f"{line}\n" for line in lines)
         sys.stdout.flush()
+        return 0
     except OSError:
-        # What is still to be written goes nowhere, so that Python says nothing of it at its end.
-        sys.stdout = None
-        print(f"{name()}: cannot write output", file=sys.stderr)
-        return 4
-    return 0
+        return unwritten()
+
+
+def unwritten():
+    # What is still to be written goes nowhere, so that Python says nothing of it at its end.
+    sys.stdout = None
+    print(f"{name()}: cannot write output", file=sys.stderr)
+    return 4
 
 
 def last_line(passed, failed, skipped):

@@ -40,16 +40,16 @@ def command(*words):
 
 def run(jobs, side_by_side=2):
     """Runs all jobs, tells of each in their order, and answers how many parts of all passed, failed and were skipped."""
-    sums = [0, 0, 0]
-    with concurrent.futures.ThreadPoolExecutor(side_by_side) as pool:
+    sums, pool = [0, 0, 0], concurrent.futures.ThreadPoolExecutor(side_by_side)
+    try:
         for job, future in [(job, pool.submit(job.run)) for job in jobs]:
             ended = future.result()
-            print(f"{job.name}: {last_line(*ended[:3])}", flush=True)
-            if ended.failed:
-                print(ended.said.rstrip("\n"), flush=True)
-            else:
-                print(*re.findall(r"^skipped: .*", ended.said, re.MULTILINE), sep="\n", end="\n" * (ended.skipped != 0), flush=True)
+            skipped = re.findall(r"^skipped: .*", ended.said, re.MULTILINE)
+            shown = ended.said.rstrip("\n").split("\n") if ended.failed else skipped
+            print(f"{job.name}: {last_line(*ended[:3])}", *shown, sep="\n", flush=True)
             sums = [sum(pair) for pair in zip(sums, ended)]
+    finally:
+        pool.shutdown(cancel_futures=True)
     return sums
 
 
@@ -59,6 +59,7 @@ def of_both(*words):
     return [
         command("tools/fuzz", "--hostile"),
         command("tools/fuzz", "2000", "1"),
+        command("tools/fuzz", "--peer", "100", "1"),
         command("tools/checked_examples", *words),
         *(command(f"tools/{check}") for check in checks),
     ]

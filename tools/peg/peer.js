@@ -1,5 +1,7 @@
-// Says what graphql-js makes of documents: reads a request of JSON on each line of standard input, and answers in a line.
+// Says what graphql-js makes of documents: reads a request of JSON on each line of standard input, and answers each in a line. A text
+// says what went wrong.
 'use strict';
+const fs = require('node:fs');
 const {
   buildASTSchema, GraphQLSchema, isIntrospectionType, isSpecifiedScalarType, parse, specifiedScalarTypes, validate, validateSDL,
   validateSchema, version,
@@ -117,18 +119,12 @@ const ANSWERS = {
   document: ({ schema, document }) => errors(schemaOf(parse(schema)), parse(document)),
 };
 
-let rest = '';
-process.stdin.on('data', (data) => {
-  const lines = (rest + data).split('\n');
-  rest = lines.pop();
-  for (const line of lines) {
-    const request = JSON.parse(line);
-    let answer;
-    try {
-      answer = { said: ANSWERS[request.sort](request) };
-    } catch (error) {
-      answer = { error: String(error.stack) };
-    }
-    process.stdout.write(JSON.stringify(answer) + '\n');
+const requests = fs.readFileSync(0, 'utf8').split('\n').filter(Boolean).map((line) => JSON.parse(line));
+const answers = requests.map((request) => {
+  try {
+    return ANSWERS[request.sort](request);
+  } catch (error) {
+    return String(error.stack);
   }
 });
+fs.writeFileSync(1, answers.map((answer) => `${JSON.stringify(answer)}\n`).join(''));

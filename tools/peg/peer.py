@@ -4,15 +4,15 @@ Where the two differ for a reason that is known, the difference is counted under
 docs/DIFFERENCES.md says more of each. Any other difference is wrong.
 """
 import collections
+import itertools
 import json
 import pathlib
 import random
 import re
 import shutil
 import subprocess
-import threading
 
-from peg import notation, promises, whole
+from peg import notation, whole
 from peg.notation import as_graphql, described
 from peg.promises import answered
 
@@ -26,60 +26,30 @@ EXPLAINED = {
     "emptied": "selections that all fell",
     "rootless": "anonymous operations beside an operation without a root",
 }
-explained, guard = collections.Counter(), threading.Lock()
+explained = collections.Counter()
 
 
-def explain(reason, count):
-    if count:
-        with guard:
-            explained[reason] += count
-
-
-def told():
-    return [f"explained: {EXPLAINED[reason]}: {count}" for reason, count in sorted(explained.items())]
-
-
-class Peer:
-    """A process that answers requests."""
-
-    def __init__(self):
-        streams = {"stdin": subprocess.PIPE, "stdout": subprocess.PIPE, "stderr": subprocess.DEVNULL}
-        self.process = subprocess.Popen(["node", SCRIPT], text=True, **streams)
-
-    def ask(self, **request):
-        self.process.stdin.write(json.dumps(request) + "\n")
-        self.process.stdin.flush()
-        line = self.process.stdout.readline()
-        answer = json.loads(line) if line else {"error": "the peer has ended"}
-        if "error" in answer:
-            raise RuntimeError(answer["error"])
-        return answer["said"]
-
-
-own = threading.local()
-
-
-def ask(**request):
-    """Asks the peer of this thread."""
-    if not hasattr(own, "peer"):
-        own.peer = Peer()
-    return own.peer.ask(**request)
+def asked(requests):
+    """What graphql-js answers to each of these, or a text that says why it doesn't."""
+    given = "".join(json.dumps(request) + "\n" for request in requests)
+    ended = subprocess.run(["node", SCRIPT], input=given, capture_output=True, text=True)
+    return [json.loads(line) for line in ended.stdout.splitlines()] if ended.returncode == 0 else []
 
 
 def missing():
     """What stands in the way of a comparison, or an empty text."""
-    if not shutil.which("node"):
-        return "node is not installed (Debian: apt-get install nodejs node-graphql)"
-    try:
-        version = ask(sort="version")
-    except (OSError, RuntimeError):
-        return "graphql-js is not installed (Debian: apt-get install node-graphql)"
-    return "" if version.startswith("16.") else f"graphql-js {version} is installed, and 16 is wanted"
+    version = asked([{"sort": "version"}]) if shutil.which("node") else []
+    if not version:
+        return "graphql-js is not installed (Debian: apt-get install nodejs node-graphql)"
+    return "" if version[0].startswith("16.") else f"graphql-js {version[0]} is installed, and 16 is wanted"
 
 
-def compare_lines(lines, *texts):
-    """What is wrong with the lines that the peer has from texts that say these in GraphQL."""
-    back = ask(sort="lines", texts=texts)
+def told():
+    return [f"explained: {EXPLAINED[reason]}: {count}" for reason, count in sorted(explained.items()) if count]
+
+
+def compare_lines(lines, back):
+    """What is wrong with the lines that graphql-js has from a text that says these in GraphQL."""
     return [] if back == lines else [f"lines: {lines}", f"peer's lines: {back}"]
 
 
@@ -91,16 +61,15 @@ def ordered(said):
     return said | {"applied": sorted(said["applied"])}
 
 
+# A comparison asks graphql-js once, for all that it wants to know, and ends with what is wrong and the lines that it is about.
 def compare_whole(chance):
     lines = [line for item in whole.Schema(chance).items for line in item]
-    ended = promises.run([b"schema"], notation.text(lines))
-    given = as_graphql(lines)
-    if ended.status != 0:
-        return [f"status {ended.status}"], lines
-    ours, theirs = described(ended.output.decode().splitlines()), ask(sort="whole", schema=given)
-    explain("order", ours["types"] != theirs["types"])
+    theirs, back = yield [{"sort": "whole", "schema": as_graphql(lines)}, {"sort": "lines", "texts": [as_graphql(lines)]}]
+    answer, faults = answered(b"schema", lines)
+    ours = described(answer)
+    explained["order"] += ours["types"] != theirs["types"]
     wrong = [] if ordered(ours) == ordered(theirs) else [f"ours: {ours}", f"peer: {theirs}"]
-    return wrong + compare_lines(lines, given), lines
+    return faults + wrong + compare_lines(lines, back), lines
 
 
 # The rules by which the peer refuses what these faults say.
@@ -133,19 +102,19 @@ def difference(ours, theirs):
 
 def compare_twice(chance):
     lines = [line for item in whole.twice(chance, whole.Schema(chance)) for line in item]
-    ours = by_rule(answered(b"schema", lines)[1])
-    theirs = {(rule, line) for rule, line in ask(sort="twice", schema=as_graphql(lines))}
+    (said,) = yield [{"sort": "twice", "schema": as_graphql(lines)}]
+    ours, theirs = by_rule(answered(b"schema", lines)[1]), {(rule, line) for rule, line in said}
     if "schema" not in lines:
         # What is implied has its roots here before any extension, and there they are not looked at.
         implied = {it for it in ours | theirs if it[0] in ("UniqueOperationTypes", "other")}
-        explain("implied", len(implied))
+        explained["implied"] += len(implied)
         ours, theirs = ours - implied, theirs - implied
     kinds = {}
     for item in notation.items(lines):
         if item.words[0] == "def":
             kinds.setdefault(item.words[2], item.words[1])
     strange = {it for it in ours if it[0] == "implement" and kinds.get(lines[it[1] - 1].split(" ")[1]) != "interface"}
-    explain("strange", len(strange))
+    explained["strange"] += len(strange)
     return difference(ours - strange, theirs), lines
 
 
@@ -177,7 +146,8 @@ def compare_document(chance):
     before = [line for item in schema.items for line in item] + ["==="]
     lines = before + document.lines
     texts = as_graphql(before[:-1]), as_graphql(document.lines)
-    theirs = {(rule, line + len(before)) for rule, line in ask(sort="document", schema=texts[0], document=texts[1])}
+    said, back = yield [{"sort": "document", "schema": texts[0], "document": texts[1]}, {"sort": "lines", "texts": texts}]
+    theirs = {(rule, line + len(before)) for rule, line in said}
     answer, faults = answered(b"doc", lines)
     ours, fallen = by_rule(faults), {int(fault.split(" ")[1]) for fault in faults}
     items = [item for item in notation.items(lines) if item.words[0] in ("operation", "fragment")]
@@ -190,21 +160,21 @@ def compare_document(chance):
         fallen.discard(next(number for number in anonymous if number not in rootless))
 
     leaves = by_rule(fault for fault in faults if is_of_leaf(fault, schema))
-    explain("leaves", len(leaves))
+    explained["leaves"] += len(leaves)
     ours = ours - leaves | missing_subselections(lines)
 
     inside = below(items, fallen) - headers
     is_below = {it for it in theirs if it[1] in inside}
-    explain("below", len(is_below))
+    explained["below"] += len(is_below)
     # Of an item each side says no more than that it is refused: it may be refused for more than one reason.
     ours, theirs = (
         {("item" if number in headers else rule, number) for rule, number in some} for some in (ours, theirs - is_below)
     )
     if rootless:
         skipped = {it for it in ours ^ theirs if it[1] in anonymous}
-        explain("rootless", len(skipped))
+        explained["rootless"] += len(skipped)
         ours, theirs = ours - skipped, theirs - skipped
-    return difference(ours, theirs) + compare_lines(lines, *texts), lines
+    return difference(ours, theirs) + compare_lines(lines, back), lines
 
 
 def is_of_leaf(fault, schema):
@@ -218,7 +188,7 @@ def missing_subselections(lines):
     answer, _ = answered(b"leaf", lines)
     numbers = {int(line.split(" ")[1]) for line in answer if line.endswith(" missing-subselection")}
     emptied = {number for number in numbers if depth_of(lines, number + 1) > depth_of(lines, number)}
-    explain("emptied", len(emptied))
+    explained["emptied"] += len(emptied)
     return {("missing", number) for number in numbers - emptied}
 
 
@@ -230,11 +200,20 @@ def depth_of(lines, number):
 SORTS = {"whole schema": compare_whole, "schema with names twice": compare_twice, "document": compare_document}
 
 
-def tried(name):
-    """What is wrong with the input of this name, which begins with its sort, and its lines."""
-    compare = next(compare for sort, compare in SORTS.items() if name.startswith(sort))
-    try:
-        wrong, lines = compare(random.Random(name))
-    except RuntimeError as error:
-        return [str(error)], []
-    return wrong, ["", *lines]
+def trials(names):
+    """Of each of these names, which begins with the sort of its input: what is wrong, and the lines of the input."""
+    sorts = [next(compare for sort, compare in SORTS.items() if name.startswith(sort)) for name in names]
+    compared = [compare(random.Random(name)) for compare, name in zip(sorts, names)]
+    requests = [next(comparison) for comparison in compared]
+    answers = iter(asked(itertools.chain(*requests)))
+    for name, comparison, own in zip(names, compared, requests):
+        said = list(itertools.islice(answers, len(own)))
+        errors = [answer for answer in said if isinstance(answer, str)]
+        if errors or len(said) < len(own):
+            yield name, errors or ["graphql-js has ended"], [str(own)]
+            continue
+        try:
+            comparison.send(said)
+        except StopIteration as ended:
+            wrong, lines = ended.value
+            yield name, wrong, ["", *lines]

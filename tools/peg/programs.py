@@ -39,7 +39,8 @@ def run(program, words, text, output=None):
         given.seek(0)
         ends = (given.fileno(), wrote.fileno() if output is None else output, errors.fileno())
         streams = [(os.POSIX_SPAWN_DUP2, end, at) for at, end in enumerate(ends)]
-        process = os.posix_spawn(program, [os.fsencode(program), *words], os.environ, file_actions=streams, setsigdef=[signal.SIGPIPE])
+        how = {"file_actions": streams, "setsigdef": [signal.SIGPIPE]}
+        process = os.posix_spawn(program, [os.fsencode(program), *words], os.environ, **how)
         try:
             resource.prlimit(process, resource.RLIMIT_CPU, (LIMIT, LIMIT))
         except ProcessLookupError:
@@ -91,8 +92,8 @@ def usage(name):
 
 
 def takes(name, words):
-    """Whether the program may take these words, by its usage: a command, its options, each at most once, and as many other words
-    as it has in capital letters. A word that isn't UTF-8 is taken by none."""
+    """Whether the program may take these words, by its usage: a command, its options, each at most once, and as many other
+    words as it has in capital letters. A word that isn't UTF-8 is taken by none."""
     try:
         command, *own = [os.fsencode(word).decode() for word in words]
     except ValueError:

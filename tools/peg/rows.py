@@ -15,11 +15,6 @@ class Row:
     status: int = 0
 
 
-def files():
-    """The files of the worked rows."""
-    return sorted((CRATES / "gqlrows/data").glob("*.rows"))
-
-
 def read(path):
     """The rows of a file. A carriage return and what else ends lines elsewhere are parts of a text."""
     row = None
@@ -43,4 +38,5 @@ def read(path):
 
 
 def worked():
-    return [row for path in files() for row in read(path)]
+    """The rows of all files that `gqlrows` reads."""
+    return [row for path in sorted((CRATES / "gqlrows/data").glob("*.rows")) for row in read(path)]
