@@ -1,5 +1,5 @@
-//! Tests of documents that are compiled, of what no clause says: that calls succeed with memory; and of the programs `gqltool`,
-//! `gqlrows` and `gqlbench`, of what rows can't say.
+//! Tests of documents that are compiled, of what no clause says: that calls succeed with memory; and of the programs `gqltool`
+//! and `gqlbench`, of what rows can't say.
 #![tactic(auto)]
 
 #[cfg(test)]
@@ -28,8 +28,6 @@ mod process_statuses;
 mod rebuilt;
 #[cfg(test)]
 mod rebuilt_by_calls;
-#[cfg(test)]
-mod row_streams;
 #[cfg(test)]
 mod runs;
 #[cfg(test)]
