@@ -66,10 +66,8 @@ def is_built(name):
 
 def unbuilt(*names):
     """Which of these programs are not built, in words, or an empty text."""
-    return "".join(
-        f"{name} is not built from these sources: `rt ci`, or `rt run` in crates/{name}, proves and builds it"
-        for name in [name for name in names if not is_built(name)][:1]
-    )
+    name = next((name for name in names if not is_built(name)), "")
+    return name and f"{name} is not built from these sources: `rt ci`, or `rt run` in crates/{name}, proves and builds it"
 
 
 def unproved(name, words, text):
