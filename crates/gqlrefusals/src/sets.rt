@@ -1,7 +1,7 @@
 //! Sets of selections as syntax, and walks over them, item by item and whole.
 
 use crate::stop::{Stop, Told, expect, tell_line};
-use apollo_executable::{ExecutableDocument, Field, Selection, SelectionSet};
+use apollo_executable::{ExecutableDocument, Field, FieldWalk, Selection, SelectionSet};
 use graphql_nodes::node::Node;
 use std::alloc::{AllocError, Global};
 use telling::walks::{End, push_fields, push_walk};
@@ -61,44 +61,20 @@ fn tell_ended(text: &mut String, end: End, whole: &str, given: &str) -> Told {
     }
 }
 
-/// Tells the fields of a walk, beside the whole. However it ended, it gives nothing more, now and later.
-fn tell_walk<'doc, W: Iterator<Item = Result<&'doc Node<Field>, AllocError>>>(
+/// Tells the fields of a walk, beside those that were collected. However it ended, it gives nothing more, now and later.
+fn tell_walk(
     alloc: Global,
     text: &mut String,
-    whole: &str,
-    walk: &mut W,
+    whole: Result<Vec<&Node<Field>>, AllocError>,
+    walk: FieldWalk<'_>,
 ) -> Told {
-    let mut given = String::new(alloc);
-    let end = push_walk(&mut given, walk)?;
+    let (mut wanted, mut given) = (String::new(alloc), String::new(alloc));
+    push_fields(&mut wanted, whole?.as_slice())?;
+    let mut walk = walk;
+    let end = push_walk(&mut given, &mut walk)?;
     let is_over = walk.next().is_none() && walk.next().is_none();
     expect(is_over, "a walk goes on")?;
-    tell_ended(text, end, whole, given.as_str())
-}
-
-fn walk_root(
-    alloc: Global,
-    text: &mut String,
-    document: &ExecutableDocument,
-    set: &SelectionSet,
-) -> Told {
-    let mut whole = String::new(alloc);
-    push_fields(&mut whole, set.collect_root(alloc, document)?.as_slice())?;
-    let mut walk = set.root_fields(alloc, document);
-    tell_walk(alloc, text, whole.as_str(), &mut walk)?;
-    let turns = walk.turns();
-    Ok(write!(text, "in {turns}\n")?)
-}
-
-fn walk_all(
-    alloc: Global,
-    text: &mut String,
-    document: &ExecutableDocument,
-    set: &SelectionSet,
-) -> Told {
-    let mut whole = String::new(alloc);
-    push_fields(&mut whole, set.collect_all(alloc, document)?.as_slice())?;
-    let mut walk = set.all_fields(alloc, document);
-    tell_walk(alloc, text, whole.as_str(), &mut walk)?;
+    tell_ended(text, end, wanted.as_str(), given.as_str())?;
     let turns = walk.turns();
     Ok(write!(text, "in {turns}\n")?)
 }
@@ -114,8 +90,14 @@ pub fn ask_set(
     match question {
         OfSet::Written => tell_line(text, set.to_ast(alloc)),
         OfSet::SelectionsWritten => tell_selections(alloc, text, set),
-        OfSet::RootFields => walk_root(alloc, text, document, set),
-        OfSet::AllFields => walk_all(alloc, text, document, set),
+        OfSet::RootFields => {
+            let whole = set.collect_root(alloc, document);
+            tell_walk(alloc, text, whole, set.root_fields(alloc, document))
+        }
+        OfSet::AllFields => {
+            let whole = set.collect_all(alloc, document);
+            tell_walk(alloc, text, whole, set.all_fields(alloc, document))
+        }
         OfSet::CollectRoot => tell_fields(text, set.collect_root(alloc, document)),
         OfSet::CollectAll => tell_fields(text, set.collect_all(alloc, document)),
     }

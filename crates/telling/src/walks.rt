@@ -2,7 +2,7 @@
 
 use crate::Tell;
 use crate::containers::At;
-use apollo_executable::Field;
+use apollo_executable::{Field, FieldWalk};
 use graphql_nodes::node::Node;
 use std::alloc::AllocError;
 
@@ -36,10 +36,7 @@ pub fn push_fields(text: &mut String, fields: &[&Node<Field>]) -> Result<(), All
 
 /// Adds the fields that a walk gives, one by one. The error is want of memory for the text.
 /// No clause: it serves tests.
-pub fn push_walk<'doc, W: Iterator<Item = Result<&'doc Node<Field>, AllocError>>>(
-    text: &mut String,
-    walk: &mut W,
-) -> Result<End, AllocError> {
+pub fn push_walk(text: &mut String, walk: &mut FieldWalk<'_>) -> Result<End, AllocError> {
     for _ in 0..MANY {
         match walk.next() {
             Some(Ok(field)) => push_field(text, field)?,
