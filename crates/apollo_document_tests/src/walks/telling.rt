@@ -3,21 +3,22 @@
 use apollo_executable::{ExecutableDocument, Field, SelectionSet};
 use graphql_nodes::node::Node;
 use std::alloc::{AllocError, Global};
+use telling::walks::{End, push_fields, push_walk};
 
-fn push_key(text: &mut String, field: &Field) -> Result<(), AllocError> {
-    text.push_str(" ")?;
-    text.push_str(field.response_key().as_str())
+/// Adds the fields that a walk gives, beside those that were collected, and whether it is over for good.
+fn push_beside<'doc, W: Iterator<Item = Result<&'doc Node<Field>, AllocError>>>(
+    text: &mut String,
+    collected: &[&Node<Field>],
+    walk: &mut W,
+) -> Result<(), AllocError> {
+    push_fields(text, collected)?;
+    text.push_str("= ")?;
+    let is_end = push_walk(text, walk)? == End::Over;
+    let is_over = is_end && walk.next().is_none();
+    write!(text, "{is_over}")
 }
 
-fn push_keys(text: &mut String, fields: &[&Node<Field>]) -> Result<(), AllocError> {
-    for field in fields {
-        push_key(text, field)?;
-    }
-    text.push_str(" =")
-}
-
-/// Adds the keys that a walk over root fields gives, collected and item by item, its turns at the end, and whether it is over
-/// for good.
+/// Adds what a walk over root fields gives, and its turns.
 fn push_root(
     alloc: Global,
     text: &mut String,
@@ -25,17 +26,10 @@ fn push_root(
     set: &SelectionSet,
 ) -> Result<(), AllocError> {
     let fields = set.collect_root(alloc, document)?;
-    push_keys(text, fields.as_slice())?;
     let mut walk = set.root_fields(alloc, document);
-    for _ in 0..fields.len() {
-        if let Some(field) = walk.next() {
-            push_key(text, field?)?;
-        }
-    }
-    let is_end = walk.next().is_none();
+    push_beside(text, fields.as_slice(), &mut walk)?;
     let turns = walk.turns();
-    let is_over = is_end && walk.next().is_none() && walk.turns() == turns;
-    write!(text, " in {turns} {is_over}\n")
+    write!(text, " in {turns}\n")
 }
 
 /// The same of a walk over all fields.
@@ -46,17 +40,10 @@ fn push_all(
     set: &SelectionSet,
 ) -> Result<(), AllocError> {
     let fields = set.collect_all(alloc, document)?;
-    push_keys(text, fields.as_slice())?;
     let mut walk = set.all_fields(alloc, document);
-    for _ in 0..fields.len() {
-        if let Some(field) = walk.next() {
-            push_key(text, field?)?;
-        }
-    }
-    let is_end = walk.next().is_none();
+    push_beside(text, fields.as_slice(), &mut walk)?;
     let turns = walk.turns();
-    let is_over = is_end && walk.next().is_none() && walk.turns() == turns;
-    write!(text, " in {turns} {is_over}\n")
+    write!(text, " in {turns}\n")
 }
 
 /// Adds what both walks over a set give.
@@ -67,9 +54,9 @@ pub fn push_walks(
     document: &ExecutableDocument,
     set: &SelectionSet,
 ) -> Result<(), AllocError> {
-    text.push_str("root")?;
+    text.push_str("root ")?;
     push_root(alloc, text, document, set)?;
-    text.push_str("all")?;
+    text.push_str("all ")?;
     push_all(alloc, text, document, set)
 }
 
