@@ -2,7 +2,9 @@
 //! name change places, they are not.
 
 use crate::accounts::push_faults;
-use crate::building::{ADOPTING, PLAIN, Settings, View, begun, is_built_of, schema_in, show};
+use crate::building::{
+    ADOPTING, PLAIN, Settings, View, add_all, begun, is_built_of, schema_in, show,
+};
 use apollo_schema::build_failure::BuildFailure;
 use apollo_schema::schema::Schema;
 use bench_notation::reading::read;
@@ -44,8 +46,7 @@ fn push_pair(
     other: &Document,
 ) -> Result<(), AllocError> {
     let mut builder = begun(alloc, settings)?;
-    // After a refusal no schema is built.
-    let _ = builder.add_ast(document);
+    add_all(&mut builder, slice::from_ref(document));
     let mut pair = Pair {
         alloc,
         settings,

@@ -3,23 +3,25 @@
 #![tactic(auto)]
 
 #[cfg(test)]
+mod by_calls;
+#[cfg(test)]
 mod clocks;
 #[cfg(test)]
 mod compiled;
 #[cfg(test)]
-mod failures;
+mod compiling;
 #[cfg(test)]
-mod field_definitions;
+mod failures;
 #[cfg(test)]
 mod hash_keys;
 #[cfg(test)]
-mod inputs;
+mod interruptions;
 #[cfg(test)]
 mod json_runs;
 #[cfg(test)]
 mod long_walks;
 #[cfg(test)]
-mod many_extensions;
+mod making;
 #[cfg(test)]
 mod memory_runs;
 #[cfg(test)]
@@ -27,9 +29,9 @@ mod process_statuses;
 #[cfg(test)]
 mod rebuilt;
 #[cfg(test)]
-mod rebuilt_by_calls;
-#[cfg(test)]
 mod row_streams;
+#[cfg(test)]
+mod running;
 #[cfg(test)]
 mod runs;
 #[cfg(test)]
@@ -38,5 +40,3 @@ mod sources;
 mod streams;
 #[cfg(test)]
 mod summaries;
-#[cfg(test)]
-mod unchecked;

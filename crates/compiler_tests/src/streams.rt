@@ -1,10 +1,11 @@
-//! Runs whose reader or writers fail, or whose input is no text.
+//! Runs whose reader or writers fail, or whose input is no text or bytes at hand; and the causes for which there is no answer.
 
-use gqltool_run::running::run;
+use crate::running::{answer_on, ended, expect_run};
+use gqltool_run::failure::Failure;
+use gqltool_run::input::{BytesAtHand, Input};
 use gqltool_run::status::Status;
 use std::alloc::Global;
 use std::io::{self, Error, ErrorKind, Read, Write};
-use std::process::Abort;
 
 /// A reader that gives its bytes and then fails.
 #[derive(Drop)]
@@ -47,21 +48,7 @@ impl Write for FailingWriter {
     }
 }
 
-/// Expects a run to write nothing, to end so and to say this.
-fn expect_refusal<R: Read>(
-    rt: &(impl Abort + AllocGlobal),
-    words: &[&str],
-    reader: &mut R,
-    status: Status,
-    errors: &str,
-) {
-    let mut written = Vec::new(rt.alloc());
-    let mut said = Vec::new(rt.alloc());
-    let ended = run(rt.alloc(), words, reader, &mut written, &mut said);
-    assert_eq!(rt; ended, status);
-    assert!(rt; written.is_empty());
-    assert_eq!(rt; said.as_slice(), errors.as_bytes());
-}
+const NOT_READ: &str = "cannot read input\n";
 
 #[test]
 fn readers_that_fail(rt: HostRuntime) {
@@ -70,21 +57,11 @@ fn readers_that_fail(rt: HostRuntime) {
             "def object T\n",
             ErrorKind::BrokenPipe,
             Status::Refused,
-            "cannot read input\n",
+            NOT_READ,
         ),
-        (
-            "",
-            ErrorKind::PermissionDenied,
-            Status::Refused,
-            "cannot read input\n",
-        ),
+        ("", ErrorKind::PermissionDenied, Status::Refused, NOT_READ),
         // The whole input is read before a line is tested.
-        (
-            "foo\n",
-            ErrorKind::BrokenPipe,
-            Status::Refused,
-            "cannot read input\n",
-        ),
+        ("foo\n", ErrorKind::BrokenPipe, Status::Refused, NOT_READ),
         (
             "def object T\n",
             ErrorKind::OutOfMemory,
@@ -96,7 +73,7 @@ fn readers_that_fail(rt: HostRuntime) {
             bytes: text.as_bytes(),
             kind,
         };
-        expect_refusal(&rt, &["schema"], &mut reader, status, errors);
+        expect_run(&rt, &["schema"], &mut reader, status, "", errors);
     }
 }
 
@@ -110,34 +87,66 @@ fn input_that_is_no_text(rt: HostRuntime) {
     ];
     for input in rows {
         let mut reader = input;
-        expect_refusal(
+        expect_run(&rt, &["schema"], &mut reader, Status::Refused, "", NOT_READ);
+        let mut at_hand = BytesAtHand(input);
+        expect_run(
             &rt,
             &["schema"],
-            &mut reader,
+            &mut at_hand,
             Status::Refused,
-            "cannot read input\n",
+            "",
+            NOT_READ,
         );
     }
 }
 
 #[test]
+fn bytes_at_hand_are_run_on_as_a_reader_is(rt: HostRuntime) {
+    let rows: [(&[u8], Status, &str, &str); 2] = [
+        (b"def object T\n", Status::Done, "def object T\n", ""),
+        (b"foo\n", Status::Refused, "", "line 1: unknown line\n"),
+    ];
+    for (bytes, status, output, errors) in rows {
+        let mut at_hand = BytesAtHand(bytes);
+        expect_run(&rt, &["schema"], &mut at_hand, status, output, errors);
+    }
+}
+
+/// A line to write out, and a query whose walks are one line each.
+const LINES: &str = "def object T\nfield a Int\n";
+
+const WALKED: &str = "def object Query\nfield a Int\n===\noperation query -\nsel 0 field a\n";
+
+#[test]
 fn writers_that_fail(rt: HostRuntime) {
-    for (room, fails_at_flush) in [(0, false), (5, false), (1000, true)] {
-        let mut reader = "def object T\nfield a Int\n".as_bytes();
+    for (word, text, room, fails_at_flush) in [
+        ("schema", LINES, 0, false),
+        ("schema", LINES, 5, false),
+        ("schema", LINES, 1000, true),
+        ("walk", WALKED, 0, false),
+        ("walk", WALKED, 5, false),
+        ("walk", WALKED, 1000, true),
+    ] {
+        let mut reader = text.as_bytes();
         let mut output = FailingWriter {
             room,
             fails_at_flush,
         };
         let mut said = Vec::new(rt.alloc());
-        let ended = run(rt.alloc(), &["schema"], &mut reader, &mut output, &mut said);
+        let ended = ended(rt.alloc(), &[word], &mut reader, &mut output, &mut said);
         assert_eq!(rt; ended, Status::NotWritten);
         assert_eq!(rt; said.as_slice(), "cannot write output\n".as_bytes());
     }
 }
 
 /// How a run ends whose writers have so much room.
-fn ended(alloc: Global, words: &[&str], text: &str, room: usize, errors_room: usize) -> Status {
-    let mut reader = text.as_bytes();
+fn ended_in<R: Input>(
+    alloc: Global,
+    word: &str,
+    reader: &mut R,
+    room: usize,
+    errors_room: usize,
+) -> Status {
     let mut output = FailingWriter {
         room,
         fails_at_flush: false,
@@ -146,30 +155,35 @@ fn ended(alloc: Global, words: &[&str], text: &str, room: usize, errors_room: us
         room: errors_room,
         fails_at_flush: false,
     };
-    run(alloc, words, &mut reader, &mut output, &mut errors)
+    ended(alloc, &[word], reader, &mut output, &mut errors)
 }
 
 #[test]
 fn error_writers_that_fail_change_no_status(rt: HostRuntime) {
-    let alloc = rt.alloc();
     for errors_room in [0, 3] {
-        assert_eq!(rt;
-            ended(alloc, &["schema"], "foo", 1000, errors_room),
-            Status::Refused
-        );
-        let text = "def object T";
-        assert_eq!(rt;
-            ended(alloc, &["schema"], text, 0, errors_room),
-            Status::NotWritten
-        );
-        assert_eq!(rt;
-            ended(alloc, &["schema"], text, 1000, errors_room),
-            Status::Done
-        );
-        assert_eq!(rt;
-            ended(alloc, &["doc"], "", 1000, errors_room),
-            Status::Refused
-        );
+        for (word, text, room, status) in [
+            ("schema", LINES, 1000, Status::Done),
+            (
+                "schema",
+                "def object T\ndef object T\n",
+                1000,
+                Status::Faults,
+            ),
+            ("schema", "foo", 1000, Status::Refused),
+            ("doc", "", 1000, Status::Refused),
+            ("schema", LINES, 0, Status::NotWritten),
+            ("walk", WALKED, 0, Status::NotWritten),
+        ] {
+            let mut reader = text.as_bytes();
+            let ended = ended_in(rt.alloc(), word, &mut reader, room, errors_room);
+            assert_eq!(rt; ended, status, "of {text:?}");
+        }
+        let mut reader = FailingReader {
+            bytes: LINES.as_bytes(),
+            kind: ErrorKind::OutOfMemory,
+        };
+        let ended = ended_in(rt.alloc(), "schema", &mut reader, 1000, errors_room);
+        assert_eq!(rt; ended, Status::Exhausted);
     }
 }
 
@@ -186,8 +200,18 @@ fn nothing_is_read_where_the_words_are_refused(rt: HostRuntime) {
         let mut reader = "foo".as_bytes();
         let mut written = Vec::new(rt.alloc());
         let mut said = Vec::new(rt.alloc());
-        let ended = run(rt.alloc(), words, &mut reader, &mut written, &mut said);
+        let ended = ended(rt.alloc(), words, &mut reader, &mut written, &mut said);
         assert_eq!(rt; ended, Status::Refused);
         assert_eq!(rt; reader, "foo".as_bytes());
     }
+}
+
+#[test]
+fn the_cause_names_the_refused_line(rt: HostRuntime) {
+    let answer = answer_on(rt.alloc(), &["schema"], b"def object T\nfoo\n");
+    let number = match answer {
+        Err(Failure::RefusedLine(line)) => line.number,
+        _ => 0,
+    };
+    assert_eq!(rt; number, 2);
 }

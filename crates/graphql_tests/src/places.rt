@@ -1,19 +1,15 @@
 //! Tables and sets by place.
 
+use crate::containers::{set_of, table_of};
 use crate::shown::is_shown;
 use graphql_nodes::collections::key_set::KeySet;
 use graphql_nodes::collections::table::Table;
 use std::alloc::{AllocError, Global};
 
-/// The table of 5 with `a` and 3 with `b`.
-fn table(alloc: Global) -> Result<Table<i32, char>, AllocError> {
-    let mut table = Table::new(alloc);
-    table.insert(5, 'a')?;
-    table.insert(3, 'b')?;
-    Ok(table)
-}
+/// The entries 5 with `a` and 3 with `b`.
+const ENTRIES: [(i32, char); 2] = [(5, 'a'), (3, 'b')];
 
-/// Whether that table reads so by place.
+/// Whether the table of the entries reads so by place.
 fn are_entries(table: &Table<i32, char>) -> bool {
     let entries = (table.first(), table.get_index(1), table.get_index(2));
     entries == (Some((&5, &'a')), Some((&3, &'b')), None)
@@ -45,7 +41,7 @@ fn is_written(table: &mut Table<i32, char>) -> bool {
 
 /// Whether that table is read and written by place.
 fn is_table_by_place(alloc: Global) -> Result<bool, AllocError> {
-    let mut table = table(alloc)?;
+    let mut table = table_of(alloc, &ENTRIES)?;
     Ok(are_entries(&table) && are_places(&table) && is_written(&mut table))
 }
 
@@ -57,8 +53,8 @@ fn are_joined(first: &mut Table<i32, char>, second: &mut Table<i32, char>) -> bo
 
 /// Whether two tables are joined.
 fn is_append(alloc: Global) -> Result<bool, AllocError> {
-    let mut first = table(alloc)?;
-    let mut second = table(alloc)?;
+    let mut first = table_of(alloc, &ENTRIES)?;
+    let mut second = table_of(alloc, &ENTRIES)?;
     Ok(are_joined(&mut first, &mut second))
 }
 
@@ -72,15 +68,7 @@ fn tables_by_place(rt: HostRuntime) {
     assert!(rt; is_table_by_place(rt.alloc()) == Ok(true));
 }
 
-/// The set of 5 and 3.
-fn set(alloc: Global) -> Result<KeySet<i32>, AllocError> {
-    let mut set = KeySet::new(alloc);
-    set.insert(5)?;
-    set.insert(3)?;
-    Ok(set)
-}
-
-/// Whether that set reads so by place.
+/// Whether the set of 5 and 3 reads so by place.
 fn are_keys(set: &KeySet<i32>) -> bool {
     let keys = (set.first(), set.get_index(1), set.get_index(2));
     let places = (set.get_index_of(&3), set.get_index_of(&9));
@@ -94,7 +82,7 @@ fn are_found(set: &KeySet<i32>) -> bool {
 
 /// Whether that set is read by place.
 fn is_set_by_place(alloc: Global) -> Result<bool, AllocError> {
-    let set = set(alloc)?;
+    let set = set_of(alloc, &[5, 3])?;
     Ok(are_keys(&set) && are_found(&set))
 }
 
@@ -105,9 +93,9 @@ fn sets_by_place(rt: HostRuntime) {
 
 /// Whether that table and that set are shown so.
 fn are_shown(alloc: Global) -> Result<bool, AllocError> {
-    let table = table(alloc)?;
+    let table = table_of(alloc, &ENTRIES)?;
     let is_table = is_shown(alloc, &table, "{5: 'a', 3: 'b'}");
-    let set = set(alloc)?;
+    let set = set_of(alloc, &[5, 3])?;
     Ok(is_table && is_shown(alloc, &set, "{5, 3}"))
 }
 

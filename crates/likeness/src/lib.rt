@@ -129,3 +129,15 @@ pub fn push_location(text: &mut String, location: Option<SourceSpan>) -> Result<
         None => text.push_str("nowhere "),
     }
 }
+
+/// Both values, if there was memory for each.
+/// No clause: it serves tests.
+pub fn both<A: Drop, B: Drop>(
+    first: Result<A, AllocError>,
+    second: Result<B, AllocError>,
+) -> Result<(A, B), AllocError> {
+    match (first, second) {
+        (Ok(first), Ok(second)) => Ok((first, second)),
+        _ => Err(AllocError),
+    }
+}
