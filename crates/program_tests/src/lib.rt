@@ -1,15 +1,8 @@
-//! Tests of documents that are compiled, of what no clause says: that calls succeed with memory; and of the programs `gqltool`,
-//! `gqlrows` and `gqlbench`, of what rows can't say.
+//! Tests of the programs `gqltool`, `gqlrows` and `gqlbench`, of what rows can't say.
 #![tactic(auto)]
 
 #[cfg(test)]
-mod by_calls;
-#[cfg(test)]
 mod clocks;
-#[cfg(test)]
-mod compiled;
-#[cfg(test)]
-mod compiling;
 #[cfg(test)]
 mod failures;
 #[cfg(test)]
@@ -21,13 +14,9 @@ mod json_runs;
 #[cfg(test)]
 mod long_walks;
 #[cfg(test)]
-mod making;
-#[cfg(test)]
 mod memory_runs;
 #[cfg(test)]
 mod process_statuses;
-#[cfg(test)]
-mod rebuilt;
 #[cfg(test)]
 mod row_streams;
 #[cfg(test)]
