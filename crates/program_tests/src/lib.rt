@@ -1,4 +1,4 @@
-//! Tests of the programs `gqltool`, `gqlrows` and `gqlbench`, of what rows can't say.
+//! Tests of the programs `gqltool` and `gqlbench`, of what rows can't say.
 #![tactic(auto)]
 
 #[cfg(test)]
@@ -17,8 +17,6 @@ mod long_walks;
 mod memory_runs;
 #[cfg(test)]
 mod process_statuses;
-#[cfg(test)]
-mod row_streams;
 #[cfg(test)]
 mod running;
 #[cfg(test)]

@@ -80,11 +80,11 @@ returns-in_err-say_line-clause-begun g c =
     rw (exit.1) (walk-cut c.args.deep c.args.word.now c.args.turns_word.now document set (string_bytes c.args.text.now) (sent c.args.outlet.now) c.walk_over-walk.result.coming c.walk_over-walk.ensures.coming turns.0 turns.1 (sent c.say_line.new.outlet)
     (lines-cut (field_line c.args.word.now) whole text (sent c.args.outlet.now) (sent c.loop-field.outlet) (sent c.say_line.new.outlet) field.now c.loop-field.walk.coming c.next.new.self.coming c.loop-field.invariant.says first.0 line))
 
-taken : (g : Over) (c : goal.After-drop-walk-2 g) → TakesAllTurns c.args.deep c.args.document.now c.args.set.now (c.next.new.self).taken
+taken : (g : Over) (c : goal.After-drop-walk-inside-3 g) → TakesAllTurns c.args.deep c.args.document.now c.args.set.now c.next.new.self.taken
 taken g c =
     let was = c.loop-field.invariant in
     let steps = c.in_default.ensures.steps in
-    all-turns c.args.deep (c.next.new.self) c.args.document.now c.args.set.now (steps.document ∙ was.document) (steps.start ∙ was.start) (steps.over was.goes_on).0
+    all-turns c.next.new.self c.args.deep c.args.document.now c.args.set.now (steps.deep ∙ was.deep) (steps.document ∙ was.document) (steps.start ∙ was.start) (steps.over was.goes_on).0
 
 pub returns-clause-said : goal.returns-clause-said
 returns-clause-said g c =
