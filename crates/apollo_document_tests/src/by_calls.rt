@@ -2,12 +2,12 @@
 
 use crate::building::{Over, View};
 use crate::expecting::expect;
+use crate::typed::making::{name, selected};
 use apollo_elaboration::Fault;
 use apollo_executable::{ExecutableDocument, NewFieldError, Operation, Selection, SelectionSet};
 use apollo_schema::schema::Schema;
 use graphql_ast::directive::DirectiveList;
 use graphql_nodes::collections::items::Items;
-use graphql_nodes::name::Name;
 use graphql_nodes::node::Node;
 use graphql_nodes::operation_type::OperationType;
 use std::alloc::{AllocError, Global};
@@ -18,14 +18,14 @@ use std::test::Fail;
 struct Alike;
 
 /// `{ user { } ...F }`
-fn selected<'schema>(
+fn of_user<'schema>(
     alloc: Global,
     schema: &'schema Schema,
 ) -> Result<SelectionSet, NewFieldError<'schema>> {
-    let mut set = SelectionSet::new(alloc, Name::new_unchecked(alloc, "Query")?);
-    let user = set.new_field(alloc, schema, Name::new_unchecked(alloc, "user")?)?;
-    set.push(Selection::of_field(alloc, user)?)?;
-    let spread = set.new_fragment_spread(alloc, Name::new_unchecked(alloc, "F")?);
+    let mut set = SelectionSet::new(alloc, name(alloc, "Query")?);
+    let user = selected(alloc, schema, &set, "user")?;
+    set.push(user)?;
+    let spread = set.new_fragment_spread(alloc, name(alloc, "F")?);
     set.push(Selection::of_fragment_spread(alloc, spread)?)?;
     Ok(set)
 }
@@ -52,7 +52,7 @@ fn made<'schema>(
     alloc: Global,
     schema: &'schema Schema,
 ) -> Result<ExecutableDocument, NewFieldError<'schema>> {
-    Ok(document_of(alloc, selected(alloc, schema)?)?)
+    Ok(document_of(alloc, of_user(alloc, schema)?)?)
 }
 
 impl View for Alike {

@@ -5,11 +5,11 @@ use crate::building::{Over, View, Without};
 use crate::by_calls::document_of;
 use crate::expecting::expect;
 use crate::inputs::Account;
+use crate::typed::making::{field, name, selected};
 use apollo_elaboration::Fault;
 use apollo_executable::{ExecutableDocument, Field, NewFieldError, Selection, SelectionSet};
 use apollo_schema::schema::Schema;
 use graphql_ast::document::Document;
-use graphql_nodes::name::Name;
 use leafcheck::leaf_faults;
 use std::alloc::{AllocError, Global};
 use std::test::Fail;
@@ -73,15 +73,15 @@ fn below_id<'schema>(
     alloc: Global,
     schema: &'schema Schema,
 ) -> Result<Field, NewFieldError<'schema>> {
-    let set = SelectionSet::new(alloc, Name::new_unchecked(alloc, "Query")?);
-    let user = set.new_field(alloc, schema, Name::new_unchecked(alloc, "user")?)?;
-    let id = set.new_field(alloc, schema, Name::new_unchecked(alloc, "id")?)?;
-    Ok(id.with_selection(Selection::of_field(alloc, user)?)?)
+    let set = SelectionSet::new(alloc, name(alloc, "Query")?);
+    let user = selected(alloc, schema, &set, "user")?;
+    let id = field(alloc, schema, &set, "id")?;
+    Ok(id.with_selection(user)?)
 }
 
 /// `{ id { user } }`
 fn made(alloc: Global, id: Field) -> Result<ExecutableDocument, AllocError> {
-    let mut set = SelectionSet::new(alloc, Name::new_unchecked(alloc, "Query")?);
+    let mut set = SelectionSet::new(alloc, name(alloc, "Query")?);
     set.push(Selection::of_field(alloc, id)?)?;
     document_of(alloc, set)
 }

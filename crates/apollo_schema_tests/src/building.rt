@@ -165,8 +165,7 @@ fn push_copies(text: &mut String, schema: &Schema) -> Result<(), AllocError> {
 }
 
 /// Adds all that is said of a schema.
-/// No clause: it serves tests.
-pub fn push_whole(alloc: Global, text: &mut String, schema: &Schema) -> Result<(), AllocError> {
+fn push_whole(alloc: Global, text: &mut String, schema: &Schema) -> Result<(), AllocError> {
     push_schema(text, schema)?;
     push_write_out(alloc, text, schema)?;
     push_copies(text, schema)

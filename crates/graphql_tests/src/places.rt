@@ -1,4 +1,4 @@
-//! Tables and sets by place.
+//! Tables and sets by place, and how they are shown.
 
 use crate::containers::{set_of, table_of};
 use crate::shown::is_shown;
@@ -39,28 +39,11 @@ fn is_written(table: &mut Table<i32, char>) -> bool {
     are_written == (true, false) && table.values().eq(['a', 'z'].iter())
 }
 
-/// Whether that table is read and written by place.
+/// Whether that table is shown, and read and written by place.
 fn is_table_by_place(alloc: Global) -> Result<bool, AllocError> {
     let mut table = table_of(alloc, &ENTRIES)?;
-    Ok(are_entries(&table) && are_places(&table) && is_written(&mut table))
-}
-
-/// Whether the second table's value of 3 takes the place of the first one's, and the second is left empty.
-fn are_joined(first: &mut Table<i32, char>, second: &mut Table<i32, char>) -> bool {
-    let is_joined = write_at(second, 1) && first.append(second).is_ok();
-    is_joined && first.values().eq(['a', 'z'].iter()) && second.is_empty()
-}
-
-/// Whether two tables are joined.
-fn is_append(alloc: Global) -> Result<bool, AllocError> {
-    let mut first = table_of(alloc, &ENTRIES)?;
-    let mut second = table_of(alloc, &ENTRIES)?;
-    Ok(are_joined(&mut first, &mut second))
-}
-
-#[test]
-fn append(rt: HostRuntime) {
-    assert!(rt; is_append(rt.alloc()) == Ok(true));
+    let is_read = is_shown(alloc, &table, "{5: 'a', 3: 'b'}") && are_entries(&table);
+    Ok(is_read && are_places(&table) && is_written(&mut table))
 }
 
 #[test]
@@ -80,26 +63,13 @@ fn are_found(set: &KeySet<i32>) -> bool {
     (set.get_full(&3), set.get_full(&9)) == (Some((1, &3)), None)
 }
 
-/// Whether that set is read by place.
+/// Whether that set is shown, and read by place.
 fn is_set_by_place(alloc: Global) -> Result<bool, AllocError> {
     let set = set_of(alloc, &[5, 3])?;
-    Ok(are_keys(&set) && are_found(&set))
+    Ok(is_shown(alloc, &set, "{5, 3}") && are_keys(&set) && are_found(&set))
 }
 
 #[test]
 fn sets_by_place(rt: HostRuntime) {
     assert!(rt; is_set_by_place(rt.alloc()) == Ok(true));
-}
-
-/// Whether that table and that set are shown so.
-fn are_shown(alloc: Global) -> Result<bool, AllocError> {
-    let table = table_of(alloc, &ENTRIES)?;
-    let is_table = is_shown(alloc, &table, "{5: 'a', 3: 'b'}");
-    let set = set_of(alloc, &[5, 3])?;
-    Ok(is_table && is_shown(alloc, &set, "{5, 3}"))
-}
-
-#[test]
-fn tables_and_sets_are_shown(rt: HostRuntime) {
-    assert!(rt; are_shown(rt.alloc()) == Ok(true));
 }

@@ -1,5 +1,6 @@
 //! Selections and documents, made by calls one after the other.
 
+use crate::typed::making::name;
 use apollo_executable::{
     ExecutableDocument, Field, Fragment, FragmentSpread, InlineFragment, Operation, Selection,
     SelectionSet,
@@ -8,16 +9,9 @@ use graphql_ast::directive::DirectiveList;
 use graphql_ast::type_reference::Type;
 use graphql_ast::type_system::FieldDefinition;
 use graphql_nodes::collections::items::Items;
-use graphql_nodes::name::Name;
 use graphql_nodes::node::Node;
 use graphql_nodes::operation_type::OperationType;
 use std::alloc::{AllocError, Global};
-
-/// A name of this text.
-/// No clause: it serves tests.
-pub fn name(alloc: Global, text: &str) -> Result<Name, AllocError> {
-    Name::new_unchecked(alloc, text)
-}
 
 /// The definition of a field of this name.
 fn definition(alloc: Global, text: &str) -> Result<Node<FieldDefinition>, AllocError> {

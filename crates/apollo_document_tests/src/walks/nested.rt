@@ -1,6 +1,7 @@
 //! Walks over more selections than could ever be counted.
 
-use crate::walks::making::{field, name};
+use crate::typed::making::name;
+use crate::walks::making::field;
 use apollo_executable::{
     AllFields, ExecutableDocument, InlineFragment, Operation, Selection, SelectionSet,
 };
