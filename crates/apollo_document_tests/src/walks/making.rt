@@ -66,17 +66,6 @@ fn branch(alloc: Global, text: &str, below: Selected) -> Result<Selection, Alloc
     Selection::of_field(alloc, field)
 }
 
-fn aliased_branch(
-    alloc: Global,
-    text: &str,
-    alias: &str,
-    below: Selected,
-) -> Result<Selection, AllocError> {
-    let mut field = field(alloc, text)?.with_alias(name(alloc, alias)?);
-    field.selection_set = below.set?;
-    Selection::of_field(alloc, field)
-}
-
 fn spread(alloc: Global, text: &str) -> Result<Selection, AllocError> {
     Selection::of_fragment_spread(alloc, FragmentSpread::new(alloc, name(alloc, text)?))
 }
@@ -128,13 +117,6 @@ impl Selected {
     /// No clause: it serves tests.
     pub fn branch(self, text: &str, below: Selected) -> Selected {
         let selection = branch(self.alloc, text, below);
-        self.and(selection)
-    }
-
-    /// A field with an alias and these selections.
-    /// No clause: it serves tests.
-    pub fn aliased_branch(self, text: &str, alias: &str, below: Selected) -> Selected {
-        let selection = aliased_branch(self.alloc, text, alias, below);
         self.and(selection)
     }
 

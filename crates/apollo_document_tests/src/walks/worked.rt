@@ -1,6 +1,6 @@
-//! Walks over worked documents: what they give, in which order, and in how many turns.
+//! Walks over documents that no row can say, and over an operation.
 
-use crate::walks::making::{Selected, insert, insert_under, none, operation};
+use crate::walks::making::{Selected, insert_under, none, operation};
 use crate::walks::telling::{push_fragments, push_walks};
 use apollo_executable::{AllFields, ExecutableDocument};
 use graphql_nodes::operation_type::OperationType;
@@ -18,77 +18,6 @@ fn told(
     push_walks(alloc, &mut text, document, &set)?;
     push_fragments(alloc, &mut text, document)?;
     Ok(text)
-}
-
-/// A fragment that spreads itself, spread from outside.
-fn itself(alloc: Global) -> Result<String, AllocError> {
-    let mut document = ExecutableDocument::new(alloc);
-    let set = none(alloc).field("b").spread("F").field("c");
-    insert(alloc, &mut document, "F", set)?;
-    told(alloc, &document, none(alloc).field("a").spread("F"))
-}
-
-#[test]
-fn a_fragment_that_is_started_is_opened_once_more(rt: HostRuntime) -> Result<(), Fail> {
-    let text = itself(rt.alloc())?;
-    let expected =
-        "root a b c = a b c in 7 true\nall a b c = a b c in 7 true\nF\nroot b b c c = b b c c in 8 true\nall b b c c = b b c c in 8 true\n";
-    assert_eq!(rt; text.as_str(), expected);
-    Ok(())
-}
-
-/// Fields below an aliased field and in an inline fragment, and a spread that no fragment answers.
-fn nested(alloc: Global) -> Result<String, AllocError> {
-    let document = ExecutableDocument::new(alloc);
-    let user = none(alloc).spread("Gone").field("id");
-    let inner = none(alloc).branch("user", user);
-    let id = none(alloc).field("id");
-    let field = none(alloc).aliased_branch("user", "a", id);
-    told(alloc, &document, field.inline(inner))
-}
-
-#[test]
-fn a_spread_without_a_fragment_is_passed_over(rt: HostRuntime) -> Result<(), Fail> {
-    let text = nested(rt.alloc())?;
-    let expected = "root a user = a user in 5 true\nall a id user id = a id user id in 10 true\n";
-    assert_eq!(rt; text.as_str(), expected);
-    Ok(())
-}
-
-/// A fragment that is spread twice, and one without selections.
-fn twice(alloc: Global) -> Result<String, AllocError> {
-    let mut document = ExecutableDocument::new(alloc);
-    insert(alloc, &mut document, "F", none(alloc).field("a"))?;
-    insert(alloc, &mut document, "Empty", none(alloc))?;
-    told(alloc, &document, none(alloc).spread("F").spread("F"))
-}
-
-#[test]
-fn a_fragment_that_is_spread_twice_is_opened_once(rt: HostRuntime) -> Result<(), Fail> {
-    let text = twice(rt.alloc())?;
-    let expected =
-        "root a = a in 5 true\nall a = a in 5 true\nF\nroot a = a in 2 true\nall a = a in 2 true\nEmpty\nroot = in 1 true\nall = in 1 true\n";
-    assert_eq!(rt; text.as_str(), expected);
-    Ok(())
-}
-
-/// Two fragments that spread one another.
-fn each_other(alloc: Global) -> Result<String, AllocError> {
-    let mut document = ExecutableDocument::new(alloc);
-    let first = none(alloc).spread("G").field("a");
-    insert(alloc, &mut document, "F", first)?;
-    let second = none(alloc).spread("F").field("b").spread("Gone");
-    insert(alloc, &mut document, "G", second)?;
-    told(alloc, &document, none(alloc).spread("F"))
-}
-
-#[test]
-fn walks_over_fragments_that_spread_one_another_end(rt: HostRuntime) -> Result<(), Fail> {
-    let text = each_other(rt.alloc())?;
-    let expected =
-        "root b a = b a in 9 true\nall b a = b a in 9 true\nF\nroot a b a = a b a in 10 true\nall a b a = a b a in 10 true\nG\nroot b a b = b a b in 11 true\nall b a b = b a b in 11 true\n";
-    assert_eq!(rt; text.as_str(), expected);
-    Ok(())
 }
 
 /// A fragment that has another name than its key, and spreads both.
