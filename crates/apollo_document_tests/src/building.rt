@@ -1,7 +1,6 @@
 //! What documents build, and what the write-out of that builds again.
 
 use crate::inputs::Account;
-use crate::telling::{tell_document, tell_faults};
 use apollo_document::{BuilderError, ExecutableDocumentBuilder, Faults};
 use apollo_elaboration::Fault;
 use apollo_executable::ExecutableDocument;
@@ -9,6 +8,7 @@ use apollo_schema::schema::Schema;
 use graphql_ast::document::Document;
 use std::alloc::{AllocError, Global};
 use std::slice;
+use telling::Tell;
 
 /// Adds a document, unless it is refused. The contract of the call stays here, so that no loop carries it along.
 fn add(
@@ -122,7 +122,7 @@ impl<'a> View for Again<'a> {
     ) -> Result<(), AllocError> {
         let is_equal = *document == *self.document;
         write!(text, "again: {is_equal}\n")?;
-        tell_faults(alloc, text, faults)
+        faults.tell(text)
     }
 }
 
@@ -135,7 +135,8 @@ impl View for Whole {
         faults: &[Fault],
         text: &mut String,
     ) -> Result<(), AllocError> {
-        tell_document(alloc, text, document, faults)?;
+        document.tell(text)?;
+        faults.tell(text)?;
         let over = if self.is_over { Some(schema) } else { None };
         let again = match document.to_ast(alloc) {
             Ok(written) => build(alloc, over, slice::from_ref(&written), true),

@@ -62,7 +62,7 @@ fn the_last_file_of_a_number_stays(rt: HostRuntime) -> Result<(), Fail> {
     let text = told_of_both(rt.alloc())?;
     assert_eq!(rt;
         text.as_str(),
-        "nowhere the type `Query` is defined multiple times in the schema\nfaults copied equal: true\npartial schema copied equal: true\nfile 2 is second.graphql\nQuery in the definition\nquery is Query, an object type: true\nWhere queries begin.\ndef object Query\nrebuilt equal: true\ncopied equal: true, true, true\n0 is next\n"
+        "- the type `Query` is defined multiple times in the schema; - - \nfaults copied equal: true\npartial schema copied equal: true\nfile 2 \"second.graphql\" \"type Query\"\n- schema \nquery definition Query - \nQuery - 2:8-90 object \"Where queries begin.\" - Query - \ndefinition Query - \nquery is Query, an object type: true\ndef object Query\nrebuilt equal: true\ncopied equal: true, true, true\n0 is next\n"
     );
     Ok(())
 }

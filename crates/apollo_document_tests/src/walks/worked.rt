@@ -32,7 +32,7 @@ fn under_another_key(alloc: Global) -> Result<String, AllocError> {
 fn a_fragment_is_opened_under_its_key(rt: HostRuntime) -> Result<(), Fail> {
     let text = under_another_key(rt.alloc())?;
     let expected =
-        "root a = a in 7 true\nall a = a in 7 true\nOwn\nroot a a = a a in 8 true\nall a a = a a in 8 true\n";
+        "root a - = a - true in 7\nall a - = a - true in 7\nOwn\nroot a - a - = a - a - true in 8\nall a - a - = a - a - true in 8\n";
     assert_eq!(rt; text.as_str(), expected);
     Ok(())
 }

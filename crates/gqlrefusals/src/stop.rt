@@ -2,8 +2,8 @@
 
 use apollo_schema::BuilderError;
 use bench_notation::refusal::ReadError;
-use graphql_nodes::name::NameError;
 use std::alloc::{AllocError, AllocFailed};
+use telling::Tell;
 
 /// Why a scenario comes to no answer.
 #[derive(Drop)]
@@ -29,15 +29,6 @@ impl<T: Drop> From<AllocFailed<T>> for Stop {
     }
 }
 
-impl From<NameError> for Stop {
-    fn from(error: NameError) -> Stop {
-        match error {
-            NameError::Memory => Stop::Memory,
-            NameError::Invalid(_) => Stop::Wrong("a name was refused"),
-        }
-    }
-}
-
 impl From<ReadError> for Stop {
     fn from(error: ReadError) -> Stop {
         match error {
@@ -51,18 +42,30 @@ impl From<BuilderError> for Stop {
     fn from(error: BuilderError) -> Stop {
         match error {
             BuilderError::Memory => Stop::Memory,
-            BuilderError::ExtensionIds => Stop::Wrong("a source was spent"),
-            BuilderError::Failed => Stop::Wrong("a builder had failed"),
+            _ => Stop::Wrong("a builder was refused"),
         }
     }
 }
 
 /// Goes on where this is so, and is wrong where it isn't.
-/// No clause: it serves the scenarios, which say what they see.
 pub fn expect(is_so: bool, otherwise: &'static str) -> Told {
     if is_so {
         Ok(())
     } else {
         Err(Stop::Wrong(otherwise))
     }
+}
+
+/// Tells what was made.
+pub fn tell_made<T: Tell + Drop>(text: &mut String, made: Result<T, AllocError>) -> Told {
+    match made {
+        Ok(value) => Ok(value.tell(text)?),
+        Err(_) => Err(Stop::Memory),
+    }
+}
+
+/// Tells what was made, on a line of its own.
+pub fn tell_line<T: Tell + Drop>(text: &mut String, made: Result<T, AllocError>) -> Told {
+    tell_made(text, made)?;
+    Ok(text.push_str("\n")?)
 }
