@@ -1,32 +1,31 @@
 //! A typed document that is made by calls alone, beside one that is built.
 
-use crate::building::build;
+use crate::building::{Over, View};
 use crate::expecting::expect;
-use crate::inputs::Account;
+use crate::typed::making::{name, selected};
+use apollo_elaboration::Fault;
 use apollo_executable::{ExecutableDocument, NewFieldError, Operation, Selection, SelectionSet};
 use apollo_schema::schema::Schema;
 use graphql_ast::directive::DirectiveList;
-use graphql_ast::document::Document;
 use graphql_nodes::collections::items::Items;
-use graphql_nodes::name::Name;
 use graphql_nodes::node::Node;
 use graphql_nodes::operation_type::OperationType;
 use std::alloc::{AllocError, Global};
 use std::test::Fail;
 
-/// Whether documents build the one that is made by calls.
+/// Whether a document is the one that is made by calls.
 #[derive(Drop)]
 struct Alike;
 
 /// `{ user { } ...F }`
-fn selected<'schema>(
+fn of_user<'schema>(
     alloc: Global,
     schema: &'schema Schema,
 ) -> Result<SelectionSet, NewFieldError<'schema>> {
-    let mut set = SelectionSet::new(alloc, Name::new_unchecked(alloc, "Query")?);
-    let user = set.new_field(alloc, schema, Name::new_unchecked(alloc, "user")?)?;
-    set.push(Selection::of_field(alloc, user)?)?;
-    let spread = set.new_fragment_spread(alloc, Name::new_unchecked(alloc, "F")?);
+    let mut set = SelectionSet::new(alloc, name(alloc, "Query")?);
+    let user = selected(alloc, schema, &set, "user")?;
+    set.push(user)?;
+    let spread = set.new_fragment_spread(alloc, name(alloc, "F")?);
     set.push(Selection::of_fragment_spread(alloc, spread)?)?;
     Ok(set)
 }
@@ -53,36 +52,24 @@ fn made<'schema>(
     alloc: Global,
     schema: &'schema Schema,
 ) -> Result<ExecutableDocument, NewFieldError<'schema>> {
-    Ok(document_of(alloc, selected(alloc, schema)?)?)
+    Ok(document_of(alloc, of_user(alloc, schema)?)?)
 }
 
-/// Adds whether a document is equal to the one that is made by calls.
-fn tell_alike(
-    alloc: Global,
-    text: &mut String,
-    schema: &Schema,
-    document: &ExecutableDocument,
-) -> Result<(), AllocError> {
-    match made(alloc, schema) {
-        Ok(made) => {
-            let is_equal = made == *document;
-            write!(text, "equal: {is_equal}\n")
-        }
-        Err(_) => text.push_str("not made\n"),
-    }
-}
-
-impl Account for Alike {
-    fn tell(
+impl View for Alike {
+    fn view(
         &self,
         alloc: Global,
         schema: &Schema,
-        documents: &[Document],
+        document: &ExecutableDocument,
+        _faults: &[Fault],
         text: &mut String,
     ) -> Result<(), AllocError> {
-        match build(alloc, Some(schema), documents, true) {
-            Ok(built) => tell_alike(alloc, text, schema, &built.0),
-            Err(error) => write!(text, "{error}\n"),
+        match made(alloc, schema) {
+            Ok(made) => {
+                let is_equal = made == *document;
+                write!(text, "equal: {is_equal}\n")
+            }
+            Err(_) => text.push_str("not made\n"),
         }
     }
 }
@@ -91,7 +78,7 @@ impl Account for Alike {
 fn a_document_by_calls_is_equal_to_the_built_one(rt: HostRuntime) -> Result<(), Fail> {
     expect(
         &rt,
-        &Alike,
+        &Over { view: Alike },
         "def object Query\nfield id ID\nfield user User\ndef object User\nfield id ID\n===\noperation query -\nsel 0 field id\nsel 1 field x\nsel 0 field user\nsel 1 field nope\nsel 0 inline Gone\nsel 1 field a\nsel 0 spread F\n",
         "equal: true\n",
     )
@@ -101,7 +88,7 @@ fn a_document_by_calls_is_equal_to_the_built_one(rt: HostRuntime) -> Result<(), 
 fn a_document_of_another_field_is_not(rt: HostRuntime) -> Result<(), Fail> {
     expect(
         &rt,
-        &Alike,
+        &Over { view: Alike },
         "def object Query\nfield id ID\nfield user User\ndef object User\nfield id ID\n===\noperation query -\nsel 0 field user\nsel 1 field id\nsel 0 spread F\n",
         "equal: false\n",
     )

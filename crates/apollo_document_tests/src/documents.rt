@@ -1,12 +1,16 @@
 //! Documents over schemas and without one, their faults, and what their write-out builds again.
 
-use crate::building::Built;
+use crate::building::{Over, Whole, Without};
 use crate::expecting::expect;
 use std::test::Fail;
 
-const OVER: Built = Built { has_schema: true };
+const OVER: Over<Whole> = Over {
+    view: Whole { is_over: true },
+};
 
-const WITHOUT: Built = Built { has_schema: false };
+const WITHOUT: Without<Whole> = Without {
+    view: Whole { is_over: false },
+};
 
 #[test]
 fn a_faulty_query_keeps_what_is_typable(rt: HostRuntime) -> Result<(), Fail> {

@@ -32,6 +32,12 @@ fn tell_built<A: Account>(
     }
 }
 
+/// Adds a document, unless it is refused: then no schema is built. The contract of the call stays here, so that no loop carries
+/// it along.
+fn add(builder: &mut SchemaBuilder, document: &Document) {
+    let _ = builder.add_ast(document);
+}
+
 fn tell_read<A: Account>(
     alloc: Global,
     account: &A,
@@ -40,8 +46,7 @@ fn tell_read<A: Account>(
 ) -> Result<(), AllocError> {
     let mut builder = Schema::builder(alloc)?;
     for document in input.schema.as_slice() {
-        // After a refusal no schema is built.
-        let _ = builder.add_ast(document);
+        add(&mut builder, document);
     }
     tell_built(alloc, account, builder, input.executable.as_slice(), text)
 }

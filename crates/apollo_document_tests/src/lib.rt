@@ -26,8 +26,6 @@ mod leaf_faults;
 #[cfg(test)]
 mod operations;
 #[cfg(test)]
-mod refusals;
-#[cfg(test)]
 mod selections;
 #[cfg(test)]
 mod sources;

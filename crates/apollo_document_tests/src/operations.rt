@@ -1,11 +1,10 @@
 //! Operations of built documents, by request.
 
-use crate::building::build;
+use crate::building::{Over, View};
 use crate::expecting::expect;
-use crate::inputs::Account;
-use apollo_executable::{Operation, OperationMap};
+use apollo_elaboration::Fault;
+use apollo_executable::{ExecutableDocument, Operation, OperationMap};
 use apollo_schema::schema::Schema;
-use graphql_ast::document::Document;
 use graphql_nodes::name::Name;
 use std::alloc::{AllocError, Global};
 use std::test::Fail;
@@ -34,28 +33,18 @@ fn tell_requested(
     text.push_str("\n")
 }
 
-fn tell_requests(
-    alloc: Global,
-    text: &mut String,
-    operations: &OperationMap,
-) -> Result<(), AllocError> {
-    let name = Name::new_unchecked(alloc, "X")?;
-    tell_requested(text, operations, None)?;
-    tell_requested(text, operations, Some(&name))
-}
-
-impl Account for Requests {
-    fn tell(
+impl View for Requests {
+    fn view(
         &self,
         alloc: Global,
-        schema: &Schema,
-        documents: &[Document],
+        _schema: &Schema,
+        document: &ExecutableDocument,
+        _faults: &[Fault],
         text: &mut String,
     ) -> Result<(), AllocError> {
-        match build(alloc, Some(schema), documents, true) {
-            Ok(built) => tell_requests(alloc, text, &built.0.operations),
-            Err(error) => write!(text, "{error}\n"),
-        }
+        let name = Name::new_unchecked(alloc, "X")?;
+        tell_requested(text, &document.operations, None)?;
+        tell_requested(text, &document.operations, Some(&name))
     }
 }
 
@@ -63,17 +52,14 @@ impl Account for Requests {
 fn two_kept_operations_are_ambiguous(rt: HostRuntime) -> Result<(), Fail> {
     expect(
         &rt,
-        &Requests,
+        &Over { view: Requests },
         "def object Query\nfield a Int\n===\noperation query -\nsel 0 field a\noperation query Q\nsel 0 field a\n",
         "Ambiguous request: multiple operations but no specified `operationName`\nNo operation named 'X'\n",
-    )
-}
-
-#[test]
-fn one_kept_operation_is_asked_for_without_a_name(rt: HostRuntime) -> Result<(), Fail> {
+    )?;
+    // One that is kept is asked for without a name too.
     expect(
         &rt,
-        &Requests,
+        &Over { view: Requests },
         "def object Query\nfield a Int\n===\noperation query X\nsel 0 field a\noperation query -\nsel 0 field a\n",
         "X\nX\n",
     )

@@ -2,7 +2,7 @@
 
 mod by_calls;
 mod fields;
-mod making;
+pub mod making;
 mod operation_maps;
 mod users;
 mod written;

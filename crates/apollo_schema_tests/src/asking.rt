@@ -1,7 +1,9 @@
 //! Questions to schemas that are built of texts, each answered by a text.
 
+use crate::building::{add_all, schema_in};
 use apollo_schema::schema::Schema;
 use apollo_schema::schema_builder::SchemaBuilder;
+use bench_notation::printing::print;
 use bench_notation::reading::read;
 use graphql_ast::document::Document;
 use std::alloc::{AllocError, Global};
@@ -13,32 +15,48 @@ pub trait Question {
     fn ask(&self, alloc: Global, text: &mut String, schema: &Schema) -> Result<(), AllocError>;
 }
 
-/// Adds the answer of what a builder builds.
-fn ask_built<Q: Question>(
+/// What a schema is written out as.
+#[derive(Drop)]
+pub struct Written;
+
+impl Question for Written {
+    fn ask(&self, alloc: Global, text: &mut String, schema: &Schema) -> Result<(), AllocError> {
+        let written = schema.to_ast(alloc)?;
+        let printed = print(alloc, written.as_slice())?;
+        text.push_str(printed.as_str())
+    }
+}
+
+/// Adds the answer of what a builder builds of documents. Before it stands whether there are faults.
+/// No clause: it serves tests.
+pub fn ask_of<Q: Question>(
     alloc: Global,
     question: &Q,
     text: &mut String,
     builder: SchemaBuilder,
+    documents: &[Document],
 ) -> Result<(), AllocError> {
-    match builder.build() {
-        Ok(schema) => question.ask(alloc, text, &schema),
-        Err(_) => text.push_str("not built\n"),
+    let mut builder = builder;
+    add_all(&mut builder, documents);
+    let built = builder.build();
+    if built.is_err() {
+        text.push_str("with faults\n")?;
+    }
+    match schema_in(&built) {
+        Some(schema) => question.ask(alloc, text, schema),
+        None => text.push_str("not built\n"),
     }
 }
 
 /// Adds the answer of the schema that documents build.
-fn ask_documents<Q: Question>(
+/// No clause: it serves tests.
+pub fn ask_documents<Q: Question>(
     alloc: Global,
     question: &Q,
     text: &mut String,
     documents: &[Document],
 ) -> Result<(), AllocError> {
-    let mut builder = Schema::builder(alloc)?;
-    for document in documents {
-        // After a refusal no schema is built.
-        let _ = builder.add_ast(document);
-    }
-    ask_built(alloc, question, text, builder)
+    ask_of(alloc, question, text, Schema::builder(alloc)?, documents)
 }
 
 /// The answer of the schema that a text builds.

@@ -2,6 +2,7 @@
 
 use crate::accounts::push_schema;
 use apollo_component::extension::ExtensionSource;
+use apollo_folding::builder_error::BuilderError;
 use apollo_meaning::build_error::Fault;
 use apollo_schema::build_failure::{BuildFailure, WithErrors};
 use apollo_schema::schema::Schema;
@@ -10,8 +11,7 @@ use apollo_types::extended_type::ExtendedType;
 use bench_notation::printing::print;
 use bench_notation::reading::read;
 use graphql_ast::document::Document;
-use graphql_nodes::collections::items::Items;
-use graphql_nodes::collections::table::Table;
+use likeness::is_copied;
 use std::alloc::{AllocError, Global};
 use std::process::Abort;
 use std::slice;
@@ -75,12 +75,17 @@ impl<'a> View for Comparison<'a> {
     }
 }
 
+/// What `add_ast` answers. Its contract stays here, so that no loop carries it along.
+fn add(builder: &mut SchemaBuilder, document: &Document) -> Result<(), BuilderError> {
+    builder.add_ast(document)
+}
+
 /// Adds each document.
 /// No clause: it serves tests.
 pub fn add_all(builder: &mut SchemaBuilder, documents: &[Document]) {
     for document in documents {
         // After a refusal no schema is built.
-        let _ = builder.add_ast(document);
+        let _ = add(builder, document);
     }
 }
 
@@ -115,27 +120,13 @@ fn push_written(
     write!(text, "rebuilt equal: {is_rebuilt}\n")
 }
 
-/// The write-out of a schema as one document.
-fn write_out(alloc: Global, schema: &Schema) -> Result<Document, AllocError> {
-    Ok(Document {
-        sources: Table::new(alloc),
-        definitions: Items::from_vec(schema.to_ast(alloc)?),
-    })
-}
-
 fn push_write_out(alloc: Global, text: &mut String, schema: &Schema) -> Result<(), AllocError> {
-    let written = write_out(alloc, schema)?;
+    let written = Document::from_definitions(alloc, schema.to_ast(alloc)?);
     push_written(alloc, text, schema, &written)
 }
 
-/// Whether a copy of a value is equal to it.
-fn is_copied<T: Clone + PartialEq + Drop>(value: &T) -> Result<bool, AllocError> {
-    let copy = value.clone()?;
-    Ok(copy == *value)
-}
-
 /// Whether a copy of the type itself, not of its node alone, is equal to it.
-fn is_type_copied(ty: &ExtendedType) -> Result<bool, AllocError> {
+fn is_type_copied(ty: &ExtendedType) -> bool {
     match ty {
         ExtendedType::Scalar(node) => is_copied(&**node),
         ExtendedType::Object(node) => is_copied(&**node),
@@ -147,36 +138,35 @@ fn is_type_copied(ty: &ExtendedType) -> Result<bool, AllocError> {
 }
 
 /// Whether copies of types, and of the types themselves, are equal to them.
-fn are_types_copied(schema: &Schema) -> Result<bool, AllocError> {
+fn are_types_copied(schema: &Schema) -> bool {
     for ty in schema.types.values() {
-        if !is_copied(ty)? || !is_type_copied(ty)? {
-            return Ok(false);
+        if !is_copied(ty) || !is_type_copied(ty) {
+            return false;
         }
     }
-    Ok(true)
+    true
 }
 
 /// Whether copies of faults are equal to them.
-fn are_faults_copied(faults: &[Fault]) -> Result<bool, AllocError> {
+fn are_faults_copied(faults: &[Fault]) -> bool {
     for (_, error) in faults {
-        if !is_copied(error)? {
-            return Ok(false);
+        if !is_copied(error) {
+            return false;
         }
     }
-    Ok(true)
+    true
 }
 
 /// Adds whether copies of a schema and of its parts are equal to them.
 fn push_copies(text: &mut String, schema: &Schema) -> Result<(), AllocError> {
-    let types = are_types_copied(schema)?;
-    let definition = is_copied(&*schema.schema_definition)?;
-    let whole = is_copied(schema)?;
+    let types = are_types_copied(schema);
+    let definition = is_copied(&*schema.schema_definition);
+    let whole = is_copied(schema);
     write!(text, "copied equal: {types}, {definition}, {whole}\n")
 }
 
 /// Adds all that is said of a schema.
-/// No clause: it serves tests.
-pub fn push_whole(alloc: Global, text: &mut String, schema: &Schema) -> Result<(), AllocError> {
+fn push_whole(alloc: Global, text: &mut String, schema: &Schema) -> Result<(), AllocError> {
     push_schema(text, schema)?;
     push_write_out(alloc, text, schema)?;
     push_copies(text, schema)
@@ -192,7 +182,7 @@ struct Account<'a> {
 impl<'a> Account<'a> {
     fn push_faults(&mut self, faults: &[Fault]) -> Result<(), AllocError> {
         faults.tell(self.text)?;
-        let are_copied = are_faults_copied(faults)?;
+        let are_copied = are_faults_copied(faults);
         write!(self.text, "faults copied equal: {are_copied}\n")
     }
 
@@ -243,7 +233,7 @@ fn push_adding(
     documents: &[Document],
 ) -> Result<(), AllocError> {
     for document in documents {
-        if let Err(error) = builder.add_ast(document) {
+        if let Err(error) = add(builder, document) {
             write!(text, "{error}\n")?;
         }
     }

@@ -1,9 +1,9 @@
 //! A document made by calls, with the names of callers, and what is written out of its schema.
 
-use apollo_schema::Schema;
-use bench_notation::printing::print;
+use crate::asking::{Written, ask_documents};
 use graphql_ast::{Document, FieldDefinition, Name, Node, ObjectTypeDefinition, Type};
 use std::alloc::Global;
+use std::slice;
 use std::test::Fail;
 
 /// A field of this name and type.
@@ -32,12 +32,10 @@ fn document(alloc: Global) -> Result<Document, Fail> {
 
 /// What the schema of that document is written out as.
 fn written(alloc: Global) -> Result<String, Fail> {
-    let mut builder = Schema::builder(alloc)?;
-    builder.add_ast(&document(alloc)?)?;
-    match builder.build() {
-        Ok(schema) => Ok(print(alloc, &schema.to_ast(alloc)?)?),
-        Err(_) => Ok(String::new(alloc)),
-    }
+    let document = document(alloc)?;
+    let mut text = String::new(alloc);
+    ask_documents(alloc, &Written, &mut text, slice::from_ref(&document))?;
+    Ok(text)
 }
 
 #[test]

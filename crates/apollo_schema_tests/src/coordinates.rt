@@ -3,5 +3,4 @@
 mod conversions;
 mod equality;
 mod lookups;
-mod memory;
 mod reading;

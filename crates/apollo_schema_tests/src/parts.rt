@@ -2,6 +2,7 @@
 
 use crate::asking::{Question, expect};
 use apollo_schema::{ComponentOrigin, Origins, RootOperations, Schema, SchemaDefinition};
+use likeness::{both, is_made};
 use std::alloc::{AllocError, Global};
 use std::test::Fail;
 
@@ -44,11 +45,10 @@ fn push_definition(
 
 /// A schema of copies of these parts.
 fn made_of(alloc: Global, schema: &Schema) -> Result<Schema, AllocError> {
-    let sources = schema.sources.clone()?;
-    let definition = schema.schema_definition.clone()?;
-    let directive_definitions = schema.directive_definitions.clone()?;
-    let types = schema.types.clone()?;
-    Schema::from_parts(alloc, sources, definition, directive_definitions, types)
+    let first = both(schema.sources.clone(), schema.schema_definition.clone());
+    let second = both(schema.directive_definitions.clone(), schema.types.clone());
+    let ((sources, definition), (directives, types)) = both(first, second)?;
+    Schema::from_parts(alloc, sources, definition, directives, types)
 }
 
 /// The roots of the schema's definition and its origins, and whether copies of the parts make an equal schema.
@@ -58,7 +58,7 @@ struct Parts;
 impl Question for Parts {
     fn ask(&self, alloc: Global, text: &mut String, schema: &Schema) -> Result<(), AllocError> {
         push_definition(alloc, text, &schema.schema_definition)?;
-        let is_equal = made_of(alloc, schema)? == *schema;
+        let is_equal = is_made(made_of(alloc, schema), schema);
         write!(text, "made of parts: {is_equal}\n")
     }
 }

@@ -1,11 +1,14 @@
 //! Documents whose definitions change places: their schemas are equal and their faults the same, or, where extensions of one
 //! name change places, they are not.
 
-use crate::building::{ADOPTING, PLAIN, Settings, View, begun, is_built_of, schema_in, show};
+use crate::building::{
+    ADOPTING, PLAIN, Settings, View, add_all, begun, is_built_of, schema_in, show,
+};
 use apollo_schema::build_failure::BuildFailure;
 use apollo_schema::schema::Schema;
 use bench_notation::reading::read;
 use graphql_ast::document::Document;
+use likeness::push_copy;
 use std::alloc::{AllocError, Global};
 use std::process::Abort;
 use std::slice;
@@ -44,8 +47,7 @@ fn push_pair(
     other: &Document,
 ) -> Result<(), AllocError> {
     let mut builder = begun(alloc, settings)?;
-    // After a refusal no schema is built.
-    let _ = builder.add_ast(document);
+    add_all(&mut builder, slice::from_ref(document));
     let mut pair = Pair {
         alloc,
         settings,
@@ -60,7 +62,7 @@ fn in_order(alloc: Global, document: &Document, order: &[usize]) -> Result<Docum
     let mut other = Document::new(alloc);
     for place in order {
         if let Some(definition) = document.definitions.get(*place) {
-            other.definitions.push(definition.clone()?)?;
+            push_copy(&mut other.definitions, definition)?;
         }
     }
     Ok(other)
@@ -78,70 +80,6 @@ fn told(alloc: Global, settings: Settings, input: &str, order: &[usize]) -> Resu
     Ok(text)
 }
 
-#[test]
-fn two_definitions_change_places(rt: HostRuntime) -> Result<(), Fail> {
-    let input = "def object A\nfield a Int\nfield a Int\ndef object B\nfield b Int\nfield b Int";
-    let text = told(rt.alloc(), PLAIN, input, &[1, 0])?;
-    assert_eq!(rt;
-        text.as_str(),
-        "1:3 duplicate definitions for the `a` field of object type `A`; 1:2 1:1 \n1:6 duplicate definitions for the `b` field of object type `B`; 1:5 1:4 \nequal: true\n1:6 duplicate definitions for the `b` field of object type `B`; 1:5 1:4 \n1:3 duplicate definitions for the `a` field of object type `A`; 1:2 1:1 \nequal: true\n"
-    );
-    Ok(())
-}
-
-#[test]
-fn an_extension_goes_behind_its_definition(rt: HostRuntime) -> Result<(), Fail> {
-    let input = "ext object Q\nfield a Int\ndef object Q\nfield a Int\nfield b Int";
-    let text = told(rt.alloc(), PLAIN, input, &[1, 0])?;
-    assert_eq!(rt;
-        text.as_str(),
-        "1:2 duplicate definitions for the `a` field of object type `Q`; 1:4 1:1 \nequal: true\n1:2 duplicate definitions for the `a` field of object type `Q`; 1:4 1:1 \nequal: true\n"
-    );
-    Ok(())
-}
-
-#[test]
-fn schema_extensions_go_last(rt: HostRuntime) -> Result<(), Fail> {
-    let input =
-        "ext-schema\nroot query A\nschema\nroot query Q\ndef object Q\nfield a Int\next-schema\nroot mutation M\nroot query B";
-    let text = told(rt.alloc(), PLAIN, input, &[1, 2, 0, 3])?;
-    assert_eq!(rt;
-        text.as_str(),
-        "1:2 duplicate definitions for the `query` root operation type; 1:4 \n1:9 duplicate definitions for the `query` root operation type; 1:4 \nequal: true\n1:2 duplicate definitions for the `query` root operation type; 1:4 \n1:9 duplicate definitions for the `query` root operation type; 1:4 \nequal: true\n"
-    );
-    Ok(())
-}
-
-/// Extensions of the schema and of two types, and no definition.
-const EXTENSIONS_ALONE: &str =
-    "ext-schema\nroot query A\next object A\nfield a Int\next-schema\nroot query B\next object B\nfield b Int\nfield b Int";
-
-#[test]
-fn type_extensions_go_before_schema_extensions(rt: HostRuntime) -> Result<(), Fail> {
-    let text = told(rt.alloc(), ADOPTING, EXTENSIONS_ALONE, &[3, 1, 0, 2])?;
-    assert_eq!(rt;
-        text.as_str(),
-        "1:9 duplicate definitions for the `b` field of object type `B`; 1:8 1:7 \n1:6 duplicate definitions for the `query` root operation type; 1:2 \nequal: true\n1:9 duplicate definitions for the `b` field of object type `B`; 1:8 1:7 \n1:6 duplicate definitions for the `query` root operation type; 1:2 \nequal: true\n"
-    );
-    let text = told(rt.alloc(), PLAIN, EXTENSIONS_ALONE, &[3, 1, 0, 2])?;
-    assert_eq!(rt;
-        text.as_str(),
-        "1:3 type extension for undefined type `A`\n1:7 type extension for undefined type `B`\n1:1 schema extension without a schema definition\n1:5 schema extension without a schema definition\nequal: true\n1:7 type extension for undefined type `B`\n1:3 type extension for undefined type `A`\n1:1 schema extension without a schema definition\n1:5 schema extension without a schema definition\nequal: true\n"
-    );
-    Ok(())
-}
-
-#[test]
-fn extensions_of_one_name_and_two_kinds_do_not_change_places(rt: HostRuntime) -> Result<(), Fail> {
-    let input = "ext object A\nfield a Int\next interface A\nfield b Int";
-    let text = told(rt.alloc(), ADOPTING, input, &[1, 0])?;
-    assert_eq!(rt;
-        text.as_str(),
-        "1:3 adding an interface type extension, but `A` is an object type; 1:1 1:3 \nequal: false\n1:1 adding an object type extension, but `A` is an interface type; 1:3 1:1 \nequal: false\n"
-    );
-    Ok(())
-}
-
 /// Expects this to be told of a document that a text says, and of its definitions in another order.
 fn expect_told(
     rt: &(impl Abort + AllocGlobal),
@@ -153,6 +91,53 @@ fn expect_told(
     let text = told(rt.alloc(), settings, input, order)?;
     assert_eq!(rt; text.as_str(), account, "of {input:?}");
     Ok(())
+}
+
+#[test]
+fn two_definitions_change_places(rt: HostRuntime) -> Result<(), Fail> {
+    let input = "def object A\nfield a Int\nfield a Int\ndef object B\nfield b Int\nfield b Int";
+    let account =
+        "1:3 duplicate definitions for the `a` field of object type `A`; 1:2 1:1 \n1:6 duplicate definitions for the `b` field of object type `B`; 1:5 1:4 \nequal: true\n1:6 duplicate definitions for the `b` field of object type `B`; 1:5 1:4 \n1:3 duplicate definitions for the `a` field of object type `A`; 1:2 1:1 \nequal: true\n";
+    expect_told(&rt, PLAIN, input, &[1, 0], account)
+}
+
+#[test]
+fn an_extension_goes_behind_its_definition(rt: HostRuntime) -> Result<(), Fail> {
+    let input = "ext object Q\nfield a Int\ndef object Q\nfield a Int\nfield b Int";
+    let account =
+        "1:2 duplicate definitions for the `a` field of object type `Q`; 1:4 1:1 \nequal: true\n1:2 duplicate definitions for the `a` field of object type `Q`; 1:4 1:1 \nequal: true\n";
+    expect_told(&rt, PLAIN, input, &[1, 0], account)
+}
+
+#[test]
+fn schema_extensions_go_last(rt: HostRuntime) -> Result<(), Fail> {
+    let input =
+        "ext-schema\nroot query A\nschema\nroot query Q\ndef object Q\nfield a Int\next-schema\nroot mutation M\nroot query B";
+    let account =
+        "1:2 duplicate definitions for the `query` root operation type; 1:4 \n1:9 duplicate definitions for the `query` root operation type; 1:4 \nequal: true\n1:2 duplicate definitions for the `query` root operation type; 1:4 \n1:9 duplicate definitions for the `query` root operation type; 1:4 \nequal: true\n";
+    expect_told(&rt, PLAIN, input, &[1, 2, 0, 3], account)
+}
+
+/// Extensions of the schema and of two types, and no definition.
+const EXTENSIONS_ALONE: &str =
+    "ext-schema\nroot query A\next object A\nfield a Int\next-schema\nroot query B\next object B\nfield b Int\nfield b Int";
+
+#[test]
+fn type_extensions_go_before_schema_extensions(rt: HostRuntime) -> Result<(), Fail> {
+    let account =
+        "1:9 duplicate definitions for the `b` field of object type `B`; 1:8 1:7 \n1:6 duplicate definitions for the `query` root operation type; 1:2 \nequal: true\n1:9 duplicate definitions for the `b` field of object type `B`; 1:8 1:7 \n1:6 duplicate definitions for the `query` root operation type; 1:2 \nequal: true\n";
+    expect_told(&rt, ADOPTING, EXTENSIONS_ALONE, &[3, 1, 0, 2], account)?;
+    let account =
+        "1:3 type extension for undefined type `A`\n1:7 type extension for undefined type `B`\n1:1 schema extension without a schema definition\n1:5 schema extension without a schema definition\nequal: true\n1:7 type extension for undefined type `B`\n1:3 type extension for undefined type `A`\n1:1 schema extension without a schema definition\n1:5 schema extension without a schema definition\nequal: true\n";
+    expect_told(&rt, PLAIN, EXTENSIONS_ALONE, &[3, 1, 0, 2], account)
+}
+
+#[test]
+fn extensions_of_one_name_and_two_kinds_do_not_change_places(rt: HostRuntime) -> Result<(), Fail> {
+    let input = "ext object A\nfield a Int\next interface A\nfield b Int";
+    let account =
+        "1:3 adding an interface type extension, but `A` is an object type; 1:1 1:3 \nequal: false\n1:1 adding an object type extension, but `A` is an interface type; 1:3 1:1 \nequal: false\n";
+    expect_told(&rt, ADOPTING, input, &[1, 0], account)
 }
 
 #[test]

@@ -129,7 +129,8 @@ fn tables(rt: HostRuntime) {
 }
 
 /// The table of these entries.
-fn table_of(alloc: Global, entries: &[(i32, char)]) -> Result<Table<i32, char>, AllocError> {
+/// No clause: it serves tests.
+pub fn table_of(alloc: Global, entries: &[(i32, char)]) -> Result<Table<i32, char>, AllocError> {
     let mut table = Table::new(alloc);
     for (key, value) in entries.iter() {
         table.insert(*key, *value)?;
@@ -156,27 +157,21 @@ const ENTRIES: [(i32, char); 4] = [(5, 'a'), (3, 'b'), (9, 'c'), (7, 'd')];
 
 #[test]
 fn tables_are_equal_in_any_order(rt: HostRuntime) {
-    let turned = [(7, 'd'), (9, 'c'), (3, 'b'), (5, 'a')];
-    let late = [(5, 'a'), (3, 'b'), (7, 'd'), (9, 'c')];
-    assert!(rt; compares_tables(rt.alloc(), &ENTRIES, &ENTRIES, true) == Ok(true));
-    assert!(rt; compares_tables(rt.alloc(), &ENTRIES, &turned, true) == Ok(true));
-    assert!(rt; compares_tables(rt.alloc(), &ENTRIES, &late, true) == Ok(true));
-}
-
-#[test]
-fn tables_that_differ_late_differ(rt: HostRuntime) {
-    let value = [(5, 'a'), (3, 'b'), (9, 'c'), (7, 'e')];
-    let key = [(5, 'a'), (3, 'b'), (9, 'c'), (8, 'd')];
-    let turned = [(5, 'a'), (3, 'b'), (7, 'd'), (9, 'e')];
-    assert!(rt; compares_tables(rt.alloc(), &ENTRIES, &value, false) == Ok(true));
-    assert!(rt; compares_tables(rt.alloc(), &ENTRIES, &key, false) == Ok(true));
-    assert!(rt; compares_tables(rt.alloc(), &ENTRIES, &turned, false) == Ok(true));
-}
-
-#[test]
-fn tables_of_two_lengths_differ(rt: HostRuntime) {
-    assert!(rt; compares_tables(rt.alloc(), &ENTRIES, &[], false) == Ok(true));
-    assert!(rt; compares_tables(rt.alloc(), &ENTRIES, &[(5, 'a'), (3, 'b')], false) == Ok(true));
+    let others: [(&[(i32, char)], bool); 8] = [
+        (&ENTRIES, true),
+        (&[(7, 'd'), (9, 'c'), (3, 'b'), (5, 'a')], true),
+        (&[(5, 'a'), (3, 'b'), (7, 'd'), (9, 'c')], true),
+        // They differ late, in a value, in a key, and in an order.
+        (&[(5, 'a'), (3, 'b'), (9, 'c'), (7, 'e')], false),
+        (&[(5, 'a'), (3, 'b'), (9, 'c'), (8, 'd')], false),
+        (&[(5, 'a'), (3, 'b'), (7, 'd'), (9, 'e')], false),
+        // They are of two lengths.
+        (&[], false),
+        (&[(5, 'a'), (3, 'b')], false),
+    ];
+    for (other, equal) in others {
+        assert!(rt; compares_tables(rt.alloc(), &ENTRIES, other, equal) == Ok(true));
+    }
 }
 
 /// The table of the tables of these entries, under these keys.
@@ -242,7 +237,8 @@ fn sets(rt: HostRuntime) {
 }
 
 /// The set of these keys.
-fn set_of(alloc: Global, keys: &[i32]) -> Result<KeySet<i32>, AllocError> {
+/// No clause: it serves tests.
+pub fn set_of(alloc: Global, keys: &[i32]) -> Result<KeySet<i32>, AllocError> {
     let mut set = KeySet::new(alloc);
     for key in keys.iter() {
         set.insert(*key)?;
@@ -262,10 +258,15 @@ fn compares_sets(
 
 #[test]
 fn sets_are_equal_in_any_order(rt: HostRuntime) {
-    assert!(rt; compares_sets(rt.alloc(), &[5, 3, 9], &[5, 3, 9], true) == Ok(true));
-    assert!(rt; compares_sets(rt.alloc(), &[5, 3, 9], &[5, 9, 3], true) == Ok(true));
-    assert!(rt; compares_sets(rt.alloc(), &[5, 3, 9], &[5, 3, 7], false) == Ok(true));
-    assert!(rt; compares_sets(rt.alloc(), &[5, 3, 9], &[5, 3], false) == Ok(true));
+    let others: [(&[i32], bool); 4] = [
+        (&[5, 3, 9], true),
+        (&[5, 9, 3], true),
+        (&[5, 3, 7], false),
+        (&[5, 3], false),
+    ];
+    for (other, equal) in others {
+        assert!(rt; compares_sets(rt.alloc(), &[5, 3, 9], other, equal) == Ok(true));
+    }
 }
 
 /// How many entries a table has room for once it has one.

@@ -1,4 +1,4 @@
-//! Lists: joined, walked, written to, and made of other values.
+//! Lists: walked, written to, and made of other values.
 
 use crate::shown::is_shown;
 use graphql_nodes::collections::items::Items;
@@ -14,23 +14,6 @@ fn are(items: &Items<i32>, wanted: &[i32]) -> bool {
     items.as_slice() == wanted
 }
 
-/// Whether the elements of the second list of 1 and 2 come to stand after those of the first.
-fn are_joined(first: &mut Items<i32>, second: &mut Items<i32>) -> bool {
-    first.append(second).is_ok() && are(first, &[1, 2, 1, 2]) && second.is_empty()
-}
-
-/// Whether two lists are joined.
-fn is_append(alloc: Global) -> Result<bool, AllocError> {
-    let mut first = pair(alloc)?;
-    let mut second = pair(alloc)?;
-    Ok(are_joined(&mut first, &mut second))
-}
-
-#[test]
-fn append(rt: HostRuntime) {
-    assert!(rt; is_append(rt.alloc()) == Ok(true));
-}
-
 /// Whether the list of 1 and 2 is walked from both ends, by each of its walks.
 fn is_walked(items: &Items<i32>) -> bool {
     items.iter().rev().eq([2, 1].iter()) && items.into_iter().eq([1, 2].iter())
@@ -42,14 +25,14 @@ fn is_walked_by_value(items: Items<i32>) -> bool {
     (walk.next(), walk.next(), walk.next()) == (Some(1), Some(2), None)
 }
 
-/// Whether the list of 1 and 2 can be walked.
+/// Whether the list of 1 and 2 is shown, and can be walked.
 fn are_walks(alloc: Global) -> Result<bool, AllocError> {
     let items = pair(alloc)?;
-    Ok(is_walked(&items) && is_walked_by_value(items))
+    Ok(is_shown(alloc, &items, "[1, 2]") && is_walked(&items) && is_walked_by_value(items))
 }
 
 #[test]
-fn walks(rt: HostRuntime) {
+fn lists_are_shown_and_walked(rt: HostRuntime) {
     assert!(rt; are_walks(rt.alloc()) == Ok(true));
 }
 
@@ -104,15 +87,4 @@ fn is_extended(alloc: Global) -> Result<bool, AllocError> {
 #[test]
 fn collecting(rt: HostRuntime) {
     assert!(rt; is_extended(rt.alloc()) == Ok(true));
-}
-
-/// Whether a list is shown so.
-fn is_list_shown(alloc: Global) -> Result<bool, AllocError> {
-    let items = pair(alloc)?;
-    Ok(is_shown(alloc, &items, "[1, 2]"))
-}
-
-#[test]
-fn lists_are_shown(rt: HostRuntime) {
-    assert!(rt; is_list_shown(rt.alloc()) == Ok(true));
 }

@@ -1,19 +1,15 @@
-//! Tables and sets by place.
+//! Tables and sets by place, and how they are shown.
 
+use crate::containers::{set_of, table_of};
 use crate::shown::is_shown;
 use graphql_nodes::collections::key_set::KeySet;
 use graphql_nodes::collections::table::Table;
 use std::alloc::{AllocError, Global};
 
-/// The table of 5 with `a` and 3 with `b`.
-fn table(alloc: Global) -> Result<Table<i32, char>, AllocError> {
-    let mut table = Table::new(alloc);
-    table.insert(5, 'a')?;
-    table.insert(3, 'b')?;
-    Ok(table)
-}
+/// The entries 5 with `a` and 3 with `b`.
+const ENTRIES: [(i32, char); 2] = [(5, 'a'), (3, 'b')];
 
-/// Whether that table reads so by place.
+/// Whether the table of the entries reads so by place.
 fn are_entries(table: &Table<i32, char>) -> bool {
     let entries = (table.first(), table.get_index(1), table.get_index(2));
     entries == (Some((&5, &'a')), Some((&3, &'b')), None)
@@ -43,28 +39,11 @@ fn is_written(table: &mut Table<i32, char>) -> bool {
     are_written == (true, false) && table.values().eq(['a', 'z'].iter())
 }
 
-/// Whether that table is read and written by place.
+/// Whether that table is shown, and read and written by place.
 fn is_table_by_place(alloc: Global) -> Result<bool, AllocError> {
-    let mut table = table(alloc)?;
-    Ok(are_entries(&table) && are_places(&table) && is_written(&mut table))
-}
-
-/// Whether the second table's value of 3 takes the place of the first one's, and the second is left empty.
-fn are_joined(first: &mut Table<i32, char>, second: &mut Table<i32, char>) -> bool {
-    let is_joined = write_at(second, 1) && first.append(second).is_ok();
-    is_joined && first.values().eq(['a', 'z'].iter()) && second.is_empty()
-}
-
-/// Whether two tables are joined.
-fn is_append(alloc: Global) -> Result<bool, AllocError> {
-    let mut first = table(alloc)?;
-    let mut second = table(alloc)?;
-    Ok(are_joined(&mut first, &mut second))
-}
-
-#[test]
-fn append(rt: HostRuntime) {
-    assert!(rt; is_append(rt.alloc()) == Ok(true));
+    let mut table = table_of(alloc, &ENTRIES)?;
+    let is_read = is_shown(alloc, &table, "{5: 'a', 3: 'b'}") && are_entries(&table);
+    Ok(is_read && are_places(&table) && is_written(&mut table))
 }
 
 #[test]
@@ -72,15 +51,7 @@ fn tables_by_place(rt: HostRuntime) {
     assert!(rt; is_table_by_place(rt.alloc()) == Ok(true));
 }
 
-/// The set of 5 and 3.
-fn set(alloc: Global) -> Result<KeySet<i32>, AllocError> {
-    let mut set = KeySet::new(alloc);
-    set.insert(5)?;
-    set.insert(3)?;
-    Ok(set)
-}
-
-/// Whether that set reads so by place.
+/// Whether the set of 5 and 3 reads so by place.
 fn are_keys(set: &KeySet<i32>) -> bool {
     let keys = (set.first(), set.get_index(1), set.get_index(2));
     let places = (set.get_index_of(&3), set.get_index_of(&9));
@@ -92,26 +63,13 @@ fn are_found(set: &KeySet<i32>) -> bool {
     (set.get_full(&3), set.get_full(&9)) == (Some((1, &3)), None)
 }
 
-/// Whether that set is read by place.
+/// Whether that set is shown, and read by place.
 fn is_set_by_place(alloc: Global) -> Result<bool, AllocError> {
-    let set = set(alloc)?;
-    Ok(are_keys(&set) && are_found(&set))
+    let set = set_of(alloc, &[5, 3])?;
+    Ok(is_shown(alloc, &set, "{5, 3}") && are_keys(&set) && are_found(&set))
 }
 
 #[test]
 fn sets_by_place(rt: HostRuntime) {
     assert!(rt; is_set_by_place(rt.alloc()) == Ok(true));
-}
-
-/// Whether that table and that set are shown so.
-fn are_shown(alloc: Global) -> Result<bool, AllocError> {
-    let table = table(alloc)?;
-    let is_table = is_shown(alloc, &table, "{5: 'a', 3: 'b'}");
-    let set = set(alloc)?;
-    Ok(is_table && is_shown(alloc, &set, "{5, 3}"))
-}
-
-#[test]
-fn tables_and_sets_are_shown(rt: HostRuntime) {
-    assert!(rt; are_shown(rt.alloc()) == Ok(true));
 }

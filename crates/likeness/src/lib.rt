@@ -2,6 +2,7 @@
 //! made, so that a test need not. None has a clause, since no proof goes by what a test sees.
 #![tactic(auto)]
 
+use graphql_nodes::collections::items::Items;
 use graphql_nodes::node::Node;
 use graphql_nodes::source::SourceSpan;
 use std::alloc::{AllocError, Global};
@@ -131,5 +132,24 @@ pub fn push_location(text: &mut String, location: Option<SourceSpan>) -> Result<
             }
         }
         None => text.push_str("- "),
+    }
+}
+
+/// Adds a copy of a value to a list.
+/// No clause: it serves tests.
+pub fn push_copy<T: Clone + Drop>(list: &mut Items<T>, value: &T) -> Result<(), AllocError> {
+    let copy = value.clone()?;
+    list.push(copy)
+}
+
+/// Both values, if there was memory for each.
+/// No clause: it serves tests.
+pub fn both<A: Drop, B: Drop>(
+    first: Result<A, AllocError>,
+    second: Result<B, AllocError>,
+) -> Result<(A, B), AllocError> {
+    match (first, second) {
+        (Ok(first), Ok(second)) => Ok((first, second)),
+        _ => Err(AllocError),
     }
 }

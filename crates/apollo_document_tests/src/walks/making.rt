@@ -1,5 +1,6 @@
 //! Selections and documents, made by calls one after the other.
 
+use crate::typed::making::name;
 use apollo_executable::{
     ExecutableDocument, Field, Fragment, FragmentSpread, InlineFragment, Operation, Selection,
     SelectionSet,
@@ -8,16 +9,9 @@ use graphql_ast::directive::DirectiveList;
 use graphql_ast::type_reference::Type;
 use graphql_ast::type_system::FieldDefinition;
 use graphql_nodes::collections::items::Items;
-use graphql_nodes::name::Name;
 use graphql_nodes::node::Node;
 use graphql_nodes::operation_type::OperationType;
 use std::alloc::{AllocError, Global};
-
-/// A name of this text.
-/// No clause: it serves tests.
-pub fn name(alloc: Global, text: &str) -> Result<Name, AllocError> {
-    Name::new_unchecked(alloc, text)
-}
 
 /// The definition of a field of this name.
 fn definition(alloc: Global, text: &str) -> Result<Node<FieldDefinition>, AllocError> {
@@ -68,17 +62,6 @@ fn aliased(alloc: Global, text: &str, alias: &str) -> Result<Selection, AllocErr
 
 fn branch(alloc: Global, text: &str, below: Selected) -> Result<Selection, AllocError> {
     let mut field = field(alloc, text)?;
-    field.selection_set = below.set?;
-    Selection::of_field(alloc, field)
-}
-
-fn aliased_branch(
-    alloc: Global,
-    text: &str,
-    alias: &str,
-    below: Selected,
-) -> Result<Selection, AllocError> {
-    let mut field = field(alloc, text)?.with_alias(name(alloc, alias)?);
     field.selection_set = below.set?;
     Selection::of_field(alloc, field)
 }
@@ -134,13 +117,6 @@ impl Selected {
     /// No clause: it serves tests.
     pub fn branch(self, text: &str, below: Selected) -> Selected {
         let selection = branch(self.alloc, text, below);
-        self.and(selection)
-    }
-
-    /// A field with an alias and these selections.
-    /// No clause: it serves tests.
-    pub fn aliased_branch(self, text: &str, alias: &str, below: Selected) -> Selected {
-        let selection = aliased_branch(self.alloc, text, alias, below);
         self.and(selection)
     }
 

@@ -79,47 +79,6 @@ fn coordinates_are_made_of_one_another(rt: HostRuntime) {
     );
 }
 
-/// The coordinates that a field's argument and a directive's argument stand in.
-fn parents(
-    alloc: Global,
-) -> Result<
-    (
-        TypeCoordinate,
-        TypeCoordinate,
-        TypeAttributeCoordinate,
-        DirectiveCoordinate,
-    ),
-    AllocError,
-> {
-    let of_attribute = attribute(alloc)?.type_coordinate()?;
-    let argument = field_argument(alloc)?;
-    let of_directive = directive_argument(alloc)?.directive_coordinate()?;
-    Ok((
-        of_attribute,
-        argument.type_coordinate()?,
-        argument.field_coordinate()?,
-        of_directive,
-    ))
-}
-
-/// Whether they are printed so.
-fn are_parents_right(alloc: Global) -> bool {
-    match parents(alloc) {
-        Ok((of_attribute, of_argument, field, directive)) => {
-            is_printed(alloc, &of_attribute, "T")
-                && is_printed(alloc, &of_argument, "T")
-                && is_printed(alloc, &field, "T.f")
-                && is_printed(alloc, &directive, "@d")
-        }
-        Err(_) => false,
-    }
-}
-
-#[test]
-fn coordinates_have_those_that_they_stand_in(rt: HostRuntime) {
-    assert!(rt; are_parents_right(rt.alloc()));
-}
-
 /// A coordinate of each form.
 fn of_each_form(alloc: Global, form: u8) -> Result<SchemaCoordinate, AllocError> {
     Ok(match form {

@@ -1,8 +1,8 @@
 //! What lookups answer in two schemas, compared.
 
+use crate::asking::{Question, ask_documents, expect};
 use apollo_coordinate::coordinates::{SchemaCoordinate, TypeAttributeCoordinate};
 use apollo_schema::schema::Schema;
-use apollo_schema::schema_builder::SchemaBuilder;
 use bench_notation::reading::read;
 use graphql_ast::document::Document;
 use std::alloc::{AllocError, Global};
@@ -69,71 +69,64 @@ fn push_comparison(
     })
 }
 
-/// The schema of these documents, if there is no fault and memory enough.
-fn built(alloc: Global, documents: &[Document]) -> Result<Option<Schema>, AllocError> {
-    let mut builder = Schema::builder(alloc)?;
-    for document in documents {
-        // After a refusal no schema is built.
-        let _ = builder.add_ast(document);
-    }
-    Ok(ended(builder))
+/// Coordinates of each form.
+const COORDINATES: [&str; 7] = [
+    "Query",
+    "Query.f",
+    "Query.f(a:)",
+    "I.f",
+    "E.f",
+    "@d",
+    "@d(a:)",
+];
+
+/// How the coordinates compare in this schema and another one.
+#[derive(Drop)]
+struct Beside<'a> {
+    first: &'a Schema,
 }
 
-fn ended(builder: SchemaBuilder) -> Option<Schema> {
-    match builder.build() {
-        Ok(schema) => Some(schema),
-        Err(_) => None,
+impl<'a> Question for Beside<'a> {
+    fn ask(&self, alloc: Global, text: &mut String, schema: &Schema) -> Result<(), AllocError> {
+        for input in COORDINATES {
+            push_comparison(alloc, text, self.first, schema, input)?;
+        }
+        Ok(())
     }
 }
 
-/// How the coordinates compare in the schemas of these documents.
-fn comparisons(
-    alloc: Global,
-    first: &[Document],
-    second: &[Document],
-    inputs: &[&str],
-) -> Result<String, AllocError> {
-    let mut text = String::new(alloc);
-    let (Some(first), Some(second)) = (built(alloc, first)?, built(alloc, second)?) else {
-        return Ok(text);
-    };
-    for input in inputs {
-        push_comparison(alloc, &mut text, &first, &second, *input)?;
+/// How the coordinates compare in a schema and in that of these documents.
+#[derive(Drop)]
+struct Compared<'a> {
+    documents: &'a [Document],
+}
+
+impl<'a> Question for Compared<'a> {
+    fn ask(&self, alloc: Global, text: &mut String, schema: &Schema) -> Result<(), AllocError> {
+        ask_documents(alloc, &Beside { first: schema }, text, self.documents)
     }
-    Ok(text)
 }
 
 /// Expects the coordinates to compare so in the schemas of two texts.
-fn expect(
+fn expect_compared(
     rt: &(impl Abort + AllocGlobal),
     first: &str,
     second: &str,
     expected: &str,
 ) -> Result<(), Fail> {
-    let first = read(rt.alloc(), first)?;
     let second = read(rt.alloc(), second)?;
-    let inputs = [
-        "Query",
-        "Query.f",
-        "Query.f(a:)",
-        "I.f",
-        "E.f",
-        "@d",
-        "@d(a:)",
-    ];
-    let told = comparisons(rt.alloc(), first.as_slice(), second.as_slice(), &inputs)?;
-    assert_eq!(rt; told.as_str(), expected);
-    Ok(())
+    let question = Compared {
+        documents: second.as_slice(),
+    };
+    expect(rt, &question, first, expected)
 }
 
 #[test]
-fn locations_and_origins_are_left_out(rt: HostRuntime) -> Result<(), Fail> {
-    expect(&rt, FIRST, SECOND, "same same same same same same same ")
-}
-
-#[test]
-fn other_values_are_unequal(rt: HostRuntime) -> Result<(), Fail> {
-    expect(
+fn locations_and_origins_are_left_out_and_other_values_are_unequal(
+    rt: HostRuntime,
+) -> Result<(), Fail> {
+    expect_compared(&rt, FIRST, SECOND, "same same same same same same same ")?;
+    expect_compared(
         &rt,
         FIRST,
         OTHER,

@@ -1,13 +1,10 @@
 //! Coordinates looked up in a schema that is built of a text.
 
+use crate::asking::{Question, expect};
 use apollo_coordinate::coordinates::{SchemaCoordinate, TypeAttributeCoordinate};
 use apollo_coordinate::lookup_answers::{SchemaCoordinateLookup, SchemaLookupError};
 use apollo_schema::schema::Schema;
-use apollo_schema::schema_builder::SchemaBuilder;
-use bench_notation::reading::read;
-use graphql_ast::document::Document;
 use std::alloc::{AllocError, Global};
-use std::process::Abort;
 use std::test::Fail;
 
 /// A type of each kind that has attributes or could have meta-fields.
@@ -93,49 +90,19 @@ fn push_lookup(
     }
 }
 
-/// Adds what lookups answer in the schema that is built.
-fn push_lookups(
-    alloc: Global,
-    text: &mut String,
-    builder: SchemaBuilder,
-    inputs: &[(Lookup, &str)],
-) -> Result<(), AllocError> {
-    let Ok(schema) = builder.build() else {
-        return text.push_str("not built\n");
-    };
-    for (lookup, input) in inputs {
-        push_lookup(alloc, text, &schema, *lookup, *input)?;
-    }
-    Ok(())
+/// What lookups answer.
+#[derive(Drop)]
+struct Lookups<'a> {
+    inputs: &'a [(Lookup, &'static str)],
 }
 
-/// What lookups answer in the schema of these documents.
-fn answers(
-    alloc: Global,
-    documents: &[Document],
-    inputs: &[(Lookup, &str)],
-) -> Result<String, AllocError> {
-    let mut text = String::new(alloc);
-    let mut builder = Schema::builder(alloc)?;
-    for document in documents {
-        // After a refusal no schema is built.
-        let _ = builder.add_ast(document);
+impl<'a> Question for Lookups<'a> {
+    fn ask(&self, alloc: Global, text: &mut String, schema: &Schema) -> Result<(), AllocError> {
+        for (lookup, input) in self.inputs {
+            push_lookup(alloc, text, schema, *lookup, *input)?;
+        }
+        Ok(())
     }
-    push_lookups(alloc, &mut text, builder, inputs)?;
-    Ok(text)
-}
-
-/// Expects these answers in the schema that the text builds.
-fn expect(
-    rt: &(impl Abort + AllocGlobal),
-    text: &str,
-    inputs: &[(Lookup, &str)],
-    expected: &str,
-) -> Result<(), Fail> {
-    let documents = read(rt.alloc(), text)?;
-    let told = answers(rt.alloc(), documents.as_slice(), inputs)?;
-    assert_eq!(rt; told.as_str(), expected);
-    Ok(())
 }
 
 const FOUND: [(Lookup, &str); 12] = [
@@ -157,8 +124,8 @@ const FOUND: [(Lookup, &str); 12] = [
 fn coordinates_of_each_form_are_found(rt: HostRuntime) -> Result<(), Fail> {
     expect(
         &rt,
+        &Lookups { inputs: &FOUND },
         INPUT,
-        &FOUND,
         "type\nfield\nargument\nenum value\ninput field\nfield\ndirective\nargument\nfield\nfield\nfield\nargument\n",
     )
 }
@@ -183,8 +150,8 @@ const MISSING: [(Lookup, &str); 13] = [
 fn what_is_missing_is_named(rt: HostRuntime) -> Result<(), Fail> {
     expect(
         &rt,
+        &Lookups { inputs: &MISSING },
         INPUT,
-        &MISSING,
         "type `Type` does not exist\ntype `directive` does not exist\ntype `directive` does not exist\nfield or directive does not have argument `x`\ntype attribute `A` is not a field and can not have arguments\ntype attribute `g` is not a field and can not have arguments\ntype does not have attributes\ntype does not have attributes\nfield or directive does not have argument `z`\nfield or directive does not have argument `x`\ntype does not have attribute `__typename`\ntype does not have attributes\ntype does not have attribute `z`\n",
     )
 }
@@ -210,8 +177,10 @@ const OF_ONE_SORT: [(Lookup, &str); 14] = [
 fn attributes_of_one_sort_are_found(rt: HostRuntime) -> Result<(), Fail> {
     expect(
         &rt,
+        &Lookups {
+            inputs: &OF_ONE_SORT,
+        },
         INPUT,
-        &OF_ONE_SORT,
         "enum value\nfield\nfield\ntype does not have attribute `z`\ntype does not have attributes\ntype `Gone` does not exist\ninput field\ntype does not have attribute `z`\ntype does not have attributes\ntype does not have attributes\nenum value\ntype does not have attribute `B`\ntype does not have attributes\ntype `Gone` does not exist\n",
     )
 }
@@ -229,8 +198,10 @@ const OF_THE_ENUM_ROOT: [(Lookup, &str); 6] = [
 fn a_value_is_found_before_a_meta_field(rt: HostRuntime) -> Result<(), Fail> {
     expect(
         &rt,
+        &Lookups {
+            inputs: &OF_THE_ENUM_ROOT,
+        },
         ENUM_ROOT,
-        &OF_THE_ENUM_ROOT,
         "enum value\ntype attribute `__schema` is not a field and can not have arguments\nfield\nfield\nargument\ntype does not have attributes\n",
     )
 }

@@ -22,7 +22,7 @@ fn push_read<T: Display + Drop>(
 
 /// How an input is read.
 #[derive(Clone, Copy)]
-pub(crate) enum Form {
+enum Form {
     Ty,
     Attribute,
     FieldArgument,
@@ -32,12 +32,7 @@ pub(crate) enum Form {
 }
 
 /// Adds what an input was read as.
-pub(crate) fn push_form(
-    alloc: Global,
-    text: &mut String,
-    form: Form,
-    input: &str,
-) -> Result<(), AllocError> {
+fn push_form(alloc: Global, text: &mut String, form: Form, input: &str) -> Result<(), AllocError> {
     match form {
         Form::Ty => push_read(text, TypeCoordinate::from_str(alloc, input)),
         Form::Attribute => push_read(text, TypeAttributeCoordinate::from_str(alloc, input)),
@@ -83,13 +78,16 @@ fn coordinates_are_printed_as_they_are_read(rt: HostRuntime) -> Result<(), Fail>
     Ok(())
 }
 
-const OF_ONE_FORM: [(Form, &str); 17] = [
+const OF_ONE_FORM: [(Form, &str); 20] = [
     (Form::Ty, "T.a"),
     (Form::Attribute, "Type"),
     (Form::Attribute, "Type.a.b"),
     (Form::Attribute, "9.9"),
     (Form::Attribute, "T."),
     (Form::FieldArgument, "T.f(a:"),
+    (Form::FieldArgument, "T.f(a"),
+    (Form::FieldArgument, "T.f(a: )"),
+    (Form::FieldArgument, "T.f"),
     (Form::FieldArgument, "T(a:)"),
     (Form::FieldArgument, "T.9(a"),
     (Form::FieldArgument, "T.f(9:)"),
@@ -108,7 +106,7 @@ fn the_first_refusal_in_the_order_of_reading_is_answered(rt: HostRuntime) -> Res
     let text = answers(rt.alloc(), &OF_ONE_FORM)?;
     assert_eq!(rt;
         text.as_str(),
-        "`T.a` is not a valid GraphQL name\ninvalid schema coordinate\n`a.b` is not a valid GraphQL name\n`9` is not a valid GraphQL name\n`` is not a valid GraphQL name\ninvalid schema coordinate\ninvalid schema coordinate\n`9` is not a valid GraphQL name\n`9` is not a valid GraphQL name\ninvalid schema coordinate\ninvalid schema coordinate\n`@d` is not a valid GraphQL name\ninvalid schema coordinate\ninvalid schema coordinate\ninvalid schema coordinate\n`9` is not a valid GraphQL name\n`a(` is not a valid GraphQL name\n"
+        "`T.a` is not a valid GraphQL name\ninvalid schema coordinate\n`a.b` is not a valid GraphQL name\n`9` is not a valid GraphQL name\n`` is not a valid GraphQL name\ninvalid schema coordinate\ninvalid schema coordinate\ninvalid schema coordinate\ninvalid schema coordinate\ninvalid schema coordinate\n`9` is not a valid GraphQL name\n`9` is not a valid GraphQL name\ninvalid schema coordinate\ninvalid schema coordinate\n`@d` is not a valid GraphQL name\ninvalid schema coordinate\ninvalid schema coordinate\ninvalid schema coordinate\n`9` is not a valid GraphQL name\n`a(` is not a valid GraphQL name\n"
     );
     Ok(())
 }

@@ -1,6 +1,8 @@
 //! Whether what documents are compiled to is rebuilt without fault, equal and written out the same.
 
-use apollo_compiler::{CompileOptions, Compiled, Definition, Document, compile};
+use crate::compiling::{Account, told};
+use apollo_compiler::{CompileOptions, Compiled, Definition};
+use apollo_schema::RootOperations;
 use bench_notation::printing::print;
 use bench_notation::reading::read;
 use std::alloc::{AllocError, Global};
@@ -41,41 +43,92 @@ fn are_printed_alike(
     Ok(first.as_str() == second.as_str())
 }
 
-fn push_rebuilt(alloc: Global, text: &mut String, compiled: &Compiled) -> Result<(), AllocError> {
-    let is_faultless = compiled.rebuilt_faults.is_empty();
-    let is_equal = compiled.rebuilt == compiled.schema;
-    let is_same = compiled.rebuilt_ast == compiled.ast;
-    let is_printed_so = are_printed_alike(
-        alloc,
-        compiled.rebuilt_ast.as_slice(),
-        compiled.ast.as_slice(),
-    )?;
-    write!(text, "no fault: {is_faultless}\nequal: {is_equal}\n")?;
-    write!(
-        text,
-        "same definitions: {is_same}\nsame text: {is_printed_so}\n"
-    )
-}
+/// Whether there is no fault in the rebuild, and what is the same in it.
+#[derive(Drop)]
+pub struct Rebuilt;
 
-/// What is said of the rebuild of what documents are compiled to.
-/// No clause: it serves tests.
-pub fn told_of(
-    alloc: Global,
-    options: CompileOptions,
-    documents: &[Document],
-) -> Result<String, AllocError> {
-    let mut text = String::new(alloc);
-    match compile(alloc, options, documents, &[], true) {
-        Ok(compiled) => push_rebuilt(alloc, &mut text, &compiled)?,
-        Err(error) => write!(&mut text, "{error}\n")?,
+impl Account for Rebuilt {
+    fn tell(
+        &self,
+        alloc: Global,
+        text: &mut String,
+        compiled: &Compiled,
+    ) -> Result<(), AllocError> {
+        let is_faultless = compiled.rebuilt_faults.is_empty();
+        let is_equal = compiled.rebuilt == compiled.schema;
+        let is_same = compiled.rebuilt_ast == compiled.ast;
+        let is_printed_so = are_printed_alike(
+            alloc,
+            compiled.rebuilt_ast.as_slice(),
+            compiled.ast.as_slice(),
+        )?;
+        write!(text, "no fault: {is_faultless}\nequal: {is_equal}\n")?;
+        write!(
+            text,
+            "same definitions: {is_same}\nsame text: {is_printed_so}\n"
+        )
     }
-    Ok(text)
 }
 
-/// What is said of the rebuild of the documents that a text says.
-fn told(alloc: Global, options: CompileOptions, input: &str) -> Result<String, Fail> {
+/// The write-out, and then what is said of the rebuild.
+#[derive(Drop)]
+pub struct Written;
+
+impl Account for Written {
+    fn tell(
+        &self,
+        alloc: Global,
+        text: &mut String,
+        compiled: &Compiled,
+    ) -> Result<(), AllocError> {
+        let printed = print(alloc, compiled.ast.as_slice())?;
+        text.push_str(printed.as_str())?;
+        Rebuilt.tell(alloc, text, compiled)
+    }
+}
+
+/// The roots of the schema, then those of the rebuild, and then what is said of the rebuild.
+#[derive(Drop)]
+struct Roots;
+
+fn push_roots(text: &mut String, roots: RootOperations<'_>) -> Result<(), AllocError> {
+    for (operation_type, root) in roots {
+        let name = &root.name;
+        write!(text, " {operation_type} {name}")?;
+    }
+    text.push_str("\n")
+}
+
+impl Account for Roots {
+    fn tell(
+        &self,
+        alloc: Global,
+        text: &mut String,
+        compiled: &Compiled,
+    ) -> Result<(), AllocError> {
+        text.push_str("roots:")?;
+        push_roots(
+            text,
+            compiled.schema.schema_definition.iter_root_operations(),
+        )?;
+        text.push_str("rebuilt:")?;
+        push_roots(
+            text,
+            compiled.rebuilt.schema_definition.iter_root_operations(),
+        )?;
+        Rebuilt.tell(alloc, text, compiled)
+    }
+}
+
+/// What is said of the documents that a text says.
+fn told_of<A: Account>(
+    alloc: Global,
+    account: &A,
+    options: CompileOptions,
+    input: &str,
+) -> Result<String, Fail> {
     let documents = read(alloc, input)?;
-    Ok(told_of(alloc, options, documents.as_slice())?)
+    Ok(told(alloc, account, options, documents.as_slice(), &[])?)
 }
 
 /// Expects each input's write-out to build an equal schema, without fault, with the same write-out.
@@ -85,7 +138,7 @@ fn expect_each(
     inputs: &[(&str, &str)],
 ) -> Result<(), Fail> {
     for (title, input) in inputs {
-        let text = told(rt.alloc(), options, *input)?;
+        let text = told_of(rt.alloc(), &Rebuilt, options, *input)?;
         assert_eq!(rt; text.as_str(), EQUAL, "{title:?}");
     }
     Ok(())
@@ -218,53 +271,59 @@ const BUILT_WITH_ADOPTION: [(&str, &str); 8] = [
 
 #[test]
 fn adopting_builds_are_rebuilt_equal(rt: HostRuntime) -> Result<(), Fail> {
-    expect_each(&rt, ADOPTING, &BUILT_WITH_ADOPTION)
-}
-
-#[test]
-fn the_same_without_adoption_is_rebuilt_equal(rt: HostRuntime) -> Result<(), Fail> {
+    expect_each(&rt, ADOPTING, &BUILT_WITH_ADOPTION)?;
+    // The same without adoption.
     expect_each(&rt, PLAIN, &BUILT_WITH_ADOPTION)
 }
 
 #[test]
 fn with_ignored_built_in_types_builds_are_rebuilt_equal(rt: HostRuntime) -> Result<(), Fail> {
-    expect_each(&rt, IGNORING, &BUILT_PLAINLY)
-}
-
-#[test]
-fn under_both_options_builds_are_rebuilt_equal(rt: HostRuntime) -> Result<(), Fail> {
+    expect_each(&rt, IGNORING, &BUILT_PLAINLY)?;
     expect_each(&rt, BOTH, &BUILT_PLAINLY)
 }
 
 /// How many extensions there are of one type.
 const EXTENSIONS: u32 = 2000;
 
-/// A type with extensions that give a field each, and the last of them a directive too, so that it is written out first.
-fn with_many_extensions(alloc: Global) -> Result<String, AllocError> {
-    let mut input = String::new(alloc);
-    input.push_str("def object T\n")?;
+/// Adds extensions that give the field `f` of their number each, in order, all but the last one.
+fn push_extensions(text: &mut String) -> Result<(), AllocError> {
     for number in 1..EXTENSIONS {
-        write!(&mut input, "ext object T\nfield f{number} Int\n")?;
+        write!(text, "ext object T\nfield f{number} Int\n")?;
     }
-    write!(&mut input, "ext object T\n@ d\nfield f{EXTENSIONS} Int\n")?;
-    Ok(input)
+    Ok(())
+}
+
+/// Adds the last extension, which has a directive too.
+fn push_last(text: &mut String) -> Result<(), AllocError> {
+    write!(text, "ext object T\n@ d\nfield f{EXTENSIONS} Int\n")
 }
 
 #[test]
-fn many_extensions_are_rebuilt_equal(rt: HostRuntime) -> Result<(), Fail> {
-    let input = with_many_extensions(rt.alloc())?;
-    let text = told(rt.alloc(), PLAIN, input.as_str())?;
-    assert_eq!(rt; text.as_str(), EQUAL);
+fn a_directive_puts_the_last_of_many_extensions_first(rt: HostRuntime) -> Result<(), Fail> {
+    let mut input = String::new(rt.alloc());
+    input.push_str("def object T\n")?;
+    push_extensions(&mut input)?;
+    push_last(&mut input)?;
+    let mut expected = String::new(rt.alloc());
+    expected.push_str("def object T\n")?;
+    push_last(&mut expected)?;
+    push_extensions(&mut expected)?;
+    // And they are rebuilt equal.
+    expected.push_str(EQUAL)?;
+    let text = told_of(rt.alloc(), &Written, PLAIN, input.as_str())?;
+    assert!(rt; text.as_str() == expected.as_str());
     Ok(())
 }
 
 #[test]
-fn a_schema_definition_without_a_root_is_not_rebuilt_equal(rt: HostRuntime) -> Result<(), Fail> {
+fn a_schema_definition_without_a_root_is_rebuilt_with_that_of_queries(
+    rt: HostRuntime,
+) -> Result<(), Fail> {
     let input = "schema\n@ d\ndirective d\non SCHEMA\ndef object Query\nfield a Int";
-    let text = told(rt.alloc(), PLAIN, input)?;
+    let text = told_of(rt.alloc(), &Roots, PLAIN, input)?;
     assert_eq!(rt;
         text.as_str(),
-        "no fault: true\nequal: false\nsame definitions: true\nsame text: true\n"
+        "roots:\nrebuilt: query Query\nno fault: true\nequal: false\nsame definitions: true\nsame text: true\n"
     );
     Ok(())
 }

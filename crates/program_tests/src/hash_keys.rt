@@ -1,6 +1,7 @@
 //! Runs under keys that were drawn, beside the same under fixed ones.
 
-use gqltool_run::running::{run, run_with_keys};
+use crate::running::ended;
+use gqltool_run::running::run_with_keys;
 use gqltool_run::status::Status;
 use graphql_nodes::collections::hash_keys::HashKeys;
 use std::alloc::Global;
@@ -11,14 +12,7 @@ const DRAWN: [u8; 16] = [
     201, 14, 3, 77, 250, 9, 130, 41, 5, 66, 187, 20, 99, 240, 8, 173,
 ];
 
-/// How a run under fixed keys ends, and what it writes.
-fn run_fixed(alloc: Global, words: &[&str], input: &str, output: &mut Vec<u8>) -> Status {
-    let mut reader = input.as_bytes();
-    let mut said = Vec::new(alloc);
-    run(alloc, words, &mut reader, output, &mut said)
-}
-
-/// The same under drawn keys.
+/// How a run under drawn keys ends, and what it writes.
 fn run_drawn(alloc: Global, words: &[&str], input: &str, output: &mut Vec<u8>) -> Status {
     let keys = HashKeys::from_bytes(DRAWN);
     let mut reader = input.as_bytes();
@@ -29,7 +23,9 @@ fn run_drawn(alloc: Global, words: &[&str], input: &str, output: &mut Vec<u8>) -
 /// Expects a run to end so and to write something, and to do the same under drawn keys.
 fn expect_same(rt: &(impl Abort + AllocGlobal), words: &[&str], input: &str, status: Status) {
     let mut fixed = Vec::new(rt.alloc());
-    let ended = run_fixed(rt.alloc(), words, input, &mut fixed);
+    let mut said = Vec::new(rt.alloc());
+    let mut reader = input.as_bytes();
+    let ended = ended(rt.alloc(), words, &mut reader, &mut fixed, &mut said);
     assert_eq!(rt; ended, status);
     assert!(rt; !fixed.is_empty());
     let mut drawn = Vec::new(rt.alloc());

@@ -1,0 +1,14 @@
+//! Tests of documents that are compiled, of what no clause says: that calls succeed with memory, and what the notation can't say.
+//! Most compare a text that tells all that is looked at.
+#![tactic(auto)]
+
+#[cfg(test)]
+mod by_calls;
+#[cfg(test)]
+mod compiled;
+#[cfg(test)]
+mod compiling;
+#[cfg(test)]
+mod making;
+#[cfg(test)]
+mod rebuilt;
