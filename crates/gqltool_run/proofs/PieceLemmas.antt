@@ -20,10 +20,6 @@ goes-further text old middle new left last first then = (
 pub goes-with : (text : List ℕ) (old new : Option (List ℕ)) (left more : List ℕ) → GoesOut text old new left → GoesOut (text ++ more) old new (left ++ more)
 goes-with text old new left more goes = (goes.0, (goes.1.0, ap (λ l. l ++ more) goes.1.1 ∙ append_assoc goes.0 left more))
 
--- all of it went out
-pub went-out : (text : List ℕ) (old new : Option (List ℕ)) (left : List ℕ) → GoesOut text old new left → left ≡ [] → Appends old new text
-went-out text old new left goes none = subst (Appends old new) (sym (goes.1.1 ∙ ap (λ l. goes.0 ++ l) none ∙ append-nil goes.0)) goes.1.0
-
 module _ {P Q R : List ℕ → Type 0} (join : (x y : List ℕ) → P x → Q y → R (x ++ y)) where
   -- one text is said, and there is another one to say
   pub said-before : (old new : Option (List ℕ)) (held left y : List ℕ) → IsSaid P old new held left → Q y → IsSaid R old new held (left ++ y)

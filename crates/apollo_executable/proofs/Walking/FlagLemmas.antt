@@ -92,10 +92,6 @@ pub marked_names-at : (d : ExecutableDocument) (fs : List Bool) (n : List ℕ) (
 unfolding marked_names
 marked_names-at d fs n i b place is = ap (at_place fs) place ∙ is
 
-pub marked_names-none : (d : ExecutableDocument) (fs : List Bool) (n : List ℕ) → position (by_text n) (keys_of d.fragments) ≡ None → marked_names d fs n ≡ false
-unfolding marked_names
-marked_names-none d fs n missing = ap (at_place fs) missing
-
 no_flag : (place : Option ℕ) → at_place [] place ≡ false
 no_flag None = refl
 no_flag (Some i) = refl

@@ -23,15 +23,6 @@ pub waiting-empty : waiting_lists [] ≡ []
 unfolding waiting_lists
 waiting-empty = refl
 
--- from two facts of an `Ok`, a third
-pub OnOk-both : {T E : Type 0} (A B C : Type 0) (r : Result T E) → OnOk r A → OnOk r B → (A → B → C) → OnOk r C
-OnOk-both A B C (Ok x) a b f = f a b
-OnOk-both A B C (Err e) a b f = tt
-
-pub OnOk-when : {T E : Type 0} (A : Type 0) (r : Result T E) → is_ok r ≡ true → OnOk r A → A
-OnOk-when A (Ok x) is a = a
-OnOk-when A (Err e) is a = absurd (cc)
-
 pub OnErr-always : {T E : Type 0} (A : Type 0) (r : Result T E) → A → OnErr r A
 OnErr-always A (Ok x) a = tt
 OnErr-always A (Err e) a = a
