@@ -1,9 +1,7 @@
-//! Tests of documents that are compiled, of what no clause says: that calls succeed with memory; and of the programs `gqltool`,
-//! `gqlrows` and `gqlbench`, of what rows can't say.
+//! Tests of documents that are compiled, of what no clause says: that calls succeed with memory; and of the programs `gqltool`
+//! and `gqlrows`, of what rows can't say.
 #![tactic(auto)]
 
-#[cfg(test)]
-mod clocks;
 #[cfg(test)]
 mod compiled;
 #[cfg(test)]
@@ -15,15 +13,9 @@ mod hash_keys;
 #[cfg(test)]
 mod inputs;
 #[cfg(test)]
-mod json_runs;
-#[cfg(test)]
 mod long_walks;
 #[cfg(test)]
 mod many_extensions;
-#[cfg(test)]
-mod memory_runs;
-#[cfg(test)]
-mod process_statuses;
 #[cfg(test)]
 mod rebuilt;
 #[cfg(test)]
@@ -31,12 +23,6 @@ mod rebuilt_by_calls;
 #[cfg(test)]
 mod row_streams;
 #[cfg(test)]
-mod runs;
-#[cfg(test)]
-mod sources;
-#[cfg(test)]
 mod streams;
-#[cfg(test)]
-mod summaries;
 #[cfg(test)]
 mod unchecked;
