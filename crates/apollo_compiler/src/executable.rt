@@ -8,8 +8,8 @@ pub use apollo_elaboration::{
     BuildError, ExecutableDefinitionName, Fault, Faults, FieldSet, SelectionPath,
 };
 pub use apollo_executable::{
-    AllFields, Argument, Directive, DirectiveList, ExecutableDocument, Field, Fields, Fragment,
-    FragmentMap, FragmentSpread, InlineFragment, Name, NamedType, NewFieldError, Node, Operation,
-    OperationMap, OperationType, Operations, RequestError, RootFields, Selection, SelectionSet,
-    Type, Value, VariableDefinition,
+    AllFields, Argument, Directive, DirectiveList, ExecutableDocument, Field, FieldWalk, Fields,
+    Fragment, FragmentMap, FragmentSpread, InlineFragment, Name, NamedType, NewFieldError, Node,
+    Operation, OperationMap, OperationType, Operations, RequestError, RootFields, Selection,
+    SelectionSet, Type, Value, VariableDefinition,
 };

@@ -1,12 +1,12 @@
 //! What documents build, and what the write-out of that builds again.
 
 use crate::inputs::Account;
-use crate::telling::{tell_document, tell_faults};
 use apollo_document::{BuilderError, ExecutableDocumentBuilder, Faults};
 use apollo_executable::ExecutableDocument;
 use apollo_schema::schema::Schema;
 use graphql_ast::document::Document;
 use std::alloc::{AllocError, Global};
+use telling::Tell;
 
 /// What documents build, one after the other.
 /// No clause: it serves tests.
@@ -43,7 +43,7 @@ fn tell_again(
         Ok(again) => {
             let is_equal = again.0 == *document;
             write!(text, "again: {is_equal}\n")?;
-            tell_faults(alloc, text, again.1.as_slice())
+            again.1.as_slice().tell(text)
         }
         Err(error) => write!(text, "{error}\n"),
     }
@@ -55,7 +55,8 @@ fn tell_built(
     schema: Option<&Schema>,
     built: &(ExecutableDocument, Faults),
 ) -> Result<(), AllocError> {
-    tell_document(alloc, text, &built.0, built.1.as_slice())?;
+    built.0.tell(text)?;
+    built.1.as_slice().tell(text)?;
     tell_again(alloc, text, schema, &built.0)
 }
 

@@ -2,7 +2,6 @@
 
 use crate::expecting::expect;
 use crate::inputs::Account;
-use crate::telling::{tell_faults, tell_set};
 use apollo_elaboration::FieldSet;
 use apollo_schema::schema::Schema;
 use bench_selections::printing::push_selections;
@@ -11,6 +10,7 @@ use graphql_ast::document::Document;
 use graphql_ast::operation::FragmentDefinition;
 use std::alloc::{AllocError, Global};
 use std::test::Fail;
+use telling::Tell;
 
 /// The field sets of the selections of fragments, from the types of their conditions.
 #[derive(Drop)]
@@ -18,8 +18,7 @@ struct FieldSets;
 
 /// Adds a field set, as it is written out, and how many sources it has.
 fn tell_field_set(alloc: Global, text: &mut String, set: &FieldSet) -> Result<(), AllocError> {
-    tell_set(text, &set.selection_set)?;
-    text.push_str("\n")?;
+    set.tell(text)?;
     let written = set.to_ast(alloc)?;
     push_selections(alloc, text, written.as_slice(), 0)?;
     let sources = set.sources.len();
@@ -35,7 +34,7 @@ fn tell_fragment(
     let ty = fragment.type_condition.clone()?;
     let made = FieldSet::from_ast(alloc, schema, ty, fragment.selection_set.as_slice())?;
     tell_field_set(alloc, text, &made.0.clone()?)?;
-    tell_faults(alloc, text, made.1.as_slice())
+    made.1.as_slice().tell(text)
 }
 
 fn tell_document(
@@ -73,7 +72,7 @@ fn a_field_that_the_type_lacks_is_dropped(rt: HostRuntime) -> Result<(), Fail> {
         &rt,
         &FieldSets,
         "def object Query\nfield id ID\nfield organization Org\ndef object Org\nfield id ID\n===\nfragment F Query\nsel 0 field name\n",
-        "Query { }\n0 sources\n8: type `Query` does not have a field `name` (query → name)\n",
+        "Query 1:7 { } \n0 sources\n1:8 type `Query` does not have a field `name`; 1:1 1:8 (query → name)\n",
     )
 }
 
@@ -83,7 +82,7 @@ fn an_emptied_composite_field_stays(rt: HostRuntime) -> Result<(), Fail> {
         &rt,
         &FieldSets,
         "def object Query\nfield id ID\nfield user User\ndef object User\nfield id ID\n===\nfragment F Query\nsel 0 field id\nsel 1 field x\nsel 0 field user me\nsel 1 field nope\nsel 0 inline Gone\nsel 1 field a\nsel 0 spread F\n",
-        "Query { me: user -> User { } ...F }\nsel 0 field user me\nsel 0 spread F\n0 sources\n8: field selection of scalar type `ID` must not have subselections (query → id)\n11: type `User` does not have a field `nope` (query → me → nope)\n12: type condition `Gone` of inline fragment is not a type defined in the schema (query)\n",
+        "Query 1:7 { 1:10 me 1:10 user 1:10 is 1:3 user 1:3 User 1:3 -> User 1:3 { } 1:14 ... F 1:14 } \nsel 0 field user me\nsel 0 spread F\n0 sources\n1:8 field selection of scalar type `ID` must not have subselections; 1:2 (query → id)\n1:11 type `User` does not have a field `nope`; 1:4 1:11 (query → me → nope)\n1:12 type condition `Gone` of inline fragment is not a type defined in the schema; 1:12 (query)\n",
     )
 }
 
@@ -93,6 +92,6 @@ fn the_type_of_a_field_set_is_the_one_that_is_named(rt: HostRuntime) -> Result<(
         &rt,
         &FieldSets,
         "def object Query\nfield user User\ndef object User\nfield id ID\n===\nfragment F User\nsel 0 field id\nsel 0 field __typename\nsel 0 field __schema\nfragment G Gone\nsel 0 field id\nsel 0 inline\nsel 1 field id\nsel 0 inline User\nsel 1 field id\n",
-        "User { id: id -> ID { } __typename: __typename -> String { } }\nsel 0 field id\nsel 0 field __typename\n0 sources\n9: type `User` does not have a field `__schema` (query → __schema)\nGone { ... Gone { } ... User { id: id -> ID { } } }\nsel 0 inline\nsel 0 inline User\nsel 1 field id\n0 sources\n",
+        "User 1:6 { 1:7 id 1:7 is 1:4 id 1:4 ID 1:4 -> ID 1:4 { } 1:8 __typename 1:8 is - __typename - String - ! -> String - { } } \nsel 0 field id\nsel 0 field __typename\n0 sources\n1:9 type `User` does not have a field `__schema`; 1:3 1:9 (query → __schema)\nGone 1:10 { 1:12 ...on -> Gone 1:10 { } 1:14 ...on User 1:14 -> User 1:14 { 1:15 id 1:15 is 1:4 id 1:4 ID 1:4 -> ID 1:4 { } } } \nsel 0 inline\nsel 0 inline User\nsel 1 field id\n0 sources\n",
     )
 }

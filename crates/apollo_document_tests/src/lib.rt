@@ -32,8 +32,6 @@ mod selections;
 #[cfg(test)]
 mod sources;
 #[cfg(test)]
-mod telling;
-#[cfg(test)]
 mod typed;
 #[cfg(test)]
 mod walks;

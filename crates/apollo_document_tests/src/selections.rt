@@ -2,7 +2,6 @@
 
 use crate::expecting::expect;
 use crate::inputs::Account;
-use crate::telling::{tell_faults, tell_set};
 use apollo_elaboration::{ExecutableDefinitionName, SelectionPath, elaborate_selections};
 use apollo_schema::schema::Schema;
 use graphql_ast::definition::Definition;
@@ -13,6 +12,7 @@ use graphql_nodes::name::Name;
 use graphql_nodes::operation_type::OperationType;
 use std::alloc::{AllocError, Global};
 use std::test::Fail;
+use telling::Tell;
 
 /// The selections of operations, from the type `Query` in the query `Q`, over the schema or without one.
 #[derive(Drop)]
@@ -34,9 +34,9 @@ fn tell_selections(
     };
     let mut faults = Items::new(alloc);
     let set = elaborate_selections(alloc, schema, &ty, selections, &mut path, &mut faults)?;
-    tell_set(text, &set)?;
+    set.tell(text)?;
     text.push_str("\n")?;
-    tell_faults(alloc, text, faults.as_slice())
+    faults.as_slice().tell(text)
 }
 
 fn tell_document(
@@ -75,7 +75,7 @@ fn without_a_schema_all_is_kept(rt: HostRuntime) -> Result<(), Fail> {
         &rt,
         &Selections { has_schema: false },
         "def object Query\n===\noperation query Q\nsel 0 field a\nsel 1 field b c\nsel 0 inline Gone\nsel 1 field d\nsel 0 inline\nsel 1 field e\nsel 0 spread F\n",
-        "Query { a: a -> UNKNOWN { c: b -> UNKNOWN { } } ... Gone { d: d -> UNKNOWN { } } ... Query { e: e -> UNKNOWN { } } ...F }\n",
+        "Query - { 1:4 a 1:4 is - a 1:4 UNKNOWN - -> UNKNOWN - { 1:5 c 1:5 b 1:5 is - b 1:5 UNKNOWN - -> UNKNOWN - { } } 1:6 ...on Gone 1:6 -> Gone 1:6 { 1:7 d 1:7 is - d 1:7 UNKNOWN - -> UNKNOWN - { } } 1:8 ...on -> Query - { 1:9 e 1:9 is - e 1:9 UNKNOWN - -> UNKNOWN - { } } 1:10 ... F 1:10 } \n",
     )
 }
 
@@ -85,7 +85,7 @@ fn fields_of_a_missing_type_fall_silently(rt: HostRuntime) -> Result<(), Fail> {
         &rt,
         &Selections { has_schema: true },
         "def object Query\nfield color Color\nfield gone Gone\nfield user User\ndef object User\nfield id ID\ndef enum Color\nvalue RED\n===\noperation query Q\nsel 0 field color hue\nsel 1 field x\nsel 0 field gone\nsel 1 field y\nsel 0 field __typename\nsel 0 inline\nsel 1 field user\nsel 2 field nope\n",
-        "Query { gone: gone -> Gone { } __typename: __typename -> String { } ... Query { user: user -> User { } } }\n11: field selection of enum type `Color` must not have subselections (query Q → hue)\n18: type `User` does not have a field `nope` (query Q → user → nope)\n",
+        "Query - { 1:13 gone 1:13 is 1:3 gone 1:3 Gone 1:3 -> Gone 1:3 { } 1:15 __typename 1:15 is - __typename - String - ! -> String - { } 1:16 ...on -> Query - { 1:17 user 1:17 is 1:4 user 1:4 User 1:4 -> User 1:4 { } } } \n1:11 field selection of enum type `Color` must not have subselections; 1:2 (query Q → hue)\n1:18 type `User` does not have a field `nope`; 1:5 1:18 (query Q → user → nope)\n",
     )
 }
 
@@ -95,6 +95,6 @@ fn paths_go_through_fields_alone(rt: HostRuntime) -> Result<(), Fail> {
         &rt,
         &Selections { has_schema: true },
         "def object Query\nfield user [User!]!\ndef interface User\nfield friend User\nfield id ID!\n===\noperation query Q\nsel 0 inline Query\nsel 1 field user all\nsel 2 inline\nsel 3 field friend\nsel 4 inline Gone\nsel 5 field id\nsel 4 field id\nsel 5 field id\nsel 4 field friend\nsel 5 field id\nsel 3 inline Gone\n",
-        "Query { ... Query { all: user -> User { ... User { friend: friend -> User { friend: friend -> User { id: id -> ID { } } } } } } }\n12: type condition `Gone` of inline fragment is not a type defined in the schema (query Q → all → friend)\n14: field selection of scalar type `ID` must not have subselections (query Q → all → friend → id)\n18: type condition `Gone` of inline fragment is not a type defined in the schema (query Q → all)\n",
+        "Query - { 1:8 ...on Query 1:8 -> Query 1:8 { 1:9 all 1:9 user 1:9 is 1:2 user 1:2 [ User 1:2 ! ]! -> User 1:2 { 1:10 ...on -> User 1:2 { 1:11 friend 1:11 is 1:4 friend 1:4 User 1:4 -> User 1:4 { 1:16 friend 1:16 is 1:4 friend 1:4 User 1:4 -> User 1:4 { 1:17 id 1:17 is 1:5 id 1:5 ID 1:5 ! -> ID 1:5 { } } } } } } } \n1:12 type condition `Gone` of inline fragment is not a type defined in the schema; 1:12 (query Q → all → friend)\n1:14 field selection of scalar type `ID` must not have subselections; 1:5 (query Q → all → friend → id)\n1:18 type condition `Gone` of inline fragment is not a type defined in the schema; 1:18 (query Q → all)\n",
     )
 }

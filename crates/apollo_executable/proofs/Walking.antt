@@ -2,7 +2,6 @@ pub mod FieldsInLemmas
 pub mod FlagLemmas
 pub mod IntrospectionLemmas
 pub mod ItemLemmas
-pub mod NestingLemmas
 pub mod NextLemmas
 pub mod PlainLemmas
 pub mod TurnLemmas

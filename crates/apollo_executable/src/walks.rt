@@ -6,10 +6,9 @@
 //! as it stands there. It looks at no directive (`@skip`, `@include`) and no type condition, and merges no fields: of section
 //! 6.3.2 it keeps the order, and that each fragment is visited once.
 
-pub mod all_fields;
 mod calls;
+pub mod field_walk;
 mod flags;
 mod introspection;
 mod open_lists;
-pub mod root_fields;
 mod walk;

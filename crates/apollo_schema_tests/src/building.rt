@@ -1,6 +1,6 @@
 //! What documents build, as text.
 
-use crate::accounts::{push_faults, push_schema};
+use crate::accounts::push_schema;
 use apollo_component::extension::ExtensionSource;
 use apollo_meaning::build_error::Fault;
 use apollo_schema::build_failure::{BuildFailure, WithErrors};
@@ -16,6 +16,7 @@ use std::alloc::{AllocError, Global};
 use std::process::Abort;
 use std::slice;
 use std::test::Fail;
+use telling::Tell;
 
 /// How documents are built.
 #[derive(Clone, Copy)]
@@ -190,7 +191,7 @@ struct Account<'a> {
 
 impl<'a> Account<'a> {
     fn push_faults(&mut self, faults: &[Fault]) -> Result<(), AllocError> {
-        push_faults(self.text, faults)?;
+        faults.tell(self.text)?;
         let are_copied = are_faults_copied(faults)?;
         write!(self.text, "faults copied equal: {are_copied}\n")
     }

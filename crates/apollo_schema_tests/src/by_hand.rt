@@ -89,7 +89,7 @@ fn the_last_file_of_a_number_stays_and_operations_and_fragments_are_at_fault(
     let text = told(alloc, PLAIN, &[first, second])?;
     assert_eq!(rt;
         text.as_str(),
-        "2:8-90 a schema document must not contain an operation definition\n2:8-90 a schema document must not contain a fragment definition\nnowhere the type `Query` is defined multiple times in the schema\n2:8-90 a schema document must not contain an operation definition\n2:8-90 a schema document must not contain a fragment definition\nfaults copied equal: true\npartial schema copied equal: true\nfile 2 is second.graphql\nQuery in the definition\nquery is Query, an object type: true\nWhere queries begin.\ndef object Query\nrebuilt equal: true\ncopied equal: true, true, true\n0 is next\n"
+        "2:8-90 a schema document must not contain an operation definition\n2:8-90 a schema document must not contain a fragment definition\n- the type `Query` is defined multiple times in the schema; - - \n2:8-90 a schema document must not contain an operation definition\n2:8-90 a schema document must not contain a fragment definition\nfaults copied equal: true\npartial schema copied equal: true\nfile 2 \"second.graphql\" \"type Query\"\n- schema \nquery definition Query - \nQuery - 2:8-90 object \"Where queries begin.\" - Query - \ndefinition Query - \nquery is Query, an object type: true\ndef object Query\nrebuilt equal: true\ncopied equal: true, true, true\n0 is next\n"
     );
     Ok(())
 }

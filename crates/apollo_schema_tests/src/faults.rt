@@ -12,14 +12,14 @@ use std::test::Fail;
 fn a_second_root_and_a_second_schema_definition(rt: HostRuntime) -> Result<(), Fail> {
     let input = "schema\nroot mutation M\nroot mutation N\nschema\nroot query Q";
     let account =
-        "1:3-3 duplicate definitions for the `mutation` root operation type\n1:4-4 must not have multiple `schema` definitions\nfaults copied equal: true\npartial schema copied equal: true\nM in the definition\nmutation is M, an object type: false\nschema\nroot mutation M\nrebuilt equal: true\ncopied equal: true, true, true\n0 is next\n";
+        "1:3 duplicate definitions for the `mutation` root operation type; 1:2 \n1:4 must not have multiple `schema` definitions; 1:1 \nfaults copied equal: true\npartial schema copied equal: true\n1:1 schema \nmutation definition M 1:2 \ndefinition M 1:2 \nmutation is M, an object type: false\nschema\nroot mutation M\nrebuilt equal: true\ncopied equal: true, true, true\n0 is next\n";
     expect(&rt, PLAIN, input, account)
 }
 
 #[test]
 fn a_schema_extension_alone(rt: HostRuntime) -> Result<(), Fail> {
     let account =
-        "1:1-1 schema extension without a schema definition\nfaults copied equal: true\npartial schema copied equal: true\nrebuilt equal: true\ncopied equal: true, true, true\n0 is next\n";
+        "1:1 schema extension without a schema definition\nfaults copied equal: true\npartial schema copied equal: true\n- schema \nrebuilt equal: true\ncopied equal: true, true, true\n0 is next\n";
     expect(&rt, PLAIN, "ext-schema\n@ d", account)
 }
 
@@ -62,7 +62,7 @@ fn a_source_is_handed_back(rt: HostRuntime) -> Result<(), Fail> {
         adopts: false,
     };
     let account =
-        "a in extension 7 of line 2\nb in extension 8 of line 4\ndef object T\next object T\nfield a Int\next object T\nfield b Int\nrebuilt equal: true\ncopied equal: true, true, true\n9 is next\n";
+        "- schema \nT 1:1 1:1 object T 1:1 \na 1:3 extension 7 of 1:2 1:3 a 1:3 Int 1:3 \nb 1:5 extension 8 of 1:4 1:5 b 1:5 Int 1:5 \ndef object T\next object T\nfield a Int\next object T\nfield b Int\nrebuilt equal: true\ncopied equal: true, true, true\n9 is next\n";
     expect(&rt, settings, TOGETHER, account)
 }
 
@@ -85,10 +85,10 @@ fn after_the_last_number_none_is_drawn(rt: HostRuntime) -> Result<(), Fail> {
 #[test]
 fn an_extension_that_is_not_folded_takes_no_number(rt: HostRuntime) -> Result<(), Fail> {
     let account =
-        "T waits\n1:1-1 type extension for undefined type `T`\nfaults copied equal: true\npartial schema copied equal: true\nrebuilt equal: true\ncopied equal: true, true, true\n18446744073709551615 is next\n";
+        "T waits\n1:1 type extension for undefined type `T`; 1:1 \nfaults copied equal: true\npartial schema copied equal: true\n- schema \nrebuilt equal: true\ncopied equal: true, true, true\n18446744073709551615 is next\n";
     expect(&rt, SPENT, "ext object T", account)?;
     let account =
-        "1:1-1 adding an enum type extension, but `T` is an object type\nfaults copied equal: true\npartial schema copied equal: true\nx in the definition\ndef object T\nfield x Int\nrebuilt equal: true\ncopied equal: true, true, true\n18446744073709551615 is next\n";
+        "1:1 adding an enum type extension, but `T` is an object type\nfaults copied equal: true\npartial schema copied equal: true\nx in the definition\ndef object T\nfield x Int\nrebuilt equal: true\ncopied equal: true, true, true\n18446744073709551615 is next\n";
     expect(
         &rt,
         SPENT,

@@ -56,7 +56,7 @@ fn a_new_schema_has_the_built_in_types_alone(rt: HostRuntime) -> Result<(), Fail
     let text = told_of_new(rt.alloc())?;
     assert_eq!(rt;
         text.as_str(),
-        "Int Float String Boolean ID __Schema __Type __TypeKind __Field __InputValue __EnumValue __Directive __DirectiveLocation rebuilt equal: true\ncopied equal: true, true, true\nbuilt of no documents: true\n"
+        "Int Float String Boolean ID __Schema __Type __TypeKind __Field __InputValue __EnumValue __Directive __DirectiveLocation - schema \nrebuilt equal: true\ncopied equal: true, true, true\nbuilt of no documents: true\n"
     );
     Ok(())
 }

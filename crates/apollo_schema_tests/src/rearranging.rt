@@ -1,7 +1,6 @@
 //! Documents whose definitions change places: their schemas are equal and their faults the same, or, where extensions of one
 //! name change places, they are not.
 
-use crate::accounts::push_faults;
 use crate::building::{ADOPTING, PLAIN, Settings, View, begun, is_built_of, schema_in, show};
 use apollo_schema::build_failure::BuildFailure;
 use apollo_schema::schema::Schema;
@@ -11,6 +10,7 @@ use std::alloc::{AllocError, Global};
 use std::process::Abort;
 use std::slice;
 use std::test::Fail;
+use telling::Tell;
 
 /// A view that adds the faults of a build, and whether another document builds an equal schema.
 #[derive(Drop)]
@@ -24,7 +24,7 @@ struct Pair<'a> {
 impl<'a> View for Pair<'a> {
     fn view(&mut self, built: &Result<Schema, BuildFailure>, _next: u64) -> Result<(), AllocError> {
         if let Err(BuildFailure::Faults(found)) = built {
-            push_faults(self.text, found.errors.as_slice())?;
+            found.errors.as_slice().tell(self.text)?;
         }
         let other = slice::from_ref(self.other);
         let is_equal = match schema_in(built) {
@@ -84,7 +84,7 @@ fn two_definitions_change_places(rt: HostRuntime) -> Result<(), Fail> {
     let text = told(rt.alloc(), PLAIN, input, &[1, 0])?;
     assert_eq!(rt;
         text.as_str(),
-        "1:3-3 duplicate definitions for the `a` field of object type `A`\n1:6-6 duplicate definitions for the `b` field of object type `B`\nequal: true\n1:6-6 duplicate definitions for the `b` field of object type `B`\n1:3-3 duplicate definitions for the `a` field of object type `A`\nequal: true\n"
+        "1:3 duplicate definitions for the `a` field of object type `A`; 1:2 1:1 \n1:6 duplicate definitions for the `b` field of object type `B`; 1:5 1:4 \nequal: true\n1:6 duplicate definitions for the `b` field of object type `B`; 1:5 1:4 \n1:3 duplicate definitions for the `a` field of object type `A`; 1:2 1:1 \nequal: true\n"
     );
     Ok(())
 }
@@ -95,7 +95,7 @@ fn an_extension_goes_behind_its_definition(rt: HostRuntime) -> Result<(), Fail> 
     let text = told(rt.alloc(), PLAIN, input, &[1, 0])?;
     assert_eq!(rt;
         text.as_str(),
-        "1:2-2 duplicate definitions for the `a` field of object type `Q`\nequal: true\n1:2-2 duplicate definitions for the `a` field of object type `Q`\nequal: true\n"
+        "1:2 duplicate definitions for the `a` field of object type `Q`; 1:4 1:1 \nequal: true\n1:2 duplicate definitions for the `a` field of object type `Q`; 1:4 1:1 \nequal: true\n"
     );
     Ok(())
 }
@@ -107,7 +107,7 @@ fn schema_extensions_go_last(rt: HostRuntime) -> Result<(), Fail> {
     let text = told(rt.alloc(), PLAIN, input, &[1, 2, 0, 3])?;
     assert_eq!(rt;
         text.as_str(),
-        "1:2-2 duplicate definitions for the `query` root operation type\n1:9-9 duplicate definitions for the `query` root operation type\nequal: true\n1:2-2 duplicate definitions for the `query` root operation type\n1:9-9 duplicate definitions for the `query` root operation type\nequal: true\n"
+        "1:2 duplicate definitions for the `query` root operation type; 1:4 \n1:9 duplicate definitions for the `query` root operation type; 1:4 \nequal: true\n1:2 duplicate definitions for the `query` root operation type; 1:4 \n1:9 duplicate definitions for the `query` root operation type; 1:4 \nequal: true\n"
     );
     Ok(())
 }
@@ -121,12 +121,12 @@ fn type_extensions_go_before_schema_extensions(rt: HostRuntime) -> Result<(), Fa
     let text = told(rt.alloc(), ADOPTING, EXTENSIONS_ALONE, &[3, 1, 0, 2])?;
     assert_eq!(rt;
         text.as_str(),
-        "1:9-9 duplicate definitions for the `b` field of object type `B`\n1:6-6 duplicate definitions for the `query` root operation type\nequal: true\n1:9-9 duplicate definitions for the `b` field of object type `B`\n1:6-6 duplicate definitions for the `query` root operation type\nequal: true\n"
+        "1:9 duplicate definitions for the `b` field of object type `B`; 1:8 1:7 \n1:6 duplicate definitions for the `query` root operation type; 1:2 \nequal: true\n1:9 duplicate definitions for the `b` field of object type `B`; 1:8 1:7 \n1:6 duplicate definitions for the `query` root operation type; 1:2 \nequal: true\n"
     );
     let text = told(rt.alloc(), PLAIN, EXTENSIONS_ALONE, &[3, 1, 0, 2])?;
     assert_eq!(rt;
         text.as_str(),
-        "1:3-3 type extension for undefined type `A`\n1:7-7 type extension for undefined type `B`\n1:1-1 schema extension without a schema definition\n1:5-5 schema extension without a schema definition\nequal: true\n1:7-7 type extension for undefined type `B`\n1:3-3 type extension for undefined type `A`\n1:1-1 schema extension without a schema definition\n1:5-5 schema extension without a schema definition\nequal: true\n"
+        "1:3 type extension for undefined type `A`\n1:7 type extension for undefined type `B`\n1:1 schema extension without a schema definition\n1:5 schema extension without a schema definition\nequal: true\n1:7 type extension for undefined type `B`\n1:3 type extension for undefined type `A`\n1:1 schema extension without a schema definition\n1:5 schema extension without a schema definition\nequal: true\n"
     );
     Ok(())
 }
@@ -137,7 +137,7 @@ fn extensions_of_one_name_and_two_kinds_do_not_change_places(rt: HostRuntime) ->
     let text = told(rt.alloc(), ADOPTING, input, &[1, 0])?;
     assert_eq!(rt;
         text.as_str(),
-        "1:3-3 adding an interface type extension, but `A` is an object type\nequal: false\n1:1-1 adding an object type extension, but `A` is an interface type\nequal: false\n"
+        "1:3 adding an interface type extension, but `A` is an object type; 1:1 1:3 \nequal: false\n1:1 adding an object type extension, but `A` is an interface type; 1:3 1:1 \nequal: false\n"
     );
     Ok(())
 }
@@ -159,11 +159,11 @@ fn expect_told(
 fn an_early_extension_and_its_definition_change_places(rt: HostRuntime) -> Result<(), Fail> {
     let input = "ext object T\nfield a Int\ndef object T\nfield a String";
     let account =
-        "1:2-2 duplicate definitions for the `a` field of object type `T`\nequal: true\n1:2-2 duplicate definitions for the `a` field of object type `T`\nequal: true\n";
+        "1:2 duplicate definitions for the `a` field of object type `T`; 1:4 1:1 \nequal: true\n1:2 duplicate definitions for the `a` field of object type `T`; 1:4 1:1 \nequal: true\n";
     expect_told(&rt, PLAIN, input, &[1, 0], account)?;
     let input = "ext enum T\nvalue A\ndef object T\nfield x Int";
     let account =
-        "1:1-1 adding an enum type extension, but `T` is an object type\nequal: true\n1:1-1 adding an enum type extension, but `T` is an object type\nequal: true\n";
+        "1:1 adding an enum type extension, but `T` is an object type\nequal: true\n1:1 adding an enum type extension, but `T` is an object type\nequal: true\n";
     expect_told(&rt, PLAIN, input, &[1, 0], account)
 }
 
@@ -172,7 +172,7 @@ fn early_schema_extensions_go_last_under_adoption(rt: HostRuntime) -> Result<(),
     let input =
         "ext-schema\nroot query Query\next-schema\nroot subscription S\nschema\nroot mutation Mutation\nroot query AnotherQuery\ndef object Query\ndef object Mutation\ndef object S\ndef object AnotherQuery";
     let account =
-        "1:2-2 duplicate definitions for the `query` root operation type\nequal: true\n1:2-2 duplicate definitions for the `query` root operation type\nequal: true\n";
+        "1:2 duplicate definitions for the `query` root operation type; 1:7 \nequal: true\n1:2 duplicate definitions for the `query` root operation type; 1:7 \nequal: true\n";
     expect_told(&rt, ADOPTING, input, &[2, 3, 4, 5, 6, 0, 1], account)
 }
 
@@ -185,7 +185,7 @@ fn a_type_with_six_faults_is_defined_first(rt: HostRuntime) -> Result<(), Fail> 
 
 /// The faults of a type that an extension comes before, and of an extension of no type; and so for the type's definition first.
 const SIX_FAULTS: &str =
-    "1:8-8 object type `T` implements interface `I` more than once\n1:10-10 duplicate definitions for the `a` field of object type `T`\n1:2-2 object type `T` implements interface `I` more than once\n1:3-3 duplicate definitions for the `a` field of object type `T`\n1:4-4 adding an enum type extension, but `T` is an object type\n1:11-11 the type `T` is defined multiple times in the schema\n1:13-13 duplicate definitions for the `a` field of object type `T`\n1:14-14 type extension for undefined type `U`\nequal: true\n1:8-8 object type `T` implements interface `I` more than once\n1:10-10 duplicate definitions for the `a` field of object type `T`\n1:2-2 object type `T` implements interface `I` more than once\n1:3-3 duplicate definitions for the `a` field of object type `T`\n1:4-4 adding an enum type extension, but `T` is an object type\n1:11-11 the type `T` is defined multiple times in the schema\n1:13-13 duplicate definitions for the `a` field of object type `T`\n1:14-14 type extension for undefined type `U`\nequal: true\n";
+    "1:8 object type `T` implements interface `I` more than once; 1:7 1:6 \n1:10 duplicate definitions for the `a` field of object type `T`; 1:9 1:6 \n1:2 object type `T` implements interface `I` more than once; 1:7 1:1 \n1:3 duplicate definitions for the `a` field of object type `T`; 1:9 1:1 \n1:4 adding an enum type extension, but `T` is an object type; 1:6 1:4 \n1:11 the type `T` is defined multiple times in the schema; 1:6 1:11 \n1:13 duplicate definitions for the `a` field of object type `T`; 1:9 1:12 \n1:14 type extension for undefined type `U`; 1:14 \nequal: true\n1:8 object type `T` implements interface `I` more than once; 1:7 1:6 \n1:10 duplicate definitions for the `a` field of object type `T`; 1:9 1:6 \n1:2 object type `T` implements interface `I` more than once; 1:7 1:1 \n1:3 duplicate definitions for the `a` field of object type `T`; 1:9 1:1 \n1:4 adding an enum type extension, but `T` is an object type; 1:6 1:4 \n1:11 the type `T` is defined multiple times in the schema; 1:6 1:11 \n1:13 duplicate definitions for the `a` field of object type `T`; 1:9 1:12 \n1:14 type extension for undefined type `U`; 1:14 \nequal: true\n";
 
 /// Extensions of the schema, one with a directive, and then of two types, and no definition.
 const WITH_A_DIRECTIVE: &str =
@@ -194,10 +194,10 @@ const WITH_A_DIRECTIVE: &str =
 #[test]
 fn extensions_with_a_directive_go_behind_those_of_types(rt: HostRuntime) -> Result<(), Fail> {
     let account =
-        "1:5-5 duplicate definitions for the `query` root operation type\nequal: true\n1:5-5 duplicate definitions for the `query` root operation type\nequal: true\n";
+        "1:5 duplicate definitions for the `query` root operation type; 1:3 \nequal: true\n1:5 duplicate definitions for the `query` root operation type; 1:3 \nequal: true\n";
     expect_told(&rt, ADOPTING, WITH_A_DIRECTIVE, &[2, 3, 0, 1], account)?;
     let account =
-        "1:6-6 type extension for undefined type `B`\n1:8-8 type extension for undefined type `A`\n1:1-1 schema extension without a schema definition\n1:4-4 schema extension without a schema definition\nequal: true\n1:6-6 type extension for undefined type `B`\n1:8-8 type extension for undefined type `A`\n1:1-1 schema extension without a schema definition\n1:4-4 schema extension without a schema definition\nequal: true\n";
+        "1:6 type extension for undefined type `B`\n1:8 type extension for undefined type `A`\n1:1 schema extension without a schema definition\n1:4 schema extension without a schema definition\nequal: true\n1:6 type extension for undefined type `B`\n1:8 type extension for undefined type `A`\n1:1 schema extension without a schema definition\n1:4 schema extension without a schema definition\nequal: true\n";
     expect_told(&rt, PLAIN, WITH_A_DIRECTIVE, &[2, 3, 0, 1], account)
 }
 
@@ -208,6 +208,6 @@ fn adopted_extensions_of_two_kinds_with_directives_do_not_change_places(
     let input =
         "ext object T\n@ dir\next interface T\n@ dir\ndirective dir\nrepeatable\non SCHEMA\non OBJECT";
     let account =
-        "1:3-3 adding an interface type extension, but `T` is an object type\nequal: false\n1:1-1 adding an object type extension, but `T` is an interface type\nequal: false\n";
+        "1:3 adding an interface type extension, but `T` is an object type; 1:1 1:3 \nequal: false\n1:1 adding an object type extension, but `T` is an interface type; 1:3 1:1 \nequal: false\n";
     expect_told(&rt, ADOPTING, input, &[1, 0, 2], account)
 }

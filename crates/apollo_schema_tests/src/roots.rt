@@ -9,7 +9,7 @@ fn nothing_is_written_out_of_no_definitions(rt: HostRuntime) -> Result<(), Fail>
         &rt,
         PLAIN,
         "",
-        "rebuilt equal: true\ncopied equal: true, true, true\n0 is next\n",
+        "- schema \nrebuilt equal: true\ncopied equal: true, true, true\n0 is next\n",
     )
 }
 
@@ -18,7 +18,7 @@ fn a_schema_definition_with_roots_is_rebuilt_equal(rt: HostRuntime) -> Result<()
     let input =
         "schema\n@ d\nroot query Q\next-schema\nroot mutation M\ndef object Q\nfield a Int\n";
     let account =
-        "d in the definition\nQ in the definition\nquery is Q, an object type: true\nM in extension 0 of line 4\nmutation is M, an object type: false\na in the definition\nschema\n@ d\nroot query Q\next-schema\nroot mutation M\ndef object Q\nfield a Int\nrebuilt equal: true\ncopied equal: true, true, true\n1 is next\n";
+        "1:1 schema \ndefinition 1:2 @ d 1:2 \nquery definition Q 1:3 \nmutation extension 0 of 1:4 M 1:5 \nQ 1:6 1:6 object Q 1:6 \na 1:7 definition 1:7 a 1:7 Int 1:7 \ndefinition Q 1:3 \nquery is Q, an object type: true\nextension 0 of 1:4 M 1:5 \nmutation is M, an object type: false\nschema\n@ d\nroot query Q\next-schema\nroot mutation M\ndef object Q\nfield a Int\nrebuilt equal: true\ncopied equal: true, true, true\n1 is next\n";
     expect(&rt, PLAIN, input, account)
 }
 
@@ -26,7 +26,7 @@ fn a_schema_definition_with_roots_is_rebuilt_equal(rt: HostRuntime) -> Result<()
 fn a_schema_definition_without_a_root_is_not_rebuilt(rt: HostRuntime) -> Result<(), Fail> {
     let input = "schema\n@ d\ndirective d\non SCHEMA\ndef object Query\nfield a Int";
     let account =
-        "d in the definition\na in the definition\ndirective d\non SCHEMA\ndef object Query\nfield a Int\nrebuilt equal: false\ncopied equal: true, true, true\n0 is next\n";
+        "1:1 schema \ndefinition 1:2 @ d 1:2 \nd 1:3 1:3 directive d 1:3 false [Schema]\nQuery 1:5 1:5 object Query 1:5 \na 1:6 definition 1:6 a 1:6 Int 1:6 \ndirective d\non SCHEMA\ndef object Query\nfield a Int\nrebuilt equal: false\ncopied equal: true, true, true\n0 is next\n";
     expect(&rt, PLAIN, input, account)?;
     // What is written out builds an implied definition in its place.
     let written = "directive d\non SCHEMA\ndef object Query\nfield a Int";
@@ -40,7 +40,7 @@ fn adopted_schema_definitions_are_rebuilt_equal(rt: HostRuntime) -> Result<(), F
     let input =
         "directive something\non SCHEMA\next-schema\n@ something\ndef object Query\nfield field Int";
     let account =
-        "something in extension 0 of line 3\nQuery in the definition\nquery is Query, an object type: true\nfield in the definition\nschema\nroot query Query\next-schema\n@ something\ndirective something\non SCHEMA\ndef object Query\nfield field Int\nrebuilt equal: true\ncopied equal: true, true, true\n1 is next\n";
+        "- schema \nextension 0 of 1:3 1:4 @ something 1:4 \nquery definition Query - \nsomething 1:1 1:1 directive something 1:1 false [Schema]\nQuery 1:5 1:5 object Query 1:5 \nfield 1:6 definition 1:6 field 1:6 Int 1:6 \ndefinition Query - \nquery is Query, an object type: true\nschema\nroot query Query\next-schema\n@ something\ndirective something\non SCHEMA\ndef object Query\nfield field Int\nrebuilt equal: true\ncopied equal: true, true, true\n1 is next\n";
     expect(&rt, ADOPTING, input, account)?;
     let input =
         "ext-schema\nroot query Query\ndef object Query\nfield viruses [Virus]\ndef object Virus\nfield mutations [Mutation]\ndef object Mutation\nfield something String";
@@ -53,6 +53,6 @@ fn adopted_schema_definitions_are_rebuilt_equal(rt: HostRuntime) -> Result<(), F
 fn adopted_types_of_the_default_names_are_roots(rt: HostRuntime) -> Result<(), Fail> {
     let input = "ext object Query\nfield foo String\next object Mutation\nfield bar String";
     let account =
-        "Query waits\nMutation waits\nQuery in the definition\nquery is Query, an object type: true\nMutation in the definition\nmutation is Mutation, an object type: true\nfoo in extension 0 of line 1\nbar in extension 1 of line 3\ndef object Query\next object Query\nfield foo String\ndef object Mutation\next object Mutation\nfield bar String\nrebuilt equal: true\ncopied equal: true, true, true\n2 is next\n";
+        "Query waits\nMutation waits\n- schema \nquery definition Query - \nmutation definition Mutation - \nQuery 1:1 1:1 object Query 1:1 \nfoo 1:2 extension 0 of 1:1 1:2 foo 1:2 String 1:2 \nMutation 1:3 1:3 object Mutation 1:3 \nbar 1:4 extension 1 of 1:3 1:4 bar 1:4 String 1:4 \ndefinition Query - \nquery is Query, an object type: true\ndefinition Mutation - \nmutation is Mutation, an object type: true\ndef object Query\next object Query\nfield foo String\ndef object Mutation\next object Mutation\nfield bar String\nrebuilt equal: true\ncopied equal: true, true, true\n2 is next\n";
     expect(&rt, ADOPTING, input, account)
 }

@@ -1,12 +1,8 @@
-pub mod Account
-pub mod Accounts
-pub mod Courses
-pub mod Depth
-pub mod InTurns
+pub mod Existence
 pub mod Names
 pub mod Once
 pub mod Orders
 pub mod Reached
-pub mod Sequences
 pub mod Steps
 pub mod Totals
+pub mod Whole

@@ -2,7 +2,7 @@
 use Rattle.std.proofs.Common.{◌≡◌, ◌⊎◌, inl, inr, ℕ, Bool, true, false, ◌||◌, List, [], ◌∷◌, ◌++◌, refl, sym, ap, ◌∙◌}
 use Rattle.graphql_nodes.specs.SameText.{same}
 use Rattle.graphql_nodes.proofs.Texts.{same-true, same-refl}
-use Rattle.apollo_walks.specs.Selections.{Names, with_name}
+use Rattle.apollo_walks.specs.Selections.{Names, with_name, with_names}
 use Rattle.apollo_walks.specs.Reachable.{Among, EachOnce}
 
 -- what stands in two lists, one after the other
@@ -19,11 +19,6 @@ pub Among-split : {A : Type 0} (n : A) (xs ys : List A) → Among n (xs ++ ys) �
 Among-split n [] ys h = inr h
 Among-split n (x ∷ xs) ys (inl e) = inl (inl e)
 Among-split n (x ∷ xs) ys (inr h) = elim (Among-split n xs ys h) [ inl a ↦ inl (inr a) | inr b ↦ inr b ]
-
--- the set with each of these names
-abbrev pub with_names : List (List ℕ) → Names → Names
-with_names [] before = before
-with_names (n ∷ ns) before = with_names ns (with_name n before)
 
 pub with_names-append : (xs ys : List (List ℕ)) (before : Names) → with_names (xs ++ ys) before ≡ with_names ys (with_names xs before)
 with_names-append [] ys before = refl

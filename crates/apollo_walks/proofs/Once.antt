@@ -7,7 +7,9 @@ use Rattle.std.proofs.lemmas.List.Sums.{sum_by-cons}
 use Rattle.apollo_walks.specs.Selections.{Selections, Fragments, fragment_of}
 use Rattle.apollo_walks.specs.Reachable.{Among, EachOnce, AreReachable, at_fragment}
 use Rattle.apollo_walks.specs.Turns.{size, own_turns, total, selections_in_reach, turns_in_reach, AreAllTurns}
-use Rattle.apollo_walks.proofs.Courses.{whole-turns, whole-within}
+use Rattle.apollo_walks.specs.Selections.{no_names}
+use Rattle.apollo_walks.proofs.Existence.{ordered}
+use Rattle.apollo_walks.proofs.Whole.{order-turns, order-few}
 use Rattle.apollo_walks.proofs.Names.{Among-left, Among-right, Among-split}
 
 module _ {A : Type 0} where
@@ -74,6 +76,7 @@ module _ {F : Type 0} (fragments : Fragments F) where
 
     pub turns-few : (ns : List (List ℕ)) → AreReachable fragments s ns → turns_in_reach fragments s ns ≤ 2 * selections_in_reach fragments s ns + 1
     turns-few ns p =
-        let all = whole-turns fragments s in
-        let few = whole-within fragments s in
+        let o = ordered fragments no_names s in
+        let all = order-turns fragments s o.fields o.opened o.order in
+        let few = order-few fragments s o.fields o.opened o.order in
         omega (arith, all.2, few.2, turns-same all.0 ns all.1 p, selections-same few.0 ns few.1 p)

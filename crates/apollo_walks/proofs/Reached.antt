@@ -4,13 +4,10 @@ use Rattle.std.specs.Prelude.{slice_index_or}
 use Rattle.std.specs.List.{Contains}
 use Rattle.std.specs.List.Sorted.{IsPermutation}
 use Rattle.std.proofs.lemmas.List.Sorted.{IsPermutation-sym, Contains-permutation}
-use Rattle.apollo_walks.specs.Selections.{Selections, Fragments, Names, no_names, fragment_of, occurrences}
+use Rattle.apollo_walks.specs.Selections.{Selections, Fragments, Names, fragment_of, occurrences}
 use Rattle.apollo_walks.specs.Reachable.{IsClosed, Among, Reachable, spread_at_the_start, spread_in_a_fragment, at_fragment, occurrences_in, reachable_occurrences, IsReached}
-use Rattle.apollo_walks.specs.WalkOrder.{Order}
 use Rattle.apollo_walks.specs.Whole.{IsWalk}
 use Rattle.apollo_walks.proofs.Names.{Among-left, Among-right, Among-split}
-use Rattle.apollo_walks.proofs.Orders.{course-order, order-determined}
-use Rattle.apollo_walks.proofs.Courses.{whole}
 
 Among-contains : {A : Type 0} (a : A) (xs : List A) → Among a xs → Contains xs a
 Among-contains a [] h = absurd h
@@ -49,22 +46,19 @@ module _ {F : Type 0} (fragments : Fragments F) (f : F) where
 
   pub in-walk : (s : Selections F) (fields : List F) → IsWalk fragments s fields → Among f fields → IsReached fragments s f
   in-walk s fields w h =
-      elim (Among-split f (occurrences s) (occurrences_in fragments w.names) (Among-shuffled f fields (reachable_occurrences fragments s w.names) w.each_once h)) [
+      elim (Among-split f (occurrences s) (occurrences_in fragments w.opened) (Among-shuffled f fields (reachable_occurrences fragments s w.opened) w.each_once h)) [
         | inl own ↦ inl own
-        | inr inside ↦ (let r = occurrences_in-from w.names inside in inr (r.0, r.2.0, w.reachable.sound r.0 r.1, r.2.1, r.2.2))
+        | inr inside ↦ (let r = occurrences_in-from w.opened inside in inr (r.0, r.2.0, w.reachable.sound r.0 r.1, r.2.1, r.2.2))
       ]
 
   pub walk-has : (s : Selections F) (fields : List F) → IsWalk fragments s fields → IsReached fragments s f → Among f fields
   walk-has s fields w (inl own) =
-      Among-shuffled f (reachable_occurrences fragments s w.names) fields (IsPermutation-sym fields (reachable_occurrences fragments s w.names) w.each_once) (Among-left f (occurrences s) (occurrences_in fragments w.names) own)
+      Among-shuffled f (reachable_occurrences fragments s w.opened) fields (IsPermutation-sym fields (reachable_occurrences fragments s w.opened) w.each_once) (Among-left f (occurrences s) (occurrences_in fragments w.opened) own)
   walk-has s fields w (inr (n, set, reachable, found, h)) =
-      Among-shuffled f (reachable_occurrences fragments s w.names) fields (IsPermutation-sym fields (reachable_occurrences fragments s w.names) w.each_once)
-      (Among-right f (occurrences s) (occurrences_in fragments w.names) (occurrences_in-to w.names n set (w.reachable.complete n reachable) found h))
+      Among-shuffled f (reachable_occurrences fragments s w.opened) fields (IsPermutation-sym fields (reachable_occurrences fragments s w.opened) w.each_once)
+      (Among-right f (occurrences s) (occurrences_in fragments w.opened) (occurrences_in-to w.opened n set (w.reachable.complete n reachable) found h))
 
 module _ {F : Type 0} (fragments : Fragments F) (s : Selections F) where
-  pub order-whole : (opened : Names) (fields : List F) → Order fragments no_names s fields opened → IsWalk fragments s fields
-  order-whole opened fields order = subst (λ l. IsWalk fragments s l) (order-determined fragments (course-order fragments no_names s) order).0 (whole fragments s)
-
   pub reachable-within : (set : Names) → IsClosed fragments s set → (n : List ℕ) → Reachable fragments s n → set n ≡ true
   reachable-within set closed n (spread_at_the_start among found) = closed.start n _ among found
   reachable-within set closed n (spread_in_a_fragment {m = m} before at among found) = closed.further m n _ _ (reachable-within set closed m before) at among found

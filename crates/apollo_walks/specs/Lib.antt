@@ -1,7 +1,6 @@
-pub mod Course
-pub mod OrderInTurns
 pub mod Reachable
 pub mod Selections
+pub mod ToCome
 pub mod TurnByTurn
 pub mod Turns
 pub mod WalkOrder

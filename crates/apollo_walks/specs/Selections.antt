@@ -25,6 +25,11 @@ no_names = λ _. false
 unfoldable pub with_name : List ℕ → Names → Names
 with_name n names = λ m. same n m || names m
 
+-- the set with each of these names
+abbrev pub with_names : List (List ℕ) → Names → Names
+with_names [] names = names
+with_names (n ∷ ns) names = with_names ns (with_name n names)
+
 module _ {F : Type 0} where
   -- the fragment of that name
   abbrev pub fragment_of : Fragments F → List ℕ → Option (Selections F)

@@ -24,6 +24,10 @@ module _ {F : Type 0} where
   own_turns (spread n rest) = suc (own_turns rest)
   own_turns (inline inner rest) = suc (suc (own_turns inner + own_turns rest))
 
+  -- those of one list, its closing with them
+  abbrev pub whole_turns : Selections F → ℕ
+  whole_turns s = suc (own_turns s)
+
   -- what f counts in each of these fragments, summed up
   abbrev pub total : (Selections F → ℕ) → Fragments F → List (List ℕ) → ℕ
   total f fragments [] = 0

@@ -6,30 +6,28 @@ ghost use Rattle.std.specs.Prelude.{◌≡◌, ◌≤◌, ◌+◌, ◌*◌, ◌�
 ghost use Rattle.std.specs.List.Sorted.{IsPermutation};
 ghost use Rattle.apollo_walks.specs.Selections.{Selections, Fragments, Names, no_names, fragment_of};
 ghost use Rattle.apollo_walks.specs.Reachable.{Among, Reachable, AreReachable, IsClosed, IsReached};
-ghost use Rattle.apollo_walks.specs.OrderInTurns.{OrderInTurns, AreDue, AreOpenings};
+ghost use Rattle.apollo_walks.specs.ToCome.{ToCome, IsToCome};
 ghost use Rattle.apollo_walks.specs.WalkOrder.{Order};
-ghost use Rattle.apollo_walks.specs.TurnByTurn.{AreTurnByTurn};
+ghost use Rattle.apollo_walks.specs.TurnByTurn.{AreTurnByTurn, IsAllToCome};
 ghost use Rattle.apollo_walks.specs.Turns.{AreAllTurns, AreWithinTurns, turns_in_reach, selections_in_reach};
-ghost use Rattle.apollo_walks.specs.Course.{course};
 ghost use Rattle.apollo_walks.specs.Whole.{IsWalk};
 ghost use Rattle.apollo_walks.specs.WorkedWalk.{worked_start, worked_first, worked_fragments};
 
-/// There is a walk over any selections, cyclic ones too, and it gives each field that is reached exactly as often as it
-/// stands there, in the order of walks. GraphQL specification of October 2021, sections 2.8 and 6.3.2.
+/// There is a walk over any selections, cyclic ones too. It gives each field that is reached exactly as often as it stands there, in
+/// the order of walks. GraphQL specification of October 2021, sections 2.8 and 6.3.2.
 pub fn walks_reach_each_field_once<F>()
-    ensures { (fragments : Fragments F) (s : Selections F) → IsWalk fragments s (course fragments no_names s).fields }
+    ensures { (fragments : Fragments F) (s : Selections F) → (fields : List F) × IsWalk fragments s fields }
 {}
 
-/// The order of walks leaves no choice: from the same opened names, the same selections give the same fields, and leave the
-/// same names opened.
+/// The order of walks leaves no choice: from the same opened names, the same selections give the same fields, and open the same names.
 pub fn walks_have_one_order<F>()
-    ensures { (fragments : Fragments F) (before x y : Names) (s : Selections F) (fs gs : List F)
-        → Order fragments before s fs x → Order fragments before s gs y → (fs ≡ gs) × (x ≡ y) }
+    ensures { (fragments : Fragments F) (before : Names) (s : Selections F) (fs gs : List F) (ms ns : List (List ℕ))
+        → Order fragments before s fs ms → Order fragments before s gs ns → (fs ≡ gs) × (ms ≡ ns) }
 {}
 
 /// Fields in the order of walks, from no opened name, are those of a whole walk.
 pub fn fields_in_order_are_a_walk<F>()
-    ensures { (fragments : Fragments F) (opened : Names) (s : Selections F) (fields : List F)
+    ensures { (fragments : Fragments F) (opened : List (List ℕ)) (s : Selections F) (fields : List F)
         → Order fragments no_names s fields opened → IsWalk fragments s fields }
 {}
 
@@ -45,36 +43,30 @@ pub fn reachable_names_are_the_fewest<F>()
     ensures { (fragments : Fragments F) (s : Selections F) (set : Names) → IsClosed fragments s set → (n : List ℕ) → Reachable fragments s n → set n ≡ true }
 {}
 
-/// A walk opens exactly the names that its selections lead to, and each of these has a fragment.
+/// A walk opens exactly the names that its selections lead to, each once, and each of these has a fragment.
 pub fn walks_open_what_is_reached<F>()
-    ensures opens { (fragments : Fragments F) (s : Selections F) (n : List ℕ) → ((course fragments no_names s).opened n ≡ true) ↔ Reachable fragments s n }
+    ensures opens { (fragments : Fragments F) (s : Selections F) (fields : List F) (opened : List (List ℕ))
+        → Order fragments no_names s fields opened → AreReachable fragments s opened }
     ensures defined { (fragments : Fragments F) (s : Selections F) (n : List ℕ) → Reachable fragments s n → (set : Selections F) × (fragment_of fragments n ≡ Some set) }
 {}
 
-/// What a walk gives that has some lists open comes turn by turn: an empty list is closed; a field is given, and what is below it
-/// opened; the list of an inline fragment is opened; and a spread is passed over where its name is opened or has no fragment, and
-/// else opens both. There is a turn left while a list is open.
+/// What is to come of a walk that has some lists open leaves no choice, and comes turn by turn: an empty list is closed; a field is
+/// given, and what is below it opened; the list of an inline fragment is opened; and a spread is passed over where its name is opened
+/// or has no fragment, and else opens both. There is a turn left while a list is open. A walk begins with one list, and then all of it
+/// is to come.
 pub fn walks_go_turn_by_turn<F>()
-    ensures { (fragments : Fragments F) (before : Names) → AreTurnByTurn fragments before }
+    ensures some { (fragments : Fragments F) (before : Names) (lists : List (Selections F)) → (x : ToCome F) × IsToCome fragments before lists x }
+    ensures one { (fragments : Fragments F) (before : Names) (lists : List (Selections F)) (x y : ToCome F)
+        → IsToCome fragments before lists x → IsToCome fragments before lists y → x ≡ y }
+    ensures turns { (fragments : Fragments F) (before : Names) → AreTurnByTurn fragments before }
+    ensures begins { (fragments : Fragments F) (s : Selections F) (x : ToCome F) → IsToCome fragments no_names (s ∷ []) x → IsAllToCome fragments s x }
 {}
 
 /// The turns of a walk over any selections: one, and one for each fragment that is reached, and those of the selections and
 /// of each of these fragments. They are at most two for each selection in reach, and one.
 pub fn walks_take_few_turns<F>()
-    ensures all { (fragments : Fragments F) (s : Selections F) → AreAllTurns fragments s (course fragments no_names s).turns }
-    ensures few { (fragments : Fragments F) (s : Selections F) → AreWithinTurns fragments s (course fragments no_names s).turns }
-{}
-
-/// A walk over any selections gives each field in its turn. These turns leave no choice, what comes in them is a whole walk, and
-/// the turns at their end are all turns of it.
-pub fn walks_give_each_field_in_its_turn<F>()
-    ensures due { (fragments : Fragments F) (s : Selections F) → AreDue fragments s (course fragments no_names s).fields ((course fragments no_names s).due 0) }
-    ensures one { (fragments : Fragments F) (s : Selections F) (fs gs : List F) (ds es : List ℕ) → AreDue fragments s fs ds → AreDue fragments s gs es → (fs ≡ gs) × (ds ≡ es) }
-    ensures walk { (fragments : Fragments F) (s : Selections F) (fields : List F) (due : List ℕ) → AreDue fragments s fields due → IsWalk fragments s fields }
-    ensures all { (fragments : Fragments F) (s : Selections F) (fields : List F) (due opening : List ℕ) (opened : Names) (turns : ℕ)
-        → OrderInTurns fragments no_names 0 s fields due opening opened turns → AreAllTurns fragments s turns }
-    ensures openings { (fragments : Fragments F) (s : Selections F) → AreOpenings fragments s ((course fragments no_names s).opening 0) }
-    ensures openings_one { (fragments : Fragments F) (s : Selections F) (xs ys : List ℕ) → AreOpenings fragments s xs → AreOpenings fragments s ys → xs ≡ ys }
+    ensures all { (fragments : Fragments F) (s : Selections F) → (turns : ℕ) × AreAllTurns fragments s turns }
+    ensures few { (fragments : Fragments F) (s : Selections F) (turns : ℕ) → AreAllTurns fragments s turns → AreWithinTurns fragments s turns }
 {}
 
 /// The names that selections lead to are one list but for their order, so the turns of a walk over them are one number, and
@@ -86,11 +78,10 @@ pub fn reachable_names_are_one_list<F>()
         → turns_in_reach fragments s ns ≤ 2 * selections_in_reach fragments s ns + 1 }
 {}
 
-/// Worked walks over fragments that spread one another, computed: from outside, and from one of them, which is opened again.
+/// Worked walks over fragments that spread one another: from outside, and from one of them, which is opened again.
 pub fn worked_walks()
-    ensures outside { (course worked_fragments no_names worked_start).fields ≡ codes "b" ∷ codes "a" ∷ codes "c" ∷ [] }
-    ensures turns_outside { (course worked_fragments no_names worked_start).turns ≡ 13 }
-    ensures due_outside { (course worked_fragments no_names worked_start).due 0 ≡ 5 ∷ 9 ∷ 10 ∷ [] }
+    ensures outside { Order worked_fragments no_names worked_start (codes "b" ∷ codes "a" ∷ codes "c" ∷ []) (codes "F" ∷ codes "G" ∷ []) }
+    ensures turns_outside { turns_in_reach worked_fragments worked_start (codes "F" ∷ codes "G" ∷ []) ≡ 13 }
     ensures selections_outside { selections_in_reach worked_fragments worked_start (codes "F" ∷ codes "G" ∷ []) ≡ 8 }
-    ensures inside { (course worked_fragments no_names worked_first).fields ≡ codes "a" ∷ codes "c" ∷ codes "b" ∷ codes "a" ∷ codes "c" ∷ [] }
+    ensures inside { Order worked_fragments no_names worked_first (codes "a" ∷ codes "c" ∷ codes "b" ∷ codes "a" ∷ codes "c" ∷ []) (codes "G" ∷ codes "F" ∷ []) }
 {}

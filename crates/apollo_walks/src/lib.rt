@@ -5,6 +5,3 @@
 #![tactic(auto)]
 
 pub mod laws;
-pub mod turn_count;
-
-pub use crate::turn_count::TurnCount;

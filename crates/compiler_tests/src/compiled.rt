@@ -2,59 +2,38 @@
 
 use crate::rebuilt::PLAIN;
 use apollo_compiler::{
-    Compiled, Document, HashKeys, build_executable_document, build_schema, compile,
+    Compiled, Definition, Document, HashKeys, build_executable_document, build_schema, compile,
     compile_with_keys,
 };
-use bench_notation::printing::print;
 use bench_notation::reading::{DividedDocuments, read_divided};
 use std::alloc::{AllocError, Global};
 use std::test::Fail;
+use telling::Tell;
 
-/// Adds the print of definitions, and how many faults there are beside them.
-fn push_part(
-    alloc: Global,
+/// Adds definitions and the faults beside them, each with its locations.
+fn push_part<F: Tell>(
     text: &mut String,
     title: &str,
-    document: &[apollo_compiler::Definition],
-    faults: usize,
+    definitions: &[Definition],
+    faults: &[F],
 ) -> Result<(), AllocError> {
-    let printed = print(alloc, document)?;
-    let printed = printed.as_str();
-    write!(text, "{title}, faults: {faults}\n{printed}")
+    write!(text, "{title}\n")?;
+    definitions.tell(text)?;
+    faults.tell(text)
 }
 
 /// Adds each part of what documents are compiled to.
-fn push_parts(alloc: Global, text: &mut String, compiled: &Compiled) -> Result<(), AllocError> {
-    let faults = compiled.schema_faults.len();
-    push_part(alloc, text, "schema", compiled.ast.as_slice(), faults)?;
-    let faults = compiled.rebuilt_faults.len();
-    push_part(
-        alloc,
-        text,
-        "rebuilt",
-        compiled.rebuilt_ast.as_slice(),
-        faults,
-    )?;
-    let faults = compiled.document_faults.len();
-    push_part(
-        alloc,
-        text,
-        "document",
-        compiled.erased.definitions.as_slice(),
-        faults,
-    )?;
+fn push_parts(text: &mut String, compiled: &Compiled) -> Result<(), AllocError> {
+    let (ast, faults) = (&compiled.ast, &compiled.schema_faults);
+    push_part(text, "schema", ast.as_slice(), faults.as_slice())?;
+    let (ast, faults) = (&compiled.rebuilt_ast, &compiled.rebuilt_faults);
+    push_part(text, "rebuilt", ast.as_slice(), faults.as_slice())?;
+    let (ast, faults) = (&compiled.erased.definitions, &compiled.document_faults);
+    push_part(text, "document", ast.as_slice(), faults.as_slice())?;
+    compiled.document.tell(text)?;
+    compiled.rebuilt.schema_definition.tell(text)?;
     let is_equal = compiled.rebuilt == compiled.schema;
-    let roots = compiled
-        .rebuilt
-        .schema_definition
-        .iter_root_operations()
-        .len();
-    let directives = compiled.rebuilt.schema_definition.directives.len();
-    let operations = compiled.document.operations.len();
-    write!(
-        text,
-        "equal: {is_equal}, roots rebuilt: {roots}, directives rebuilt: {directives}, operations: {operations}\n"
-    )
+    write!(text, "equal: {is_equal}\n")
 }
 
 /// Compiles documents under fixed keys, or under other ones.
@@ -96,7 +75,7 @@ fn told(
     match read_divided(alloc, input) {
         Ok(documents) => {
             match compiled(alloc, keys, &documents, type_system_definitions_are_errors) {
-                Ok(compiled) => push_parts(alloc, &mut text, &compiled)?,
+                Ok(compiled) => push_parts(&mut text, &compiled)?,
                 Err(error) => write!(&mut text, "{error}\n")?,
             }
         }
@@ -114,7 +93,7 @@ fn an_implied_definition_is_written_for_its_extensions(rt: HostRuntime) -> Resul
     let text = told(rt.alloc(), None, IMPLIED, true)?;
     assert_eq!(rt;
         text.as_str(),
-        "schema, faults: 0\nschema\nroot query Query\next-schema\n@ d\next-schema\nroot mutation M\ndef object Query\nfield a Int\ndef object M\nrebuilt, faults: 0\nschema\nroot query Query\next-schema\n@ d\next-schema\nroot mutation M\ndef object Query\nfield a Int\ndef object M\ndocument, faults: 0\nequal: true, roots rebuilt: 2, directives rebuilt: 1, operations: 0\n"
+        "schema\n- schema - query Query - \n1:3 ext-schema 1:4 @ d 1:4 \n1:5 ext-schema 1:6 mutation M 1:6 \n1:1 def Object Query 1:1 ( 1:2 a 1:2 Int 1:2 ) \n1:7 def Object M 1:7 \nrebuilt\n- schema - query Query - \n1:3 ext-schema 1:4 @ d 1:4 \n1:5 ext-schema 1:6 mutation M 1:6 \n1:1 def Object Query 1:1 ( 1:2 a 1:2 Int 1:2 ) \n1:7 def Object M 1:7 \ndocument\n- schema \nextension 0 of 1:3 1:4 @ d 1:4 \nquery definition Query - \nmutation extension 1 of 1:5 M 1:6 \nequal: true\n"
     );
     Ok(())
 }
@@ -125,7 +104,7 @@ fn a_schema_definition_without_a_root_is_rebuilt_with_one(rt: HostRuntime) -> Re
     let text = told(rt.alloc(), None, input, true)?;
     assert_eq!(rt;
         text.as_str(),
-        "schema, faults: 0\ndirective d\non SCHEMA\ndef object Query\nfield a Int\nrebuilt, faults: 0\ndirective d\non SCHEMA\ndef object Query\nfield a Int\ndocument, faults: 0\nequal: false, roots rebuilt: 1, directives rebuilt: 0, operations: 0\n"
+        "schema\n1:3 directive d 1:3 false [Schema]\n1:5 def Object Query 1:5 ( 1:6 a 1:6 Int 1:6 ) \nrebuilt\n1:3 directive d 1:3 false [Schema]\n1:5 def Object Query 1:5 ( 1:6 a 1:6 Int 1:6 ) \ndocument\n- schema \nquery definition Query - \nequal: false\n"
     );
     Ok(())
 }
@@ -139,7 +118,7 @@ fn each_build_has_its_faults_and_the_flag_counts(rt: HostRuntime) -> Result<(), 
     let text = told(rt.alloc(), None, FAULTY, true)?;
     assert_eq!(rt;
         text.as_str(),
-        "schema, faults: 1\ndef object Query\nfield a Int\nrebuilt, faults: 0\ndef object Query\nfield a Int\ndocument, faults: 2\noperation query Q\nsel 0 field a\nequal: true, roots rebuilt: 1, directives rebuilt: 0, operations: 1\n"
+        "schema\n1:1 def Object Query 1:1 ( 1:2 a 1:2 Int 1:2 ) \n1:3 duplicate definitions for the `a` field of object type `Query`; 1:2 1:1 \nrebuilt\n1:1 def Object Query 1:1 ( 1:2 a 1:2 Int 1:2 ) \ndocument\n1:5 query Q 1:5 { 1:6 a 1:6 { } }\n1:7 type `Query` does not have a field `gone`; 1:1 1:7 (query Q → gone)\n1:9 an executable document must not contain an object type definition; T 1:9 \nQ 1:5 1:5 query Q 1:5 -> Query - { 1:6 a 1:6 is 1:2 a 1:2 Int 1:2 -> Int 1:2 { } } \n- schema \nquery definition Query - \nequal: true\n"
     );
     let text = told(rt.alloc(), None, FAULTY, false)?;
     assert_eq!(rt;
@@ -160,17 +139,12 @@ fn told_of_builds(alloc: Global, input: &str) -> Result<String, Fail> {
         documents.schema.as_slice(),
     )?;
     let ast = schema.to_ast(alloc)?;
-    push_part(alloc, &mut text, "schema", ast.as_slice(), faults.len())?;
+    push_part(&mut text, "schema", ast.as_slice(), faults.as_slice())?;
     let queries = documents.executable.as_slice();
     let (document, faults) = build_executable_document(alloc, &schema, queries, true)?;
     let erased = document.to_ast(alloc)?;
-    push_part(
-        alloc,
-        &mut text,
-        "document",
-        erased.definitions.as_slice(),
-        faults.len(),
-    )?;
+    let definitions = erased.definitions.as_slice();
+    push_part(&mut text, "document", definitions, faults.as_slice())?;
     Ok(text)
 }
 
@@ -179,7 +153,7 @@ fn each_build_has_a_call_of_its_own(rt: HostRuntime) -> Result<(), Fail> {
     let text = told_of_builds(rt.alloc(), FAULTY)?;
     assert_eq!(rt;
         text.as_str(),
-        "schema, faults: 1\ndef object Query\nfield a Int\ndocument, faults: 2\noperation query Q\nsel 0 field a\n"
+        "schema\n1:1 def Object Query 1:1 ( 1:2 a 1:2 Int 1:2 ) \n1:3 duplicate definitions for the `a` field of object type `Query`; 1:2 1:1 \ndocument\n1:5 query Q 1:5 { 1:6 a 1:6 { } }\n1:7 type `Query` does not have a field `gone`; 1:1 1:7 (query Q → gone)\n1:9 an executable document must not contain an object type definition; T 1:9 \n"
     );
     Ok(())
 }

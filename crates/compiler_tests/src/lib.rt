@@ -1,5 +1,5 @@
-//! Tests of documents that are compiled, of what no clause says: that calls succeed with memory; and of the programs `gqltool`
-//! and `gqlrows`, of what rows can't say.
+//! Tests of documents that are compiled, of what no clause says: that calls succeed with memory; and of the program `gqltool`,
+//! of what rows can't say.
 #![tactic(auto)]
 
 #[cfg(test)]
@@ -20,8 +20,6 @@ mod many_extensions;
 mod rebuilt;
 #[cfg(test)]
 mod rebuilt_by_calls;
-#[cfg(test)]
-mod row_streams;
 #[cfg(test)]
 mod streams;
 #[cfg(test)]

@@ -1,15 +1,30 @@
-//! `gqlrows`: runs of `gqltool`, read as rows from standard input, and which of them differ, written to standard output.
+//! `gqlrows`: runs of `gqltool`, read as rows from the files that the words name, or without a word from standard input, and which
+//! of them differ, written to standard output.
 #![tactic(auto)]
 
-use gqlrows_run::running::run_rows;
+mod report;
+mod row;
+mod running;
+mod stop;
+#[cfg(test)]
+mod tests;
+
+use crate::running::run_rows;
+use gqltool_run::arguments::words;
+use gqltool_run::status::Status;
 use std::process::ExitCode;
 
 fn main(rt: HostRuntime) -> ExitCode {
-    let status = run_rows(
-        rt.alloc(),
-        &mut rt.stdin(),
-        &mut rt.stdout(),
-        &mut rt.stderr(),
-    );
+    let status = match words(&rt, rt.alloc()) {
+        Ok(files) => run_rows(
+            &rt,
+            files.as_slice(),
+            rt.stdin(),
+            &mut rt.stdout(),
+            &mut rt.stderr(),
+        ),
+        // Want of memory is all that can be wrong here.
+        Err(_) => Status::Exhausted,
+    };
     ExitCode::from(status.code())
 }

@@ -10,7 +10,6 @@ pub mod doc_command;
 pub mod document_building;
 pub mod failure;
 mod fault_printing;
-pub mod field_walk;
 pub mod input;
 pub mod laws;
 pub mod leaf_command;

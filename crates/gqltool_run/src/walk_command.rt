@@ -2,7 +2,7 @@
 ghost use Rattle.std.specs.Prelude.{◌≡◌, ◌++◌, ℕ, Bool, List, [], map, IfErr, IfOk, OnErr, OnOk, codes, string_bytes};
 ghost use Rattle.bench_notation.specs.HeaderWords.{name_word};
 ghost use Rattle.apollo_executable.specs.Operations.{all_operations};
-ghost use Rattle.apollo_executable.specs.Walks.WalkView.{TakesAllTurns};
+ghost use Rattle.apollo_executable.specs.Walks.WalkView.{IsNewWalk, TakesAllTurns};
 ghost use Rattle.apollo_executable.specs.declared.document.ExecutableDocument.{ExecutableDocument};
 ghost use Rattle.apollo_executable.specs.declared.selection.SelectionSet.{SelectionSet};
 ghost use Rattle.gqltool_run.specs.Pieces.{GoesOut, IsBegun, IsCutShort, IsSaid};
@@ -13,7 +13,6 @@ use crate::answer::Answer;
 use crate::document_building::has_faults;
 use crate::failure::Failure;
 use crate::fault_printing::say_faults;
-use crate::field_walk::FieldWalk;
 use crate::leaving::leave;
 use crate::outlet::{CutShort, Kept, Outlet};
 use crate::output_line::push_line;
@@ -21,8 +20,7 @@ use apollo_compiler::compiled::Compiled;
 use apollo_executable::document::ExecutableDocument;
 use apollo_executable::operation::Operation;
 use apollo_executable::selection::{Field, SelectionSet};
-use apollo_executable::walks::all_fields::AllFields;
-use apollo_executable::walks::root_fields::RootFields;
+use apollo_executable::walks::field_walk::FieldWalk;
 use apollo_walks::laws::{walks_reach_each_field_once, walks_take_few_turns};
 use graphql_nodes::node::Node;
 use std::alloc::{AllocError, Global};
@@ -178,29 +176,64 @@ fn push_set<O: Outlet>(
     ensures begun { OnErr result (IsCutShort (IsSetText document.now set.now) (O.sent outlet.old) (O.sent outlet.new) (string_bytes text.old)) }
 {
     walks_have_texts();
-    push_walk::<RootFields<'_>, O>(alloc, text, outlet, document, set, "root ", "root-turns ")?;
-    push_walk::<AllFields<'_>, O>(alloc, text, outlet, document, set, "all ", "all-turns ")
+    push_walk(
+        alloc,
+        text,
+        outlet,
+        document,
+        set,
+        false,
+        "root ",
+        "root-turns ",
+    )?;
+    push_walk(
+        alloc,
+        text,
+        outlet,
+        document,
+        set,
+        true,
+        "all ",
+        "all-turns ",
+    )
+}
+
+/// A walk over a set, below fields too if it is `deep`.
+fn walk_over<'doc>(
+    alloc: Global,
+    document: &'doc ExecutableDocument,
+    set: &'doc SelectionSet,
+    deep: bool,
+) -> FieldWalk<'doc>
+    ensures { IsNewWalk deep document.now set.now result }
+{
+    if deep {
+        set.all_fields(alloc, document)
+    } else {
+        set.root_fields(alloc, document)
+    }
 }
 
 /// Adds the lines of a walk over a set: `word` stands before the key of each field, and `turns_word` before the turns.
-fn push_walk<'doc, W: FieldWalk<'doc>, O: Outlet>(
+fn push_walk<O: Outlet>(
     alloc: Global,
     text: &mut String,
     outlet: &mut O,
-    document: &'doc ExecutableDocument,
-    set: &'doc SelectionSet,
+    document: &ExecutableDocument,
+    set: &SelectionSet,
+    deep: bool,
     word: &str,
     turns_word: &str,
 ) -> Result<(), CutShort>
-    ensures said { OnOk result (IsSaid (IsWalkText W.deep word.now turns_word.now document.now set.now) (O.sent outlet.old) (O.sent outlet.new) (string_bytes text.old) (string_bytes text.new)) }
-    ensures begun { OnErr result (IsCutShort (IsWalkText W.deep word.now turns_word.now document.now set.now) (O.sent outlet.old) (O.sent outlet.new) (string_bytes text.old)) }
+    ensures said { OnOk result (IsSaid (IsWalkText deep word.now turns_word.now document.now set.now) (O.sent outlet.old) (O.sent outlet.new) (string_bytes text.old) (string_bytes text.new)) }
+    ensures begun { OnErr result (IsCutShort (IsWalkText deep word.now turns_word.now document.now set.now) (O.sent outlet.old) (O.sent outlet.new) (string_bytes text.old)) }
 {
     walks_have_texts();
-    let mut walk = W::over(alloc, document, set);
-    while let Some(field) = walk.next_field() {
+    let mut walk = walk_over(alloc, document, set, deep);
+    while let Some(field) = walk.next() {
         say_line(text, outlet, word, field?.response_key().as_str())?;
     }
-    say_turns(alloc, text, outlet, turns_word, walk.turns_so_far())
+    say_turns(alloc, text, outlet, turns_word, walk.turns())
 }
 
 /// Adds the line of a number of turns, and lets the text out where it has grown long.

@@ -168,7 +168,7 @@ fn nodes_stand_at_their_lines(rt: HostRuntime) -> Result<(), Fail> {
     push_locations(&mut text, documents.as_slice())?;
     assert_eq!(rt;
         text.as_str(),
-        "1:2-2 1:2-2 1:4-4 1:4-4 1:4-4 1:6-6 1:7-7 1:7-7 mutation M 1:9-9 1:9-9 "
+        "1:2 1:2 1:4 1:4 1:4 1:6 1:7 1:7 mutation M 1:9 1:9 "
     );
     Ok(())
 }

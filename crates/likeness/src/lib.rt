@@ -117,15 +117,19 @@ pub fn is_printed<T: Display>(alloc: Global, value: &T, text: &str) -> bool {
     }
 }
 
-/// Adds a location: the number of its file, and from where to where it goes.
+/// Adds a location: the number of its file, and from where to where it goes, or where it is if both are the same. `-` is none.
 /// No clause: it serves tests.
 pub fn push_location(text: &mut String, location: Option<SourceSpan>) -> Result<(), AllocError> {
     match location {
         Some(span) => {
             let SourceSpan { file, start, end } = span;
             let number = file.0;
-            write!(text, "{number}:{start}-{end} ")
+            if start == end {
+                write!(text, "{number}:{start} ")
+            } else {
+                write!(text, "{number}:{start}-{end} ")
+            }
         }
-        None => text.push_str("nowhere "),
+        None => text.push_str("- "),
     }
 }

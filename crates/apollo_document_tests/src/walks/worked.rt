@@ -32,7 +32,7 @@ fn itself(alloc: Global) -> Result<String, AllocError> {
 fn a_fragment_that_is_started_is_opened_once_more(rt: HostRuntime) -> Result<(), Fail> {
     let text = itself(rt.alloc())?;
     let expected =
-        "root a b c = a b c in 7 true\nall a b c = a b c in 7 true\nF\nroot b b c c = b b c c in 8 true\nall b b c c = b b c c in 8 true\n";
+        "root a - b - c - = a - b - c - true in 7\nall a - b - c - = a - b - c - true in 7\nF\nroot b - b - c - c - = b - b - c - c - true in 8\nall b - b - c - c - = b - b - c - c - true in 8\n";
     assert_eq!(rt; text.as_str(), expected);
     Ok(())
 }
@@ -50,7 +50,8 @@ fn nested(alloc: Global) -> Result<String, AllocError> {
 #[test]
 fn a_spread_without_a_fragment_is_passed_over(rt: HostRuntime) -> Result<(), Fail> {
     let text = nested(rt.alloc())?;
-    let expected = "root a user = a user in 5 true\nall a id user id = a id user id in 10 true\n";
+    let expected =
+        "root a - user - = a - user - true in 5\nall a - id - user - id - = a - id - user - id - true in 10\n";
     assert_eq!(rt; text.as_str(), expected);
     Ok(())
 }
@@ -67,7 +68,7 @@ fn twice(alloc: Global) -> Result<String, AllocError> {
 fn a_fragment_that_is_spread_twice_is_opened_once(rt: HostRuntime) -> Result<(), Fail> {
     let text = twice(rt.alloc())?;
     let expected =
-        "root a = a in 5 true\nall a = a in 5 true\nF\nroot a = a in 2 true\nall a = a in 2 true\nEmpty\nroot = in 1 true\nall = in 1 true\n";
+        "root a - = a - true in 5\nall a - = a - true in 5\nF\nroot a - = a - true in 2\nall a - = a - true in 2\nEmpty\nroot = true in 1\nall = true in 1\n";
     assert_eq!(rt; text.as_str(), expected);
     Ok(())
 }
@@ -86,7 +87,7 @@ fn each_other(alloc: Global) -> Result<String, AllocError> {
 fn walks_over_fragments_that_spread_one_another_end(rt: HostRuntime) -> Result<(), Fail> {
     let text = each_other(rt.alloc())?;
     let expected =
-        "root b a = b a in 9 true\nall b a = b a in 9 true\nF\nroot a b a = a b a in 10 true\nall a b a = a b a in 10 true\nG\nroot b a b = b a b in 11 true\nall b a b = b a b in 11 true\n";
+        "root b - a - = b - a - true in 9\nall b - a - = b - a - true in 9\nF\nroot a - b - a - = a - b - a - true in 10\nall a - b - a - = a - b - a - true in 10\nG\nroot b - a - b - = b - a - b - true in 11\nall b - a - b - = b - a - b - true in 11\n";
     assert_eq!(rt; text.as_str(), expected);
     Ok(())
 }
@@ -103,7 +104,7 @@ fn under_another_key(alloc: Global) -> Result<String, AllocError> {
 fn a_fragment_is_opened_under_its_key(rt: HostRuntime) -> Result<(), Fail> {
     let text = under_another_key(rt.alloc())?;
     let expected =
-        "root a = a in 7 true\nall a = a in 7 true\nOwn\nroot a a = a a in 8 true\nall a a = a a in 8 true\n";
+        "root a - = a - true in 7\nall a - = a - true in 7\nOwn\nroot a - a - = a - a - true in 8\nall a - a - = a - a - true in 8\n";
     assert_eq!(rt; text.as_str(), expected);
     Ok(())
 }

@@ -11,7 +11,6 @@ use Rattle.graphql_nodes.specs.Tables.{keys_of, lookup}
 use Rattle.graphql_nodes.proofs.Texts.{same-true, same-is}
 use Rattle.apollo_walks.specs.Selections.{Names, no_names, with_name, fragment_of}
 use Rattle.apollo_walks.specs.Reachable.{Among, Reachable}
-use Rattle.apollo_walks.specs.Course.{course}
 use Rattle.apollo_executable.specs.Walks.Plain.{Plain, plain, fragments_of}
 use Rattle.apollo_executable.specs.Walks.Left.{marked_names, opened_names}
 use Rattle.apollo_executable.specs.declared.operation.Fragment.{Fragment}
@@ -80,6 +79,15 @@ pub marked_names-mark : (d : ExecutableDocument) (fs gs : List Bool) (n : List �
 unfolding marked_names with_name
 marked_names-mark d fs gs n i place at = λ j m. is_named (keys_of d.fragments) fs gs n i place at m (position (by_text m) (keys_of d.fragments)) refl (same n m) refl j
 
+-- the same places are marked
+pub marked_names-same : (d : ExecutableDocument) (fs gs : List Bool) → ((k : ℕ) → slice_index_or gs k false ≡ slice_index_or fs k false) → marked_names d gs ≡ marked_names d fs
+unfolding marked_names
+marked_names-same d fs gs same = λ j m. at (position (by_text m) (keys_of d.fragments)) j
+  where
+    at : (place : Option ℕ) → at_place gs place ≡ at_place fs place
+    at None = refl
+    at (Some i) = same i
+
 pub marked_names-at : (d : ExecutableDocument) (fs : List Bool) (n : List ℕ) (i : ℕ) (b : Bool) → position (by_text n) (keys_of d.fragments) ≡ Some i → slice_index_or fs i false ≡ b → marked_names d fs n ≡ b
 unfolding marked_names
 marked_names-at d fs n i b place is = ap (at_place fs) place ∙ is
@@ -138,15 +146,13 @@ key-Among deep (e ∷ es) n set found = by (same n e.0.text) refl (key-Among dee
     by false other rest found = inr (rest found)
 
 -- the names that are opened at the end of a whole walk are those that it leads to
-pub opened_names-reached : (deep : Bool) (d : ExecutableDocument) (s : Plain)
-    → ((n : List ℕ) → ((course (fragments_of deep d) no_names s).opened n ≡ true) ↔ Reachable (fragments_of deep d) s n)
+pub opened_names-reached : (deep : Bool) (d : ExecutableDocument) (s : Plain) (names : Names)
+    → ((n : List ℕ) → (names n ≡ true) ↔ Reachable (fragments_of deep d) s n)
     → ((n : List ℕ) → Reachable (fragments_of deep d) s n → (set : Plain) × (fragment_of (fragments_of deep d) n ≡ Some set))
-    → (names : Names) → names ≡ (course (fragments_of deep d) no_names s).opened
     → (n : List ℕ) → Among n (opened_names d names) ↔ Reachable (fragments_of deep d) s n
 unfolding fragments_of
-opened_names-reached deep d s opens defined names is n =
+opened_names-reached deep d s names opens defined n =
     let keys = map (λ k. k.text) (keys_of d.fragments) in (
-      λ h. (opens n).0 (sym (ap (λ (N : Names). N n) is) ∙ Among-filter names n keys h),
-      λ r. let found = defined n r in
-          filter-Among names n keys (ap (λ (N : Names). N n) is ∙ (opens n).1 r) (key-Among deep d.fragments n found.0 found.1),
+      λ h. (opens n).0 (Among-filter names n keys h),
+      λ r. let found = defined n r in filter-Among names n keys ((opens n).1 r) (key-Among deep d.fragments n found.0 found.1),
     )

@@ -1,154 +1,169 @@
 -- What a call of `next` gives, by the last turn that it takes.
-use Rattle.std.proofs.Common.{◌≡◌, ◌≤◌, ◌+◌, ◌++◌, ℕ, List, inr, append_assoc, Bool, true, false, [], ◌∷◌, None, Some, Ok, Err, refl, sym, ap, subst, ◌∙◌, arith, true≢false}
+use Rattle.std.proofs.Common.{◌≡◌, ◌≤◌, ◌+◌, ◌-◌, ℕ, List, Bool, true, false, [], ◌∷◌, Option, None, Some, Result, Ok, Err, is_err, refl, sym, ap, ◌∙◌, arith, true≢false}
 use Rattle.std.specs.Borrow.{Bor}
 use Rattle.std.specs.declared.alloc.AllocError.{AllocError}
 use Rattle.graphql_nodes.specs.NodeView.{NodeView}
-use Rattle.apollo_walks.specs.Course.{Course}
-use Rattle.apollo_walks.specs.Reachable.{Among}
-use Rattle.apollo_walks.specs.TurnByTurn.{IsNoLater}
-use Rattle.apollo_executable.specs.Walks.Plain.{plain, fragments_of}
+use Rattle.apollo_walks.specs.Selections.{Fragments, fragment_of}
+use Rattle.apollo_walks.specs.Reachable.{Reachable}
+use Rattle.apollo_walks.specs.ToCome.{ToCome}
+use Rattle.apollo_walks.specs.Turns.{AreAllTurns, AreWithinTurns}
+use Rattle.apollo_executable.specs.Walks.Plain.{Plain}
 use Rattle.apollo_executable.specs.Walks.WalkView.{IsWithinTurns}
-use Rattle.apollo_executable.specs.Walks.Nesting.{IsFlat, StaysFlat, opens_lists}
-use Rattle.apollo_executable.specs.Walks.NextItem.{IsNext, IsOver, Leaves}
-use Rattle.apollo_executable.specs.Walks.Left.{walk_over, names_opened, opening_if, IsTurn}
-use Rattle.apollo_executable.specs.Walks.Seen.{left, seen}
+use Rattle.apollo_executable.specs.Walks.NextItem.{IsNext}
+use Rattle.apollo_executable.specs.Walks.Left.{left_of, whole_walk, names_opened, IsTurn}
+use Rattle.apollo_executable.specs.Walks.Seen.{seen}
 use Rattle.apollo_executable.specs.declared.selection.Field.{Field}
 use Rattle.apollo_executable.specs.declared.selection.SelectionSet.{SelectionSet}
 use Rattle.apollo_executable.specs.declared.document.ExecutableDocument.{ExecutableDocument}
 use Rattle.apollo_executable.specs.declared.walks.walk.Walk.{Walk}
-use Rattle.apollo_executable.specs.declared.walks.open_lists.Turn.{Turn}
-use Rattle.apollo_executable.specs.declared.walks.open_lists.Turn.TheVariants.{Gave, Moved, Refused}
-use Rattle.apollo_executable.proofs.Walking.WalkLemmas.{left_of-ended, left_of-no_sooner}
-use Rattle.apollo_executable.proofs.Walking.WholeLemmas.{WholeWalkLaws, within, all-turns, all-names}
+use Rattle.apollo_executable.proofs.Walking.WalkLemmas.{turn-leaves, ended-leaves}
+use Rattle.apollo_executable.proofs.Walking.WholeLemmas.{WalkLaws, within, all-turns, all-names}
+
+-- the whole walk, and what is left of it
+abbrev pub whole_of : Walk → ToCome (NodeView Field)
+whole_of w = whole_walk w.lists.deep w.lists.document.now w.start.now
+
+abbrev pub left : Walk → ToCome (NodeView Field)
+left w = left_of w.lists
 
 -- what stays from one walk to a later one, where the turns between gave no field
 pub record IsLater (old now : Walk) : Type 0 where
   pub fields : (left old).fields ≡ (left now).fields
-  pub due : (left old).due old.taken.number ≡ (left now).due now.taken.number
-  pub opening : Leaves ((left old).opening old.taken.number) ((left now).opening now.taken.number)
-  pub opened : (left old).opened ≡ (left now).opened
-  pub document : now.document ≡ old.document
+  pub document : now.lists.document ≡ old.lists.document
   pub start : now.start ≡ old.start
   pub deep : now.lists.deep ≡ old.lists.deep
+  pub fine : now.refused ≡ false
   pub goes_on : now.lists.ended ≡ false → old.lists.ended ≡ false
   pub stands : old.lists.ended ≡ true → seen now ≡ seen old
-  pub turns : now.taken.number + (left now).turns ≡ old.taken.number + (left old).turns
-  pub more : old.taken.number ≤ now.taken.number
+  pub less : (left now).turns ≤ (left old).turns
 
 -- what a turn does to a walk
-pub record IsWalkTurn (now : Walk) (did : Turn) (new : Walk) : Type 0 where
-  pub document : new.document ≡ now.document
+pub record IsWalkTurn (now : Walk) (did : Result (Option (Bor (NodeView Field))) AllocError) (new : Walk) : Type 0 where
+  pub document : new.lists.document ≡ now.lists.document
   pub start : new.start ≡ now.start
   pub deep : new.lists.deep ≡ now.lists.deep
-  pub taken : new.taken.number ≡ now.taken.number + 1
+  pub refused : new.refused ≡ is_err did
   pub turn : IsTurn now.lists did new.lists
-  pub flat : IsFlat now.lists → StaysFlat did new.lists
 
--- what is left of what is left
-pub leaves-on : (a b c : List ℕ) → Leaves a b → Leaves b c → Leaves a c
-leaves-on a b c p q = (p.0 ++ q.0, p.1 ∙ ap (λ (l : List ℕ). p.0 ++ l) q.1 ∙ sym (append_assoc p.0 q.0 c))
+same-whole : (now new : Walk) → new.lists.deep ≡ now.lists.deep → new.lists.document ≡ now.lists.document → new.start ≡ now.start → whole_of new ≡ whole_of now
+same-whole now new deep document start =
+    let d : new.lists.document.now ≡ now.lists.document.now = ap (λ (b : Bor ExecutableDocument). b.now) document in
+    let s : new.start.now ≡ now.start.now = ap (λ (b : Bor SelectionSet). b.now) start in
+    λ i. whole_walk (deep i) (d i) (s i)
 
-leaves-if : (opens : Bool) (before after : ℕ → List ℕ) (m n : ℕ) → n ≡ m + 1 → before m ≡ opening_if opens after (m + 1) → Leaves (before m) (after n)
-leaves-if true before after m n is e = ((m + 1) ∷ [], e ∙ ap (λ (k : ℕ). (m + 1) ∷ after k) (sym is))
-leaves-if false before after m n is e = ([], e ∙ ap (λ (k : ℕ). after k) (sym is))
+taken-fine : (w : Walk) → w.refused ≡ false → (seen w).taken ≡ (whole_of w).turns - (left w).turns
+taken-fine w fine = rw fine (omega arith)
 
-among-after : (n : ℕ) (xs ys : List ℕ) → Among n ys → Among n (xs ++ ys)
-among-after n [] ys among = among
-among-after n (x ∷ xs) ys among = inr (among-after n xs ys among)
+taken-refused : (w : Walk) → w.refused ≡ true → (seen w).taken ≡ ((whole_of w).turns - (left w).turns) + 1
+taken-refused w refused = rw refused refl
 
-pub among-leaves : (n : ℕ) (a b : List ℕ) → Leaves a b → Among n b → Among n a
-among-leaves n a b p among = subst (λ (l : List ℕ). Among n l) (sym p.1) (among-after n p.0 b among)
+coming-fine : (w : Walk) → w.refused ≡ false → (seen w).coming ≡ (left w).fields
+coming-fine w fine = rw fine refl
 
-nothing-left : (w : Walk) → w.lists.ended ≡ true → (left w).fields ≡ []
-nothing-left w ended = rw ended refl
+ended-fine : (w : Walk) (b : Bool) → w.refused ≡ false → w.lists.ended ≡ b → (seen w).ended ≡ b
+ended-fine w b fine is = rw fine is
 
-no-turn-left : (w : Walk) → w.lists.ended ≡ true → (left w).turns ≡ 0
-no-turn-left w ended = rw ended refl
-
--- where a turn wanted memory, the set has a selection that opens a list
-wanting-list : (old now new : Walk) → IsLater old now → IsWalkTurn now Refused new → opens_lists old.lists.deep new.start.now.selections ≡ true
-wanting-list old now new later t = by (opens_lists old.lists.deep new.start.now.selections) refl
-  where
-    by : (b : Bool) → opens_lists old.lists.deep new.start.now.selections ≡ b → b ≡ true
-    by true is = refl
-    by false is = absurd (t.flat (now.flat (ap (λ (s : Bor SelectionSet). opens_lists now.lists.deep s.now.selections) (sym t.start) ∙ ap (λ d. opens_lists d new.start.now.selections) later.deep ∙ is)))
+-- what laws say of a whole walk
+pub record WholeWalkLaws : Type 0 where
+  pub walks : WalkLaws
+  pub few : (fragments : Fragments (NodeView Field)) (s : Plain) (turns : ℕ) → AreAllTurns fragments s turns → AreWithinTurns fragments s turns
+  pub defined : (fragments : Fragments (NodeView Field)) (s : Plain) (n : List ℕ) → Reachable fragments s n → (inner : Plain) × (fragment_of fragments n ≡ Some inner)
 
 module _ (laws : WholeWalkLaws) where
-  bound : (w : Walk) (deep : Bool) → w.lists.deep ≡ deep → IsWithinTurns deep w.document.now w.start.now w.taken.number
-  bound w deep is = subst (λ d. IsWithinTurns d w.document.now w.start.now w.taken.number) is
-      (within w.lists.deep w.document.now w.start.now (laws.few (fragments_of w.lists.deep w.document.now) (plain w.lists.deep w.start.now.selections)) w.taken.number w.bounded)
+  pub bound : (w : Walk) → IsWithinTurns w.lists.deep w.lists.document.now w.start.now (seen w).taken
+  bound w = within laws.walks w.lists.deep w.lists.document.now w.start.now laws.few (seen w).taken w.bounded
 
-  pub gives-field : (old now new : Walk) (field : Bor (NodeView Field)) → IsLater old now → now.lists.ended ≡ false → IsWalkTurn now (Gave field) new
-      → IsNext old.lists.deep (seen old) (Some (Ok field)) (seen new)
-  gives-field old now new field later going t = record {
-    document = ap (λ (d : Bor ExecutableDocument). d.now) (t.document ∙ later.document);
-    start = ap (λ (s : Bor SelectionSet). s.now) (t.start ∙ later.start);
-    gives = (later.fields ∙ ap (λ (x : Course (NodeView Field)). x.fields) t.turn.1.0, later.goes_on going, t.turn.1.1);
-    takes = (
-      omega (arith, later.more, t.taken),
-      later.due ∙ ap (λ (x : Course (NodeView Field)). x.due now.taken.number) t.turn.1.0 ∙ ap (λ n. n ∷ (left new).due n) (sym t.taken),
-      leaves-on _ _ _ later.opening (leaves-if t.turn.0 (left now).opening (left new).opening now.taken.number new.taken.number t.taken (ap (λ (x : Course (NodeView Field)). x.opening now.taken.number) t.turn.1.0)),
-    );
-    bound = bound new old.lists.deep (t.deep ∙ later.deep);
-    over = tt;
-    wants = tt;
-  }
+  pub gives-field : (old now new : Walk) (field : Bor (NodeView Field)) → old.refused ≡ false → IsLater old now → now.lists.ended ≡ false → IsWalkTurn now (Ok (Some field)) new
+      → IsNext (seen old) (Some (Ok field)) (seen new)
+  gives-field old now new field fine later going t =
+      let leaves = turn-leaves laws.walks now.lists new.lists (Ok (Some field)) t.turn in
+      let one_less = ap (λ (x : ToCome (NodeView Field)). x.turns) leaves in
+      let whole = ap (λ (x : ToCome (NodeView Field)). x.turns) (same-whole old new (t.deep ∙ later.deep) (t.document ∙ later.document) (t.start ∙ later.start)) in
+      record {
+        deep = t.deep ∙ later.deep;
+        document = ap (λ (d : Bor ExecutableDocument). d.now) (t.document ∙ later.document);
+        start = ap (λ (s : Bor SelectionSet). s.now) (t.start ∙ later.start);
+        gives = (
+          coming-fine old fine ∙ later.fields ∙ ap (λ (x : ToCome (NodeView Field)). x.fields) leaves ∙ ap (λ (l : List (NodeView Field)). field.now ∷ l) (sym (coming-fine new t.refused)),
+          ended-fine old false fine (later.goes_on going),
+          ended-fine new false t.refused t.turn.1,
+        );
+        takes = omega (arith, taken-fine old fine, taken-fine new t.refused, one_less, whole, later.less, old.left_over);
+        bound = bound new;
+        over = tt;
+        rests = tt;
+      }
 
-  pub gives-error : (old now new : Walk) (error : AllocError) → IsLater old now → now.lists.ended ≡ false → IsWalkTurn now Refused new
-      → IsNext old.lists.deep (seen old) (Some (Err error)) (seen new)
-  gives-error old now new error later going t = record {
-    document = ap (λ (d : Bor ExecutableDocument). d.now) (t.document ∙ later.document);
-    start = ap (λ (s : Bor SelectionSet). s.now) (t.start ∙ later.start);
-    gives = (later.goes_on going, nothing-left new t.turn.0, t.turn.0);
-    takes = (
-      omega (arith, later.more, t.taken),
-      (let next = left_of-no_sooner now.lists (laws.steps (fragments_of now.lists.deep now.lists.document.now) (names_opened now.lists)) going now.taken.number in
-          subst (λ n. IsNoLater n (seen old).due) (sym t.taken) (subst (λ l. IsNoLater (now.taken.number + 1) l) (sym later.due) next)),
-      among-leaves new.taken.number _ _ later.opening (subst (λ n. Among n ((left now).opening now.taken.number)) (sym t.taken) (t.turn.1 now.taken.number)),
-    );
-    bound = bound new old.lists.deep (t.deep ∙ later.deep);
-    over = tt;
-    wants = wanting-list old now new later t;
-  }
+  pub gives-error : (old now new : Walk) (error : AllocError) → old.refused ≡ false → IsLater old now → now.lists.ended ≡ false → IsWalkTurn now (Err error) new
+      → IsNext (seen old) (Some (Err error)) (seen new)
+  gives-error old now new error fine later going t =
+      let same = ap (λ (x : ToCome (NodeView Field)). x.turns) (turn-leaves laws.walks now.lists new.lists (Err error) t.turn) in
+      let whole = ap (λ (x : ToCome (NodeView Field)). x.turns) (same-whole old new (t.deep ∙ later.deep) (t.document ∙ later.document) (t.start ∙ later.start)) in
+      record {
+        deep = t.deep ∙ later.deep;
+        document = ap (λ (d : Bor ExecutableDocument). d.now) (t.document ∙ later.document);
+        start = ap (λ (s : Bor SelectionSet). s.now) (t.start ∙ later.start);
+        gives = (ended-fine old false fine (later.goes_on going), rw t.refused refl, rw t.refused refl);
+        takes = omega (arith, taken-fine old fine, taken-refused new t.refused, same, whole, later.less);
+        bound = bound new;
+        over = tt;
+        rests = tt;
+      }
 
-  over-at : (old now : Walk) → IsLater old now → now.lists.ended ≡ true → old.lists.ended ≡ false → IsOver old.lists.deep (seen now)
-  over-at old now later ended going =
-      let deep = old.lists.deep in
-      let document : now.document.now ≡ old.document.now = ap (λ (d : Bor ExecutableDocument). d.now) later.document in
-      let start : now.start.now ≡ old.start.now = ap (λ (s : Bor SelectionSet). s.now) later.start in
-      let all : walk_over deep old.document.now old.start.now ≡ walk_over deep now.document.now now.start.now = λ i. walk_over deep (sym document i) (sym start i) in
-      let taken : now.taken.number ≡ (walk_over deep old.document.now old.start.now).turns = omega (arith, later.turns, no-turn-left now ended, old.left_over going) in
-      let names : names_opened now.lists ≡ (walk_over deep old.document.now old.start.now).opened = sym (left_of-ended now.lists ended) ∙ sym later.opened ∙ old.left_open going in (
-        all-turns deep now.document.now now.start.now laws now.taken.number (taken ∙ ap (λ (x : Course (NodeView Field)). x.turns) all),
-        all-names deep now.document.now now.start.now laws (names_opened now.lists) (names ∙ ap (λ (x : Course (NodeView Field)). x.opened) all),
-      )
+  pub gives-none : (old now : Walk) → old.refused ≡ false → IsLater old now → now.lists.ended ≡ true → IsNext (seen old) None (seen now)
+  gives-none old now fine later ended =
+      let nothing = ended-leaves laws.walks now.lists ended in
+      let no_field = ap (λ (x : ToCome (NodeView Field)). x.fields) nothing in
+      let no_turn = ap (λ (x : ToCome (NodeView Field)). x.turns) nothing in
+      let names : names_opened now.lists ≡ (whole_of now).opened = sym (ap (λ (x : ToCome (NodeView Field)). x.opened) nothing) ∙ now.left_open in
+      let deep = now.lists.deep in
+      let document = now.lists.document.now in
+      let set = now.start.now in
+      record {
+        deep = later.deep;
+        document = ap (λ (d : Bor ExecutableDocument). d.now) later.document;
+        start = ap (λ (s : Bor SelectionSet). s.now) later.start;
+        gives = (coming-fine old fine ∙ later.fields ∙ no_field, coming-fine now later.fine ∙ no_field, ended-fine now true later.fine ended);
+        takes = tt;
+        bound = bound now;
+        over = λ _. (
+          all-turns laws.walks deep document set (seen now).taken (omega (arith, taken-fine now later.fine, no_turn)),
+          all-names laws.walks deep document set laws.defined (names_opened now.lists) names,
+        );
+        rests = λ over. later.stands (sym (ended-fine old old.lists.ended fine refl) ∙ over);
+      }
 
-  pub gives-none : (old now : Walk) → IsLater old now → now.lists.ended ≡ true → IsNext old.lists.deep (seen old) None (seen now)
-  gives-none old now later ended = record {
-    document = ap (λ (d : Bor ExecutableDocument). d.now) later.document;
-    start = ap (λ (s : Bor SelectionSet). s.now) later.start;
-    gives = (later.fields ∙ nothing-left now ended, nothing-left now ended, ended);
-    takes = later.stands;
-    bound = bound now old.lists.deep later.deep;
-    over = over-at old now later ended;
-    wants = tt;
-  }
+  -- where memory ran out before
+  pub stays-refused : (w : Walk) → w.refused ≡ true → IsNext (seen w) None (seen w)
+  stays-refused w refused =
+      let over : (seen w).ended ≡ true = rw refused refl in
+      let nothing : (seen w).coming ≡ [] = rw refused refl in
+      record {
+        deep = refl;
+        document = refl;
+        start = refl;
+        gives = (nothing, nothing, over);
+        takes = tt;
+        bound = bound w;
+        over = λ going. absurd (true≢false (sym over ∙ going));
+        rests = λ _. refl;
+      }
 
--- a turn that gives no field leaves a later walk
-pub turns-later : (old now new : Walk) → IsLater old now → now.lists.ended ≡ false → IsWalkTurn now Moved new → IsLater old new
-turns-later old now new later going t = record {
-  fields = later.fields ∙ ap (λ (x : Course (NodeView Field)). x.fields) t.turn.1;
-  opening = leaves-on _ _ _ later.opening (leaves-if t.turn.0 (left now).opening (left new).opening now.taken.number new.taken.number t.taken (ap (λ (x : Course (NodeView Field)). x.opening now.taken.number) t.turn.1));
-  due = later.due ∙ ap (λ (x : Course (NodeView Field)). x.due now.taken.number) t.turn.1 ∙ ap (λ n. (left new).due n) (sym t.taken);
-  opened = later.opened ∙ ap (λ (x : Course (NodeView Field)). x.opened) t.turn.1;
-  document = t.document ∙ later.document;
-  start = t.start ∙ later.start;
-  deep = t.deep ∙ later.deep;
-  goes_on = λ _. later.goes_on going;
-  stands = λ ended. absurd (true≢false (sym ended ∙ later.goes_on going));
-  turns = (let e = ap (λ (x : Course (NodeView Field)). x.turns) t.turn.1 in omega (arith, e, later.turns, t.taken));
-  more = omega (arith, later.more, t.taken);
-}
+  -- a turn that gives no field leaves a later walk
+  pub turns-later : (old now new : Walk) → IsLater old now → now.lists.ended ≡ false → IsWalkTurn now (Ok None) new → IsLater old new
+  turns-later old now new later going t =
+      let leaves = turn-leaves laws.walks now.lists new.lists (Ok None) t.turn in
+      let one_less = ap (λ (x : ToCome (NodeView Field)). x.turns) leaves in
+      record {
+        fields = later.fields ∙ ap (λ (x : ToCome (NodeView Field)). x.fields) leaves;
+        document = t.document ∙ later.document;
+        start = t.start ∙ later.start;
+        deep = t.deep ∙ later.deep;
+        fine = t.refused;
+        goes_on = λ _. later.goes_on going;
+        stands = λ ended. absurd (true≢false (sym ended ∙ later.goes_on going));
+        less = omega (arith, one_less, later.less);
+      }
 
-pub later-itself : (w : Walk) → IsLater w w
-later-itself w = record { fields = refl; due = refl; opening = ([], refl); opened = refl; document = refl; start = refl; deep = refl; goes_on = λ going. going; stands = λ _. refl; turns = refl; more = omega arith }
+pub later-itself : (w : Walk) → w.refused ≡ false → IsLater w w
+later-itself w fine = record { fields = refl; document = refl; start = refl; deep = refl; fine = fine; goes_on = λ going. going; stands = λ _. refl; less = omega arith }

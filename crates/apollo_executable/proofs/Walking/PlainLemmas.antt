@@ -2,8 +2,7 @@
 use Rattle.std.proofs.Common.{◌≡◌, Bool, true, false, List, [], ◌∷◌, map, refl, sym, ap, subst, ◌∙◌}
 use Rattle.graphql_nodes.specs.NodeView.{NodeView}
 use Rattle.apollo_walks.specs.Selections.{none, field, spread, inline}
-use Rattle.apollo_walks.specs.TurnByTurn.{over, opened_over}
-use Rattle.apollo_walks.specs.Course.{Course, just_opened}
+use Rattle.apollo_walks.specs.TurnByTurn.{over}
 use Rattle.apollo_executable.specs.Walks.Plain.{Plain, PS, PF, PI, PL, when_deep, put_before, selection_step, field_step, inline_step, set_step, seen_selection, plain, below_of}
 use Rattle.apollo_executable.specs.declared.selection.Selection.{Selection, roll-Selection, out-Selection, fold-roll-Selection, fold_out-Selection}
 use Rattle.apollo_executable.specs.declared.selection.Selection.TheVariants as variant
@@ -163,14 +162,6 @@ over-put : (deep : Bool) (z : Selection-F PS PF PI PL) (rest : Plain) (others : 
 over-put deep (Selection-F.Field n) rest others = refl
 over-put deep (Selection-F.FragmentSpread n) rest others = refl
 over-put deep (Selection-F.InlineFragment n) rest others = refl
-
-opened-over-put : (deep : Bool) (z : Selection-F PS PF PI PL) (rest : Plain) (x : Course (NodeView Field)) → opened_over (put_before deep z rest) x ≡ just_opened x
-opened-over-put deep (Selection-F.Field n) rest x = refl
-opened-over-put deep (Selection-F.FragmentSpread n) rest x = refl
-opened-over-put deep (Selection-F.InlineFragment n) rest x = refl
-
-pub opened-over-cons : (deep : Bool) (s : Selection) (ss : List Selection) (x : Course (NodeView Field)) → opened_over (plain deep (s ∷ ss)) x ≡ just_opened x
-opened-over-cons deep s ss x = subst (λ (p : Plain). opened_over p x ≡ just_opened x) (sym (plain-first deep s ss)) (opened-over-put deep _ (plain deep ss) x)
 
 -- a list with a selection in it is opened
 pub over-cons : (deep : Bool) (s : Selection) (ss : List Selection) (others : List Plain) → over (plain deep (s ∷ ss)) others ≡ plain deep (s ∷ ss) ∷ others

@@ -1,19 +1,18 @@
--- What the parts of a walk say of what is left of it.
-use Rattle.std.proofs.Common.{◌≡◌, ◌≤◌, ◌+◌, ℕ, true, false, List, [], ◌∷◌, ◌++◌, map, reverse, Result, Ok, Err, OnOk, OnErr, is_ok, length, arith, refl, sym, ap, subst, ◌∙◌}
+-- What the parts of a walk say of its open lists.
+use Rattle.std.proofs.Common.{◌≡◌, ◌≤◌, ◌<◌, ◌+◌, true, false, List, [], ◌∷◌, ◌++◌, map, reverse, Option, None, Some, Result, Ok, Err, OnOk, OnErr, is_ok, is_err, length, arith, refl, sym, ap, ◌∙◌}
 use Rattle.std.proofs.lemmas.List.{reverse-append, map-append}
 use Rattle.std.specs.Prelude.{nat_eq}
 use Rattle.std.specs.Borrow.{Bor}
+use Rattle.std.specs.declared.alloc.AllocError.{AllocError}
 use Rattle.graphql_nodes.specs.NodeView.{NodeView}
-use Rattle.apollo_walks.specs.Course.{Course}
-use Rattle.apollo_walks.specs.TurnByTurn.{IsNoLater, AreTurnByTurn}
-use Rattle.apollo_executable.specs.Walks.Plain.{fragments_of}
-use Rattle.apollo_executable.specs.Walks.Left.{waiting_lists, names_opened, left_in, left_of, IsTurn}
+use Rattle.apollo_walks.specs.ToCome.{ToCome}
+use Rattle.apollo_walks.specs.TurnByTurn.{a_turn_before, a_field_before}
+use Rattle.apollo_executable.specs.Walks.Left.{waiting_lists, names_opened, lists_of, IsLeftOf, left_of, IsTurn}
+use Rattle.apollo_executable.specs.Walks.Taken.{turns_taken}
 use Rattle.apollo_executable.specs.declared.selection.Selection.{Selection}
 use Rattle.apollo_executable.specs.declared.selection.Field.{Field}
 use Rattle.apollo_executable.specs.declared.walks.open_lists.OpenLists.{OpenLists}
-use Rattle.apollo_executable.specs.declared.walks.open_lists.Turn.{Turn}
-use Rattle.apollo_executable.specs.declared.walks.open_lists.Turn.TheVariants.{Gave, Moved, Refused}
-use Rattle.apollo_executable.proofs.Walking.TurnLemmas.{left_in-positive, left_in-no_sooner}
+use Rattle.apollo_executable.proofs.Walking.WholeLemmas.{WalkLaws, left-itself, left-is, left-ends, left-positive}
 
 pub waiting-push : (lists : List (Bor (List Selection))) (l : Bor (List Selection)) → waiting_lists (lists ++ l ∷ []) ≡ l.now ∷ waiting_lists lists
 unfolding waiting_lists
@@ -33,38 +32,45 @@ pub OnOk-when : {T E : Type 0} (A : Type 0) (r : Result T E) → is_ok r ≡ tru
 OnOk-when A (Ok x) is a = a
 OnOk-when A (Err e) is a = absurd (cc)
 
+pub OnErr-always : {T E : Type 0} (A : Type 0) (r : Result T E) → A → OnErr r A
+OnErr-always A (Ok x) a = tt
+OnErr-always A (Err e) a = a
+
 pub cons-by-length : {A : Type 0} (xs : List A) → (nat_eq (length xs) 0) ≡ false → (x : A) × (ys : List A) × (xs ≡ x ∷ ys)
 cons-by-length [] is = absurd (cc)
 cons-by-length (x ∷ xs) is = (x, xs, refl)
 
-pub left_of-open : (w : OpenLists) → w.ended ≡ false → left_of w ≡ left_in w.deep w.document.now (names_opened w) w.current.now (waiting_lists w.waiting.items)
-left_of-open w goes_on = rw goes_on refl
+-- what one turn leaves, as equations
+abbrev pub Leaves : OpenLists → Result (Option (Bor (NodeView Field))) AllocError → OpenLists → Type 0
+Leaves old (Ok (Some field)) new = left_of old ≡ a_field_before field.now (left_of new)
+Leaves old (Ok None) new = left_of old ≡ a_turn_before (left_of new)
+Leaves old (Err error) new = left_of old ≡ left_of new
 
-pub left_of-ended : (w : OpenLists) → w.ended ≡ true → (left_of w).opened ≡ names_opened w
-left_of-ended w ended = rw ended refl
+module _ (laws : WalkLaws) where
+  itself : (w : OpenLists) → IsLeftOf w (left_of w)
+  itself w = left-itself w.deep w.document.now (names_opened w) (lists_of w)
 
-pub left_of-no_sooner : (w : OpenLists) → AreTurnByTurn (fragments_of w.deep w.document.now) (names_opened w) → w.ended ≡ false → (taken : ℕ) → IsNoLater (taken + 1) ((left_of w).due taken)
-left_of-no_sooner w steps goes_on taken =
-    subst (λ (x : Course (NodeView Field)). IsNoLater (taken + 1) (x.due taken)) (sym (left_of-open w goes_on))
-    (left_in-no_sooner w.deep w.document.now (names_opened w) steps w.current.now (waiting_lists w.waiting.items) taken)
+  one-left : (w : OpenLists) (x : ToCome (NodeView Field)) → IsLeftOf w x → left_of w ≡ x
+  one-left w x is = left-is w.deep w.document.now (names_opened w) (lists_of w) laws x is
 
--- what a turn leaves of the turns, where so many were taken of all
-pub turn-counts : (old new : OpenLists) (turn : Turn) → AreTurnByTurn (fragments_of old.deep old.document.now) (names_opened old) → IsTurn old turn new → old.ended ≡ false → (n all : ℕ) → n + (left_of old).turns ≡ all →
-    (n + 1 ≤ all) × (new.ended ≡ false → (n + 1) + (left_of new).turns ≡ all)
-turn-counts old new (Gave field) steps is goes_on n all sum = let e = ap (λ (s : Course (NodeView Field)). s.turns) is.1.0 in (omega arith, λ _. omega arith)
-turn-counts old new Moved steps is goes_on n all sum = let e = ap (λ (s : Course (NodeView Field)). s.turns) is.1 in (omega arith, λ _. omega arith)
-turn-counts old new Refused steps is goes_on n all sum =
-    let e = ap (λ (s : Course (NodeView Field)). s.turns) (left_of-open old goes_on) in
-    let some = left_in-positive old.deep old.document.now (names_opened old) steps old.current.now (waiting_lists old.waiting.items) in
-    let ended : new.ended ≡ true = is.0 in
-    (omega arith, λ still. absurd (cc))
+  pub turn-leaves : (old new : OpenLists) (turn : Result (Option (Bor (NodeView Field))) AllocError) → IsTurn old turn new → Leaves old turn new
+  turn-leaves old new (Ok (Some field)) is = one-left old (a_field_before field.now (left_of new)) (is.0 (left_of new) (itself new))
+  turn-leaves old new (Ok None) is = one-left old (a_turn_before (left_of new)) (is (left_of new) (itself new))
+  turn-leaves old new (Err error) is = one-left old (left_of new) (is.0 (left_of new) (itself new))
 
--- and of the names
-pub turn-opens : (old new : OpenLists) (turn : Turn) → IsTurn old turn new → new.ended ≡ false → (left_of old).opened ≡ (left_of new).opened
-turn-opens old new (Gave field) is goes_on = ap (λ (s : Course (NodeView Field)). s.opened) is.1.0
-turn-opens old new Moved is goes_on = ap (λ (s : Course (NodeView Field)). s.opened) is.1
-turn-opens old new Refused is goes_on = let ended : new.ended ≡ true = is.0 in absurd (cc)
+  pub open-positive : (w : OpenLists) → w.ended ≡ false → 0 < (left_of w).turns
+  open-positive w going = rw going (left-positive laws w.deep w.document.now (names_opened w) w.current.now (waiting_lists w.waiting.items))
 
-pub OnErr-always : {T E : Type 0} (A : Type 0) (r : Result T E) → A → OnErr r A
-OnErr-always A (Ok x) a = tt
-OnErr-always A (Err e) a = a
+  -- where nothing is left, the names that are opened are those at the end
+  pub ended-leaves : (w : OpenLists) → w.ended ≡ true → left_of w ≡ record { fields = []; opened = names_opened w; turns = 0 }
+  ended-leaves w ended = one-left w (record { fields = []; opened = names_opened w; turns = 0 }) (rw ended (left-ends laws w.deep w.document.now (names_opened w)))
+
+  -- a turn is one more
+  pub turn-counts : (whole : ToCome (NodeView Field)) (old new : OpenLists) (turn : Result (Option (Bor (NodeView Field))) AllocError) → Leaves old turn new → 0 < (left_of old).turns → (left_of old).turns ≤ whole.turns
+      → (turns_taken whole (left_of new) (is_err turn) ≡ turns_taken whole (left_of old) false + 1) × ((left_of new).turns ≤ whole.turns) × (turns_taken whole (left_of new) (is_err turn) ≤ whole.turns) × ((left_of new).opened ≡ (left_of old).opened)
+  turn-counts whole old new (Ok (Some field)) is more fits =
+      let e = ap (λ (x : ToCome (NodeView Field)). x.turns) is in (omega arith, omega arith, omega arith, sym (ap (λ (x : ToCome (NodeView Field)). x.opened) is))
+  turn-counts whole old new (Ok None) is more fits =
+      let e = ap (λ (x : ToCome (NodeView Field)). x.turns) is in (omega arith, omega arith, omega arith, sym (ap (λ (x : ToCome (NodeView Field)). x.opened) is))
+  turn-counts whole old new (Err error) is more fits =
+      let e = ap (λ (x : ToCome (NodeView Field)). x.turns) is in (omega arith, omega arith, omega arith, sym (ap (λ (x : ToCome (NodeView Field)). x.opened) is))

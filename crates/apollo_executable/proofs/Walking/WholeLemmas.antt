@@ -1,72 +1,61 @@
--- What a whole walk over a set gives.
-use Rattle.std.proofs.Common.{◌≡◌, ◌≤◌, ◌↔◌, Bool, ℕ, List, [], ◌++◌, true, Some, refl, sym, ap, subst, ◌∙◌, arith, append-nil}
+-- What is left of a walk, and what a whole walk over a set gives.
+use Rattle.std.proofs.Common.{◌≡◌, ◌≤◌, ◌<◌, Bool, ℕ, List, [], ◌∷◌, map, Some, sym, subst, ◌∙◌, arith}
 use Rattle.graphql_nodes.specs.NodeView.{NodeView}
-use Rattle.apollo_walks.specs.Selections.{Fragments, Names, none, no_names, fragment_of}
-use Rattle.apollo_walks.specs.WalkOrder.{Order, of_none}
-use Rattle.apollo_walks.specs.OrderInTurns.{AreDue, AreOpenings}
+use Rattle.apollo_walks.specs.Selections.{Fragments, Names, no_names, fragment_of}
 use Rattle.apollo_walks.specs.Reachable.{Reachable}
-use Rattle.apollo_walks.specs.TurnByTurn.{AreTurnByTurn}
+use Rattle.apollo_walks.specs.ToCome.{ToCome, IsToCome}
+use Rattle.apollo_walks.specs.TurnByTurn.{AreTurnByTurn, IsAllToCome}
 use Rattle.apollo_walks.specs.Turns.{AreAllTurns, AreWithinTurns}
-use Rattle.apollo_walks.specs.Whole.{IsWalk}
-use Rattle.apollo_walks.specs.Course.{course}
+use Rattle.apollo_walks.proofs.Steps.{what_is_to_come}
 use Rattle.apollo_executable.specs.Walks.Plain.{Plain, plain, fragments_of}
-use Rattle.apollo_executable.specs.Walks.Left.{walk_over, opened_names}
-use Rattle.apollo_executable.specs.Walks.WalkView.{AreWalked, AreDueIn, AreOpenedIn, IsWithinTurns, TakesAllTurns, AreReachedNames}
+use Rattle.apollo_executable.specs.Walks.Left.{IsLeft, left_in, whole_walk, opened_names}
+use Rattle.apollo_executable.specs.Walks.WalkView.{IsWithinTurns, TakesAllTurns, AreReachedNames}
 use Rattle.apollo_executable.specs.declared.selection.Field.{Field}
+use Rattle.apollo_executable.specs.declared.selection.Selection.{Selection}
 use Rattle.apollo_executable.specs.declared.selection.SelectionSet.{SelectionSet}
 use Rattle.apollo_executable.specs.declared.document.ExecutableDocument.{ExecutableDocument}
 use Rattle.apollo_executable.proofs.Walking.FlagLemmas.{opened_names-reached}
-use Rattle.apollo_executable.proofs.Walking.PlainLemmas.{plain-none}
 
--- what the laws of walks say of their turns and names
-pub record WholeWalkLaws : Type 0 where
-  pub steps : (fragments : Fragments (NodeView Field)) (names : Names) → AreTurnByTurn fragments names
-  pub all : (fragments : Fragments (NodeView Field)) (s : Plain) → AreAllTurns fragments s (course fragments no_names s).turns
-  pub few : (fragments : Fragments (NodeView Field)) (s : Plain) → AreWithinTurns fragments s (course fragments no_names s).turns
-  pub opens : (fragments : Fragments (NodeView Field)) (s : Plain) (n : List ℕ) → ((course fragments no_names s).opened n ≡ true) ↔ Reachable fragments s n
-  pub defined : (fragments : Fragments (NodeView Field)) (s : Plain) (n : List ℕ) → Reachable fragments s n → (set : Plain) × (fragment_of fragments n ≡ Some set)
+-- what the laws of walks say of what is to come
+pub record WalkLaws : Type 0 where
+  pub one : (fragments : Fragments (NodeView Field)) (before : Names) (lists : List Plain) (x y : ToCome (NodeView Field)) → IsToCome fragments before lists x → IsToCome fragments before lists y → x ≡ y
+  pub steps : (fragments : Fragments (NodeView Field)) (before : Names) → AreTurnByTurn fragments before
+  pub begins : (fragments : Fragments (NodeView Field)) (s : Plain) (x : ToCome (NodeView Field)) → IsToCome fragments no_names (s ∷ []) x → IsAllToCome fragments s x
 
-module _ (deep : Bool) (document : ExecutableDocument) (set : SelectionSet) where
-  pub walked : IsWalk (fragments_of deep document) (plain deep set.selections) (course (fragments_of deep document) no_names (plain deep set.selections)).fields
-      → AreWalked deep document set (walk_over deep document set).fields
-  unfolding walk_over
-  walked whole = whole
+module _ (deep : Bool) (document : ExecutableDocument) (names : Names) (lists : List (List Selection)) where
+  pub left-itself : IsLeft deep document names lists (left_in deep document names lists)
+  unfolding IsLeft left_in
+  left-itself = (what_is_to_come (fragments_of deep document) names (map (plain deep) lists)).1
 
-  -- what was given when nothing is left to come is all
-  pub walked-all : (given coming all : List (NodeView Field)) → given ++ coming ≡ all → coming ≡ [] → AreWalked deep document set all → AreWalked deep document set given
-  walked-all given coming all parts over given_all =
-      subst (λ (l : List (NodeView Field)). AreWalked deep document set l) (sym parts ∙ ap (λ (l : List (NodeView Field)). given ++ l) over ∙ append-nil given) given_all
+  pub left-is : WalkLaws → (x : ToCome (NodeView Field)) → IsLeft deep document names lists x → left_in deep document names lists ≡ x
+  unfolding IsLeft
+  left-is laws x is = laws.one (fragments_of deep document) names (map (plain deep) lists) (left_in deep document names lists) x left-itself is
 
-  -- no selection, no field
-  pub walked-none : (fields : List (NodeView Field)) → AreWalked deep document set fields → set.selections ≡ [] → fields ≡ []
-  walked-none fields walked no_selection =
-      let order = subst (λ (s : Plain). Order (fragments_of deep document) no_names s fields walked.opened) (ap (plain deep) no_selection ∙ plain-none deep) walked.order in
-      order-none order
-    where
-      order-none : {fragments : Fragments (NodeView Field)} {before after : Names} {fs : List (NodeView Field)} → Order fragments before none fs after → fs ≡ []
-      order-none of_none = refl
+-- nothing is left where no list is open
+pub left-ends : WalkLaws → (deep : Bool) (document : ExecutableDocument) (names : Names) → IsLeft deep document names [] (record { fields = []; opened = names; turns = 0 })
+unfolding IsLeft
+left-ends laws deep document names = (laws.steps (fragments_of deep document) names).ends
 
-  pub in-turns : AreDue (fragments_of deep document) (plain deep set.selections) (course (fragments_of deep document) no_names (plain deep set.selections)).fields
-      ((course (fragments_of deep document) no_names (plain deep set.selections)).due 0)
-      → AreDueIn deep document set (walk_over deep document set).fields ((walk_over deep document set).due 0)
-  unfolding walk_over
-  in-turns due = due
+-- there is a turn left where a list is open
+pub left-positive : WalkLaws → (deep : Bool) (document : ExecutableDocument) (names : Names) (list : List Selection) (lists : List (List Selection)) → 0 < (left_in deep document names (list ∷ lists)).turns
+unfolding IsLeft
+left-positive laws deep document names list lists =
+    (laws.steps (fragments_of deep document) names).goes_on (plain deep list) (map (plain deep) lists) (left_in deep document names (list ∷ lists)) (left-itself deep document names (list ∷ lists))
 
-  pub in-openings : AreOpenings (fragments_of deep document) (plain deep set.selections) ((course (fragments_of deep document) no_names (plain deep set.selections)).opening 0)
-      → AreOpenedIn deep document set ((walk_over deep document set).opening 0)
-  unfolding walk_over
-  in-openings opening = opening
+module _ (laws : WalkLaws) (deep : Bool) (document : ExecutableDocument) (set : SelectionSet) where
+  pub whole : IsAllToCome (fragments_of deep document) (plain deep set.selections) (whole_walk deep document set)
+  unfolding IsLeft
+  whole = laws.begins (fragments_of deep document) (plain deep set.selections) (whole_walk deep document set) (left-itself deep document no_names (set.selections ∷ []))
 
-  pub within : AreWithinTurns (fragments_of deep document) (plain deep set.selections) (course (fragments_of deep document) no_names (plain deep set.selections)).turns
-      → (turns : ℕ) → turns ≤ (walk_over deep document set).turns → IsWithinTurns deep document set turns
-  unfolding walk_over
-  within all turns few = (all.0, all.1, omega (arith, all.2, few))
+  pub within : ((fragments : Fragments (NodeView Field)) (s : Plain) (turns : ℕ) → AreAllTurns fragments s turns → AreWithinTurns fragments s turns)
+      → (turns : ℕ) → turns ≤ (whole_walk deep document set).turns → IsWithinTurns deep document set turns
+  within few turns less = let all = few _ _ _ whole.turns in (all.0, all.1, omega (arith, all.2, less))
 
-  pub all-turns : WholeWalkLaws → (turns : ℕ) → turns ≡ (walk_over deep document set).turns → TakesAllTurns deep document set turns
-  unfolding walk_over
-  all-turns laws turns is = let all = laws.all (fragments_of deep document) (plain deep set.selections) in (all.0, all.1, is ∙ all.2)
+  pub all-turns : (turns : ℕ) → turns ≡ (whole_walk deep document set).turns → TakesAllTurns deep document set turns
+  all-turns turns is = (whole.turns.0, whole.turns.1, is ∙ whole.turns.2)
 
-  pub all-names : WholeWalkLaws → (names : Names) → names ≡ (walk_over deep document set).opened → AreReachedNames deep document set (opened_names document names)
-  unfolding walk_over
-  all-names laws names is = let s = plain deep set.selections in
-      opened_names-reached deep document s (laws.opens (fragments_of deep document) s) (laws.defined (fragments_of deep document) s) names is
+  pub all-names : ((fragments : Fragments (NodeView Field)) (s : Plain) (n : List ℕ) → Reachable fragments s n → (inner : Plain) × (fragment_of fragments n ≡ Some inner))
+      → (names : Names) → names ≡ (whole_walk deep document set).opened → AreReachedNames deep document set (opened_names document names)
+  all-names defined names is =
+      let s = plain deep set.selections in
+      subst (λ (N : Names). AreReachedNames deep document set (opened_names document N)) (sym is) (opened_names-reached deep document s (whole_walk deep document set).opened whole.opens (defined (fragments_of deep document) s))

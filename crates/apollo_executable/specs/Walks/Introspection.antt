@@ -1,11 +1,9 @@
 -- Operations that ask for the schema alone: GraphQL specification of October 2021, sections 4.1 and 4.2.
-use Rattle.std.specs.Prelude.{◌≡◌, ◌⊎◌, ℕ, false, List, ◌++◌, codes, length}
+use Rattle.std.specs.Prelude.{◌≡◌, ◌⊎◌, ℕ, false, List, codes}
 use Rattle.graphql_nodes.specs.NodeView.{NodeView}
 use Rattle.graphql_nodes.specs.declared.operation_type.OperationType.TheVariants.{Query}
-use Rattle.apollo_walks.specs.Reachable.{Among, IsReached}
-use Rattle.apollo_walks.specs.TurnByTurn.{IsNoLater}
+use Rattle.apollo_walks.specs.Reachable.{IsReached}
 use Rattle.apollo_executable.specs.Walks.Plain.{plain, fragments_of}
-use Rattle.apollo_executable.specs.Walks.WalkView.{AreDueIn, AreOpenedIn}
 use Rattle.apollo_executable.specs.declared.selection.Field.{Field}
 use Rattle.apollo_executable.specs.declared.operation.Operation.{Operation}
 use Rattle.apollo_executable.specs.declared.document.ExecutableDocument.{ExecutableDocument}
@@ -18,19 +16,3 @@ IsMetaName name = (name ≡ codes "__type") ⊎ ((name ≡ codes "__schema") ⊎
 abbrev pub IsIntrospection : ExecutableDocument → Operation → Type 0
 IsIntrospection document operation = (operation.operation_type ≡ Query)
     × ((n : NodeView Field) → IsReached (fragments_of false document) (plain false operation.selection_set.selections) n → IsMetaName n.value.name.text)
-
--- memory is wanted in a turn that opens a list of a walk over its root fields. Those that are given before all have such a name, and
--- the next one is due no sooner
-pub record WantsMemoryInTime (document : ExecutableDocument) (operation : Operation) : Type 0 where
-  pub given : List (NodeView Field)
-  pub given_due : List ℕ
-  pub others : List (NodeView Field)
-  pub others_due : List ℕ
-  pub opening : List ℕ
-  pub turn : ℕ
-  pub paired : length given_due ≡ length given
-  pub due : AreDueIn false document operation.selection_set (given ++ others) (given_due ++ others_due)
-  pub opened : AreOpenedIn false document operation.selection_set opening
-  pub named : (n : NodeView Field) → Among n given → IsMetaName n.value.name.text
-  pub opens : Among turn opening
-  pub no_later : IsNoLater turn others_due

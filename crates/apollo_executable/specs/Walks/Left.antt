@@ -1,13 +1,15 @@
 -- What is left of a walk, by the lists that are open.
-use Rattle.std.specs.Prelude.{◌≡◌, ◌+◌, ℕ, Bool, true, false, List, ◌∷◌, map, filter, reverse, cond, position, slice_index_or}
+use Rattle.std.specs.Prelude.{◌≡◌, ℕ, Bool, false, List, [], ◌∷◌, map, filter, reverse, cond, position, slice_index_or, Option, None, Some, Result, Ok, Err}
+use Rattle.std.specs.declared.alloc.AllocError.{AllocError}
 use Rattle.std.specs.Borrow.{Bor}
 use Rattle.std.specs.Option.{option_map_or}
 use Rattle.graphql_nodes.specs.NodeView.{NodeView}
 use Rattle.graphql_nodes.specs.SameText.{by_text}
 use Rattle.graphql_nodes.specs.Tables.{keys_of}
 use Rattle.apollo_walks.specs.Selections.{Names, no_names}
-use Rattle.apollo_walks.specs.Course.{Course, no_course, course, course_of_all, a_turn_before, a_field_before}
-use Rattle.apollo_walks.specs.Reachable.{Among}
+use Rattle.apollo_walks.specs.ToCome.{ToCome, IsToCome}
+use Rattle.apollo_walks.specs.TurnByTurn.{a_turn_before, a_field_before}
+use Rattle.apollo_walks.proofs.Steps.{what_is_to_come}
 use Rattle.apollo_executable.specs.Walks.Plain.{plain, fragments_of}
 use Rattle.apollo_executable.specs.declared.selection.Selection.{Selection}
 use Rattle.apollo_executable.specs.declared.selection.Selection.TheVariants as variant
@@ -16,8 +18,6 @@ use Rattle.apollo_executable.specs.declared.selection.FragmentSpread.{FragmentSp
 use Rattle.apollo_executable.specs.declared.selection.SelectionSet.{SelectionSet}
 use Rattle.apollo_executable.specs.declared.document.ExecutableDocument.{ExecutableDocument}
 use Rattle.apollo_executable.specs.declared.walks.open_lists.OpenLists.{OpenLists}
-use Rattle.apollo_executable.specs.declared.walks.open_lists.Turn.{Turn}
-use Rattle.apollo_executable.specs.declared.walks.open_lists.Turn.TheVariants.{Gave, Moved, Refused}
 
 -- the lists that wait, the innermost first
 unfoldable pub waiting_lists : List (Bor (List Selection)) → List (List Selection)
@@ -31,43 +31,46 @@ marked_names document flags = λ n. option_map_or (λ place. slice_index_or flag
 abbrev pub opened_names : ExecutableDocument → Names → List (List ℕ)
 opened_names document names = filter names (map (λ key. key.text) (keys_of document.fragments))
 
--- what a walk gives that has this list open, and these lists waiting
-unfoldable pub left_in : Bool → ExecutableDocument → Names → List Selection → List (List Selection) → Course (NodeView Field)
-left_in deep document names list lists = course_of_all (fragments_of deep document) names (plain deep list ∷ map (plain deep) lists)
-
 abbrev pub names_opened : OpenLists → Names
 names_opened w = marked_names w.document.now w.opened.items
 
--- what is left from here on
-abbrev pub left_of : OpenLists → Course (NodeView Field)
-left_of w = cond w.ended (no_course (names_opened w)) (left_in w.deep w.document.now (names_opened w) w.current.now (waiting_lists w.waiting.items))
+-- the lists that are open, the innermost first
+abbrev pub lists_of : OpenLists → List (List Selection)
+lists_of w = cond w.ended [] (w.current.now ∷ waiting_lists w.waiting.items)
+
+-- where these names are opened and these lists are open, that is to come
+unfoldable pub IsLeft : Bool → ExecutableDocument → Names → List (List Selection) → ToCome (NodeView Field) → Type 0
+IsLeft deep document names lists x = IsToCome (fragments_of deep document) names (map (plain deep) lists) x
+
+abbrev pub IsLeftOf : OpenLists → ToCome (NodeView Field) → Type 0
+IsLeftOf w x = IsLeft w.deep w.document.now (names_opened w) (lists_of w) x
+
+-- the one that is to come
+unfoldable pub left_in : Bool → ExecutableDocument → Names → List (List Selection) → ToCome (NodeView Field)
+left_in deep document names lists = (what_is_to_come (fragments_of deep document) names (map (plain deep) lists)).0
+
+-- what is left of a walk with these lists open
+abbrev pub left_of : OpenLists → ToCome (NodeView Field)
+left_of w = left_in w.deep w.document.now (names_opened w) (lists_of w)
 
 -- a whole walk over a set
-unfoldable pub walk_over : Bool → ExecutableDocument → SelectionSet → Course (NodeView Field)
-walk_over deep document set = course (fragments_of deep document) no_names (plain deep set.selections)
+abbrev pub whole_walk : Bool → ExecutableDocument → SelectionSet → ToCome (NodeView Field)
+whole_walk deep document set = left_in deep document no_names (set.selections ∷ [])
 
--- over lists the first of which the last turn opened, or did not
-abbrev pub opening_if : Bool → (ℕ → List ℕ) → ℕ → List ℕ
-opening_if true opening taken = taken ∷ opening taken
-opening_if false opening taken = opening taken
+-- what was to come before a turn, by what is to come after it
+abbrev pub IsTurn : OpenLists → Result (Option (Bor (NodeView Field))) AllocError → OpenLists → Type 0
+IsTurn old (Ok (Some field)) new = ((x : ToCome (NodeView Field)) → IsLeftOf new x → IsLeftOf old (a_field_before field.now x)) × (new.ended ≡ false)
+IsTurn old (Ok None) new = (x : ToCome (NodeView Field)) → IsLeftOf new x → IsLeftOf old (a_turn_before x)
+IsTurn old (Err error) new = ((x : ToCome (NodeView Field)) → IsLeftOf new x → IsLeftOf old x) × (new.ended ≡ false)
 
-abbrev pub just_opened_if : Bool → Course (NodeView Field) → Course (NodeView Field)
-just_opened_if opens x = record { fields = x.fields; due = x.due; opening = opening_if opens x.opening; opened = x.opened; turns = x.turns }
+-- the same, where old looks at a spread, and then at the rest
+abbrev pub IsSpreadTurn : OpenLists → NodeView FragmentSpread → List Selection → OpenLists → Type 0
+IsSpreadTurn old n rest new = (x : ToCome (NodeView Field))
+    → IsLeft new.deep new.document.now (names_opened new) (new.current.now ∷ waiting_lists new.waiting.items) x
+    → IsLeft old.deep old.document.now (names_opened old) ((variant.FragmentSpread n ∷ rest) ∷ waiting_lists old.waiting.items) (a_turn_before x)
 
--- the next turn opens a list
-abbrev pub OpensNow : Course (NodeView Field) → Type 0
-OpensNow x = (taken : ℕ) → Among (taken + 1) (x.opening taken)
-
--- what was left before a turn, and after it. A turn that is refused would have opened a list
-abbrev pub IsTurn : OpenLists → Turn → OpenLists → Type 0
-IsTurn old (Gave field) new = (opens : Bool) × ((left_of old ≡ a_field_before field.now (just_opened_if opens (left_of new))) × (new.ended ≡ false))
-IsTurn old Moved new = (opens : Bool) × (left_of old ≡ a_turn_before (just_opened_if opens (left_of new)))
-IsTurn old Refused new = (new.ended ≡ true) × OpensNow (left_of old)
-
--- the same, where old has just taken a spread from its open list
-abbrev pub left_with : OpenLists → NodeView FragmentSpread → Course (NodeView Field)
-left_with old n = left_in old.deep old.document.now (names_opened old) (variant.FragmentSpread n ∷ old.current.now) (waiting_lists old.waiting.items)
-
-abbrev pub IsSpreadTurn : OpenLists → NodeView FragmentSpread → OpenLists → Type 0
-IsSpreadTurn old n new = (opens : Bool)
-    × (left_with old n ≡ a_turn_before (just_opened_if opens (left_in new.deep new.document.now (names_opened new) new.current.now (waiting_lists new.waiting.items))))
+-- the same lists are open, and the same names are opened
+pub record AreSameLists (old new : OpenLists) : Type 0 where
+  pub current : new.current.now ≡ old.current.now
+  pub waiting : new.waiting.items ≡ old.waiting.items
+  pub names : names_opened new ≡ names_opened old

@@ -2,7 +2,6 @@
 use Rattle.std.specs.Prelude.{◌≡◌, ◌↔◌, ℕ, Bool, false, List, [], refl}
 use Rattle.std.specs.Coded.{Coded, code_by, coded×, coded_list, coded_ℕ, coded_bool}
 use Rattle.graphql_nodes.specs.NodeView.{NodeView}
-use Rattle.apollo_walks.specs.OrderInTurns.{AreDue, AreOpenings}
 use Rattle.apollo_walks.specs.Reachable.{Among, Reachable}
 use Rattle.apollo_walks.specs.Turns.{AreAllTurns, AreWithinTurns}
 use Rattle.apollo_walks.specs.Whole.{IsWalk}
@@ -12,14 +11,12 @@ use Rattle.apollo_executable.specs.declared.selection.SelectionSet.{SelectionSet
 use Rattle.apollo_executable.specs.declared.document.ExecutableDocument.{ExecutableDocument}
 
 pub record WalkView : Type 0 where
+  -- it goes below fields
+  pub deep : Bool
   pub document : ExecutableDocument
   pub start : SelectionSet
   -- the fields that are still to come
   pub coming : List (NodeView Field)
-  -- the turn in which each of them is given
-  pub due : List ℕ
-  -- the turns that are to come in which a list is opened
-  pub opening : List ℕ
   -- the names of the fragments that are opened: said where a walk begins and where it is over
   pub opened : List (List ℕ)
   -- the end came, or the error
@@ -28,23 +25,15 @@ pub record WalkView : Type 0 where
   pub taken : ℕ
 
 abbrev pub walk_view_code : Coded ExecutableDocument → Coded SelectionSet → Coded (NodeView Field) → Coded WalkView
-walk_view_code document set field = code_by (ExecutableDocument × (SelectionSet × (List (NodeView Field) × (List ℕ × (List ℕ × (List (List ℕ) × (Bool × ℕ)))))))
-    (coded× document (coded× set (coded× (coded_list field) (coded× (coded_list coded_ℕ) (coded× (coded_list coded_ℕ) (coded× (coded_list (coded_list coded_ℕ)) (coded× coded_bool coded_ℕ)))))))
-    (λ w. (w.document, (w.start, (w.coming, (w.due, (w.opening, (w.opened, (w.ended, w.taken))))))))
-    (λ p. record { document = p.0; start = p.1.0; coming = p.1.1.0; due = p.1.1.1.0; opening = p.1.1.1.1.0; opened = p.1.1.1.1.1.0; ended = p.1.1.1.1.1.1.0; taken = p.1.1.1.1.1.1.1 }) (λ _. refl)
+walk_view_code document set field = code_by (Bool × (ExecutableDocument × (SelectionSet × (List (NodeView Field) × (List (List ℕ) × (Bool × ℕ))))))
+    (coded× coded_bool (coded× document (coded× set (coded× (coded_list field) (coded× (coded_list (coded_list coded_ℕ)) (coded× coded_bool coded_ℕ))))))
+    (λ w. (w.deep, (w.document, (w.start, (w.coming, (w.opened, (w.ended, w.taken)))))))
+    (λ p. record { deep = p.0; document = p.1.0; start = p.1.1.0; coming = p.1.1.1.0; opened = p.1.1.1.1.0; ended = p.1.1.1.1.1.0; taken = p.1.1.1.1.1.1 }) (λ _. refl)
 
 -- the fields are those of a whole walk over the set: each one that is reached exactly as often as it stands there, in the order
 -- of walks. Where `deep` is false, it is a walk over root fields
 abbrev pub AreWalked : Bool → ExecutableDocument → SelectionSet → List (NodeView Field) → Type 0
 AreWalked deep document set fields = IsWalk (fragments_of deep document) (plain deep set.selections) fields
-
--- in these turns a whole walk over the set gives these fields
-abbrev pub AreDueIn : Bool → ExecutableDocument → SelectionSet → List (NodeView Field) → List ℕ → Type 0
-AreDueIn deep document set fields due = AreDue (fragments_of deep document) (plain deep set.selections) fields due
-
--- in these turns a whole walk over the set opens a list
-abbrev pub AreOpenedIn : Bool → ExecutableDocument → SelectionSet → List ℕ → Type 0
-AreOpenedIn deep document set opening = AreOpenings (fragments_of deep document) (plain deep set.selections) opening
 
 -- so many turns are at most two for each selection in reach, and one
 abbrev pub IsWithinTurns : Bool → ExecutableDocument → SelectionSet → ℕ → Type 0
@@ -60,11 +49,10 @@ AreReachedNames deep document set opened = (n : List ℕ) → Among n opened ↔
 
 -- a walk over the set that is to begin
 pub record IsNewWalk (deep : Bool) (document : ExecutableDocument) (set : SelectionSet) (walk : WalkView) : Type 0 where
+  pub deep_is : walk.deep ≡ deep
   pub document_is : walk.document ≡ document
   pub start_is : walk.start ≡ set
   pub coming : AreWalked deep document set walk.coming
-  pub due : AreDueIn deep document set walk.coming walk.due
-  pub opening : AreOpenedIn deep document set walk.opening
   pub opened : walk.opened ≡ []
   pub goes_on : walk.ended ≡ false
   pub taken : walk.taken ≡ 0

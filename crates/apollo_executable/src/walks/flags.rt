@@ -1,5 +1,5 @@
 //! Places of a list that are marked.
-ghost use Rattle.std.specs.Prelude.{◌≡◌, ◌<◌, ℕ, OnOk, nat_eq, slice_index_or, if◌then◌else◌, true, false};
+ghost use Rattle.std.specs.Prelude.{◌≡◌, ◌<◌, ◌≤◌, ℕ, OnOk, length, nat_eq, slice_index_or, if◌then◌else◌, true, false};
 
 use std::alloc::AllocError;
 
@@ -10,14 +10,21 @@ pub(crate) fn is_marked(flags: &[bool], place: usize) -> bool
     place < flags.len() && flags[place]
 }
 
-/// Marks a place of a list that is to be so long, and makes the list if it is shorter. The error is want of memory.
-pub(crate) fn mark(flags: &mut Vec<bool>, len: usize, place: usize) -> Result<(), AllocError>
-    requires { place < len }
-    ensures { OnOk result ((k : ℕ) → slice_index_or flags.new.items k false ≡ (if nat_eq place k then true else slice_index_or flags.old.items k false)) }
+/// Makes room for so many places, of which those are marked that were so. The error is that memory ran out.
+pub(crate) fn make_room(flags: &mut Vec<bool>, len: usize) -> Result<(), AllocError>
+    ensures room { OnOk result (len ≤ length flags.new.items) }
+    ensures marks { (k : ℕ) → slice_index_or flags.new.items k false ≡ slice_index_or flags.old.items k false }
 {
     if flags.len() < len {
         flags.resize(len, false)?;
     }
-    flags[place] = true;
     Ok(())
+}
+
+/// Marks a place.
+pub(crate) fn mark(flags: &mut Vec<bool>, place: usize)
+    requires { place < length flags.old.items }
+    ensures { (k : ℕ) → slice_index_or flags.new.items k false ≡ (if nat_eq place k then true else slice_index_or flags.old.items k false) }
+{
+    flags[place] = true;
 }

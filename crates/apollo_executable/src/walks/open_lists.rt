@@ -1,5 +1,6 @@
 //! The lists that a walk has open, and one turn over them.
 ghost use Rattle.std.specs.Prelude.{◌≡◌, [], ◌∷◌, ◌++◌, OnOk, OnErr, false};
+ghost use Rattle.apollo_walks.specs.Selections.{no_names};
 
 use crate::document::ExecutableDocument;
 use crate::selection::{Field, FragmentSpread, Selection, SelectionSet};
@@ -9,7 +10,7 @@ use graphql_nodes::node::Node;
 use std::alloc::{AllocError, Global};
 
 /// The lists that a walk has open: the innermost one, and those that wait until it is closed. A fragment that was opened is
-/// marked at its place in the map of fragments; the marks are made when the first fragment is opened.
+/// marked at its place in the map of fragments; there is room for the marks from the first fragment on that is opened.
 #[derive(Drop)]
 pub(crate) struct OpenLists<'doc> {
     document: &'doc ExecutableDocument,
@@ -21,18 +22,9 @@ pub(crate) struct OpenLists<'doc> {
     pub(crate) ended: bool,
 }
 
-/// What one turn did.
-#[derive(Drop)]
-pub(crate) enum Turn<'doc> {
-    Gave(&'doc Node<Field>),
-    Moved,
-    Refused,
-}
-
 impl<'doc> OpenLists<'doc> {
     ghost use Rattle.apollo_executable.specs.Walks.Plain.{below_of};
-    ghost use Rattle.apollo_executable.specs.Walks.Left.{left_of, walk_over, names_opened, opened_names, IsTurn, IsSpreadTurn, OpensNow, left_with};
-    ghost use Rattle.apollo_executable.specs.Walks.Nesting.{IsFlat, StaysFlat, opens_lists};
+    ghost use Rattle.apollo_executable.specs.Walks.Left.{lists_of, names_opened, AreSameLists, IsSpreadTurn, IsTurn};
 
     /// The list of this set.
     pub(crate) fn new(
@@ -44,11 +36,9 @@ impl<'doc> OpenLists<'doc> {
         ensures document { result.document ≡ document.entry }
         ensures deep { result.deep ≡ deep }
         ensures ended { result.ended ≡ false }
-        ensures left { left_of result ≡ walk_over deep document.now set.now }
-        ensures opened { opened_names document.now (names_opened result) ≡ [] }
-        ensures flat { opens_lists deep set.now.selections ≡ false → IsFlat result }
+        ensures lists { lists_of result ≡ set.now.selections ∷ [] }
+        ensures opened { names_opened result ≡ no_names }
     {
-        walks_go_turn_by_turn::<Node<Field>>();
         OpenLists {
             document,
             current: set.selections.as_slice(),
@@ -59,38 +49,48 @@ impl<'doc> OpenLists<'doc> {
         }
     }
 
-    /// Opens a list.
-    fn open(&mut self, list: &'doc [Selection]) -> Result<(), AllocError>
+    /// Opens a list, and leaves the rest of the innermost one for later. After the error, that memory ran out, all is as it was.
+    fn open(&mut self, list: &'doc [Selection], rest: &'doc [Selection]) -> Result<(), AllocError>
         ensures document { self.new.document ≡ self.old.document }
         ensures opened { self.new.opened ≡ self.old.opened }
         ensures deep { self.new.deep ≡ self.old.deep }
         ensures ended { self.new.ended ≡ self.old.ended }
         ensures current { OnOk result (self.new.current.now ≡ list.now) }
-        ensures waiting { OnOk result (self.new.waiting.items ≡ self.old.waiting.items ++ self.old.current ∷ []) }
+        ensures waiting { OnOk result (self.new.waiting.items ≡ self.old.waiting.items ++ rest.entry ∷ []) }
+        ensures refused { OnErr result (AreSameLists self.old self.new) }
     {
-        self.waiting.push(self.current)?;
+        self.waiting.push(rest)?;
         self.current = list;
         Ok(())
     }
 
-    /// Opens the fragment of a spread, if there is one that is not opened yet.
-    fn open_fragment(&mut self, spread: &Node<FragmentSpread>) -> Result<(), AllocError>
+    /// Opens the fragment of a spread, if there is one that is not opened yet, and leaves the rest of the innermost list for later.
+    /// After the error, that memory ran out, all is as it was.
+    fn open_fragment(
+        &mut self,
+        spread: &Node<FragmentSpread>,
+        rest: &'doc [Selection],
+    ) -> Result<(), AllocError>
         ensures document { self.new.document ≡ self.old.document }
         ensures deep { self.new.deep ≡ self.old.deep }
         ensures ended { self.new.ended ≡ self.old.ended }
-        ensures turn { OnOk result (IsSpreadTurn self.old spread.now self.new) }
-        ensures refused { OnErr result (OpensNow (left_with self.old spread.now)) }
+        ensures turn { OnOk result (IsSpreadTurn self.old spread.now rest.now self.new) }
+        ensures refused { OnErr result (AreSameLists self.old self.new) }
     {
         walks_go_turn_by_turn::<Node<Field>>();
         let fragments = &self.document.fragments;
         let Some((place, _, fragment)) = fragments.get_full(&spread.fragment_name) else {
+            self.current = rest;
             return Ok(());
         };
         if flags::is_marked(self.opened.as_slice(), place) {
+            self.current = rest;
             return Ok(());
         }
-        flags::mark(&mut self.opened, fragments.len(), place)?;
-        self.open(fragment.selection_set.selections.as_slice())
+        flags::make_room(&mut self.opened, fragments.len())?;
+        self.open(fragment.selection_set.selections.as_slice(), rest)?;
+        flags::mark(&mut self.opened, place);
+        Ok(())
     }
 
     /// What is opened below a field.
@@ -104,13 +104,13 @@ impl<'doc> OpenLists<'doc> {
         }
     }
 
-    /// One turn: a look at the innermost open list.
-    pub(crate) fn turn(&mut self) -> Turn<'doc>
+    /// One turn: a look at the innermost open list. It answers the field that stands first there, if one does. After the error, that
+    /// memory ran out, all is as it was.
+    pub(crate) fn turn(&mut self) -> Result<Option<&'doc Node<Field>>, AllocError>
         requires { self.old.ended ≡ false }
         ensures document { self.new.document ≡ self.old.document }
         ensures deep { self.new.deep ≡ self.old.deep }
         ensures turn { IsTurn self.old result self.new }
-        ensures flat { IsFlat self.old → StaysFlat result self.new }
     {
         walks_go_turn_by_turn::<Node<Field>>();
         match self.current.split_first() {
@@ -119,41 +119,27 @@ impl<'doc> OpenLists<'doc> {
                     None => self.ended = true,
                     Some(list) => self.current = list,
                 }
-                Turn::Moved
+                Ok(None)
             }
-            Some((first, rest)) => {
-                self.current = rest;
-                match first {
-                    Selection::Field(field) => {
-                        let below = self.below(field);
-                        if below.is_empty() || self.open(below).is_ok() {
-                            Turn::Gave(field)
-                        } else {
-                            self.ended = true;
-                            Turn::Refused
-                        }
+            Some((first, rest)) => match first {
+                Selection::Field(field) => {
+                    let below = self.below(field);
+                    if below.is_empty() {
+                        self.current = rest;
+                    } else {
+                        self.open(below, rest)?;
                     }
-                    Selection::InlineFragment(inline) => {
-                        if self
-                            .open(inline.selection_set.selections.as_slice())
-                            .is_ok()
-                        {
-                            Turn::Moved
-                        } else {
-                            self.ended = true;
-                            Turn::Refused
-                        }
-                    }
-                    Selection::FragmentSpread(spread) => {
-                        if self.open_fragment(spread).is_ok() {
-                            Turn::Moved
-                        } else {
-                            self.ended = true;
-                            Turn::Refused
-                        }
-                    }
+                    Ok(Some(field))
                 }
-            }
+                Selection::InlineFragment(inline) => {
+                    self.open(inline.selection_set.selections.as_slice(), rest)?;
+                    Ok(None)
+                }
+                Selection::FragmentSpread(spread) => {
+                    self.open_fragment(spread, rest)?;
+                    Ok(None)
+                }
+            },
         }
     }
 }

@@ -8,7 +8,6 @@ use Rattle.apollo_meaning.specs.Order.Places.{folding_order}
 use Rattle.apollo_meaning.specs.Types.Meaning.{parts, type_from}
 use Rattle.apollo_canonical.specs.WrittenAgain.{IsMeantByList}
 use Rattle.apollo_executable.specs.Walks.Plain.{fragments_of, plain}
-use Rattle.apollo_walks.specs.Course.{course}
 use Rattle.apollo_walks.specs.Selections.{no_names}
 use Rattle.apollo_compiler.specs.Headline.{all_items, type_named}
 use Rattle.apollo_compiler.specs.Lists.{executable_list, handed_in, schema_list}
@@ -54,15 +53,14 @@ pub returns-clause-walks : goal.returns-clause-walks
 returns-clause-walks c = λ deep document set.
     let fragments = fragments_of deep document in
     let s = plain deep set.selections in
-    let walk = course fragments no_names s in
-    let walked = c.walks_reach_each_field_once.ensures fragments s in
+    let walk = c.walks_reach_each_field_once.ensures fragments s in
     let all = c.walks_take_few_turns.ensures.all fragments s in
     record {
-      fields = walk.fields;
-      walked = walked;
-      no_others = λ others other. (c.walks_have_one_order.ensures fragments no_names other.opened walked.opened s others walk.fields other.order walked.order).0;
-      turns = walk.turns;
-      all = all;
-      no_more = λ others other. c.reachable_names_are_one_list.ensures.turns fragments s others walk.turns other all;
-      few = c.walks_take_few_turns.ensures.few fragments s;
+      fields = walk.0;
+      walked = walk.1;
+      no_others = λ others other. (c.walks_have_one_order.ensures fragments no_names s others walk.0 other.opened walk.1.opened other.order walk.1.order).0;
+      turns = all.0;
+      all = all.1;
+      no_more = λ others other. c.reachable_names_are_one_list.ensures.turns fragments s others all.0 other all.1;
+      few = c.walks_take_few_turns.ensures.few fragments s all.0 all.1;
     }

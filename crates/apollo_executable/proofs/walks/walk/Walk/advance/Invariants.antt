@@ -1,5 +1,4 @@
-use Rattle.apollo_executable.specs.Walks.Seen.{left}
-use Rattle.apollo_executable.proofs.Walking.NextLemmas.{IsLater}
+use Rattle.apollo_executable.proofs.Walking.NextLemmas.{IsLater, left}
 use Rattle.apollo_executable.proofs.walks.walk.Walk.advance.Given as goal
 
 abbrev pub invariant-loop-self : goal.invariant-loop-self

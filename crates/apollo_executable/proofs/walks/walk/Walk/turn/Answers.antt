@@ -1,22 +1,31 @@
-use Rattle.std.proofs.Common.{Bool, sym, ap, ◌∙◌, arith}
-use Rattle.apollo_executable.specs.Walks.Left.{walk_over}
-use Rattle.apollo_executable.specs.Walks.Nesting.{opens_lists}
-use Rattle.apollo_executable.proofs.Walking.NestingLemmas.{stays-flat}
-use Rattle.apollo_executable.proofs.Walking.WalkLemmas.{turn-counts, turn-opens}
+use Rattle.std.proofs.Common.{◌≡◌, false, is_err, sym, ap, ◌∙◌, arith}
+use Rattle.graphql_nodes.specs.NodeView.{NodeView}
+use Rattle.apollo_walks.specs.ToCome.{ToCome}
+use Rattle.apollo_executable.specs.Walks.Left.{left_of, whole_walk}
+use Rattle.apollo_executable.specs.Walks.Taken.{turns_taken}
+use Rattle.apollo_executable.specs.declared.selection.Field.{Field}
+use Rattle.apollo_executable.proofs.Walking.WalkLemmas.{open-positive, turn-counts, turn-leaves}
+use Rattle.apollo_executable.proofs.Walking.WholeLemmas.{WalkLaws}
 use Rattle.apollo_executable.proofs.walks.walk.Walk.turn.Goals as goal
 
 pub invariant_of-self : goal.invariant_of-self
 invariant_of-self c =
     let w = c.args.self.now in
-    let all = (walk_over w.lists.deep w.document.now w.start.now).turns in
-    let counts = turn-counts w.lists c.turn-turn.new.self c.turn-turn.result (c.walks_go_turn_by_turn.ensures _ _) c.turn-turn.ensures.turn c.requires w.taken.number all (w.left_over c.requires) in
-    let turns = ap (λ (d : Bool). (walk_over d w.document.now w.start.now).turns) c.turn-turn.ensures.deep in
-    let opened = ap (λ (d : Bool). (walk_over d w.document.now w.start.now).opened) c.turn-turn.ensures.deep in
+    let new = c.turn-turn.new.self in
+    let e = c.turn-turn.ensures in
+    let laws : WalkLaws = record { one = c.walks_go_turn_by_turn.ensures.one; steps = c.walks_go_turn_by_turn.ensures.turns; begins = c.walks_go_turn_by_turn.ensures.begins } in
+    let all = whole_walk w.lists.deep w.lists.document.now w.start.now in
+    let same : whole_walk new.deep new.document.now w.start.now ≡ all = λ i. whole_walk (e.deep i) ((e.document i).now) w.start.now in
+    let same_turns = ap (λ (x : ToCome (NodeView Field)). x.turns) same in
+    let leaves = turn-leaves laws w.lists new c.turn-turn.result e.turn in
+    let counts = turn-counts laws all w.lists new c.turn-turn.result leaves (open-positive laws w.lists c.requires.going) w.left_over in
+    let refused = c.is_err-self.ensures.value in
+    let taken : turns_taken (whole_walk new.deep new.document.now w.start.now) (left_of new) c.is_err-self.result ≡ turns_taken all (left_of new) (is_err c.turn-turn.result) =
+    λ i. turns_taken (same i) (left_of new) (refused i) in
+    let before : turns_taken all (left_of w.lists) w.refused ≡ turns_taken all (left_of w.lists) false = ap (turns_taken all (left_of w.lists)) c.requires.fine in
     record {
-      same = c.turn-turn.ensures.document ∙ w.same;
-      counted = omega (arith, w.counted, c.saturating_add-self.ensures, c.after-self.ensures);
-      bounded = omega (arith, counts.0, c.after-self.ensures, turns);
-      left_over = λ still. omega (arith, counts.1 still, c.after-self.ensures, turns);
-      flat = λ shallow. stays-flat c.turn-turn.result c.turn-turn.new.self (c.turn-turn.ensures.flat (w.flat (ap (λ (d : Bool). opens_lists d w.start.now.selections) (sym c.turn-turn.ensures.deep) ∙ shallow)));
-      left_open = λ still. sym (turn-opens w.lists c.turn-turn.new.self c.turn-turn.result c.turn-turn.ensures.turn still) ∙ w.left_open c.requires ∙ sym opened;
+      left_over = omega (arith, counts.1, same_turns);
+      left_open = counts.3 ∙ w.left_open ∙ sym (ap (λ (x : ToCome (NodeView Field)). x.opened) same);
+      counted = omega (arith, c.saturating_add-self.ensures, w.counted, before, taken, counts.0);
+      bounded = omega (arith, taken, counts.2, same_turns);
     }

@@ -1,0 +1,190 @@
+//! The scenarios: one for each call, or for calls of one sort, that can want memory.
+
+use crate::builders::{self, OfBuilder};
+use crate::containers::{Changed, tell_changes};
+use crate::coordinates::{self, Form};
+use crate::documents::{self, OfBuilt, OfDocuments};
+use crate::schemas::{self, OfSchema, OfType};
+use crate::sets::OfSet;
+use crate::stop::{Told, tell_made};
+use crate::{compiling, making};
+use apollo_schema::schema::Schema;
+use std::alloc::Global;
+
+/// What a scenario asks, and of what.
+#[derive(Clone, Copy)]
+pub enum Scenario {
+    /// `Name::new`.
+    Names,
+    /// `Node::same_location` and `ExtensionId::same_location`.
+    SameLocation,
+    /// `MetaFields::new`.
+    MetaFields,
+    /// `Schema::new`.
+    NewSchema,
+    /// `SchemaBuilder::new`.
+    NewBuilder,
+    /// Calls that change values.
+    Changes(Changed),
+    /// Calls of the builder of schemas.
+    Builder(OfBuilder),
+    /// Builders over sources that are spent.
+    SpentSources,
+    /// Calls on schemas.
+    Schemas(OfSchema),
+    /// Calls on executable documents.
+    Documents(OfDocuments),
+    /// Calls on typed documents.
+    Built(OfBuilt),
+    /// Calls on the sets of typed documents.
+    Sets(OfSet),
+    /// The calls that make selections without a schema.
+    Selections,
+    /// The calls that make selections of a set's type.
+    InSet,
+    /// `OperationMap::from_one`.
+    FromOne,
+    /// Coordinates that are read.
+    Coordinates(Form),
+    /// Coordinates that others stand in.
+    CutCoordinates,
+    /// `compile`, of documents of the type system.
+    CompileSchemas,
+    /// `compile`, of documents of both sorts.
+    CompileBoth,
+}
+
+/// All scenarios, with their names.
+pub const SCENARIOS: [(&str, Scenario); 56] = [
+    ("name-new", Scenario::Names),
+    ("same-location", Scenario::SameLocation),
+    ("meta-fields", Scenario::MetaFields),
+    ("make-mut", Scenario::Changes(Changed::Node)),
+    ("items-push", Scenario::Changes(Changed::Items)),
+    ("set-insert", Scenario::Changes(Changed::Set)),
+    ("table-insert", Scenario::Changes(Changed::Table)),
+    ("append", Scenario::Changes(Changed::Appended)),
+    ("builder-new", Scenario::NewBuilder),
+    ("schema-new", Scenario::NewSchema),
+    ("add-ast", Scenario::Builder(OfBuilder::AddAst)),
+    ("build", Scenario::Builder(OfBuilder::Build)),
+    (
+        "build-with-source",
+        Scenario::Builder(OfBuilder::WithSource(40)),
+    ),
+    ("builder-clone", Scenario::Builder(OfBuilder::Copied)),
+    ("spent-sources", Scenario::SpentSources),
+    ("schema-to-ast", Scenario::Schemas(OfSchema::Written)),
+    (
+        "definition-to-ast",
+        Scenario::Schemas(OfSchema::DefinitionWritten),
+    ),
+    (
+        "definition-extensions",
+        Scenario::Schemas(OfSchema::DefinitionExtended),
+    ),
+    (
+        "type-to-ast",
+        Scenario::Schemas(OfSchema::Types(OfType::Written)),
+    ),
+    (
+        "type-extensions",
+        Scenario::Schemas(OfSchema::Types(OfType::Extended)),
+    ),
+    (
+        "kind-to-ast",
+        Scenario::Schemas(OfSchema::Types(OfType::KindWritten)),
+    ),
+    (
+        "type-write-to",
+        Scenario::Schemas(OfSchema::WrittenTogether),
+    ),
+    (
+        "kind-extensions",
+        Scenario::Schemas(OfSchema::Types(OfType::KindExtended)),
+    ),
+    (
+        "implementers-map",
+        Scenario::Schemas(OfSchema::Implementers),
+    ),
+    ("add-ast-document", Scenario::Documents(OfDocuments::Build)),
+    (
+        "field-set-from-ast",
+        Scenario::Documents(OfDocuments::FieldSets),
+    ),
+    ("document-to-ast", Scenario::Built(OfBuilt::Written)),
+    (
+        "operation-to-ast",
+        Scenario::Built(OfBuilt::OperationsWritten),
+    ),
+    (
+        "fragment-to-ast",
+        Scenario::Built(OfBuilt::FragmentsWritten),
+    ),
+    ("set-to-ast", Scenario::Sets(OfSet::Written)),
+    ("selection-to-ast", Scenario::Sets(OfSet::SelectionsWritten)),
+    ("document-clone", Scenario::Built(OfBuilt::Copied)),
+    ("root-fields", Scenario::Sets(OfSet::RootFields)),
+    ("all-fields", Scenario::Sets(OfSet::AllFields)),
+    ("collect-root", Scenario::Sets(OfSet::CollectRoot)),
+    ("collect-all", Scenario::Sets(OfSet::CollectAll)),
+    ("is-introspection", Scenario::Built(OfBuilt::Introspection)),
+    ("make-selections", Scenario::Selections),
+    ("make-in-set", Scenario::InSet),
+    ("push-selection", Scenario::Changes(Changed::Selections)),
+    ("extend-selections", Scenario::Changes(Changed::Extended)),
+    ("push-component", Scenario::Changes(Changed::Components)),
+    ("push-directive", Scenario::Changes(Changed::Directives)),
+    ("insert-operation", Scenario::Changes(Changed::Operations)),
+    ("from-one", Scenario::FromOne),
+    ("get-mut", Scenario::Changes(Changed::Requested)),
+    ("type-from-str", Scenario::Coordinates(Form::Type)),
+    ("attribute-from-str", Scenario::Coordinates(Form::Attribute)),
+    (
+        "field-argument-from-str",
+        Scenario::Coordinates(Form::FieldArgument),
+    ),
+    ("directive-from-str", Scenario::Coordinates(Form::Directive)),
+    (
+        "directive-argument-from-str",
+        Scenario::Coordinates(Form::DirectiveArgument),
+    ),
+    ("any-from-str", Scenario::Coordinates(Form::Any)),
+    ("cut-coordinates", Scenario::CutCoordinates),
+    ("compile-schemas", Scenario::CompileSchemas),
+    ("compile-both", Scenario::CompileBoth),
+    ("leaf-faults", Scenario::Built(OfBuilt::Leaves)),
+];
+
+impl Scenario {
+    /// Makes the scenario's calls, and tells their answers in full. `Memory` comes where a request was refused and all
+    /// stands that is promised then, and `Wrong` where something else comes than what is promised.
+    pub fn tell(self, alloc: Global, text: &mut String) -> Told {
+        match self {
+            Scenario::Names => making::names(alloc, text),
+            Scenario::SameLocation => making::same_location(alloc, text),
+            Scenario::MetaFields => making::meta_fields(alloc, text),
+            Scenario::NewSchema => tell_made(text, Schema::new(alloc)),
+            Scenario::NewBuilder => builders::new(alloc, text),
+            Scenario::Changes(changed) => tell_changes(alloc, text, changed),
+            Scenario::Builder(question) => builders::ask_all(alloc, text, question),
+            Scenario::SpentSources => builders::ask_spent(alloc, text),
+            Scenario::Schemas(question) => schemas::ask_all(alloc, text, question),
+            Scenario::Documents(question) => documents::ask_all(alloc, text, question),
+            Scenario::Built(question) => {
+                documents::ask_all(alloc, text, OfDocuments::Built(question))
+            }
+            Scenario::Sets(question) => {
+                let question = OfDocuments::Built(OfBuilt::Sets(question));
+                documents::ask_all(alloc, text, question)
+            }
+            Scenario::Selections => making::selections_made(alloc, text),
+            Scenario::InSet => making::made_in_a_set(alloc, text),
+            Scenario::FromOne => making::from_one(alloc, text),
+            Scenario::Coordinates(form) => coordinates::read_all(alloc, text, form),
+            Scenario::CutCoordinates => coordinates::cut(alloc, text),
+            Scenario::CompileSchemas => compiling::tell_schemas(alloc, text),
+            Scenario::CompileBoth => compiling::tell_documents(alloc, text),
+        }
+    }
+}

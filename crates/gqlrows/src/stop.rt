@@ -1,0 +1,38 @@
+//! Why no row is run.
+
+use gqltool_run::status::Status;
+use std::alloc::{AllocError, AllocFailed};
+use thiserror::Error;
+
+/// Why no row is run.
+#[derive(Debug, Drop, Error)]
+pub enum Stop {
+    /// A file or a line of it is refused, for this reason.
+    #[error("{0}")]
+    Refused(String),
+    /// Want of memory.
+    #[error("out of memory")]
+    Memory,
+}
+
+impl From<AllocError> for Stop {
+    fn from(_error: AllocError) -> Stop {
+        Stop::Memory
+    }
+}
+
+impl<T: Drop> From<AllocFailed<T>> for Stop {
+    fn from(_error: AllocFailed<T>) -> Stop {
+        Stop::Memory
+    }
+}
+
+impl Stop {
+    /// How the run ends.
+    pub fn status(&self) -> Status {
+        match self {
+            Stop::Refused(_) => Status::Refused,
+            Stop::Memory => Status::Exhausted,
+        }
+    }
+}

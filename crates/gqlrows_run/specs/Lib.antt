@@ -1,4 +1,0 @@
-pub mod FileLines
-pub mod Report
-pub mod Rows
-pub mod Runs

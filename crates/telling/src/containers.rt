@@ -1,0 +1,136 @@
+//! Words, names, nodes, and the containers of trees. Of an option and a list what is there is told, and nothing around it.
+
+use crate::Tell;
+use graphql_nodes::collections::items::Items;
+use graphql_nodes::collections::key_set::KeySet;
+use graphql_nodes::collections::shared::Shared;
+use graphql_nodes::collections::table::Table;
+use graphql_nodes::name::Name;
+use graphql_nodes::node::Node;
+use graphql_nodes::node_str::NodeStr;
+use graphql_nodes::source::{FileId, SourceFile, SourceSpan};
+use likeness::push_location;
+use std::alloc::AllocError;
+use std::hash::Hash;
+
+/// A word is told as it is, without a space behind it.
+impl Tell for &str {
+    fn tell(&self, text: &mut String) -> Result<(), AllocError> {
+        text.push_str(*self)
+    }
+}
+
+/// Where something stands.
+#[derive(Clone, Copy)]
+pub struct At(pub Option<SourceSpan>);
+
+impl Tell for At {
+    fn tell(&self, text: &mut String) -> Result<(), AllocError> {
+        push_location(text, self.0)
+    }
+}
+
+/// A name, and where it stands.
+impl Tell for Name {
+    fn tell(&self, text: &mut String) -> Result<(), AllocError> {
+        tell!(text; self.as_str(), " ", At(self.location()))
+    }
+}
+
+/// A description, in quotes, and where it stands.
+impl Tell for NodeStr {
+    fn tell(&self, text: &mut String) -> Result<(), AllocError> {
+        write!(text, "{self:?} ")?;
+        push_location(text, self.location())
+    }
+}
+
+impl Tell for FileId {
+    fn tell(&self, text: &mut String) -> Result<(), AllocError> {
+        let number = self.0;
+        write!(text, "file {number} ")
+    }
+}
+
+impl Tell for SourceFile {
+    fn tell(&self, text: &mut String) -> Result<(), AllocError> {
+        let (path, said) = (&self.path, &self.text);
+        write!(text, "{path:?} {said:?}\n")
+    }
+}
+
+impl<T: Tell> Tell for Option<T> {
+    fn tell(&self, text: &mut String) -> Result<(), AllocError> {
+        match self {
+            Some(value) => value.tell(text),
+            None => Ok(()),
+        }
+    }
+}
+
+/// Where a node stands, and what it holds.
+impl<T: Tell> Tell for Node<T> {
+    fn tell(&self, text: &mut String) -> Result<(), AllocError> {
+        tell!(text; At(self.location()), **self)
+    }
+}
+
+impl<T: Tell> Tell for Shared<T> {
+    fn tell(&self, text: &mut String) -> Result<(), AllocError> {
+        (**self).tell(text)
+    }
+}
+
+impl<T: Tell> Tell for &[T] {
+    fn tell(&self, text: &mut String) -> Result<(), AllocError> {
+        for value in *self {
+            value.tell(text)?;
+        }
+        Ok(())
+    }
+}
+
+impl<T: Tell> Tell for Vec<T> {
+    fn tell(&self, text: &mut String) -> Result<(), AllocError> {
+        self.as_slice().tell(text)
+    }
+}
+
+impl<T: Tell> Tell for Items<T> {
+    fn tell(&self, text: &mut String) -> Result<(), AllocError> {
+        for value in self {
+            value.tell(text)?;
+        }
+        Ok(())
+    }
+}
+
+impl<T: Tell + Eq + Hash> Tell for KeySet<T> {
+    fn tell(&self, text: &mut String) -> Result<(), AllocError> {
+        self.as_slice().tell(text)
+    }
+}
+
+/// Each key, and then its value.
+impl<K: Tell + Eq + Hash, V: Tell> Tell for Table<K, V> {
+    fn tell(&self, text: &mut String) -> Result<(), AllocError> {
+        for (key, value) in self.iter() {
+            key.tell(text)?;
+            value.tell(text)?;
+        }
+        Ok(())
+    }
+}
+
+/// A list in brackets, where it isn't empty.
+#[derive(Clone, Copy)]
+pub struct Enclosed<'a, T>(pub &'a Items<T>);
+
+impl<'a, T: Tell> Tell for Enclosed<'a, T> {
+    fn tell(&self, text: &mut String) -> Result<(), AllocError> {
+        if self.0.is_empty() {
+            return Ok(());
+        }
+        tell!(text; "( ", self.0, ") ")
+    }
+}

@@ -1,0 +1,27 @@
+//! Values told as text, in full and in order: each name, text and number of a tree, each location and origin, and each fault. Two
+//! values that differ in any of these are told otherwise. None has a clause but that it is safe: tests compare the texts.
+#![tactic(auto)]
+
+use std::alloc::AllocError;
+
+/// Tells the parts one after the other.
+macro_rules! tell {
+    ($text:expr; $($part:expr),* $(,)?) => {{
+        $($part.tell($text)?;)*
+        Ok::<(), AllocError>(())
+    }};
+}
+
+pub mod components;
+pub mod containers;
+pub mod faults;
+pub mod schemas;
+pub mod syntax;
+pub mod typed;
+pub mod walks;
+
+/// A value that is told in full.
+pub trait Tell {
+    /// Adds all of it. The error is want of memory, which is asked for nothing but the text: where that has room, none is.
+    fn tell(&self, text: &mut String) -> Result<(), AllocError>;
+}

@@ -1,0 +1,13 @@
+"""The documents."""
+import re
+
+from peg import TOP
+
+
+def pages():
+    return [TOP / "README.md", TOP / "CONTRIBUTING.md", *sorted(TOP.glob("docs/*.md")), TOP / "tools/README.md"]
+
+
+def without_pieces(text):
+    """A document without its fenced code, each line where it was."""
+    return re.sub(r"^```.*?^```$", lambda piece: "\n" * piece[0].count("\n"), text, flags=re.MULTILINE | re.DOTALL)

@@ -1,0 +1,144 @@
+"""Large and strange inputs, each at two sizes: what comes of them, and that the time grows as what is read, said and walked.
+
+Texts of coordinates longer than a command line may have are run as rows, by `gqlrows`.
+"""
+import re
+from typing import Callable, NamedTuple
+
+from peg import programs
+
+QUERY = b"def object Query\nfield q Query\nfield a Int\n===\n"
+# A larger size may take so many times the time for each byte or turn; times below this many seconds say nothing.
+AT_MOST, SECONDS = 3, 0.1
+
+
+class Hostile(NamedTuple):
+    """The words of a run (none for rows), its input of any size, whether a run is right, and two sizes."""
+
+    words: list
+    text: Callable
+    is_right: Callable
+    sizes: tuple = (250_000, 1_000_000)
+
+
+def ends(status, output=b"", errors=b""):
+    """Whether a run ends so, whatever its size."""
+    return lambda size, run: run.answer == (status, output, errors)
+
+
+def twice_defined(size, run):
+    faults = b"".join(b"fault %d the type `T` is defined multiple times in the schema\n" % line for line in range(2, size + 1))
+    return run.answer == (1, b"def object T\n" + faults, b"")
+
+
+def twice_named(size, run):
+    fault = b"fault %d the operation `Q` is defined multiple times in the document\n"
+    faults = b"".join(fault % line for line in range(7, 5 + 2 * size, 2))
+    return run.answer == (1, b"operation query Q\nsel 0 field a\n" + faults, b"")
+
+
+def ring(size):
+    """Fragments that spread one another in a ring; one of them has a field."""
+    fragments = [b"fragment F%d Query\nsel 0 spread F%d\n" % (at, (at + 1) % size) for at in range(size)]
+    return QUERY + b"operation query Q\nsel 0 spread F0\n" + b"".join(fragments) + b"sel 0 field a\n"
+
+
+def is_ring_walked(size, run):
+    """Each walk opens each fragment once, and the one it starts in once more."""
+    turns = [int(it) for it in re.findall(rb"(?m)^all-turns ([0-9]+)$", run.output)]
+    walks = run.output.count(b"\nwalk fragment ")
+    return run.status == 0 and walks == size and len(turns) == size + 1 and max(turns) <= 2 * (size + 3) + 1
+
+
+def nested(size):
+    """So many aliases of one field, each with that field nested under them so deep."""
+    chain = b"".join(b"sel %d field q a%d\n" % (depth, depth) for depth in range(1, size))
+    chains = [b"sel 0 field q a%d\n%ssel %d field a\n" % (alias, chain, size) for alias in range(size)]
+    return QUERY + b"operation query -\n" + b"".join(chains)
+
+
+def coordinate(text, answer):
+    """A row: a text of this size, and what is to come of it."""
+    return lambda size: b"* a long text\n$ coord\n$ %s\n%s\n" % (text(size), answer(size))
+
+
+def unknown(size):
+    name = b"T" * size
+    return b"> attribute %s.%s\n> missing type `%s` does not exist\n? 1" % (name, name, name)
+
+
+def lines(line):
+    return lambda size: line * size
+
+
+def letters(size):
+    return b"def object " + b"T" * size + b"\n"
+
+
+IS_UNKNOWN = ends(2, errors=b"line 1: unknown line\n")
+IS_ROW = ends(0, b"1 rows, 0 differ\n")
+SCHEMA, DOC, WALK, ROW = [b"schema"], [b"doc"], [b"walk"], []
+CASES = {
+    "definitions of one name": Hostile(SCHEMA, lines(b"def object T\n"), twice_defined, (25_000, 100_000)),
+    "operations of one name": Hostile(
+        DOC, lambda size: QUERY + b"operation query Q\nsel 0 field a\n" * size, twice_named, (10_000, 40_000)
+    ),
+    "fragments in a ring, walked from each": Hostile(WALK, ring, is_ring_walked, (1_000, 4_000)),
+    "aliases, and levels below each": Hostile(
+        DOC, nested, lambda size, run: run.answer == (0, nested(size)[len(QUERY) :], b""), (75, 150)
+    ),
+    "the same, walked": Hostile(
+        WALK, nested, lambda size, run: run.status == 0 and run.output.count(b"\nall ") == size * (size + 1), (75, 150)
+    ),
+    "letters of a name": Hostile(SCHEMA, letters, lambda size, run: run.answer == (0, letters(size), b"")),
+    "letters of an unknown word": Hostile(SCHEMA, lines(b"T"), IS_UNKNOWN),
+    "NUL bytes": Hostile(SCHEMA, lines(b"\0"), IS_UNKNOWN),
+    "spaces at the end of a line": Hostile(
+        SCHEMA, lambda size: b"def object T" + b" " * size, ends(2, errors=b"line 1: wrong number of words\n")
+    ),
+    "brackets of a type": Hostile(
+        SCHEMA, lambda size: b"def object T\nfield a " + b"[" * size, ends(2, errors=b"line 2: bad word\n")
+    ),
+    "line feeds": Hostile(DOC, lines(b"\n"), ends(2, errors=b"missing ===\n")),
+    "ends of documents": Hostile(SCHEMA, lines(b"---\n"), ends(0)),
+    "letters of each part of a coordinate": Hostile(
+        ROW, coordinate(lambda size: b"T" * size + b"." + b"T" * size, unknown), IS_ROW
+    ),
+    "dots of a coordinate": Hostile(
+        ROW, coordinate(lines(b"T."), lambda size: b"! `%s` is not a valid GraphQL name\n? 2" % (b"T." * size)), IS_ROW
+    ),
+}
+
+
+def work(text, run):
+    """What a run has to do: what it reads and says, and the turns of its walks."""
+    turns = sum(int(it) for it in re.findall(rb"(?m)^(?:root|all)-turns ([0-9]+)$", run.output))
+    return len(text) + len(run.output) + len(run.errors) + turns
+
+
+def is_slow(texts, runs):
+    """Whether the larger run takes more than its share of time."""
+    rates = [max(run.seconds, SECONDS) / work(text, run) for text, run in zip(texts, runs)]
+    return runs[1].seconds > SECONDS and rates[1] > AT_MOST * rates[0]
+
+
+def findings():
+    """Runs all cases, prints a table of their times, and answers what is wrong with each."""
+    print("| input | size | s | size | s |\n|---|---|---|---|---|")
+    for name, case in CASES.items():
+        program = programs.path("gqltool" if case.words else "gqlrows")
+        texts = [case.text(size) for size in case.sizes]
+        runs = [programs.run(program, case.words, text) for text in texts]
+        if is_slow(texts, runs):
+            # What else the machine does may have taken its caches: the second try counts.
+            runs = [programs.run(program, case.words, text) for text in texts]
+        cells = [f"{size:,} | {run.seconds:.2f}" for size, run in zip(case.sizes, runs)]
+        print(" | ".join([f"| {name}", *cells]) + " |", flush=True)
+        wrong = [
+            f"{name}, {size:,}: status {run.status}, {run.output[:200]!r}, {run.errors[:200]!r}"
+            for size, run in zip(case.sizes, runs)
+            if not case.is_right(size, run)
+        ]
+        if is_slow(texts, runs):
+            wrong.append(f"{name}: {case.sizes[1]:,} take more than their share of time")
+        yield "\n".join(wrong) or None
