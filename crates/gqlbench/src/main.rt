@@ -1,7 +1,19 @@
-//! `gqlbench`: the times of work on the schema and the documents that standard input says, written to standard output.
+//! `gqlbench`: the times of work on the schema and the documents that standard input says, written to standard output. No
+//! function has a clause but for what keeps its callers safe.
 #![tactic(auto)]
 
-use gqlbench_run::running::run;
+mod command;
+mod failure;
+mod memory;
+mod phases;
+mod questions;
+mod report;
+mod running;
+mod stopwatch;
+#[cfg(test)]
+mod tests;
+
+use crate::running::run;
 use gqltool_run::arguments::words;
 use gqltool_run::status::Status;
 use std::io;
@@ -13,8 +25,6 @@ fn run_on_streams(rt: &HostRuntime) -> io::Result<Status> {
     let words: Vec<&str> = owned.iter().map(|word| word.as_str()).collect(alloc)?;
     Ok(run(
         alloc,
-        rt,
-        rt,
         rt,
         words.as_slice(),
         &mut rt.stdin(),

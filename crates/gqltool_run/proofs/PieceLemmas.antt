@@ -1,8 +1,6 @@
 -- Texts that go out in pieces: one after the other, and what follows what is left.
 use Rattle.std.proofs.Common.{◌≡◌, ℕ, List, [], ◌++◌, Option, Some, refl, sym, ap, subst, ◌∙◌, append_assoc}
-use Rattle.std.proofs.lemmas.List.{append-nil}
 use Rattle.std.proofs.KnownBytes.{Appends-nil, Appends-trans}
-use Rattle.std.specs.Io.KnownBytes.{Appends}
 use Rattle.gqltool_run.specs.Pieces.{GoesOut, IsCutShort, IsSaid}
 
 -- nothing goes out

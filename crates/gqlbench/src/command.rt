@@ -1,0 +1,101 @@
+//! The commands of the program.
+
+use apollo_compiler::compile_options::CompileOptions;
+use gqltool_run::schema_options::read_options;
+
+/// What is timed.
+#[derive(Clone, Copy)]
+pub enum Work {
+    /// A schema built, written out, built again from that, and freed.
+    Schema,
+    /// Lookups in a schema that is built once.
+    Lookups,
+    /// A typed document built over a schema that is built once, written out, and freed.
+    Documents,
+    /// Walks over a typed document that is built once.
+    Walks,
+    /// The leaf faults of a typed document that is built once.
+    LeafFaults,
+    /// Documents compiled in one call, and beside it each phase of that.
+    Compilation,
+}
+
+/// The names of phases, in the order in which they are printed.
+pub type Phases = &'static [&'static str];
+
+/// The word that has each work timed, and the phases of that.
+const WORKS: [(&str, Work, Phases); 6] = [
+    (
+        "schema",
+        Work::Schema,
+        &["schema-build", "to_ast", "rebuild+eq", "drop"],
+    ),
+    ("lookups", Work::Lookups, &["type_field", "is_subtype"]),
+    ("doc", Work::Documents, &["doc-build", "doc-to_ast", "drop"]),
+    ("walk", Work::Walks, &["root-walks", "all-walks"]),
+    ("leaf", Work::LeafFaults, &["leaf_faults"]),
+    (
+        "compile",
+        Work::Compilation,
+        &[
+            "compile",
+            "all-phases",
+            "schema-build",
+            "to_ast",
+            "rebuild",
+            "rebuild-to_ast",
+            "doc-build",
+            "doc-to_ast",
+            "drop",
+        ],
+    ),
+];
+
+/// What the words after the program's name say.
+#[derive(Clone, Copy)]
+pub struct Command {
+    pub work: Work,
+    pub phases: Phases,
+    /// `--json`: a JSON object a line, in place of a line for those who read it.
+    pub json: bool,
+    /// `--random-keys`: tables hash by keys that are drawn for this run.
+    pub random_keys: bool,
+    pub options: CompileOptions,
+    /// How many times the work is done.
+    pub repeat: usize,
+}
+
+/// The command that these words are: the word of its work, then `--json` or not, `--random-keys` or not, the options of a build,
+/// and a number from 1 on. Other words are none. It takes no memory.
+pub fn read_command(words: &[&str]) -> Option<Command> {
+    let (word, rest) = words.split_first()?;
+    let (number, choices) = rest.split_last()?;
+    let (work, phases) = read_work(*word)?;
+    let (json, choices) = without("--json", choices);
+    let (random_keys, choices) = without("--random-keys", choices);
+    Some(Command {
+        work,
+        phases,
+        json,
+        random_keys,
+        options: read_options(choices)?,
+        repeat: number.parse().ok().filter(|repeat| *repeat > 0)?,
+    })
+}
+
+fn read_work(word: &str) -> Option<(Work, Phases)> {
+    for (known, work, phases) in WORKS {
+        if known == word {
+            return Some((work, phases));
+        }
+    }
+    None
+}
+
+/// Whether this word comes first, and the words behind it.
+fn without<'a>(word: &str, words: &'a [&'a str]) -> (bool, &'a [&'a str]) {
+    match words.split_first() {
+        Some((first, rest)) if *first == word => (true, rest),
+        _ => (false, words),
+    }
+}

@@ -1,0 +1,101 @@
+//! The times of phases, as they are taken.
+
+use crate::command::Command;
+use crate::failure::Failure;
+use crate::report::{Item, Value};
+use graphql_nodes::collections::hash_keys::HashKeys;
+use std::alloc::Global;
+use std::io::Write;
+use std::time::{Clock, Instant};
+
+/// How many seconds go by between two words of how far a run is.
+const SECONDS_BETWEEN: u64 = 2;
+
+/// What work is done with.
+#[derive(Drop)]
+pub struct Bench<'a, C: Clock> {
+    pub alloc: Global,
+    pub clock: &'a C,
+    pub keys: HashKeys,
+    pub command: Command,
+}
+
+/// Takes the times of phases, and says on `errors` how far a long run is.
+#[derive(Drop)]
+pub struct Stopwatch<'a, C: Clock, E: Write> {
+    bench: &'a Bench<'a, C>,
+    errors: &'a mut E,
+    told: Instant,
+    /// A phase and how many nanoseconds it took, in the order of time.
+    times: Vec<(&'static str, u64)>,
+}
+
+impl<'a, C: Clock, E: Write> Stopwatch<'a, C, E> {
+    pub fn start(
+        bench: &'a Bench<'a, C>,
+        errors: &'a mut E,
+    ) -> Result<Stopwatch<'a, C, E>, Failure> {
+        Ok(Stopwatch {
+            bench,
+            errors,
+            told: Instant::now(bench.clock)?,
+            times: Vec::new(bench.alloc),
+        })
+    }
+
+    /// The moment at which a phase begins.
+    pub fn now(&self) -> Result<Instant, Failure> {
+        Ok(Instant::now(self.bench.clock)?)
+    }
+
+    /// Notes that a phase took from that moment to now.
+    pub fn took(&mut self, phase: &'static str, began: Instant) -> Result<(), Failure> {
+        let nanoseconds = began.elapsed(self.bench.clock)?.as_nanos();
+        let nanoseconds = u64::try_from(nanoseconds).unwrap_or(u64::MAX);
+        Ok(self.times.push((phase, nanoseconds))?)
+    }
+
+    /// Says how many repetitions are done, where two seconds went by since the last word. That it cannot be said there changes
+    /// nothing.
+    pub fn tell(&mut self, done: usize) -> Result<(), Failure> {
+        if self.told.elapsed(self.bench.clock)?.as_secs() >= SECONDS_BETWEEN {
+            let all = self.bench.command.repeat;
+            let _ = writeln!(self.errors, "{done} of {all} repetitions");
+            self.told = self.now()?;
+        }
+        Ok(())
+    }
+
+    /// These counts, and what the times of each phase come to.
+    pub fn report(&self, counts: &[Item]) -> Result<Vec<Item>, Failure> {
+        let alloc = self.bench.alloc;
+        let mut items = counts.to_vec(alloc)?;
+        for phase in self.bench.command.phases {
+            let of_phase = self.times.iter().filter(|time| time.0 == *phase);
+            let mut times: Vec<u64> = of_phase.map(|time| time.1).collect(alloc)?;
+            if let Some((least, median, mean)) = summary(times.as_mut_slice()) {
+                items.extend_from_slice(&[
+                    (" min ", "phase", Value::Phase(*phase)),
+                    (" median ", "least", Value::Time(least)),
+                    (" mean ", "median", Value::Time(median)),
+                    (" ns\n", "mean", Value::Time(mean)),
+                ])?;
+            }
+        }
+        Ok(items)
+    }
+}
+
+/// The least of these times, the one in the middle (of an even number of times the greater of the two there), and the mean,
+/// rounded down. They are put in ascending order. An empty list has none.
+pub fn summary(times: &mut [u64]) -> Option<(u64, u64, u64)> {
+    times.sort_unstable();
+    let least = *times.first()?;
+    let median = *times.get(times.len() / 2)?;
+    let mut total: u128 = 0;
+    for time in times.iter() {
+        total = total.saturating_add(u128::from(*time));
+    }
+    let mean = total.checked_div(times.len() as u128)?;
+    Some((least, median, u64::try_from(mean).unwrap_or(u64::MAX)))
+}

@@ -1,2 +1,0 @@
-pub mod PhaseLemmas
-pub mod WalkCountLemmas
