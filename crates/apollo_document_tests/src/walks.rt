@@ -1,7 +1,7 @@
 //! Tests of walks, on worked and hostile documents.
 
 mod introspection;
+mod lines;
 mod making;
 mod nested;
-mod telling;
 mod worked;

@@ -1,7 +1,7 @@
 //! Walks over documents that no row can say, and over an operation.
 
+use crate::walks::lines::{push_fragments, push_walks};
 use crate::walks::making::{Selected, insert_under, none, operation};
-use crate::walks::telling::{push_fragments, push_walks};
 use apollo_executable::{AllFields, ExecutableDocument};
 use graphql_nodes::operation_type::OperationType;
 use std::alloc::{AllocError, Global};
