@@ -29,15 +29,14 @@ pub enum OfBuilder {
 fn begun(alloc: Global, adopts: bool, question: OfBuilder) -> Result<SchemaBuilder, Stop> {
     let builder = match question {
         OfBuilder::WithSource(first) => {
-            SchemaBuilder::with_source(alloc, ExtensionSource::starting_at(first))
+            SchemaBuilder::with_source(alloc, ExtensionSource::starting_at(first))?
         }
-        _ => SchemaBuilder::new(alloc),
+        _ => SchemaBuilder::new(alloc)?,
     };
-    match builder {
-        Ok(builder) if adopts => Ok(builder.adopt_orphan_extensions()),
-        Ok(builder) => Ok(builder),
-        Err(_) => Err(Stop::Memory),
+    if adopts {
+        return Ok(builder.adopt_orphan_extensions());
     }
+    Ok(builder)
 }
 
 /// What a refusal of memory comes to: from then on the builder answers `Failed`, and has no orphan names.

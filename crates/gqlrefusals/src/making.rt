@@ -70,15 +70,15 @@ fn argument(alloc: Global, text: &str) -> Result<Node<Argument>, AllocError> {
 }
 
 fn arguments(alloc: Global) -> Result<Vec<Node<Argument>>, AllocError> {
-    vec![in alloc; argument(alloc, "y")?, argument(alloc, "zz")?]
+    Ok(vec![in alloc; argument(alloc, "y")?, argument(alloc, "zz")?]?)
 }
 
 fn directives(alloc: Global) -> Result<Vec<Node<Directive>>, AllocError> {
-    vec![in alloc; directive(alloc, "d")?, directive(alloc, "d")?]
+    Ok(vec![in alloc; directive(alloc, "d")?, directive(alloc, "d")?]?)
 }
 
 fn selections(alloc: Global) -> Result<Vec<Selection>, AllocError> {
-    vec![in alloc; spread(alloc, "G")?, spread(alloc, "HH")?]
+    Ok(vec![in alloc; spread(alloc, "G")?, spread(alloc, "HH")?]?)
 }
 
 /// `Field::new`, `Field::with_directive`, `Field::with_directives`.
