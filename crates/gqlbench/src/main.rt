@@ -1,5 +1,5 @@
-//! `gqlbench`: the times of work on the schema and the documents that standard input says, written to standard output. No
-//! function has a clause but for what keeps its callers safe.
+//! `gqlbench`: the times of work on the schema and the documents that standard input says, written to
+//! standard output. No function has a clause: it is a tool, and its tests compare whole reports.
 #![tactic(auto)]
 
 mod command;

@@ -1,4 +1,5 @@
-//! The phases of each work. All is made once before, untimed, so that each repetition finds the memory of an earlier one.
+//! The phases of each work. All is made once before, untimed, so that each repetition finds the memory of an
+//! earlier one.
 
 use crate::command::Work;
 use crate::failure::Failure;
@@ -269,16 +270,14 @@ fn count_on(
     deep: bool,
     mut count: usize,
 ) -> Result<usize, AllocError> {
-    if deep {
-        for field in set.all_fields(alloc, document) {
-            let _field = field?;
-            count = count.saturating_add(1);
-        }
+    let walk = if deep {
+        set.all_fields(alloc, document)
     } else {
-        for field in set.root_fields(alloc, document) {
-            let _field = field?;
-            count = count.saturating_add(1);
-        }
+        set.root_fields(alloc, document)
+    };
+    for field in walk {
+        let _field = field?;
+        count = count.saturating_add(1);
     }
     Ok(count)
 }

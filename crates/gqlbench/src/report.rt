@@ -17,10 +17,12 @@ pub enum Value {
     Memory(u64),
 }
 
-/// What stands behind a value in a line, its key in a JSON object, and the value. Where the text ends a line, the object ends.
+/// What stands behind a value in a line, its key in a JSON object, and the value. Where the text ends a
+/// line, the object ends.
 pub type Item = (&'static str, &'static str, Value);
 
-/// The text of a report: lines for those who read it, or a JSON object in the place of each. The error is want of memory.
+/// The text of a report: lines for those who read it, or a JSON object in the place of each. The error is
+/// want of memory.
 pub fn report_text(alloc: Global, json: bool, items: &[Item]) -> Result<String, AllocError> {
     let mut text = String::new(alloc);
     for item in items {

@@ -55,8 +55,8 @@ impl<'a, C: Clock, E: Write> Stopwatch<'a, C, E> {
         Ok(self.times.push((phase, nanoseconds))?)
     }
 
-    /// Says how many repetitions are done, where two seconds went by since the last word. That it cannot be said there changes
-    /// nothing.
+    /// Says how many repetitions are done, where two seconds went by since the last word. That it cannot be
+    /// said there changes nothing.
     pub fn tell(&mut self, done: usize) -> Result<(), Failure> {
         if self.told.elapsed(self.bench.clock)?.as_secs() >= SECONDS_BETWEEN {
             let all = self.bench.command.repeat;
@@ -86,8 +86,8 @@ impl<'a, C: Clock, E: Write> Stopwatch<'a, C, E> {
     }
 }
 
-/// The least of these times, the one in the middle (of an even number of times the greater of the two there), and the mean,
-/// rounded down. They are put in ascending order. An empty list has none.
+/// The least of these times, the one in the middle (of an even number of times the greater of the two
+/// there), and the mean, rounded down. They are put in ascending order. An empty list has none.
 pub fn summary(times: &mut [u64]) -> Option<(u64, u64, u64)> {
     times.sort_unstable();
     let least = *times.first()?;

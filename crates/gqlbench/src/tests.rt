@@ -12,8 +12,8 @@ use std::random::RandomSource;
 use std::test::Fail;
 use std::time::{Clock, Duration};
 
-/// A system whose clock goes on by so much at each reading, and whose random bytes are all the same; or that tells nothing of
-/// the time, of random bytes or of the process.
+/// A system whose clock goes on by so much at each reading, and whose random bytes are all the same; or that
+/// tells nothing of the time, of random bytes or of the process.
 #[derive(Drop)]
 struct System<'a> {
     now: Cell<u64>,
@@ -83,7 +83,8 @@ fn expect(
     assert_eq!(rt; status, outcome.0, "{words:?}");
 }
 
-/// An interface, an object type that has it, and an extension of no union. The built-in types have 35 fields.
+/// An interface, an object type that has it, and an extension of no union. The built-in types have 35
+/// fields.
 const INPUT: &str = "def interface I
 field a Int
 def object Query
@@ -94,8 +95,8 @@ ext union U
 member Query
 ";
 
-/// Two documents behind a schema: a query whose fragment leads back to itself, a mutation without a root, and a fragment that
-/// nothing spreads, with a field that lacks subselections.
+/// Two documents behind a schema: a query whose fragment leads back to itself, a mutation without a root,
+/// and a fragment that nothing spreads, with a field that lacks subselections.
 const DIVIDED: &str = "def object Query
 field a Int
 field q Query
@@ -278,7 +279,8 @@ const REPORTS_IN_JSON: [Report; 6] = [
     ),
 ];
 
-/// Expects these reports, over a system that gives no random bytes, and with `--random-keys` over one that does.
+/// Expects these reports, over a system that gives no random bytes, and with `--random-keys` over one that
+/// does.
 fn expect_reports(rt: &(impl Abort + AllocGlobal), reports: &[Report]) -> Result<(), Fail> {
     for (before, behind, input, output) in reports {
         let mut words = Vec::new(rt.alloc());
@@ -384,7 +386,8 @@ const LOOKUPS_WITH_MEMORY_IN_JSON: &str = "\
 {\"memory_kb\":5120}
 ";
 
-/// Expects a run of which the system tells this, and whose repetitions take long, to say how far it is and to write that.
+/// Expects a run of which the system tells this, and whose repetitions take long, to say how far it is and
+/// to write that.
 fn expect_long(rt: &(impl Abort + AllocGlobal), words: &[&str], status: &str, output: &str) {
     let system = system(Some(3_000_000_000), None, Some(status));
     let said = "1 of 2 repetitions\n2 of 2 repetitions\n";
