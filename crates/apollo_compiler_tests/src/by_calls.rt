@@ -5,7 +5,6 @@ use crate::compiling::{Account, told_of_one};
 use crate::making::{marked, name, products, unchecked_fragment, unchecked_names};
 use crate::rebuilt::{EQUAL, PLAIN, Rebuilt, Written};
 use apollo_compiler::Compiled;
-use apollo_compiler::executable::{Argument, Directive, Field, Value};
 use apollo_coordinate::coordinates::{TypeAttributeCoordinate, TypeCoordinate};
 use bench_notation::reading::read;
 use graphql_ast::Document;
@@ -13,6 +12,7 @@ use likeness::both;
 use std::alloc::{AllocError, Global};
 use std::slice;
 use std::test::Fail;
+use telling::Tell;
 
 #[test]
 fn arguments_of_directives_are_rebuilt_equal(rt: HostRuntime) -> Result<(), Fail> {
@@ -114,56 +114,18 @@ fn names_that_are_not_checked_are_looked_up(rt: HostRuntime) -> Result<(), Fail>
     Ok(())
 }
 
-fn push_argument(text: &mut String, argument: &Argument) -> Result<(), AllocError> {
-    let name = &argument.name;
-    match &*argument.value {
-        Value::Enum(value) => write!(text, " {name}: {value}"),
-        _ => write!(text, " {name}: no enum value"),
-    }
-}
-
-/// Adds a directive with its arguments.
-fn push_directive(text: &mut String, directive: &Directive) -> Result<(), AllocError> {
-    let name = &directive.name;
-    write!(text, " @{name}")?;
-    for argument in directive.arguments.as_slice() {
-        push_argument(text, argument)?;
-    }
-    Ok(())
-}
-
-/// Adds the name of a field, and the directives of its definition.
-fn push_field(text: &mut String, field: &Field) -> Result<(), AllocError> {
-    let name = &field.name;
-    write!(text, "{name}:")?;
-    for directive in field.definition.directives.as_slice() {
-        push_directive(text, directive)?;
-    }
-    text.push_str("\n")
-}
-
-/// The fields of the operation `getProduct`, and behind each those below it, with the directives of their definitions.
+/// The typed document: each field with its definition, that with its directives.
 #[derive(Drop)]
-struct Definitions;
+struct Typed;
 
-impl Account for Definitions {
+impl Account for Typed {
     fn tell(
         &self,
-        alloc: Global,
+        _alloc: Global,
         text: &mut String,
         compiled: &Compiled,
     ) -> Result<(), AllocError> {
-        let get_product = name(alloc, "getProduct")?;
-        let Ok(operation) = compiled.document.operations.get(Some(&get_product)) else {
-            return text.push_str("no operation\n");
-        };
-        for field in operation.selection_set.fields() {
-            push_field(text, field)?;
-            for below in field.selection_set.fields() {
-                push_field(text, below)?;
-            }
-        }
-        Ok(())
+        compiled.document.tell(text)
     }
 }
 
@@ -174,16 +136,10 @@ fn a_field_has_the_directive_of_its_definition_with_its_argument(
     let input = "operation query getProduct\nsel 0 field topProducts\nsel 1 field inStock\n";
     let documents = read(rt.alloc(), input)?;
     let schema = products(rt.alloc());
-    let text = told_of_one(
-        rt.alloc(),
-        &Definitions,
-        PLAIN,
-        schema,
-        documents.as_slice(),
-    )?;
+    let text = told_of_one(rt.alloc(), &Typed, PLAIN, schema, documents.as_slice())?;
     assert_eq!(rt;
         text.as_str(),
-        "topProducts:\ninStock: @join__field graph: INVENTORY\n"
+        "1:1 query getProduct 1:1 -> Query - { 1:2 topProducts 1:2 is - topProducts - Product - -> Product - { 1:3 inStock 1:3 is - inStock - Boolean - - @ join__field - ( - graph - - enum INVENTORY - ) -> Boolean - { } } } \n"
     );
     Ok(())
 }

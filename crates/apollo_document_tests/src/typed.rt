@@ -5,4 +5,3 @@ mod fields;
 pub mod making;
 mod operation_maps;
 mod users;
-mod written;

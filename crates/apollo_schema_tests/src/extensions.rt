@@ -44,7 +44,7 @@ fn names_wait_in_order_until_they_are_defined(rt: HostRuntime) -> Result<(), Fai
     let input =
         "ext scalar B\next scalar A\next scalar B\next scalar C\ndef scalar C\ndef scalar B";
     let account =
-        "A waits\n1:2 type extension for undefined type `A`\nfaults copied equal: true\npartial schema copied equal: true\ndef scalar C\ndef scalar B\nrebuilt equal: true\ncopied equal: true, true, true\n3 is next\n";
+        "A waits\n1:2 type extension for undefined type `A`; 1:2 \nfaults copied equal: true\npartial schema copied equal: true\n- schema \nC 1:5 1:5 scalar C 1:5 \nB 1:6 1:6 scalar B 1:6 \ndef scalar C\ndef scalar B\nrebuilt equal: true\ncopied equal: true, true, true\n3 is next\n";
     expect(&rt, PLAIN, input, account)
 }
 
@@ -59,6 +59,6 @@ fn adopted_extensions_of_types_are_numbered_first(rt: HostRuntime) -> Result<(),
     let input =
         "ext-schema\n@ d\nroot query A\next-schema\nroot mutation B\next interface B\nfield x Int\next object A\nfield y Int";
     let account =
-        "B waits\nA waits\nd in extension 2 of line 1\nA in extension 2 of line 1\nquery is A, an object type: true\nB in extension 3 of line 4\nmutation is B, an object type: false\nx in extension 0 of line 6\ny in extension 1 of line 8\next-schema\n@ d\nroot query A\next-schema\nroot mutation B\ndef interface B\next interface B\nfield x Int\ndef object A\next object A\nfield y Int\nrebuilt equal: true\ncopied equal: true, true, true\n4 is next\n";
+        "B waits\nA waits\n- schema \nextension 2 of 1:1 1:2 @ d 1:2 \nquery extension 2 of 1:1 A 1:3 \nmutation extension 3 of 1:4 B 1:5 \nB 1:6 1:6 interface B 1:6 \nx 1:7 extension 0 of 1:6 1:7 x 1:7 Int 1:7 \nA 1:8 1:8 object A 1:8 \ny 1:9 extension 1 of 1:8 1:9 y 1:9 Int 1:9 \nextension 2 of 1:1 A 1:3 \nquery is A, an object type: true\nextension 3 of 1:4 B 1:5 \nmutation is B, an object type: false\next-schema\n@ d\nroot query A\next-schema\nroot mutation B\ndef interface B\next interface B\nfield x Int\ndef object A\next object A\nfield y Int\nrebuilt equal: true\ncopied equal: true, true, true\n4 is next\n";
     expect(&rt, ADOPTING, input, account)
 }

@@ -88,7 +88,7 @@ fn an_extension_that_is_not_folded_takes_no_number(rt: HostRuntime) -> Result<()
         "T waits\n1:1 type extension for undefined type `T`; 1:1 \nfaults copied equal: true\npartial schema copied equal: true\n- schema \nrebuilt equal: true\ncopied equal: true, true, true\n18446744073709551615 is next\n";
     expect(&rt, SPENT, "ext object T", account)?;
     let account =
-        "1:1 adding an enum type extension, but `T` is an object type\nfaults copied equal: true\npartial schema copied equal: true\nx in the definition\ndef object T\nfield x Int\nrebuilt equal: true\ncopied equal: true, true, true\n18446744073709551615 is next\n";
+        "1:1 adding an enum type extension, but `T` is an object type; 1:3 1:1 \nfaults copied equal: true\npartial schema copied equal: true\n- schema \nT 1:3 1:3 object T 1:3 \nx 1:4 definition 1:4 x 1:4 Int 1:4 \ndef object T\nfield x Int\nrebuilt equal: true\ncopied equal: true, true, true\n18446744073709551615 is next\n";
     expect(
         &rt,
         SPENT,

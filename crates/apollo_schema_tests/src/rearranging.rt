@@ -128,7 +128,7 @@ fn type_extensions_go_before_schema_extensions(rt: HostRuntime) -> Result<(), Fa
         "1:9 duplicate definitions for the `b` field of object type `B`; 1:8 1:7 \n1:6 duplicate definitions for the `query` root operation type; 1:2 \nequal: true\n1:9 duplicate definitions for the `b` field of object type `B`; 1:8 1:7 \n1:6 duplicate definitions for the `query` root operation type; 1:2 \nequal: true\n";
     expect_told(&rt, ADOPTING, EXTENSIONS_ALONE, &[3, 1, 0, 2], account)?;
     let account =
-        "1:3 type extension for undefined type `A`\n1:7 type extension for undefined type `B`\n1:1 schema extension without a schema definition\n1:5 schema extension without a schema definition\nequal: true\n1:7 type extension for undefined type `B`\n1:3 type extension for undefined type `A`\n1:1 schema extension without a schema definition\n1:5 schema extension without a schema definition\nequal: true\n";
+        "1:3 type extension for undefined type `A`; 1:3 \n1:7 type extension for undefined type `B`; 1:7 \n1:1 schema extension without a schema definition\n1:5 schema extension without a schema definition\nequal: true\n1:7 type extension for undefined type `B`; 1:7 \n1:3 type extension for undefined type `A`; 1:3 \n1:1 schema extension without a schema definition\n1:5 schema extension without a schema definition\nequal: true\n";
     expect_told(&rt, PLAIN, EXTENSIONS_ALONE, &[3, 1, 0, 2], account)
 }
 
@@ -148,7 +148,7 @@ fn an_early_extension_and_its_definition_change_places(rt: HostRuntime) -> Resul
     expect_told(&rt, PLAIN, input, &[1, 0], account)?;
     let input = "ext enum T\nvalue A\ndef object T\nfield x Int";
     let account =
-        "1:1 adding an enum type extension, but `T` is an object type\nequal: true\n1:1 adding an enum type extension, but `T` is an object type\nequal: true\n";
+        "1:1 adding an enum type extension, but `T` is an object type; 1:3 1:1 \nequal: true\n1:1 adding an enum type extension, but `T` is an object type; 1:3 1:1 \nequal: true\n";
     expect_told(&rt, PLAIN, input, &[1, 0], account)
 }
 
@@ -182,7 +182,7 @@ fn extensions_with_a_directive_go_behind_those_of_types(rt: HostRuntime) -> Resu
         "1:5 duplicate definitions for the `query` root operation type; 1:3 \nequal: true\n1:5 duplicate definitions for the `query` root operation type; 1:3 \nequal: true\n";
     expect_told(&rt, ADOPTING, WITH_A_DIRECTIVE, &[2, 3, 0, 1], account)?;
     let account =
-        "1:6 type extension for undefined type `B`\n1:8 type extension for undefined type `A`\n1:1 schema extension without a schema definition\n1:4 schema extension without a schema definition\nequal: true\n1:6 type extension for undefined type `B`\n1:8 type extension for undefined type `A`\n1:1 schema extension without a schema definition\n1:4 schema extension without a schema definition\nequal: true\n";
+        "1:6 type extension for undefined type `B`; 1:6 \n1:8 type extension for undefined type `A`; 1:8 \n1:1 schema extension without a schema definition\n1:4 schema extension without a schema definition\nequal: true\n1:6 type extension for undefined type `B`; 1:6 \n1:8 type extension for undefined type `A`; 1:8 \n1:1 schema extension without a schema definition\n1:4 schema extension without a schema definition\nequal: true\n";
     expect_told(&rt, PLAIN, WITH_A_DIRECTIVE, &[2, 3, 0, 1], account)
 }
 

@@ -31,7 +31,7 @@ fn a_schema_definition_without_a_root_is_not_rebuilt(rt: HostRuntime) -> Result<
     // What is written out builds an implied definition in its place.
     let written = "directive d\non SCHEMA\ndef object Query\nfield a Int";
     let account =
-        "Query in the definition\nquery is Query, an object type: true\na in the definition\ndirective d\non SCHEMA\ndef object Query\nfield a Int\nrebuilt equal: true\ncopied equal: true, true, true\n0 is next\n";
+        "- schema \nquery definition Query - \nd 1:1 1:1 directive d 1:1 false [Schema]\nQuery 1:3 1:3 object Query 1:3 \na 1:4 definition 1:4 a 1:4 Int 1:4 \ndefinition Query - \nquery is Query, an object type: true\ndirective d\non SCHEMA\ndef object Query\nfield a Int\nrebuilt equal: true\ncopied equal: true, true, true\n0 is next\n";
     expect(&rt, ADOPTING, written, account)
 }
 
@@ -45,7 +45,7 @@ fn adopted_schema_definitions_are_rebuilt_equal(rt: HostRuntime) -> Result<(), F
     let input =
         "ext-schema\nroot query Query\ndef object Query\nfield viruses [Virus]\ndef object Virus\nfield mutations [Mutation]\ndef object Mutation\nfield something String";
     let account =
-        "Query in extension 0 of line 1\nquery is Query, an object type: true\nviruses in the definition\nmutations in the definition\nsomething in the definition\next-schema\nroot query Query\ndef object Query\nfield viruses [Virus]\ndef object Virus\nfield mutations [Mutation]\ndef object Mutation\nfield something String\nrebuilt equal: true\ncopied equal: true, true, true\n1 is next\n";
+        "- schema \nquery extension 0 of 1:1 Query 1:2 \nQuery 1:3 1:3 object Query 1:3 \nviruses 1:4 definition 1:4 viruses 1:4 [ Virus 1:4 ] \nVirus 1:5 1:5 object Virus 1:5 \nmutations 1:6 definition 1:6 mutations 1:6 [ Mutation 1:6 ] \nMutation 1:7 1:7 object Mutation 1:7 \nsomething 1:8 definition 1:8 something 1:8 String 1:8 \nextension 0 of 1:1 Query 1:2 \nquery is Query, an object type: true\next-schema\nroot query Query\ndef object Query\nfield viruses [Virus]\ndef object Virus\nfield mutations [Mutation]\ndef object Mutation\nfield something String\nrebuilt equal: true\ncopied equal: true, true, true\n1 is next\n";
     expect(&rt, ADOPTING, input, account)
 }
 

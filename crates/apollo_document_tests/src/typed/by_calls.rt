@@ -4,7 +4,6 @@ use crate::expecting::expect;
 use crate::inputs::Account;
 use crate::typed::making::users_document;
 use crate::typed::users::USERS;
-use crate::typed::written::push_document;
 use apollo_executable::{
     ExecutableDocument, Field, Fragment, FragmentSpread, InlineFragment, NewFieldError, Operation,
     Selection, SelectionSet,
@@ -13,6 +12,7 @@ use apollo_schema::schema::Schema;
 use likeness::is_copied;
 use std::alloc::{AllocError, Global};
 use std::test::Fail;
+use telling::Tell;
 
 /// The users' document.
 #[derive(Drop)]
@@ -24,7 +24,7 @@ fn push_written(
     document: &ExecutableDocument,
 ) -> Result<(), AllocError> {
     let written = document.to_ast(alloc)?;
-    push_document(text, &written)
+    written.tell(text)
 }
 
 /// Whether a selection has an equal copy, and what its node holds.
@@ -96,6 +96,6 @@ fn the_users_document_is_made_and_written(rt: HostRuntime) -> Result<(), Fail> {
         &rt,
         &Document,
         USERS,
-        "query GetUser { id user(id: $me) @first @second { short: name @on ...Picture @on @first @second ... on User @on { id } ... @first @second { id name } name } }\nfragment Picture on User { profilePic(size: 50) }\noperation copied: true\nfragment copied: true\ncopied: true\n",
+        "- query GetUser - { - id - { } - user - ( - id - - $ me - ) - @ first - - @ second - { - short - name - - @ on - { } - ... Picture - - @ on - - @ first - - @ second - - ...on User - - @ on - { - id - { } } - ...on - @ first - - @ second - { - id - { } - name - { } } - name - { } } }\n- fragment Picture - User - { - profilePic - ( - size - - Int(\"50\") ) { } }\noperation copied: true\nfragment copied: true\ncopied: true\n",
     )
 }
