@@ -139,7 +139,7 @@ fn a_field_has_the_directive_of_its_definition_with_its_argument(
     let text = told_of_one(rt.alloc(), &Typed, PLAIN, schema, documents.as_slice())?;
     assert_eq!(rt;
         text.as_str(),
-        "1:1 query getProduct 1:1 -> Query - { 1:2 topProducts 1:2 is - topProducts - Product - -> Product - { 1:3 inStock 1:3 is - inStock - Boolean - - @ join__field - ( - graph - - enum INVENTORY - ) -> Boolean - { } } } \n"
+        "getProduct 1:1 1:1 query getProduct 1:1 -> Query - { 1:2 topProducts 1:2 is - topProducts - Product - -> Product - { 1:3 inStock 1:3 is - inStock - Boolean - - @ join__field - ( - graph - - enum INVENTORY - ) -> Boolean - { } } } \n"
     );
     Ok(())
 }

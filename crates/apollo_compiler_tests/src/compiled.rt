@@ -123,7 +123,7 @@ fn each_build_has_its_faults_and_the_flag_counts(rt: HostRuntime) -> Result<(), 
     let text = told(rt.alloc(), None, FAULTY, false)?;
     assert_eq!(rt;
         text.as_str(),
-        "schema, faults: 1\ndef object Query\nfield a Int\nrebuilt, faults: 0\ndef object Query\nfield a Int\ndocument, faults: 1\noperation query Q\nsel 0 field a\nequal: true, roots rebuilt: 1, directives rebuilt: 0, operations: 1\n"
+        "schema\n1:1 def Object Query 1:1 ( 1:2 a 1:2 Int 1:2 ) \n1:3 duplicate definitions for the `a` field of object type `Query`; 1:2 1:1 \nrebuilt\n1:1 def Object Query 1:1 ( 1:2 a 1:2 Int 1:2 ) \ndocument\n1:5 query Q 1:5 { 1:6 a 1:6 { } }\n1:7 type `Query` does not have a field `gone`; 1:1 1:7 (query Q → gone)\nQ 1:5 1:5 query Q 1:5 -> Query - { 1:6 a 1:6 is 1:2 a 1:2 Int 1:2 -> Int 1:2 { } } \n- schema \nquery definition Query - \nequal: true\n"
     );
     Ok(())
 }
