@@ -2,7 +2,6 @@
 
 use crate::compiling::{Account, told};
 use apollo_compiler::{CompileOptions, Compiled, Definition};
-use apollo_schema::RootOperations;
 use bench_notation::printing::print;
 use bench_notation::reading::read;
 use std::alloc::{AllocError, Global};
@@ -83,39 +82,6 @@ impl Account for Written {
     ) -> Result<(), AllocError> {
         let printed = print(alloc, compiled.ast.as_slice())?;
         text.push_str(printed.as_str())?;
-        Rebuilt.tell(alloc, text, compiled)
-    }
-}
-
-/// The roots of the schema, then those of the rebuild, and then what is said of the rebuild.
-#[derive(Drop)]
-struct Roots;
-
-fn push_roots(text: &mut String, roots: RootOperations<'_>) -> Result<(), AllocError> {
-    for (operation_type, root) in roots {
-        let name = &root.name;
-        write!(text, " {operation_type} {name}")?;
-    }
-    text.push_str("\n")
-}
-
-impl Account for Roots {
-    fn tell(
-        &self,
-        alloc: Global,
-        text: &mut String,
-        compiled: &Compiled,
-    ) -> Result<(), AllocError> {
-        text.push_str("roots:")?;
-        push_roots(
-            text,
-            compiled.schema.schema_definition.iter_root_operations(),
-        )?;
-        text.push_str("rebuilt:")?;
-        push_roots(
-            text,
-            compiled.rebuilt.schema_definition.iter_root_operations(),
-        )?;
         Rebuilt.tell(alloc, text, compiled)
     }
 }
@@ -312,18 +278,5 @@ fn a_directive_puts_the_last_of_many_extensions_first(rt: HostRuntime) -> Result
     expected.push_str(EQUAL)?;
     let text = told_of(rt.alloc(), &Written, PLAIN, input.as_str())?;
     assert!(rt; text.as_str() == expected.as_str());
-    Ok(())
-}
-
-#[test]
-fn a_schema_definition_without_a_root_is_rebuilt_with_that_of_queries(
-    rt: HostRuntime,
-) -> Result<(), Fail> {
-    let input = "schema\n@ d\ndirective d\non SCHEMA\ndef object Query\nfield a Int";
-    let text = told_of(rt.alloc(), &Roots, PLAIN, input)?;
-    assert_eq!(rt;
-        text.as_str(),
-        "roots:\nrebuilt: query Query\nno fault: true\nequal: false\nsame definitions: true\nsame text: true\n"
-    );
     Ok(())
 }
