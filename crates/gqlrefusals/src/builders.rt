@@ -63,6 +63,17 @@ fn push_orphans(text: &mut String, builder: &SchemaBuilder) -> Told {
     Ok(text.push_str("\n")?)
 }
 
+/// Adds why a document was refused, and what comes of it when it is added again.
+fn push_refused(
+    text: &mut String,
+    builder: &mut SchemaBuilder,
+    document: &Document,
+    error: BuilderError,
+) -> Told {
+    let is_failed = builder.add_ast(document) == Err(BuilderError::Failed);
+    Ok(write!(text, "{error}, and failed from then on: {is_failed}\n")?)
+}
+
 /// A builder that takes these documents, and tells its orphan names after each, or why it is refused.
 fn taking(
     text: &mut String,
@@ -74,7 +85,7 @@ fn taking(
         match builder.add_ast(document) {
             Ok(()) => push_orphans(text, &builder)?,
             Err(BuilderError::Memory) => return Err(refused(builder, document)),
-            Err(error) => write!(text, "{error}\n")?,
+            Err(error) => push_refused(text, &mut builder, document, error)?,
         }
     }
     Ok(builder)

@@ -135,7 +135,7 @@ fn new_field(
     field: &str,
 ) -> Told {
     match set.new_field(alloc, schema, name(alloc, field)?) {
-        Ok(field) => Ok(field.tell(text)?),
+        Ok(field) => tell_line(text, Ok(field)),
         Err(NewFieldError::Memory) => Err(Stop::Memory),
         Err(NewFieldError::Lookup(_)) => Ok(write!(text, "no field {field}\n")?),
     }

@@ -84,7 +84,9 @@ pub fn operation_name(alloc: Global, text: &str) -> Result<Option<Name>, AllocEr
 /// An operation of this name, or an anonymous one for `-`.
 pub fn operation(alloc: Global, text: &str) -> Result<Node<Operation>, AllocError> {
     let name = operation_name(alloc, text)?;
-    operation_of(alloc, name, empty_set(alloc)?)
+    let mut set = empty_set(alloc)?;
+    set.push(spread(alloc, "F")?)?;
+    operation_of(alloc, name, set)
 }
 
 /// Whether two operations are the same, at the same location.

@@ -10,6 +10,7 @@ use bench_notation::reading::read;
 use graphql_ast::definition::Definition;
 use graphql_nodes::collections::key_set::KeySet;
 use std::alloc::{AllocError, Global};
+use telling::Tell;
 
 /// What is asked of a schema.
 #[derive(Clone, Copy)]
@@ -65,10 +66,19 @@ fn extended(alloc: Global, ty: &ExtendedType) -> Result<KeySet<ExtensionId>, All
     }
 }
 
+fn tell_extensions(
+    text: &mut String,
+    ty: &ExtendedType,
+    ids: Result<KeySet<ExtensionId>, AllocError>,
+) -> Told {
+    ty.name().tell(text)?;
+    tell_line(text, ids)
+}
+
 fn ask_type(alloc: Global, text: &mut String, ty: &ExtendedType, question: OfType) -> Told {
     match question {
-        OfType::Extended => tell_line(text, ty.extensions(alloc)),
-        OfType::KindExtended => tell_line(text, extended(alloc, ty)),
+        OfType::Extended => tell_extensions(text, ty, ty.extensions(alloc)),
+        OfType::KindExtended => tell_extensions(text, ty, extended(alloc, ty)),
         _ if ty.is_built_in() => Ok(()),
         OfType::Written => tell_made(text, ty.to_ast(alloc)),
         OfType::KindWritten => tell_made(text, written(alloc, ty)),
