@@ -14,6 +14,7 @@ use graphql_ast::type_system::{
     SchemaDefinition, SchemaExtension,
 };
 use graphql_ast::value::Value;
+use graphql_nodes::collections::items::Items;
 use graphql_nodes::name::{Name, NamedType};
 use graphql_nodes::node::Node;
 use graphql_nodes::operation_type::OperationType;
@@ -31,14 +32,6 @@ impl Tell for Type {
     }
 }
 
-/// A member of an object.
-impl Tell for (Name, Node<Value>) {
-    #[cycle(tell_value)]
-    fn tell(&self, text: &mut String) -> Result<(), AllocError> {
-        tell!(text; self.0, self.1)
-    }
-}
-
 impl Tell for Value {
     #[cycle(tell_value)]
     fn tell(&self, text: &mut String) -> Result<(), AllocError> {
@@ -46,10 +39,20 @@ impl Tell for Value {
             Value::Enum(name) => tell!(text; "enum ", name),
             Value::Variable(name) => tell!(text; "$ ", name),
             Value::List(items) => tell!(text; "[ ", items, "] "),
-            Value::Object(members) => tell!(text; "{ ", members, "} "),
+            Value::Object(members) => tell_members(text, members),
             _ => write!(text, "{self:?} "),
         }
     }
+}
+
+/// Tells the members of an object.
+#[cycle(tell_value)]
+fn tell_members(text: &mut String, members: &Items<(Name, Node<Value>)>) -> Result<(), AllocError> {
+    text.push_str("{ ")?;
+    for (name, value) in members {
+        tell!(text; name, value)?;
+    }
+    text.push_str("} ")
 }
 
 impl Tell for Argument {
