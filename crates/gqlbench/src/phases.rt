@@ -64,7 +64,7 @@ impl<C: Clock> Bench<'_, C> {
             (schema.types.len(), written.len(), faults.as_slice().len())
         };
         let mut equal = true;
-        let mut watch = Stopwatch::start(self, errors)?;
+        let mut watch = Stopwatch::start(&*self, errors)?;
         for done in 0..self.command.repeat {
             let built = timed!(watch, "schema-build" =>
                 build_schema(alloc, keys, options, documents)?);
@@ -76,7 +76,7 @@ impl<C: Clock> Bench<'_, C> {
                 again
             });
             drop(again);
-            timed!(watch, "drop" => drop((built, written)));
+            watch.time_drop((built, written))?;
             watch.tell(done + 1)?;
         }
         watch.report(&[
@@ -96,7 +96,7 @@ impl<C: Clock> Bench<'_, C> {
         let (fields, subtypes) = (fields.as_slice(), subtypes.as_slice());
         let mut found = count_fields(&schema, fields);
         let mut are = count_subtypes(&schema, subtypes);
-        let mut watch = Stopwatch::start(self, errors)?;
+        let mut watch = Stopwatch::start(&*self, errors)?;
         for done in 0..self.command.repeat {
             found = timed!(watch, "type_field" => count_fields(&schema, fields));
             are = timed!(watch, "is_subtype" => count_subtypes(&schema, subtypes));
@@ -138,12 +138,12 @@ impl<C: Clock> Bench<'_, C> {
             let [operations, fragments] = sizes(&document);
             [operations, fragments, (" faults\n", "faults", faults)]
         };
-        let mut watch = Stopwatch::start(self, errors)?;
+        let mut watch = Stopwatch::start(&*self, errors)?;
         for done in 0..self.command.repeat {
             let built = timed!(watch, "doc-build" =>
                 build_executable_document(alloc, &schema, documents, true)?);
             let written = timed!(watch, "doc-to_ast" => built.0.to_ast(alloc)?);
-            timed!(watch, "drop" => drop((built, written)));
+            watch.time_drop((built, written))?;
             watch.tell(done + 1)?;
         }
         watch.report(&counts)
@@ -154,7 +154,7 @@ impl<C: Clock> Bench<'_, C> {
         let [operations, fragments] = sizes(&document);
         let mut root = count_walked(self.alloc, &document, false)?;
         let mut all = count_walked(self.alloc, &document, true)?;
-        let mut watch = Stopwatch::start(self, errors)?;
+        let mut watch = Stopwatch::start(&*self, errors)?;
         for done in 0..self.command.repeat {
             root = timed!(watch, "root-walks" => count_walked(self.alloc, &document, false)?);
             all = timed!(watch, "all-walks" => count_walked(self.alloc, &document, true)?);
@@ -177,7 +177,7 @@ impl<C: Clock> Bench<'_, C> {
         let [operations, fragments] = sizes(&document);
         let faults = leaf_faults(self.alloc, &schema, &document)?.len();
         let faults = (" leaf faults\n", "leaf_faults", Count(faults));
-        let mut watch = Stopwatch::start(self, errors)?;
+        let mut watch = Stopwatch::start(&*self, errors)?;
         for done in 0..self.command.repeat {
             let _faults = timed!(watch, "leaf_faults" =>
                 leaf_faults(self.alloc, &schema, &document)?);
@@ -206,11 +206,11 @@ impl<C: Clock> Bench<'_, C> {
                 (" faults\n", "document_faults", document_faults),
             ]
         };
-        let mut watch = Stopwatch::start(self, errors)?;
+        let mut watch = Stopwatch::start(&*self, errors)?;
         for done in 0..self.command.repeat {
             let made = timed!(watch, "compile" =>
                 compile_with_keys(alloc, keys, options, schema, executable, true)?);
-            timed!(watch, "drop" => drop(made));
+            watch.time_drop(made)?;
             let began = watch.now()?;
             let built = timed!(watch, "schema-build" =>
                 build_schema(alloc, keys, options, schema)?);

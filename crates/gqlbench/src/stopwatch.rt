@@ -55,6 +55,13 @@ impl<'a, C: Clock, E: Write> Stopwatch<'a, C, E> {
         Ok(self.times.push((phase, nanoseconds))?)
     }
 
+    /// Frees what was made, in a phase of its own.
+    pub fn time_drop<T: Drop>(&mut self, made: T) -> Result<(), Failure> {
+        let began = self.now()?;
+        drop(made);
+        self.took("drop", began)
+    }
+
     /// Says how many repetitions are done, where two seconds went by since the last word. That it cannot be
     /// said there changes nothing.
     pub fn tell(&mut self, done: usize) -> Result<(), Failure> {
@@ -68,9 +75,10 @@ impl<'a, C: Clock, E: Write> Stopwatch<'a, C, E> {
 
     /// These counts, and what the times of each phase come to.
     pub fn report(&self, counts: &[Item]) -> Result<Vec<Item>, Failure> {
-        let alloc = self.bench.alloc;
+        let bench = self.bench;
+        let (alloc, phases) = (bench.alloc, bench.command.phases);
         let mut items = counts.to_vec(alloc)?;
-        for phase in self.bench.command.phases {
+        for phase in phases {
             let of_phase = self.times.iter().filter(|time| time.0 == *phase);
             let mut times: Vec<u64> = of_phase.map(|time| time.1).collect(alloc)?;
             if let Some((least, median, mean)) = summary(times.as_mut_slice()) {

@@ -287,10 +287,10 @@ fn expect_reports(rt: &(impl Abort + AllocGlobal), reports: &[Report]) -> Result
         words.extend_from_slice(*before)?;
         words.extend_from_slice(*behind)?;
         let outcome = (Status::Done, *output, "");
-        let fixed = system(Some(7), None, None);
+        let fixed = system_of(Some(7), None, None);
         expect(rt, &fixed, words.as_slice(), *input, outcome);
         words.insert(before.len(), "--random-keys")?;
-        let drawn = system(Some(7), Some(0x5a), None);
+        let drawn = system_of(Some(7), Some(0x5a), None);
         expect(rt, &drawn, words.as_slice(), *input, outcome);
     }
     Ok(())
@@ -310,7 +310,7 @@ fn expect_none(
     end: (Status, &str),
 ) {
     for words in rows {
-        let system = system(None, None, None);
+        let system = system_of(None, None, None);
         expect(rt, &system, *words, input, (end.0, "", end.1));
     }
 }
@@ -389,7 +389,7 @@ const LOOKUPS_WITH_MEMORY_IN_JSON: &str = "\
 /// Expects a run of which the system tells this, and whose repetitions take long, to say how far it is and
 /// to write that.
 fn expect_long(rt: &(impl Abort + AllocGlobal), words: &[&str], status: &str, output: &str) {
-    let system = system(Some(3_000_000_000), None, Some(status));
+    let system = system_of(Some(3_000_000_000), None, Some(status));
     let said = "1 of 2 repetitions\n2 of 2 repetitions\n";
     expect(rt, &system, words, "", (Status::Done, output, said));
 }
@@ -440,7 +440,7 @@ fn writers_that_take_nothing(rt: HostRuntime) {
     let mut errors = Vec::new(rt.alloc());
     let status = run(
         rt.alloc(),
-        &system(Some(7), None, None),
+        &system_of(Some(7), None, None),
         &["schema", "1"],
         &mut reader,
         &mut FullWriter,
