@@ -282,7 +282,7 @@ impl Change<OperationMap> for Subscribe {
 /// Maps, and what is requested.
 const REQUESTS: [Row; 3] = [(&["-"], "-"), (&["A"], "-"), (&["-", "A", "B"], "B")];
 
-fn subscribe(alloc: Global, text: &mut String) -> Told {
+fn request_each(alloc: Global, text: &mut String) -> Told {
     for (texts, request) in REQUESTS {
         let map: OperationMap = filled(alloc, texts)?;
         try_change(alloc, text, map, &Subscribe(request))?;
@@ -330,6 +330,6 @@ pub fn tell_changes(alloc: Global, text: &mut String, changed: Changed) -> Told 
         Changed::Components => add_each::<DirectiveList>(alloc, text, &GROWING),
         Changed::Directives => add_each::<NodeList>(alloc, text, &GROWING),
         Changed::Operations => add_each::<OperationMap>(alloc, text, &OPERATIONS),
-        Changed::Requested => subscribe(alloc, text),
+        Changed::Requested => request_each(alloc, text),
     }
 }
