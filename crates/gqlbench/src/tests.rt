@@ -22,7 +22,7 @@ struct System<'a> {
     status: Option<&'a str>,
 }
 
-fn system<'a>(step: Option<u64>, random: Option<u8>, status: Option<&'a str>) -> System<'a> {
+fn system_of<'a>(step: Option<u64>, random: Option<u8>, status: Option<&'a str>) -> System<'a> {
     let now = Cell::new(0);
     System {
         now,
