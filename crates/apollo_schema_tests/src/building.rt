@@ -165,6 +165,11 @@ fn push_copies(text: &mut String, schema: &Schema) -> Result<(), AllocError> {
     write!(text, "copied equal: {types}, {definition}, {whole}\n")
 }
 
+/// Adds faults. A field that lends its text goes to a function, and to no method of another value.
+pub fn push_faults(text: &mut String, faults: &[Fault]) -> Result<(), AllocError> {
+    faults.tell(text)
+}
+
 /// Adds all that is said of a schema.
 fn push_whole(alloc: Global, text: &mut String, schema: &Schema) -> Result<(), AllocError> {
     push_schema(text, schema)?;
@@ -181,7 +186,7 @@ struct Account<'a> {
 
 impl<'a> Account<'a> {
     fn push_faults(&mut self, faults: &[Fault]) -> Result<(), AllocError> {
-        faults.tell(self.text)?;
+        push_faults(self.text, faults)?;
         let are_copied = are_faults_copied(faults);
         write!(self.text, "faults copied equal: {are_copied}\n")
     }

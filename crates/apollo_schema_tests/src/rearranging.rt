@@ -2,7 +2,7 @@
 //! name change places, they are not.
 
 use crate::building::{
-    ADOPTING, PLAIN, Settings, View, add_all, begun, is_built_of, schema_in, show,
+    ADOPTING, PLAIN, Settings, View, add_all, begun, is_built_of, push_faults, schema_in, show,
 };
 use apollo_schema::build_failure::BuildFailure;
 use apollo_schema::schema::Schema;
@@ -13,7 +13,6 @@ use std::alloc::{AllocError, Global};
 use std::process::Abort;
 use std::slice;
 use std::test::Fail;
-use telling::Tell;
 
 /// A view that adds the faults of a build, and whether another document builds an equal schema.
 #[derive(Drop)]
@@ -27,7 +26,7 @@ struct Pair<'a> {
 impl<'a> View for Pair<'a> {
     fn view(&mut self, built: &Result<Schema, BuildFailure>, _next: u64) -> Result<(), AllocError> {
         if let Err(BuildFailure::Faults(found)) = built {
-            found.errors.as_slice().tell(self.text)?;
+            push_faults(self.text, found.errors.as_slice())?;
         }
         let other = slice::from_ref(self.other);
         let is_equal = match schema_in(built) {
