@@ -9,6 +9,7 @@ use graphql_ast::document::Document;
 use std::alloc::{AllocError, Global};
 use std::slice;
 use telling::Tell;
+use telling::containers::tell_all;
 
 /// Adds a document, unless it is refused. The contract of the call stays here, so that no loop carries it along.
 fn add(
@@ -122,7 +123,7 @@ impl<'a> View for Again<'a> {
     ) -> Result<(), AllocError> {
         let is_equal = *document == *self.document;
         write!(text, "again: {is_equal}\n")?;
-        faults.tell(text)
+        tell_all(faults, text)
     }
 }
 
@@ -136,7 +137,7 @@ impl View for Whole {
         text: &mut String,
     ) -> Result<(), AllocError> {
         document.tell(text)?;
-        faults.tell(text)?;
+        tell_all(faults, text)?;
         let over = if self.is_over { Some(schema) } else { None };
         let again = match document.to_ast(alloc) {
             Ok(written) => build(alloc, over, slice::from_ref(&written), true),

@@ -11,6 +11,7 @@ use graphql_ast::operation::FragmentDefinition;
 use std::alloc::{AllocError, Global};
 use std::test::Fail;
 use telling::Tell;
+use telling::containers::tell_all;
 
 /// The field sets of the selections of fragments, from the types of their conditions: as they are
 /// written out, or copies of them whole.
@@ -36,7 +37,7 @@ fn tell_whole(
     tell_written(alloc, text, set)?;
     let sources = set.sources.len();
     write!(text, "{sources} sources\n")?;
-    faults.tell(text)
+    tell_all(faults, text)
 }
 
 impl FieldSets {

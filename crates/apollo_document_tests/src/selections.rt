@@ -13,6 +13,7 @@ use graphql_nodes::operation_type::OperationType;
 use std::alloc::{AllocError, Global};
 use std::test::Fail;
 use telling::Tell;
+use telling::containers::tell_all;
 
 /// The selections of operations, from the type `Query` in the query `Q`, over the schema or without one.
 #[derive(Drop)]
@@ -36,7 +37,7 @@ fn tell_selections(
     let set = elaborate_selections(alloc, schema, &ty, selections, &mut path, &mut faults)?;
     set.tell(text)?;
     text.push_str("\n")?;
-    faults.as_slice().tell(text)
+    tell_all(faults.as_slice(), text)
 }
 
 fn tell_document(

@@ -16,7 +16,7 @@ use std::alloc::{AllocError, Global};
 use std::process::Abort;
 use std::slice;
 use std::test::Fail;
-use telling::Tell;
+use telling::containers::tell_all;
 
 /// How documents are built.
 #[derive(Clone, Copy)]
@@ -167,7 +167,7 @@ fn push_copies(text: &mut String, schema: &Schema) -> Result<(), AllocError> {
 
 /// Adds faults. A field that lends its text goes to a function, and to no method of another value.
 pub fn push_faults(text: &mut String, faults: &[Fault]) -> Result<(), AllocError> {
-    faults.tell(text)
+    tell_all(faults, text)
 }
 
 /// Adds all that is said of a schema.

@@ -90,6 +90,14 @@ impl<T: Tell> Tell for &[T] {
     }
 }
 
+/// Tells each value of a list. A slice in a variable goes to this function, since a method would lend the variable.
+pub fn tell_all<T: Tell>(values: &[T], text: &mut String) -> Result<(), AllocError> {
+    for value in values {
+        value.tell(text)?;
+    }
+    Ok(())
+}
+
 impl<T: Tell> Tell for Vec<T> {
     fn tell(&self, text: &mut String) -> Result<(), AllocError> {
         self.as_slice().tell(text)
