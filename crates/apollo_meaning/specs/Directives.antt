@@ -12,9 +12,11 @@ use Rattle.apollo_component.specs.FirstOfEach.{first_of_each}
 use Rattle.apollo_meaning.specs.Items.ListItems.{ListItem, Other}
 use Rattle.graphql_ast.specs.declared.definition.Definition.TheVariants as ast
 
+-- directive definitions, in order
 abbrev pub Directives : Type 0
 Directives = List (NodeView DirectiveDefinition)
 
+-- the directive definition that an item is, if it is one
 abbrev pub directive_part : ListItem → Option (NodeView DirectiveDefinition)
 directive_part (Other (ast.DirectiveDefinition n)) = Some n
 directive_part _ = None
@@ -23,10 +25,11 @@ directive_part _ = None
 abbrev pub directive_definitions : List ListItem → Directives
 directive_definitions xs = filter_map directive_part xs
 
+-- whether a directive definition's name has this text
 abbrev pub has_text : List ℕ → NodeView DirectiveDefinition → Bool
 has_text n d = same n d.value.name.text
 
--- not marked built-in
+-- whether a directive definition is not marked built-in
 abbrev pub is_handed_in : NodeView DirectiveDefinition → Bool
 is_handed_in d = not (is_built_in d.location)
 

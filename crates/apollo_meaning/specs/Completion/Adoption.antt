@@ -13,13 +13,15 @@ use Rattle.apollo_meaning.specs.Items.Named.{first, extensions_of, first_schema,
 abbrev pub extended_names : List ListItem → List (List ℕ)
 extended_names xs = first_of_each same (map key_of (filter_map extended_part xs))
 
--- the extensions of a name, if it has no definition, and those of the schema, if that has none
+-- the extensions of a name, if it has no definition; else none
 abbrev pub orphans_of : List ListItem → List ℕ → List TypePart
 orphans_of xs n = option_map_or (λ _. []) (first xs n) (extensions_of xs n)
 
+-- the extensions of the schema, if it has no definition; else none
 abbrev pub schema_orphans : List ListItem → List SchemaPart
 schema_orphans xs = option_map_or (λ _. []) (first_schema xs) (schema_extensions xs)
 
+-- the same kind, without interfaces, fields, members and values
 abbrev pub empty_body : TypeBody → TypeBody
 empty_body ScalarBody = ScalarBody
 empty_body (ObjectBody interfaces fields) = ObjectBody [] []
@@ -39,13 +41,15 @@ adopted_part e = record {
   ignorable = false;
 }
 
+-- the adopted definition for these extensions of one name; nothing where there is no extension
 abbrev pub adopted_by : List TypePart → List ListItem
 adopted_by [] = []
 adopted_by (e ∷ es) = Defined (adopted_part e) ∷ []
 
--- those of all names that have no definition, in order of first extension
+-- the adopted definitions of all names that are extended and not defined, in order of first extension
 abbrev pub adopted : List ListItem → List ListItem
 adopted xs = flat_map (λ n. adopted_by (orphans_of xs n)) (extended_names xs)
 
+-- the list, followed by the adopted definitions if names that are extended only are adopted
 abbrev pub with_adopted : Bool → List ListItem → List ListItem
 with_adopted adopts xs = if adopts then xs ++ adopted xs else xs

@@ -24,6 +24,7 @@ default_root op = record { value = (op, default_name op); location = None }
 abbrev pub implicit_root : List ListItem → OperationType → List Root
 implicit_root xs op = if is_object_name xs (default_type_text op) then default_root op ∷ [] else []
 
+-- the implicit roots: of query, of mutation and of subscription, in this order
 abbrev pub implicit_roots : List ListItem → List Root
 implicit_roots xs = flat_map (implicit_root xs) (Query ∷ Mutation ∷ Subscription ∷ [])
 
@@ -31,16 +32,18 @@ implicit_roots xs = flat_map (implicit_root xs) (Query ∷ Mutation ∷ Subscrip
 abbrev pub schema_of_roots : List Root → SchemaPart
 schema_of_roots roots = record { location = None; description = None; directives = []; roots = roots }
 
--- where the extensions of the schema are adopted their roots count, and implicit ones only if they name none; where they
--- are not, a schema definition is implied only if there is an implicit root
+-- the implied definition with adoption: it is always there, and has the implicit roots only if no extension
+-- of the schema names a root
 abbrev pub adopting_schema : List Root → List Root → List ListItem
 adopting_schema [] implicit = SchemaDefined (schema_of_roots implicit) ∷ []
 adopting_schema (r ∷ rs) implicit = SchemaDefined (schema_of_roots []) ∷ []
 
+-- the implied definition without adoption: it is there only if there is an implicit root
 abbrev pub rooted_schema : List Root → List ListItem
 rooted_schema [] = []
 rooted_schema (r ∷ rs) = SchemaDefined (schema_of_roots (r ∷ rs)) ∷ []
 
+-- the implied definition, with adoption or without, from the roots that extensions name and implicit ones
 abbrev pub schema_for : Bool → List Root → List Root → List ListItem
 schema_for adopts named implicit = if adopts then adopting_schema named implicit else rooted_schema implicit
 

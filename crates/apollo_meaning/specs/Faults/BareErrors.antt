@@ -1,8 +1,10 @@
--- What `==` compares of the errors of a build: names without their locations, the locations of what is kept with them.
+-- What `==` compares of the errors of a build (GraphQL specification of October 2021, section 3): names
+-- without their locations, the locations of what is kept with them.
 use Rattle.graphql_nodes.specs.Comparing.{bare_name}
 use Rattle.apollo_meaning.specs.declared.build_error.BuildError.{BuildError}
 use Rattle.apollo_meaning.specs.declared.build_error.BuildError.TheVariants as e
 
+-- an error of a build, its names without their locations
 abbrev pub bare_build_error : BuildError → BuildError
 bare_build_error (e.ExecutableDefinition describe) = e.ExecutableDefinition describe
 bare_build_error (e.SchemaDefinitionCollision previous) = e.SchemaDefinitionCollision previous

@@ -28,6 +28,7 @@ own_faults xs i (Other d) = other_faults (directive_definitions (take i xs)) d
 abbrev pub faults_of_extension : List ListItem → Placed TypePart → List Fault
 faults_of_extension xs e = option_map_or (λ f. extension_faults f.1 (extensions_of (take e.0 xs) (key_of e.1)) e.1) (first_place types xs (key_of e.1)) []
 
+-- what is wrong with a schema extension, seen with the first definition and the extensions before it
 abbrev pub faults_of_schema_extension : List ListItem → Placed SchemaPart → List Fault
 faults_of_schema_extension xs e = option_map_or (λ f. schema_faults (f.1 ∷ schema_extensions (take e.0 xs)) e.1) (first_place schemas xs []) []
 

@@ -17,6 +17,7 @@ pub record TypeComponent : Type 0 where
   pub entry : Entry
   pub type_name : NameView
 
+-- a component of this collection, in a part with this type name
 abbrev pub component_in : Collection → NameView → Entry → TypeComponent
 component_in c ty e = record { collection = c; entry = e; type_name = ty }
 

@@ -17,35 +17,43 @@ use Rattle.apollo_meaning.specs.declared.build_error.BuildError.TheVariants as e
 use Rattle.apollo_meaning.specs.declared.collision.Collection.TheVariants as c
 use Rattle.graphql_nodes.specs.declared.type_kind.TypeKind.TheVariants as kinds
 
--- the names in a collection of these parts, joined
+-- the interfaces that these parts list, joined
 abbrev pub interface_names : List TypePart → List NameView
 interface_names = flat_map (λ p. body_interfaces p.body)
 
+-- the union members that these parts list, joined
 abbrev pub member_names : List TypePart → List NameView
 member_names = flat_map (λ p. body_members p.body)
 
+-- the names of the fields of these parts, joined
 abbrev pub field_names : List TypePart → List NameView
 field_names = flat_map (λ p. map (λ f. f.value.name) (body_fields p.body))
 
+-- the enum values of these parts, joined
 abbrev pub value_names : List TypePart → List NameView
 value_names = flat_map (λ p. map (λ v. v.value.value) (body_values p.body))
 
+-- the names of the input fields of these parts, joined
 abbrev pub input_field_names : List TypePart → List NameView
 input_field_names = flat_map (λ p. map (λ f. f.value.name) (body_input_fields p.body))
 
--- components by name and location
+-- nodes, each by its name and its location
 abbrev pub named_entries : {A : Type 0} → (A → NameView) → List (NodeView A) → List Entry
 named_entries name = map (λ n. (name n.value, n.location))
 
+-- interfaces or union members, each by its name and the location of the name
 abbrev pub name_entries : List NameView → List Entry
 name_entries = map (λ n. (n, n.location))
 
+-- fields, each by its name and its location
 abbrev pub field_entries : List (NodeView FieldDefinition) → List Entry
 field_entries = named_entries (λ f. f.name)
 
+-- enum values, each by its name and its location
 abbrev pub value_entries : List (NodeView EnumValueDefinition) → List Entry
 value_entries = named_entries (λ v. v.value)
 
+-- input fields, each by its name and its location
 abbrev pub input_field_entries : List (NodeView InputValueDefinition) → List Entry
 input_field_entries = named_entries (λ f. f.name)
 
@@ -60,6 +68,7 @@ body_faults (UnionBody members) ty parts = collisions c.UnionMembers ty (member_
 body_faults (EnumBody values) ty parts = collisions c.EnumValues ty (value_names parts) (value_entries values)
 body_faults (InputObjectBody fields) ty parts = collisions c.InputFields ty (input_field_names parts) (input_field_entries fields)
 
+-- components that are dropped, interfaces first, where a part joins these parts
 abbrev pub part_faults : List TypePart → TypePart → List Fault
 part_faults parts p = body_faults p.body p.name parts
 
@@ -75,13 +84,15 @@ joining_fault d parts e = if same_kind (kind_of d) (kind_of e) then part_faults 
 abbrev pub extension_faults : TypePart → List TypePart → TypePart → List Fault
 extension_faults d before e = joining_fault d (d ∷ of_kind (kind_of d) before) e
 
--- a further definition of a name with this first one: of a built-in type it may be ignored
+-- the fault of a further definition of a name with this first one
 abbrev pub redefinition : TypePart → TypePart → Fault
 redefinition d e = (e.name.location, errors.TypeDefinitionCollision d.name.location e.name)
 
+-- the fault of a further definition of a built-in type: as a scalar type's it has an error of its own
 abbrev pub built_in_redefinition : TypePart → TypePart → Fault
 built_in_redefinition d e = if same_kind kinds.Scalar (kind_of e) then (e.location, errors.BuiltInScalarTypeRedefinition) else redefinition d e
 
+-- what is wrong with a further definition of a name with this first one: nothing if it is ignored
 abbrev pub further_definition : TypePart → TypePart → List Fault
 further_definition d e =
     if is_built_in d.location then (if e.ignorable then [] else built_in_redefinition d e ∷ []) else redefinition d e ∷ []

@@ -47,6 +47,7 @@ abbrev pub items_held : Option (List Definition) → List ListItem
 items_held None = []
 items_held (Some xs) = items_of xs
 
+-- the definition of a type, if the item is one
 abbrev pub defined_part : ListItem → Option TypePart
 defined_part (Defined p) = Some p
 defined_part (Extended p) = None
@@ -54,6 +55,7 @@ defined_part (SchemaDefined s) = None
 defined_part (SchemaExtended s) = None
 defined_part (Other d) = None
 
+-- the extension of a type, if the item is one
 abbrev pub extended_part : ListItem → Option TypePart
 extended_part (Defined p) = None
 extended_part (Extended p) = Some p
@@ -61,6 +63,7 @@ extended_part (SchemaDefined s) = None
 extended_part (SchemaExtended s) = None
 extended_part (Other d) = None
 
+-- the definition of the schema, if the item is one
 abbrev pub defined_schema : ListItem → Option SchemaPart
 defined_schema (Defined p) = None
 defined_schema (Extended p) = None
@@ -68,6 +71,7 @@ defined_schema (SchemaDefined s) = Some s
 defined_schema (SchemaExtended s) = None
 defined_schema (Other d) = None
 
+-- the extension of the schema, if the item is one
 abbrev pub extended_schema : ListItem → Option SchemaPart
 extended_schema (Defined p) = None
 extended_schema (Extended p) = None
@@ -92,9 +96,11 @@ ignorable_if b (Other d) = Other d
 abbrev pub Added : Type 0
 Added = Bool × Definition
 
+-- definitions that were all added with redefinitions of built-in types ignored, or all without
 abbrev pub added : Bool → List Definition → List Added
 added ignores ds = map (λ d. (ignores, d)) ds
 
+-- what a definition that was added says of types and of the schema
 abbrev pub added_item : Added → ListItem
 added_item a = ignorable_if a.0 (item_of a.1)
 

@@ -39,6 +39,7 @@ same_kind Enum Enum = true
 same_kind InputObject InputObject = true
 same_kind _ _ = false
 
+-- a root, where it stands: an operation type and the name of its type
 abbrev pub Root : Type 0
 Root = NodeView (OperationType × NameView)
 
@@ -83,42 +84,55 @@ part_at location name description directives body = record {
   ignorable = false;
 }
 
+-- what a scalar type definition says of its type: name, description, directives
 abbrev pub scalar_definition_part : NodeView ScalarTypeDefinition → TypePart
 scalar_definition_part n = part_at n.location n.value.name n.value.description n.value.directives ScalarBody
 
+-- what a scalar type extension says of its type: name, directives
 abbrev pub scalar_extension_part : NodeView ScalarTypeExtension → TypePart
 scalar_extension_part n = part_at n.location n.value.name None n.value.directives ScalarBody
 
+-- what an object type definition says of its type: name, description, directives, interfaces, fields
 abbrev pub object_definition_part : NodeView ObjectTypeDefinition → TypePart
 object_definition_part n = part_at n.location n.value.name n.value.description n.value.directives (ObjectBody n.value.implements_interfaces n.value.fields)
 
+-- what an object type extension says of its type: name, directives, interfaces, fields
 abbrev pub object_extension_part : NodeView ObjectTypeExtension → TypePart
 object_extension_part n = part_at n.location n.value.name None n.value.directives (ObjectBody n.value.implements_interfaces n.value.fields)
 
+-- what an interface type definition says of its type: name, description, directives, interfaces, fields
 abbrev pub interface_definition_part : NodeView InterfaceTypeDefinition → TypePart
 interface_definition_part n = part_at n.location n.value.name n.value.description n.value.directives (InterfaceBody n.value.implements_interfaces n.value.fields)
 
+-- what an interface type extension says of its type: name, directives, interfaces, fields
 abbrev pub interface_extension_part : NodeView InterfaceTypeExtension → TypePart
 interface_extension_part n = part_at n.location n.value.name None n.value.directives (InterfaceBody n.value.implements_interfaces n.value.fields)
 
+-- what a union type definition says of its type: name, description, directives, members
 abbrev pub union_definition_part : NodeView UnionTypeDefinition → TypePart
 union_definition_part n = part_at n.location n.value.name n.value.description n.value.directives (UnionBody n.value.members)
 
+-- what a union type extension says of its type: name, directives, members
 abbrev pub union_extension_part : NodeView UnionTypeExtension → TypePart
 union_extension_part n = part_at n.location n.value.name None n.value.directives (UnionBody n.value.members)
 
+-- what an enum type definition says of its type: name, description, directives, values
 abbrev pub enum_definition_part : NodeView EnumTypeDefinition → TypePart
 enum_definition_part n = part_at n.location n.value.name n.value.description n.value.directives (EnumBody n.value.values)
 
+-- what an enum type extension says of its type: name, directives, values
 abbrev pub enum_extension_part : NodeView EnumTypeExtension → TypePart
 enum_extension_part n = part_at n.location n.value.name None n.value.directives (EnumBody n.value.values)
 
+-- what an input object type definition says of its type: name, description, directives, fields
 abbrev pub input_object_definition_part : NodeView InputObjectTypeDefinition → TypePart
 input_object_definition_part n = part_at n.location n.value.name n.value.description n.value.directives (InputObjectBody n.value.fields)
 
+-- what an input object type extension says of its type: name, directives, fields
 abbrev pub input_object_extension_part : NodeView InputObjectTypeExtension → TypePart
 input_object_extension_part n = part_at n.location n.value.name None n.value.directives (InputObjectBody n.value.fields)
 
+-- what a schema definition says of the schema: description, directives, roots
 abbrev pub schema_definition_part : NodeView SchemaDefinition → SchemaPart
 schema_definition_part n = record {
   location = n.location;
@@ -127,6 +141,7 @@ schema_definition_part n = record {
   roots = n.value.root_operations;
 }
 
+-- what a schema extension says of the schema: directives, roots
 abbrev pub schema_extension_part : NodeView SchemaExtension → SchemaPart
 schema_extension_part n = record {
   location = n.location;
@@ -135,6 +150,7 @@ schema_extension_part n = record {
   roots = n.value.root_operations;
 }
 
+-- the kind of type whose definitions and extensions hold this
 abbrev pub body_kind : TypeBody → TypeKind
 body_kind ScalarBody = kinds.Scalar
 body_kind (ObjectBody interfaces fields) = kinds.Object
@@ -143,6 +159,7 @@ body_kind (UnionBody members) = kinds.Union
 body_kind (EnumBody values) = kinds.Enum
 body_kind (InputObjectBody fields) = kinds.InputObject
 
+-- the kind of type that a part defines or extends
 abbrev pub kind_of : TypePart → TypeKind
 kind_of p = body_kind p.body
 

@@ -10,8 +10,11 @@ use Rattle.apollo_meaning.specs.Items.ListItems.{ListItem, extended_part, define
 
 -- what is defined and extended in a list under keys
 pub record Family (P : Type 0) : Type 0 where
+  -- the part, if the item is a definition of this family
   pub defined : ListItem → Option P
+  -- the part, if the item is an extension of this family
   pub extended : ListItem → Option P
+  -- what a part stands under
   pub key : P → List ℕ
 
 -- types, under their names
@@ -26,13 +29,15 @@ schemas = record { defined = defined_schema; extended = extended_schema; key = �
 abbrev pub Placed : Type 0 → Type 0
 Placed P = ℕ × P
 
+-- what an item at a place defines or extends, with its place, if it is what is asked for
 abbrev pub placed_by : {P : Type 0} → (ListItem → Option P) → ℕ × ListItem → Option (Placed P)
 placed_by which e = option_map (λ p. (e.0, p)) (which e.1)
 
--- the definitions, and the extensions, with their places
+-- the definitions, with their places
 abbrev pub definition_places : {P : Type 0} → Family P → List ListItem → List (Placed P)
 definition_places f xs = filter_map (placed_by f.defined) (enumerate_from 0 xs)
 
+-- the extensions, with their places
 abbrev pub extension_places : {P : Type 0} → Family P → List ListItem → List (Placed P)
 extension_places f xs = filter_map (placed_by f.extended) (enumerate_from 0 xs)
 

@@ -1,4 +1,5 @@
--- Where the numbers of identities don't suffice for the extensions of a list.
+-- Where the numbers of identities don't suffice for the extensions of a list: GraphQL specification of
+-- October 2021, sections 3.3.2 and 3.4.3.
 use Rattle.std.specs.Prelude.{ℕ, Bool, List, length, ◌+◌, ◌^◌, ◌≤◌}
 use Rattle.apollo_meaning.specs.Items.ListItems.{Added, added_items}
 use Rattle.apollo_meaning.specs.Order.Places.{folding_order}
@@ -8,9 +9,10 @@ use Rattle.apollo_meaning.specs.Schema.Whole.{folds}
 abbrev pub folds_so_far : List Added → ℕ
 folds_so_far xs = length (folding_order (added_items xs))
 
--- the numbers from `start` don't suffice for the extensions that the list folds before it is completed, or once it is
+-- the numbers from `start` don't suffice for the extensions that the list folds before it is completed
 abbrev pub SpendsIdsSoFar : ℕ → List Added → Type 0
 SpendsIdsSoFar start xs = 2 ^ 64 ≤ start + folds_so_far xs
 
+-- the numbers from `start` don't suffice for the extensions that the completed list folds
 abbrev pub SpendsIds : ℕ → Bool → List Added → Type 0
 SpendsIds start adopts xs = 2 ^ 64 ≤ start + folds adopts xs

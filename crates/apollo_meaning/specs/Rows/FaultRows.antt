@@ -1,4 +1,5 @@
--- A list of definitions with its faults, computed.
+-- A list of definitions with its faults, computed. GraphQL specification of October 2021, sections 3.4.3 and
+-- 3.6.
 use Rattle.std.specs.Prelude.{List, [], ◌∷◌, None, codes}
 use Rattle.graphql_ast.specs.declared.definition.Definition.{Definition}
 use Rattle.graphql_ast.specs.declared.definition.Definition.TheVariants.{InterfaceTypeDefinition, EnumTypeExtension, UnionTypeExtension}

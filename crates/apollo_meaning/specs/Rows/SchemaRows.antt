@@ -1,4 +1,5 @@
--- Lists with definitions and extensions of the schema, with what they mean, computed.
+-- Lists with definitions and extensions of the schema, with what they mean, computed. GraphQL specification
+-- of October 2021, sections 3.3.1 and 3.3.2.
 use Rattle.std.specs.Prelude.{ℕ, List, [], ◌∷◌, None, Option, Some, codes}
 use Rattle.graphql_nodes.specs.declared.operation_type.OperationType.{OperationType}
 use Rattle.graphql_nodes.specs.declared.operation_type.OperationType.TheVariants.{Query, Mutation, Subscription}
@@ -17,18 +18,22 @@ use Rattle.apollo_component.specs.declared.extension.ComponentOrigin.TheVariants
 use Rattle.apollo_meaning.specs.declared.build_error.BuildError.TheVariants as errors
 use Rattle.graphql_ast.specs.declared.definition.Definition.TheVariants as ast
 
+-- a root that stands on a line: the operation type and its type's name
 abbrev pub root_on_line : OperationType → List ℕ → ℕ → Root
 root_on_line op text n = record { value = (op, name_on_line text n); location = line n }
 
+-- an applied directive that stands on a line, without arguments
 abbrev pub directive_on_line : List ℕ → ℕ → NodeView Directive
 directive_on_line text n = record { value = record { name = name_on_line text n; arguments = [] }; location = line n }
 
+-- a schema definition that stands on a line, with these roots
 abbrev pub schema_on_line : ℕ → List Root → Definition
 schema_on_line n roots = ast.SchemaDefinition (record {
   value = record { description = None; directives = record { 0 = [] }; root_operations = roots };
   location = line n;
 })
 
+-- a schema extension that stands on a line, with these directives and roots
 abbrev pub schema_extension_on_line : ℕ → List (NodeView Directive) → List Root → Definition
 schema_extension_on_line n directives roots = ast.SchemaExtension (record {
   value = record { directives = record { 0 = directives }; root_operations = roots };
@@ -43,10 +48,11 @@ type_name_of (SchemaDefined s) = None
 type_name_of (SchemaExtended s) = None
 type_name_of (Other d) = None
 
--- the root of a name that stands on a line, in the definition, or in an extension with a number and a line
+-- the root of a name that the schema definition has on a line
 abbrev pub own_root : List ℕ → ℕ → Option ComponentName
 own_root text n = Some (record { origin = origins.Definition; name = name_on_line text n })
 
+-- the root that the schema extension with a number and a line names on a line of its own
 abbrev pub extension_root : ℕ → ℕ → List ℕ → ℕ → Option ComponentName
 extension_root number from text n = Some (record { origin = origins.Extension (extension_id number (line from)); name = name_on_line text n })
 
@@ -76,10 +82,11 @@ adopted_schema = record {
   location = None;
 }
 
--- their fault where they are adopted, and their faults where they are not
+-- their fault where they are adopted: a root is named twice
 abbrev pub adopted_faults : List Fault
 adopted_faults = (line 5, errors.DuplicateRootOperation (line 3) (codes "query")) ∷ []
 
+-- their faults where they are not adopted: none of them has a definition
 abbrev pub orphan_faults : List Fault
 orphan_faults =
     (line 6, errors.OrphanTypeExtension (name_on_line (codes "B") 6))
@@ -113,7 +120,7 @@ schema_extensions_that_wait =
     ∷ schema_on_line 5 (root_on_line Mutation (codes "M") 6 ∷ root_on_line Query (codes "A") 7 ∷ [])
     ∷ []
 
--- the schema definition with both of them, and the fault of the root that is dropped
+-- the schema definition with both of them
 abbrev pub waited_for_schema : NodeView SchemaDefinition
 waited_for_schema = record {
   value = record {
@@ -126,15 +133,18 @@ waited_for_schema = record {
   location = line 5;
 }
 
+-- the fault of the root that is dropped
 abbrev pub dropped_root_fault : List Fault
 dropped_root_fault = (line 2, errors.DuplicateRootOperation (line 7) (codes "query")) ∷ []
 
--- a built-in scalar type, and a further definition of it
+-- a built-in scalar type
 abbrev pub built_in_int : List Definition
 built_in_int = scalar (codes "Int") ∷ []
 
+-- a further definition of it
 abbrev pub int_again : List Definition
 int_again = ast.ScalarTypeDefinition (record { value = record { description = None; name = name_on_line (codes "Int") 1; directives = record { 0 = [] } }; location = line 1 }) ∷ []
 
+-- the fault of that further definition
 abbrev pub redefinition_fault : List Fault
 redefinition_fault = (line 1, errors.BuiltInScalarTypeRedefinition) ∷ []

@@ -1,4 +1,5 @@
--- Lists of definitions with what they mean, computed.
+-- Lists of definitions with what they mean, computed. GraphQL specification of October 2021, sections 3.4.3
+-- and 3.6.
 use Rattle.std.specs.Prelude.{ℕ, List, [], ◌∷◌, None, Option, Some, codes}
 use Rattle.graphql_nodes.specs.NameView.{NameView}
 use Rattle.graphql_nodes.specs.declared.source.SourceSpan.{SourceSpan}
@@ -18,6 +19,7 @@ abbrev pub folding_location : Folding → Option SourceSpan
 folding_location (OfType p) = p.location
 folding_location (OfSchema s) = s.location
 
+-- a name that stands on a line
 abbrev pub name_on_line : List ℕ → ℕ → NameView
 name_on_line text n = record { text = text; location = line n }
 
@@ -28,12 +30,14 @@ field_on_line text n = record {
   location = line n;
 }
 
+-- an object type definition that stands on a line, with these interfaces and fields
 abbrev pub definition_on_line : ℕ → List ℕ → List NameView → List (NodeView FieldDefinition) → Definition
 definition_on_line n text interfaces fields = ObjectTypeDefinition (record {
   value = record { description = None; name = name_on_line text n; implements_interfaces = interfaces; directives = record { 0 = [] }; fields = fields };
   location = line n;
 })
 
+-- an object type extension that stands on a line, with these interfaces and fields
 abbrev pub extension_on_line : ℕ → NameView → List NameView → List (NodeView FieldDefinition) → Definition
 extension_on_line n name interfaces fields = ObjectTypeExtension (record {
   value = record { name = name; implements_interfaces = interfaces; directives = record { 0 = [] }; fields = fields };

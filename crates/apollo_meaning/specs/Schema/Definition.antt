@@ -19,6 +19,7 @@ use Rattle.apollo_meaning.specs.Items.ListItems.{ListItem, Folding, OfType, OfSc
 use Rattle.apollo_meaning.specs.Items.Named.{first_schema}
 use Rattle.apollo_meaning.specs.Types.Components.{component, component_name}
 
+-- whether two operation types are one
 abbrev pub same_operation : OperationType → OperationType → Bool
 same_operation Query Query = true
 same_operation Mutation Mutation = true
@@ -29,6 +30,7 @@ same_operation _ _ = false
 abbrev pub SourcedSchema : Type 0
 SourcedSchema = ComponentOrigin × SchemaPart
 
+-- the directives of a part, with their origin
 abbrev pub schema_directives_of : SourcedSchema → List (Component Directive)
 schema_directives_of s = map (component s.0) s.1.directives
 
@@ -50,6 +52,7 @@ schema_definition_of head parts = record {
   subscription = root_in Subscription parts;
 }
 
+-- the schema definition of parts, with the description and location of the head
 abbrev pub schema_from : SchemaPart → List SourcedSchema → NodeView SchemaDefinition
 schema_from head parts = record { value = schema_definition_of head parts; location = head.location }
 

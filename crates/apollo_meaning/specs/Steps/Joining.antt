@@ -1,5 +1,5 @@
--- What is wrong with extensions that join a type or the schema, one after another: the form that the builder is proved
--- against.
+-- What is wrong with extensions that join a type or the schema, one after another: the form that the builder
+-- is proved against. GraphQL specification of October 2021, sections 3.3.2 and 3.4.3.
 use Rattle.std.specs.Prelude.{ℕ, List, [], ◌∷◌, ◌++◌, map}
 use Rattle.std.specs.List.{enumerate_from}
 use Rattle.graphql_nodes.specs.NodeView.{NodeView}
@@ -28,16 +28,18 @@ schema_joining_faults = each_after schema_faults
 abbrev pub schema_numbered : ℕ → List SchemaPart → List SourcedSchema
 schema_numbered n es = map schema_extension_source (enumerate_from n es)
 
--- a schema definition with the extensions that waited for it, and what is wrong with them
+-- a schema definition with the extensions that waited for it, numbered from this number on
 abbrev pub schema_begun : ℕ → SchemaPart → List SchemaPart → NodeView SchemaDefinition
 schema_begun n s es = schema_from s ((Definition, s) ∷ schema_numbered n es)
 
+-- what is wrong with a schema definition and with the extensions that waited for it
 abbrev pub schema_begun_faults : SchemaPart → List SchemaPart → List Fault
 schema_begun_faults s es = schema_faults [] s ++ schema_joining_faults (s ∷ []) es
 
--- a type with the extensions that waited for it, and what is wrong with them
+-- a type with the extensions of its kind that waited for it, numbered from this number on
 abbrev pub type_begun : ℕ → TypePart → List TypePart → ExtendedType
 type_begun n d es = type_from d ((Definition, d) ∷ map extension_part (numbered n (of_kind (kind_of d) es)))
 
+-- what is wrong with the definition of a type and with the extensions that waited for it
 abbrev pub type_begun_faults : TypePart → List TypePart → List Fault
 type_begun_faults d es = part_faults [] d ++ joining_faults d (d ∷ []) es

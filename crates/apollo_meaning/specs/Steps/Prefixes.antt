@@ -1,4 +1,5 @@
--- What one more item adds to a list: the form that the builder is proved against.
+-- What one more item adds to a list: the form that the builder is proved against. GraphQL specification of
+-- October 2021, sections 3.3.2 and 3.4.3.
 use Rattle.std.specs.Prelude.{List, [], ◌∷◌, ◌++◌, map, if◌then◌else◌, ◌==◌, length}
 use Rattle.std.specs.Option.{option_map_or}
 use Rattle.graphql_nodes.specs.NameView.{NameView}
@@ -22,7 +23,7 @@ types_folded_at before (SchemaDefined s) = []
 types_folded_at before (SchemaExtended e) = []
 types_folded_at before (Other d) = []
 
--- and those of the schema: at its first definition all before it, and each one after it
+-- the extensions of the schema that are folded at an item: all before its first definition, or one after it
 abbrev pub schemas_folded_at : List ListItem → ListItem → List SchemaPart
 schemas_folded_at before (Defined d) = []
 schemas_folded_at before (Extended e) = []
@@ -30,6 +31,7 @@ schemas_folded_at before (SchemaDefined s) = option_map_or (λ _. []) (first_sch
 schemas_folded_at before (SchemaExtended e) = option_map_or (λ _. e ∷ []) (first_schema before) []
 schemas_folded_at before (Other d) = []
 
+-- the extensions of types and of the schema that are folded at an item, where these items are before it
 abbrev pub folded_at : List ListItem → ListItem → List Folding
 folded_at before x = map OfType (types_folded_at before x) ++ map OfSchema (schemas_folded_at before x)
 
@@ -49,7 +51,7 @@ found_at before (Other d) = other_faults (directive_definitions before) d
 abbrev pub found : List ListItem → List Fault
 found xs = each_after found_at [] xs
 
--- the names under which an extension once waited, in order
+-- the name under which an extension begins to wait at an item: no definition or extension of it is before
 abbrev pub waited_at : List ListItem → ListItem → List NameView
 waited_at before (Defined d) = []
 waited_at before (Extended e) = option_map_or (λ _. []) (first before (key_of e)) (if length (extensions_of before (key_of e)) == 0 then e.name ∷ [] else [])
@@ -57,5 +59,6 @@ waited_at before (SchemaDefined s) = []
 waited_at before (SchemaExtended e) = []
 waited_at before (Other d) = []
 
+-- the names under which an extension once waited, in order
 abbrev pub waited : List ListItem → List NameView
 waited xs = each_after waited_at [] xs

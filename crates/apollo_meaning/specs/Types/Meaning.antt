@@ -43,7 +43,7 @@ extensions_with_origin n start folded = map extension_part (filter (λ e. same n
 abbrev pub parts : ℕ → List Folding → List ℕ → TypePart → List Sourced
 parts start folded n d = (Definition, d) ∷ extensions_with_origin n start folded
 
--- the types of parts, by kind: directives joined, and the first of each name
+-- the scalar type of these parts: directives joined
 abbrev pub scalar_of : TypePart → List Sourced → ScalarType
 scalar_of head parts = record {
   description = head.description;
@@ -51,6 +51,7 @@ scalar_of head parts = record {
   directives = record { 0 = flat_map sourced_directives parts };
 }
 
+-- the object type of these parts: directives joined, and of each name the first interface and field
 abbrev pub object_of : TypePart → List Sourced → ObjectType
 object_of head parts = record {
   description = head.description;
@@ -60,6 +61,7 @@ object_of head parts = record {
   fields = distinct_entries (flat_map fields_of parts);
 }
 
+-- the interface type of these parts: directives joined, and of each name the first interface and field
 abbrev pub interface_of : TypePart → List Sourced → InterfaceType
 interface_of head parts = record {
   description = head.description;
@@ -69,6 +71,7 @@ interface_of head parts = record {
   fields = distinct_entries (flat_map fields_of parts);
 }
 
+-- the union type of these parts: directives joined, and of each name the first member
 abbrev pub union_of : TypePart → List Sourced → UnionType
 union_of head parts = record {
   description = head.description;
@@ -77,6 +80,7 @@ union_of head parts = record {
   members = distinct_names (flat_map members_of parts);
 }
 
+-- the enum type of these parts: directives joined, and of each name the first value
 abbrev pub enum_of : TypePart → List Sourced → EnumType
 enum_of head parts = record {
   description = head.description;
@@ -85,6 +89,7 @@ enum_of head parts = record {
   values = distinct_entries (flat_map values_of parts);
 }
 
+-- the input object type of these parts: directives joined, and of each name the first field
 abbrev pub input_object_of : TypePart → List Sourced → InputObjectType
 input_object_of head parts = record {
   description = head.description;
@@ -93,6 +98,7 @@ input_object_of head parts = record {
   fields = distinct_entries (flat_map input_fields_of parts);
 }
 
+-- the type that these parts make, of this kind, with the description, name and location of the head
 abbrev pub type_of_kind : TypeBody → TypePart → List Sourced → ExtendedType
 type_of_kind ScalarBody head parts = Scalar (record { value = scalar_of head parts; location = head.location })
 type_of_kind (ObjectBody interfaces fields) head parts = Object (record { value = object_of head parts; location = head.location })
