@@ -21,19 +21,23 @@ use Rattle.apollo_types.specs.declared.components.ComponentRef.TheVariants as re
 use Rattle.apollo_types.specs.declared.components.Part.{Part}
 use Rattle.apollo_types.specs.declared.components.Part.TheVariants.{Nothing, Names, Fields, EnumValues, InputFields, Roots}
 
--- a directive, an interface or member, a field, an enum value, an input field
+-- a directive as a component, with its origin
 abbrev pub of_directive : Component Directive → SourcedPart
 of_directive c = (c.origin, parts.Directive c.node)
 
+-- an interface or union member as a component, with its origin
 abbrev pub of_name : ComponentName → SourcedPart
 of_name c = (c.origin, parts.Name c.name)
 
+-- a field as a component, with its origin
 abbrev pub of_field : Component FieldDefinition → SourcedPart
 of_field c = (c.origin, parts.Field c.node)
 
+-- an enum value as a component, with its origin
 abbrev pub of_value : Component EnumValueDefinition → SourcedPart
 of_value c = (c.origin, parts.EnumValue c.node)
 
+-- an input field as a component, with its origin
 abbrev pub of_input_field : Component InputValueDefinition → SourcedPart
 of_input_field c = (c.origin, parts.InputField c.node)
 
@@ -41,6 +45,7 @@ of_input_field c = (c.origin, parts.InputField c.node)
 abbrev pub root_node : OperationType × ComponentName → NodeView (OperationType × NameView)
 root_node r = record { value = (r.0, r.1.name); location = r.1.name.location }
 
+-- a root as a component, with its origin
 abbrev pub of_root : OperationType × ComponentName → SourcedPart
 of_root r = (r.1.origin, parts.Root (root_node r))
 
@@ -62,12 +67,14 @@ part_components (EnumValues values) = map of_value values
 part_components (InputFields fields) = map of_input_field fields
 part_components (Roots roots) = map of_root roots
 
--- each run of `next` of an iterator of components, of origins, of roots shows what was left, in order
+-- each run of `next` of an iterator of components shows what was left, in order
 abbrev pub ComponentsInOrder : Type 0
 ComponentsInOrder = ShowsInOrder component_seen
 
+-- each run of `next` of an iterator of origins shows what was left, in order
 abbrev pub OriginsInOrder : Type 0
 OriginsInOrder = ShowsInOrder (deref {X = ComponentOrigin})
 
+-- each run of `next` of an iterator of roots shows what was left, in order
 abbrev pub RootsInOrder : Type 0
 RootsInOrder = ShowsInOrder deref_root

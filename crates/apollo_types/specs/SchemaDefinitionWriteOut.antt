@@ -31,6 +31,7 @@ has_own_root s = list_any (λ r. same_origin origins.Definition r.1.origin) (nam
 abbrev pub default_name : OperationType → NameView
 default_name op = record { text = default_type_text op; location = None }
 
+-- there is a type, and it is an object type
 abbrev pub is_some_object : Option ExtendedType → Bool
 is_some_object None = false
 is_some_object (Some t) = is_object t

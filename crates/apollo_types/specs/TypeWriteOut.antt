@@ -18,6 +18,7 @@ use Rattle.apollo_types.specs.declared.input_object_type.InputObjectType.{InputO
 use Rattle.apollo_types.specs.declared.extended_type.ExtendedType.{ExtendedType}
 use Rattle.apollo_types.specs.declared.extended_type.ExtendedType.TheVariants.{Scalar, Object, Interface, Union, Enum, InputObject}
 
+-- the kind of a type
 abbrev pub type_kind : ExtendedType → TypeKind
 type_kind (Scalar n) = kinds.Scalar
 type_kind (Object n) = kinds.Object
@@ -26,6 +27,7 @@ type_kind (Union n) = kinds.Union
 type_kind (Enum n) = kinds.Enum
 type_kind (InputObject n) = kinds.InputObject
 
+-- the name of a type
 abbrev pub type_name : ExtendedType → NameView
 type_name (Scalar n) = n.value.name
 type_name (Object n) = n.value.name
@@ -34,6 +36,7 @@ type_name (Union n) = n.value.name
 type_name (Enum n) = n.value.name
 type_name (InputObject n) = n.value.name
 
+-- where a type stands
 abbrev pub type_location : ExtendedType → Option SourceSpan
 type_location (Scalar n) = n.location
 type_location (Object n) = n.location
@@ -42,6 +45,7 @@ type_location (Union n) = n.location
 type_location (Enum n) = n.location
 type_location (InputObject n) = n.location
 
+-- the description of a type, if it has one
 abbrev pub type_description : ExtendedType → Option NameView
 type_description (Scalar n) = n.value.description
 type_description (Object n) = n.value.description
@@ -50,6 +54,7 @@ type_description (Union n) = n.value.description
 type_description (Enum n) = n.value.description
 type_description (InputObject n) = n.value.description
 
+-- the directives of a type, each with its origin
 abbrev pub type_directives : ExtendedType → DirectiveList
 type_directives (Scalar n) = n.value.directives
 type_directives (Object n) = n.value.directives
@@ -58,26 +63,31 @@ type_directives (Union n) = n.value.directives
 type_directives (Enum n) = n.value.directives
 type_directives (InputObject n) = n.value.directives
 
--- the components of a scalar type: directives; of an object or interface type: directives, interfaces, fields; of a union:
--- directives, members; of an enum: directives, values; of an input object type: directives, fields
+-- the components of a scalar type: directives
 abbrev pub scalar_components : ScalarType → List SourcedPart
 scalar_components t = map of_directive t.directives.0
 
+-- the components of an object type: directives, interfaces, fields
 abbrev pub object_components : ObjectType → List SourcedPart
 object_components t = (map of_directive t.directives.0 ++ map of_name t.implements_interfaces) ++ map of_field (values_of t.fields)
 
+-- the components of an interface type: directives, interfaces, fields
 abbrev pub interface_components : InterfaceType → List SourcedPart
 interface_components t = (map of_directive t.directives.0 ++ map of_name t.implements_interfaces) ++ map of_field (values_of t.fields)
 
+-- the components of a union type: directives, members
 abbrev pub union_components : UnionType → List SourcedPart
 union_components t = map of_directive t.directives.0 ++ map of_name t.members
 
+-- the components of an enum type: directives, values
 abbrev pub enum_components : EnumType → List SourcedPart
 enum_components t = map of_directive t.directives.0 ++ map of_value (values_of t.values)
 
+-- the components of an input object type: directives, fields
 abbrev pub input_object_components : InputObjectType → List SourcedPart
 input_object_components t = map of_directive t.directives.0 ++ map of_input_field (values_of t.fields)
 
+-- the components of a type of any kind
 abbrev pub type_components : ExtendedType → List SourcedPart
 type_components (Scalar n) = scalar_components n.value
 type_components (Object n) = object_components n.value
@@ -86,25 +96,30 @@ type_components (Union n) = union_components n.value
 type_components (Enum n) = enum_components n.value
 type_components (InputObject n) = input_object_components n.value
 
--- the definition, at this location, then an extension for each identity
+-- a scalar type's definition, at this location, then an extension for each identity
 abbrev pub write_scalar : ScalarType → Option SourceSpan → List Definition
 write_scalar t location = written_type kinds.Scalar t.description t.name (by_origin (scalar_components t)) location
 
+-- an object type's definition, at this location, then an extension for each identity
 abbrev pub write_object : ObjectType → Option SourceSpan → List Definition
 write_object t location = written_type kinds.Object t.description t.name (by_origin (object_components t)) location
 
+-- an interface type's definition, at this location, then an extension for each identity
 abbrev pub write_interface : InterfaceType → Option SourceSpan → List Definition
 write_interface t location = written_type kinds.Interface t.description t.name (by_origin (interface_components t)) location
 
+-- a union type's definition, at this location, then an extension for each identity
 abbrev pub write_union : UnionType → Option SourceSpan → List Definition
 write_union t location = written_type kinds.Union t.description t.name (by_origin (union_components t)) location
 
+-- an enum type's definition, at this location, then an extension for each identity
 abbrev pub write_enum : EnumType → Option SourceSpan → List Definition
 write_enum t location = written_type kinds.Enum t.description t.name (by_origin (enum_components t)) location
 
+-- an input object type's definition, at this location, then an extension for each identity
 abbrev pub write_input_object : InputObjectType → Option SourceSpan → List Definition
 write_input_object t location = written_type kinds.InputObject t.description t.name (by_origin (input_object_components t)) location
 
--- the definition, where the type stands, then its extensions
+-- the definition of a type of any kind, where the type stands, then its extensions
 abbrev pub write_type : ExtendedType → List Definition
 write_type t = written_type (type_kind t) (type_description t) (type_name t) (by_origin (type_components t)) (type_location t)
