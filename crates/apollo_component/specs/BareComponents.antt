@@ -1,4 +1,5 @@
--- What `==` compares of components: values, without locations and origins.
+-- What `==` compares of components: values, without locations and origins. GraphQL specification of October
+-- 2021, sections 3.3 to 3.10.
 use Rattle.std.specs.Prelude.{ℕ, List, Option, map, option_map}
 use Rattle.graphql_nodes.specs.NameView.{NameView}
 use Rattle.graphql_nodes.specs.Comparing.{bare_name}
@@ -14,9 +15,11 @@ use Rattle.apollo_component.specs.declared.extension.ComponentOrigin.{ComponentO
 abbrev pub bare_component : {A B : Type 0} → (A → B) → Component A → B
 bare_component f c = f c.node.value
 
+-- a name that a type lists, without its location and origin
 abbrev pub bare_component_name : ComponentName → NameView
 bare_component_name c = bare_name c.name
 
+-- directives, in order, without locations and origins
 abbrev pub bare_directives : DirectiveList → List Directive
 bare_directives l = map (bare_component bare_directive) l.0
 

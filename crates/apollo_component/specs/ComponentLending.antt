@@ -1,3 +1,5 @@
+-- What may be written to a component, and what becomes of it then: GraphQL specification of October 2021,
+-- section 3.4.3.
 use Rattle.std.specs.Borrow.{Lends, MutBor, Fml}
 use Rattle.graphql_nodes.specs.NodeView.{NodeView}
 use Rattle.graphql_nodes.specs.contracts.node.Node as node

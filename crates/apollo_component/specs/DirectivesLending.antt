@@ -1,3 +1,5 @@
+-- What may be written to a list of applied directives, and what becomes of it then: GraphQL specification of
+-- October 2021, section 2.12.
 use Rattle.std.specs.Prelude.{List}
 use Rattle.std.specs.Borrow.{Lends, follows, MutBor, Fml, Array}
 use Rattle.std.specs.declared.slice.IterMut.{IterMut}

@@ -1,4 +1,5 @@
--- The parts of extensions, by first appearance.
+-- The parts of extensions, by first appearance: GraphQL specification of October 2021, sections 3.3.2 and
+-- 3.4.3.
 use Rattle.std.specs.Prelude.{List, [], ◌∷◌, unwrap_or}
 use Rattle.graphql_nodes.specs.Tables.{lookup, insert_entry}
 use Rattle.graphql_ast.specs.DefinitionParts.{no_parts, with_part}

@@ -1,4 +1,4 @@
--- Identities of extensions.
+-- Identities of extensions: GraphQL specification of October 2021, sections 3.3.2 and 3.4.3.
 use Rattle.std.specs.Prelude.{ℕ, Option, None, Some, Bool, true, false, ◌==◌}
 use Rattle.graphql_nodes.specs.declared.source.SourceSpan.{SourceSpan}
 use Rattle.apollo_component.specs.declared.extension.ExtensionSource.{ExtensionSource}
@@ -10,9 +10,11 @@ use Rattle.apollo_component.specs.declared.extension.ComponentOrigin.TheVariants
 abbrev pub extension_id : ℕ → Option SourceSpan → ExtensionId
 extension_id n location = record { number = n; location = location }
 
+-- the number of an identity
 abbrev pub number_of : ExtensionId → ℕ
 number_of e = e.number
 
+-- where the extension of an identity stands
 abbrev pub extension_location : ExtensionId → Option SourceSpan
 extension_location e = e.location
 
@@ -20,6 +22,7 @@ extension_location e = e.location
 abbrev pub source_at : ℕ → ExtensionSource
 source_at n = record { next = n }
 
+-- the number that a source gives next
 abbrev pub next_number : ExtensionSource → ℕ
 next_number s = s.next
 

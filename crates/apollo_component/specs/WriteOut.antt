@@ -24,13 +24,15 @@ use Rattle.apollo_component.specs.declared.parts_by_origin.PartsByOrigin.{PartsB
 abbrev pub SourcedPart : Type 0
 SourcedPart = ComponentOrigin × DefinitionPart
 
--- a component, and a name that a type lists, where nodes of this sort are that part
+-- a component, where nodes of this sort are that part
 abbrev pub sourced : {A : Type 0} → (NodeView A → DefinitionPart) → Component A → SourcedPart
 sourced part c = (c.origin, part c.node)
 
+-- a name that a type lists, an interface or a union member, as a component
 abbrev pub sourced_name : ComponentName → SourcedPart
 sourced_name c = (c.origin, p.Name c.name)
 
+-- the origins of components, in order
 abbrev pub origins_in : List SourcedPart → List ComponentOrigin
 origins_in = map (λ c. c.0)
 
