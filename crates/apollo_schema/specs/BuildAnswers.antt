@@ -1,4 +1,4 @@
--- What a build answers.
+-- What a build answers: GraphQL specification of October 2021, section 3.3.
 use Rattle.std.specs.Prelude.{List, Result, Ok, Err}
 use Rattle.apollo_schema.specs.declared.schema.Schema.{Schema}
 use Rattle.apollo_folding.specs.declared.builder_error.BuilderError.{BuilderError}

@@ -1,4 +1,4 @@
--- What a builder holds.
+-- What a builder holds: GraphQL specification of October 2021, sections 3.4 and 3.4.3.
 use Rattle.std.specs.Prelude.{List, []}
 use Rattle.graphql_nodes.specs.NameView.{NameView}
 use Rattle.graphql_ast.specs.declared.definition.Definition.{Definition}
@@ -7,6 +7,7 @@ use Rattle.apollo_schema.specs.declared.schema_builder.SchemaBuilder.{SchemaBuil
 use Rattle.apollo_schema.specs.declared.state.State.{State}
 use Rattle.apollo_schema.specs.declared.state.State.TheVariants.{Open, Failed}
 
+-- the types that are defined so far, under their names; none once a call was refused
 abbrev pub state_types : State → List (NameView × ExtendedType)
 state_types (Open tables) = tables.types
 state_types (Failed source) = []
@@ -15,6 +16,7 @@ state_types (Failed source) = []
 abbrev pub types_held : SchemaBuilder → List (NameView × ExtendedType)
 types_held b = state_types b.state
 
+-- what waits for a definition, under its name; nothing once a call was refused
 abbrev pub state_waiting : State → List (NameView × List Definition)
 state_waiting (Open tables) = tables.waiting
 state_waiting (Failed source) = []

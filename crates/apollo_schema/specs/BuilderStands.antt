@@ -1,4 +1,4 @@
--- The list of definitions that a builder stands for.
+-- The list of definitions that a builder stands for: GraphQL specification of October 2021, section 3.
 use Rattle.std.specs.Prelude.{◌≡◌, ℕ, Bool, List, []}
 use Rattle.apollo_component.specs.declared.extension.ExtensionSource.{ExtensionSource}
 use Rattle.apollo_schema.specs.declared.schema_builder.SchemaBuilder.{SchemaBuilder}
@@ -16,10 +16,11 @@ first_number b = b.first_number
 abbrev pub StandsFor : ℕ → List Added → SchemaBuilder → Type 0
 StandsFor start xs b = (first_number b ≡ start) × StateStands start (added_items xs) b.state
 
--- whether it adopts extensions without a definition, and ignores redefinitions of built-in types
+-- whether it adopts extensions without a definition
 abbrev pub adopts : SchemaBuilder → Bool
 adopts b = b.adopt_orphan_extensions
 
+-- whether it ignores redefinitions of built-in types
 abbrev pub ignores : SchemaBuilder → Bool
 ignores b = b.ignore_builtin_redefinitions
 
@@ -31,6 +32,7 @@ HasFailed b = StateFailed b.state
 abbrev pub IsLeftWith : ExtensionSource → SchemaBuilder → Type 0
 IsLeftWith source b = b.state ≡ Failed source
 
+-- the source files of the documents that were added; none once a call was refused
 abbrev pub state_sources : State → Files
 state_sources (Open tables) = tables.sources
 state_sources (Failed source) = []

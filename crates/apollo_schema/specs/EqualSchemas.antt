@@ -10,9 +10,12 @@ use Rattle.apollo_schema.specs.declared.schema.Schema.{Schema}
 -- what `==` compares of a schema: its definition, and what stands under each name
 pub record BareSchema : Type 0 where
   pub definition : BareSchemaDefinition
+  -- the directive definition of this name, if there is one
   pub directive_definitions : List ℕ → Option DirectiveDefinition
+  -- the type of this name, if there is one
   pub types : List ℕ → Option BareType
 
+-- a schema, without locations, origins and sources
 abbrev pub bare_schema : Schema → BareSchema
 bare_schema s = record {
   definition = bare_schema_definition s.schema_definition.value;
@@ -20,5 +23,6 @@ bare_schema s = record {
   types = entries_by_text bare_extended_type s.types;
 }
 
+-- two schemas are equal
 abbrev pub AreEqualSchemas : Schema → Schema → Type 0
 AreEqualSchemas a b = bare_schema a ≡ bare_schema b

@@ -1,4 +1,5 @@
--- The names that an iterator over implementers still gives.
+-- The names that an iterator over implementers still gives: GraphQL specification of October 2021, sections
+-- 3.6 and 3.7.
 use Rattle.std.specs.Prelude.{List, ◌++◌}
 use Rattle.graphql_nodes.specs.NameView.{NameView}
 use Rattle.apollo_schema.specs.declared.implementers.ImplementersIter.{ImplementersIter}

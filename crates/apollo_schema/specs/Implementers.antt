@@ -32,10 +32,11 @@ implementers_of types i = record { objects = declaring is_object types i; interf
 abbrev pub implementers_map : Types → List (NameView × Implementers)
 implementers_map types = map (λ i. (i, implementers_of types i)) (interfaces_declared types)
 
--- a name is one of an interface's implementers
+-- whether a name is one of an interface's implementers
 abbrev pub is_among : NameView → Option Implementers → Bool
 is_among t None = false
 is_among t (Some m) = has_key (same_text t) m.objects || has_key (same_text t) m.interfaces
 
+-- whether the second name is one of the implementers of the interface of the first
 abbrev pub is_implementer : Types → NameView → NameView → Bool
 is_implementer types i t = is_among t (lookup (same_text i) (implementers_map types))

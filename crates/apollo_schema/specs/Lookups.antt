@@ -37,32 +37,37 @@ Types = List (NameView × ExtendedType)
 abbrev pub type_at : Types → NameView → Option ExtendedType
 type_at types n = lookup (same_text n) types
 
--- the type of a name, where it is of one kind
+-- the type, if it is there and a scalar type
 abbrev pub scalar_node : Option ExtendedType → Option (NodeView ScalarType)
 scalar_node None = None
 scalar_node (Some (Scalar n)) = Some n
 scalar_node (Some _) = None
 
+-- the type, if it is there and an object type
 abbrev pub object_node : Option ExtendedType → Option (NodeView ObjectType)
 object_node None = None
 object_node (Some (Object n)) = Some n
 object_node (Some _) = None
 
+-- the type, if it is there and an interface type
 abbrev pub interface_node : Option ExtendedType → Option (NodeView InterfaceType)
 interface_node None = None
 interface_node (Some (Interface n)) = Some n
 interface_node (Some _) = None
 
+-- the type, if it is there and a union type
 abbrev pub union_node : Option ExtendedType → Option (NodeView UnionType)
 union_node None = None
 union_node (Some (Union n)) = Some n
 union_node (Some _) = None
 
+-- the type, if it is there and an enum type
 abbrev pub enum_node : Option ExtendedType → Option (NodeView EnumType)
 enum_node None = None
 enum_node (Some (Enum n)) = Some n
 enum_node (Some _) = None
 
+-- the type, if it is there and an input object type
 abbrev pub input_object_node : Option ExtendedType → Option (NodeView InputObjectType)
 input_object_node None = None
 input_object_node (Some (InputObject n)) = Some n
@@ -87,6 +92,7 @@ is_query_root s t = option_map_or (λ root. same_text t root.name) (root_of s.sc
 abbrev pub meta_fields : Schema → NameView → ExtendedType → List (Component FieldDefinition)
 meta_fields s t type = (if is_composite type then typename_field ∷ [] else []) ++ (if is_query_root s t then schema_field ∷ type_by_name_field ∷ [] else [])
 
+-- the field of this name that the type of this name has without declaring it
 abbrev pub meta_field : Schema → NameView → ExtendedType → NameView → Option (Component FieldDefinition)
 meta_field s t type f = find (λ field. same_text f field.node.value.name) (meta_fields s t type)
 
@@ -94,6 +100,7 @@ meta_field s t type f = find (λ field. same_text f field.node.value.name) (meta
 abbrev pub field_of_type : Schema → NameView → NameView → ExtendedType → Option (Component FieldDefinition)
 field_of_type s t f type = option_or (declared_field type f) (meta_field s t type f)
 
+-- the field of this name in the type of this name; none where there is no such type
 abbrev pub field_at : Schema → NameView → NameView → Option (Component FieldDefinition)
 field_at s t f = option_map_or (field_of_type s t f) (type_at s.types t) None
 
@@ -122,5 +129,6 @@ is_subtype_of (Some (Interface n)) types a t = option_map_or (declares a) (type_
 is_subtype_of (Some (Union n)) types a t = is_listed t n.value.members
 is_subtype_of _ types a t = false
 
+-- the second name is that of a subtype of an interface, or of a member of a union, of the first name
 abbrev pub is_subtype : Types → NameView → NameView → Bool
 is_subtype types a t = is_subtype_of (type_at types a) types a t

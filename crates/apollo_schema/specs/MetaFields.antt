@@ -9,6 +9,7 @@ use Rattle.graphql_ast.specs.declared.type_system.InputValueDefinition.{InputVal
 use Rattle.apollo_component.specs.declared.component.Component.{Component}
 use Rattle.apollo_component.specs.declared.extension.ComponentOrigin.TheVariants.{Definition}
 
+-- a value at no location
 abbrev pub plain_node : {T : Type 0} → T → NodeView T
 plain_node value = record { value = value; location = None }
 
@@ -19,6 +20,7 @@ plain_field text arguments ty = record {
   node = plain_node (record { description = None; name = plain_name text; arguments = arguments; ty = ty; directives = record { 0 = [] } });
 }
 
+-- the definition of an argument of this name and type, without a default value
 abbrev pub plain_argument : List ℕ → TypeReference → NodeView InputValueDefinition
 plain_argument text ty = plain_node (record { description = None; name = plain_name text; ty = plain_node ty; default_value = None; directives = record { 0 = [] } })
 

@@ -1,4 +1,5 @@
--- The names under which something is held that waits for a definition.
+-- The names under which something is held that waits for a definition: GraphQL specification of October
+-- 2021, section 3.4.3.
 use Rattle.std.specs.Prelude.{◌≡◌, List, [], ◌∷◌, map}
 use Rattle.std.specs.List.{flat_map}
 use Rattle.std.specs.Option.{option_map_or}

@@ -1,4 +1,4 @@
--- What a step of `implementers_map` does.
+-- What a step of `implementers_map` does: GraphQL specification of October 2021, sections 3.6 and 3.7.
 use Rattle.std.specs.Prelude.{Bool, true, false, List, [], unwrap_or, fold}
 use Rattle.graphql_nodes.specs.KeySets.{insert_key}
 use Rattle.graphql_nodes.specs.NameView.{NameView}
@@ -7,6 +7,7 @@ use Rattle.graphql_nodes.specs.Tables.{lookup, insert_entry}
 use Rattle.apollo_component.specs.declared.component.ComponentName.{ComponentName}
 use Rattle.apollo_schema.specs.declared.implementers.Implementers.{Implementers}
 
+-- neither an object type nor an interface type
 abbrev pub no_implementers : Implementers
 no_implementers = record { objects = []; interfaces = [] }
 

@@ -1,4 +1,4 @@
--- What a builder holds for a list.
+-- What a builder holds for a list: GraphQL specification of October 2021, sections 3.3, 3.4.3 and 3.13.
 use Rattle.std.specs.Prelude.{◌≡◌, ℕ, ◌+◌, ◌≤◌, Bool, List, ◌++◌, length, map}
 use Rattle.std.specs.List.{flat_map}
 use Rattle.graphql_nodes.specs.Tables.{keys_of, lookup}
@@ -23,12 +23,17 @@ use Rattle.apollo_meaning.specs.Steps.Prefixes.{folded, found_at, found, waited}
 -- these tables are those of the list, with its extensions numbered from `start`
 pub record Stands (start : ℕ) (xs : List ListItem) (t : Tables) : Type 0 where
   pub definition : t.schema_definition ≡ schema_of start (folded xs) xs
+  -- the extensions of the schema that wait for its definition
   pub orphans : map schema_extension_part t.schema_extensions ≡ schema_orphans xs
   pub types : AreTypesOf start (folded xs) xs t.types
   pub directives : AreDirectivesOf (directive_definitions xs) t.directive_definitions
+  -- under each name the extensions that wait for its definition
   pub waiting : (n : List ℕ) → items_held (lookup (by_text n) t.waiting) ≡ map Extended (orphans_of xs n)
+  -- the names under which an extension once waited, in order
   pub names : keys_of t.waiting ≡ waited xs
+  -- what was found so far, in order
   pub faults : t.faults ≡ found xs
+  -- the number of the next extension that is folded
   pub next : t.ids ≡ source_at (start + length (folded xs))
 
 -- these tables are those of a list that ends with these items, which are implied, and hold what was found and what is
@@ -47,8 +52,10 @@ pub record Completes (start : ℕ) (adopts : Bool) (xs : List ListItem) (t : Tab
   pub types : AreTypesOf start (folded (completed adopts xs)) (completed adopts xs) t.types
   pub directives : AreDirectivesOf (directive_definitions (completed adopts xs)) t.directive_definitions
   pub faults : t.faults ≡ faults_in adopts xs
+  -- the number after that of the last extension that is folded
   pub next : t.ids ≡ source_at (start + length (folded (completed adopts xs)))
 
+-- no call was refused, and the tables are those of this list
 abbrev pub StateStands : ℕ → List ListItem → State → Type 0
 StateStands start xs (Open tables) = Stands start xs tables
 StateStands start xs (Failed source) = ⊥

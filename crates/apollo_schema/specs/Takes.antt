@@ -1,4 +1,5 @@
--- What a step of a builder does, for each list that its tables stand for.
+-- What a step of a builder does, for each list that its tables stand for: GraphQL specification of October
+-- 2021, section 3.
 use Rattle.std.specs.Prelude.{ℕ, Bool, ◌+◌, ◌^◌, ◌≤◌, List, [], ◌++◌, length, map, Some}
 use Rattle.apollo_component.specs.Extensions.{next_number, source_at}
 use Rattle.apollo_schema.specs.declared.tables.Tables.{Tables}
@@ -24,10 +25,11 @@ Takes old items new = Becomes old (λ xs. xs ++ items) new
 abbrev pub SpentBy : Tables → List ListItem → Type 0
 SpentBy old items = SpentOn old (λ xs. xs ++ items)
 
--- P of each list that the tables stand for, and of each that they complete
+-- P holds of each list that the tables stand for
 abbrev pub ForLists : Tables → (ℕ → List Added → Type 0) → Type 0
 ForLists t P = (start : ℕ) (xs : List Added) → Stands start (added_items xs) t → P start xs
 
+-- P holds of each list whose completed form the tables hold
 abbrev pub ForCompleted : Tables → (ℕ → Bool → List Added → Type 0) → Type 0
 ForCompleted t P = (start : ℕ) (adopts : Bool) (xs : List Added) → Completes start adopts (added_items xs) t → P start adopts xs
 
