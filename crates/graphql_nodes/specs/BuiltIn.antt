@@ -1,4 +1,5 @@
--- What stands in the file of built-in definitions.
+-- What stands in the file of built-in definitions: GraphQL specification of October 2021, sections 3.5, 3.13
+-- and 4.2.
 use Rattle.std.specs.Prelude.{Bool, false, ◌==◌, Option, None, Some}
 use Rattle.graphql_nodes.specs.declared.source.SourceSpan.{SourceSpan}
 

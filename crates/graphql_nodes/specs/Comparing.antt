@@ -19,6 +19,7 @@ bare_name n = record { text = n.text; location = None }
 abbrev pub bare_invalid_name : InvalidNameError → InvalidNameError
 bare_invalid_name e = record { name = e.name; location = None }
 
+-- a node without its location, with what f gives of its value
 abbrev pub bare_node : {A B : Type 0} → (A → B) → NodeView A → NodeView B
 bare_node f n = record { value = f n.value; location = None }
 

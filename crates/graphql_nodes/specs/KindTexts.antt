@@ -1,4 +1,5 @@
--- What messages call kinds of types, and definitions and extensions of them.
+-- What messages call kinds of types, and definitions and extensions of them: GraphQL specification of
+-- October 2021, sections 3.4 and 3.4.3.
 use Rattle.std.specs.Prelude.{ℕ, List, codes}
 use Rattle.graphql_nodes.specs.declared.type_kind.TypeKind.{TypeKind}
 use Rattle.graphql_nodes.specs.declared.type_kind.TypeKind.TheVariants as k

@@ -3,6 +3,7 @@ use Rattle.std.specs.Prelude.{ℕ, List, codes}
 use Rattle.graphql_nodes.specs.declared.directive_location.DirectiveLocation.{DirectiveLocation}
 use Rattle.graphql_nodes.specs.declared.directive_location.DirectiveLocation.TheVariants as at
 
+-- the name of a directive location, as a directive definition writes it
 abbrev pub location_text : DirectiveLocation → List ℕ
 location_text at.Query = codes "QUERY"
 location_text at.Mutation = codes "MUTATION"

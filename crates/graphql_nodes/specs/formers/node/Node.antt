@@ -30,9 +30,11 @@ use Rattle.graphql_nodes.specs.declared.node.Node.TheView.{view, invariant}
 use Rattle.graphql_nodes.specs.contracts.node.Node as C
 use Rattle.graphql_nodes.specs.contracts.node.Node.TheInside as I
 
+-- a node stands for its value and its location
 abbrev pub the_former : Former {0} → Former {0}
 the_former g = via (pair g (const (Option SourceSpan))) (λ X. NodeView (g.Of X)) (λ X n. (n.value, n.location)) (λ X v. record { value = v.0; location = v.1 }) (λ X n. refl) (λ X v. refl)
 
+-- a node weighs what its value weighs
 abbrev pub the_weighed : {g : Former {0}} → Weighed g → Weighed (the_former g)
 the_weighed w = record { weight = λ X μ n. w.weight X μ n.value; puts = λ X μ n. w.puts X μ n.value }
 
@@ -70,8 +72,10 @@ module _ (R S : RattleType) (h : R.Denot → S.Denot) where
   pub the_codes_placed : Recodes R S h → Recodes (C.the_row R) (C.the_row S) ((the_former this).map R.Denot S.Denot h)
   the_codes_placed e d = λ i. gcons (e d.value i) ((coded_option span_code).code d.location)
 
+-- nodes are compared as their values, also where h replaces these
 pub the_eq_natural : (X Y : Type 0) (h : X → Y) (G : eq.Ghosts Y) (m n : NodeView X) → G.eq (h m.value) (h n.value) ≡ G.eq (h m.value) (h n.value)
 the_eq_natural X Y h G m n = refl
 
+-- a node is hashed as its value, also where h replaces that
 pub the_hash_input_natural : (X Y : Type 0) (h : X → Y) (G : hash.Ghosts Y) (E : eq.Ghosts Y) (m : NodeView X) → G.hash_input (h m.value) ≡ G.hash_input (h m.value)
 the_hash_input_natural X Y h G E m = refl

@@ -24,9 +24,11 @@ use Rattle.graphql_nodes.specs.declared.collections.boxed.Boxed.TheView.{view, i
 use Rattle.graphql_nodes.specs.contracts.collections.boxed.Boxed as C
 use Rattle.graphql_nodes.specs.contracts.collections.boxed.Boxed.TheInside as I
 
+-- a box stands for what it holds
 abbrev pub the_former : Former {0} → Former {0}
 the_former g = g
 
+-- a box weighs what it holds weighs
 abbrev pub the_weighed : {g : Former {0}} → Weighed g → Weighed (the_former g)
 the_weighed w = w
 
@@ -58,8 +60,10 @@ module _ (R S : RattleType) (h : R.Denot → S.Denot) where
   pub the_codes_placed : Recodes R S h → Recodes (C.the_row R) (C.the_row S) ((the_former this).map R.Denot S.Denot h)
   the_codes_placed e d = e d
 
+-- boxes are compared as what they hold, also where h replaces that
 pub the_eq_natural : (X Y : Type 0) (h : X → Y) (G : eq.Ghosts Y) (m n : X) → G.eq (h m) (h n) ≡ G.eq (h m) (h n)
 the_eq_natural X Y h G m n = refl
 
+-- a box is hashed as what it holds, also where h replaces that
 pub the_hash_input_natural : (X Y : Type 0) (h : X → Y) (G : hash.Ghosts Y) (E : eq.Ghosts Y) (m : X) → G.hash_input (h m) ≡ G.hash_input (h m)
 the_hash_input_natural X Y h G E m = refl

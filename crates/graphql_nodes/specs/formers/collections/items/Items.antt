@@ -19,18 +19,23 @@ use Rattle.graphql_nodes.specs.declared.collections.items.Items.TheView.{view, i
 use Rattle.graphql_nodes.specs.contracts.collections.items.Items as C
 use Rattle.graphql_nodes.specs.contracts.collections.items.Items.TheInside as I
 
+-- a list stands for its elements, in order
 abbrev pub the_former : Former {0} → Former {0}
 the_former g = list g
 
+-- a list is weighed by its elements
 abbrev pub the_weighed : {g : Former {0}} → Weighed g → Weighed (the_former g)
 the_weighed w = w_list w
 
+-- the list without elements
 pub the_empty : List ⊥
 the_empty = []
 
+-- the elements of a list
 abbrev pub the_items : (X : Type 0) → List X → List X
 the_items X d = d
 
+-- what a list holds, in order, is its elements
 pub the_items_listed : (X : Type 0) (d : List X) → listed _ (children (the_former this) X d) ≡ the_items X d
 the_items_listed X d = list-listed X d
 
