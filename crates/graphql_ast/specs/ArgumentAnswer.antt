@@ -1,4 +1,4 @@
--- An answer that is lent.
+-- The value of an argument that is lent: GraphQL specification of October 2021, sections 2.6 and 3.6.1.
 use Rattle.std.specs.Prelude.{◌≡◌, Option, Result, Ok, Err}
 use Rattle.std.specs.Option.{option_copied}
 use Rattle.std.specs.Borrow.{Bor}

@@ -1,4 +1,5 @@
 -- Parts of the syntax tree without their locations. Trees that differ in locations alone have one bare tree.
+-- GraphQL specification of October 2021, sections 2.6, 2.9, 2.11 and 2.12.
 use Rattle.std.specs.Prelude.{map}
 use Rattle.graphql_nodes.specs.Comparing.{bare_name, bare_node}
 use Rattle.graphql_ast.specs.declared.value.Value.{Value, fold-Value, roll-Value}
@@ -21,6 +22,7 @@ value_step (Value-F.Boolean b) = roll-Value (Value-F.Boolean b)
 value_step (Value-F.List items) = roll-Value (Value-F.List (map (bare_node (λ v. v)) items))
 value_step (Value-F.Object members) = roll-Value (Value-F.Object (map (λ m. (bare_name m.0, bare_node (λ v. v) m.1)) members))
 
+-- a value without locations
 abbrev pub bare_value : Value → Value
 bare_value = fold-Value Value value_step
 
@@ -31,14 +33,18 @@ type_step (Type-F.NonNullNamed n) = roll-Type (Type-F.NonNullNamed (bare_name n)
 type_step (Type-F.List t) = roll-Type (Type-F.List t)
 type_step (Type-F.NonNullList t) = roll-Type (Type-F.NonNullList t)
 
+-- a type reference without locations
 abbrev pub bare_type : TypeReference → TypeReference
 bare_type = fold-Type TypeReference type_step
 
+-- an argument without locations
 abbrev pub bare_argument : Argument → Argument
 bare_argument a = record { name = bare_name a.name; value = bare_node bare_value a.value }
 
+-- an applied directive without locations
 abbrev pub bare_directive : Directive → Directive
 bare_directive d = record { name = bare_name d.name; arguments = map (bare_node bare_argument) d.arguments }
 
+-- applied directives, in order, without locations
 abbrev pub bare_directive_list : DirectiveList → DirectiveList
 bare_directive_list l = record { 0 = map (bare_node bare_directive) l.0 }

@@ -1,4 +1,5 @@
--- Operations, fragments and whole documents without their locations.
+-- Operations, fragments and whole documents without their locations. GraphQL specification of October 2021,
+-- sections 2.2, 2.3, 2.8 and 2.10.
 use Rattle.std.specs.Prelude.{[], map, option_map}
 use Rattle.graphql_nodes.specs.Comparing.{bare_name, bare_node}
 use Rattle.graphql_ast.specs.Bare.{bare_value, bare_type, bare_directive_list}
@@ -11,15 +12,19 @@ use Rattle.graphql_ast.specs.declared.definition.Definition.{Definition}
 use Rattle.graphql_ast.specs.declared.definition.Definition.TheVariants as d
 use Rattle.graphql_ast.specs.declared.document.Document.{Document}
 
+-- the definition of a variable without locations
 abbrev pub bare_variable_definition : VariableDefinition → VariableDefinition
 bare_variable_definition d = record { name = bare_name d.name; ty = bare_node bare_type d.ty; default_value = option_map (bare_node bare_value) d.default_value; directives = bare_directive_list d.directives }
 
+-- an operation without locations
 abbrev pub bare_operation_definition : OperationDefinition → OperationDefinition
 bare_operation_definition d = record { operation_type = d.operation_type; name = option_map bare_name d.name; variables = map (bare_node bare_variable_definition) d.variables; directives = bare_directive_list d.directives; selection_set = map bare_selection d.selection_set }
 
+-- a fragment without locations
 abbrev pub bare_fragment_definition : FragmentDefinition → FragmentDefinition
 bare_fragment_definition d = record { name = bare_name d.name; type_condition = bare_name d.type_condition; directives = bare_directive_list d.directives; selection_set = map bare_selection d.selection_set }
 
+-- a definition of any sort without locations
 abbrev pub bare_definition : Definition → Definition
 bare_definition (d.OperationDefinition n) = d.OperationDefinition (bare_node bare_operation_definition n)
 bare_definition (d.FragmentDefinition n) = d.FragmentDefinition (bare_node bare_fragment_definition n)
@@ -39,6 +44,6 @@ bare_definition (d.UnionTypeExtension n) = d.UnionTypeExtension (bare_node bare_
 bare_definition (d.EnumTypeExtension n) = d.EnumTypeExtension (bare_node bare_enum_type_extension n)
 bare_definition (d.InputObjectTypeExtension n) = d.InputObjectTypeExtension (bare_node bare_input_object_type_extension n)
 
--- the files that a document comes from are left out too
+-- a document without locations, and without the files that it comes from
 abbrev pub bare_document : Document → Document
 bare_document d = record { sources = []; definitions = map bare_definition d.definitions }

@@ -1,4 +1,4 @@
--- Selections without their locations.
+-- Selections without their locations. GraphQL specification of October 2021, sections 2.4 to 2.8.
 use Rattle.std.specs.Prelude.{map, option_map}
 use Rattle.graphql_nodes.specs.Comparing.{bare_name, bare_node}
 use Rattle.graphql_ast.specs.Bare.{bare_argument, bare_directive_list}
@@ -9,6 +9,7 @@ use Rattle.graphql_ast.specs.declared.selection.Field.{Field, roll-Field}
 use Rattle.graphql_ast.specs.declared.selection.InlineFragment.{InlineFragment, roll-InlineFragment}
 use Rattle.graphql_ast.specs.declared.selection.FragmentSpread.{FragmentSpread}
 
+-- a fragment spread without locations
 abbrev pub bare_fragment_spread : FragmentSpread → FragmentSpread
 bare_fragment_spread s = record { fragment_name = bare_name s.fragment_name; directives = bare_directive_list s.directives }
 
@@ -36,11 +37,14 @@ inline_step f = roll-InlineFragment (record {
   selection_set = f.selection_set;
 })
 
+-- a selection without locations, and so what is below it
 abbrev pub bare_selection : Selection → Selection
 bare_selection = fold-Selection Selection Field InlineFragment selection_step field_step inline_step
 
+-- a field without locations, and so what is below it
 abbrev pub bare_field : Field → Field
 bare_field = fold-Field Selection Field InlineFragment selection_step field_step inline_step
 
+-- an inline fragment without locations, and so what is below it
 abbrev pub bare_inline_fragment : InlineFragment → InlineFragment
 bare_inline_fragment = fold-InlineFragment Selection Field InlineFragment selection_step field_step inline_step

@@ -17,27 +17,32 @@ use Rattle.graphql_ast.specs.declared.type_system.EnumValueDefinition.{EnumValue
 use Rattle.graphql_ast.specs.declared.type_system.FieldDefinition.{FieldDefinition}
 use Rattle.graphql_ast.specs.declared.type_system.InputValueDefinition.{InputValueDefinition}
 
--- what a part is, if it is of this sort
+-- the directive that a part is, if it is one
 abbrev pub as_directive : DefinitionPart → Option (NodeView Directive)
 as_directive (p.Directive directive) = Some directive
 as_directive _ = None
 
+-- the interface or union member that a part names, if it is one
 abbrev pub as_name : DefinitionPart → Option NameView
 as_name (p.Name name) = Some name
 as_name _ = None
 
+-- the field that a part is, if it is one
 abbrev pub as_field : DefinitionPart → Option (NodeView FieldDefinition)
 as_field (p.Field field) = Some field
 as_field _ = None
 
+-- the enum value that a part is, if it is one
 abbrev pub as_value : DefinitionPart → Option (NodeView EnumValueDefinition)
 as_value (p.EnumValue value) = Some value
 as_value _ = None
 
+-- the input field that a part is, if it is one
 abbrev pub as_input_field : DefinitionPart → Option (NodeView InputValueDefinition)
 as_input_field (p.InputField field) = Some field
 as_input_field _ = None
 
+-- the root that a part is, if it is one
 abbrev pub as_root : DefinitionPart → Option (NodeView (OperationType × NameView))
 as_root (p.Root root) = Some root
 as_root _ = None

@@ -1,4 +1,4 @@
--- What messages call definitions.
+-- What messages call definitions: GraphQL specification of October 2021, sections 2.2 and 3.
 use Rattle.std.specs.Prelude.{ℕ, List, codes}
 use Rattle.graphql_nodes.specs.declared.type_kind.TypeKind.TheVariants as k
 use Rattle.graphql_nodes.specs.KindTexts.{kind_definition_text, kind_extension_text}

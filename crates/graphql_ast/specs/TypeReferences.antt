@@ -15,6 +15,7 @@ inner_step (Type-F.NonNullList n) = n
 abbrev pub inner_name : TypeReference → NameView
 inner_name = fold-Type NameView inner_step
 
+-- whether the outermost level of a type is non-null
 abbrev pub required_step : Type-F TypeReference → Bool
 required_step (Type-F.Named n) = false
 required_step (Type-F.NonNullNamed n) = true
@@ -25,6 +26,7 @@ required_step (Type-F.NonNullList n) = true
 abbrev pub is_required : TypeReference → Bool
 is_required t = required_step (out-Type t)
 
+-- the type with its outermost level non-null
 abbrev pub non_null_step : Type-F TypeReference → TypeReference
 non_null_step (Type-F.Named n) = NonNullNamed n
 non_null_step (Type-F.NonNullNamed n) = NonNullNamed n
