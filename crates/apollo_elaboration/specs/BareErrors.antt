@@ -8,14 +8,17 @@ use Rattle.apollo_elaboration.specs.declared.selection_path.ExecutableDefinition
 use Rattle.apollo_elaboration.specs.declared.selection_path.ExecutableDefinitionName.TheVariants.{AnonymousOperation, NamedOperation, Fragment}
 use Rattle.apollo_elaboration.specs.declared.selection_path.SelectionPath.{SelectionPath}
 
+-- the operation or fragment that a path begins with, its name without location
 abbrev pub bare_root : ExecutableDefinitionName → ExecutableDefinitionName
 bare_root (AnonymousOperation kind) = AnonymousOperation kind
 bare_root (NamedOperation kind name) = NamedOperation kind (bare_name name)
 bare_root (Fragment name) = Fragment (bare_name name)
 
+-- a path, its names without locations
 abbrev pub bare_path : SelectionPath → SelectionPath
 bare_path path = record { root = bare_root path.root; nested_fields = map bare_name path.nested_fields }
 
+-- an error of a build, its names without locations
 abbrev pub bare_build_error : BuildError → BuildError
 bare_build_error (e.TypeSystemDefinition name describe) = e.TypeSystemDefinition (option_map bare_name name) describe
 bare_build_error e.AmbiguousAnonymousOperation = e.AmbiguousAnonymousOperation

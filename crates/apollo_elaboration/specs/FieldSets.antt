@@ -4,5 +4,6 @@ use Rattle.graphql_nodes.specs.declared.operation_type.OperationType.TheVariants
 use Rattle.apollo_elaboration.specs.declared.selection_path.ExecutableDefinitionName.TheVariants.{AnonymousOperation}
 use Rattle.apollo_elaboration.specs.declared.selection_path.SelectionPath.{SelectionPath}
 
+-- the path that the selections of a field set begin with
 abbrev pub field_set_path : SelectionPath
 field_set_path = record { root = AnonymousOperation Query; nested_fields = [] }

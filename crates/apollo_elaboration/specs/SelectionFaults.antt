@@ -42,23 +42,27 @@ abbrev pub below_or_wrong : {A : Type 0} → (A → List Fault) → Option Sourc
 below_or_wrong below location path (Ok a) = below a
 below_or_wrong below location path (Err wrong) = wrong location path
 
--- one level of a field, and of an inline fragment
+-- one level of a field
 abbrev pub field_faults_step : Option Schema → Field-F FS FN FN → FN
 field_faults_step s f ty location path =
     below_or_wrong (λ d. faults_below f.selection_set (child_of d) (inside path (response_key_of f.alias f.name))) location (inside path (response_key_of f.alias f.name)) (typable_field s ty f.name (is_bare f.selection_set))
 
+-- one level of an inline fragment
 abbrev pub fragment_faults_step : Option Schema → InlineFragment-F FS FN FN → FN
 fragment_faults_step s f ty location path = below_or_wrong (λ child. faults_below f.selection_set child path) location path (typable_fragment s ty f.type_condition)
 
+-- the faults of a selection in a type, and of what is below it
 abbrev pub faults_of_selection : Option Schema → NameView → SelectionPath → Selection → List Fault
 faults_of_selection s ty path x = folds.fold-Selection FS FN FN faults_step (field_faults_step s) (fragment_faults_step s) x ty path
 
+-- the faults of a field in a type, and of what is below it
 abbrev pub faults_of_field : Option Schema → NameView → Option SourceSpan → SelectionPath → Field → List Fault
 faults_of_field s ty location path f = folds.fold-Field FS FN FN faults_step (field_faults_step s) (fragment_faults_step s) f ty location path
 
+-- the faults of an inline fragment in a type, and of what is below it
 abbrev pub faults_of_fragment : Option Schema → NameView → Option SourceSpan → SelectionPath → InlineFragment → List Fault
 faults_of_fragment s ty location path f = folds.fold-InlineFragment FS FN FN faults_step (field_faults_step s) (fragment_faults_step s) f ty location path
 
--- those of a list
+-- the faults of a list of selections in a type
 abbrev pub faults_of_selections : Option Schema → NameView → SelectionPath → List Selection → List Fault
 faults_of_selections s ty path xs = flat_map (faults_of_selection s ty path) xs

@@ -20,6 +20,7 @@ use Rattle.apollo_elaboration.specs.declared.build_error.BuildError.{BuildError}
 use Rattle.apollo_elaboration.specs.declared.build_error.BuildError.TheVariants as e
 use Rattle.apollo_elaboration.specs.declared.selection_path.SelectionPath.{SelectionPath}
 
+-- a fault, and the location that it is about
 abbrev pub Fault : Type 0
 Fault = Option SourceSpan × BuildError
 
@@ -41,6 +42,7 @@ abbrev pub defined_as : NameView → Option NameView → Option (Component Field
 defined_as name key (Some c) = Ok c.node
 defined_as name key None = Err (undefined name key)
 
+-- the definition that a schema gives for a field of this name in a type, or what is wrong
 abbrev pub defined_in : Schema → NameView → NameView → Result (NodeView FieldDefinition) Wrong
 defined_in s ty name = defined_as name (lookup_key (same_text ty) s.types) (field_at s ty name)
 
@@ -60,6 +62,7 @@ leaf_fault ty _ = None
 abbrev pub child_of : NodeView FieldDefinition → NameView
 child_of d = inner_name d.value.ty
 
+-- what is wrong with subselections of a field with this definition, if anything is
 abbrev pub leaf_at : Schema → NodeView FieldDefinition → Option Wrong
 leaf_at s d = leaf_fault (child_of d) (type_at s.types (child_of d))
 
@@ -73,6 +76,7 @@ unless_leaf true d leaf = Ok d
 unless_leaf false d None = Ok d
 unless_leaf false d (Some wrong) = Err wrong
 
+-- the definition of a field that may have the subselections that it has, or what is wrong with it
 abbrev pub with_subselections : Schema → Bool → Result (NodeView FieldDefinition) Wrong → Result (NodeView FieldDefinition) Wrong
 with_subselections s bare (Ok d) = unless_leaf bare d (leaf_at s d)
 with_subselections s bare (Err wrong) = Err wrong
@@ -82,6 +86,7 @@ abbrev pub typable_field : Option Schema → NameView → NameView → Bool → 
 typable_field None ty name bare = Ok (unknown_field name)
 typable_field (Some s) ty name bare = with_subselections s bare (defined_in s ty name)
 
+-- the definition of a field of a document that is typable in a type, or what is wrong with it
 abbrev pub field_judged : Option Schema → NameView → ast_field.Field → Result (NodeView FieldDefinition) Wrong
 field_judged s ty f = typable_field s ty f.name (is_bare f.selection_set)
 
@@ -90,6 +95,7 @@ abbrev pub has_type : Option Schema → NameView → Bool
 has_type None ty = true
 has_type (Some s) ty = is_some (type_at s.types ty)
 
+-- the child type of an inline fragment with this condition if its type is there, or what is wrong with it
 abbrev pub if_there : Bool → NameView → Result NameView Wrong
 if_there true condition = Ok condition
 if_there false condition = Err (λ location path. (condition.location, e.UndefinedTypeInInlineFragmentTypeCondition condition path) ∷ [])
