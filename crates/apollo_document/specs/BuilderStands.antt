@@ -1,4 +1,5 @@
--- The list of definitions that a builder of documents stands for.
+-- The list of definitions that a builder of documents stands for: GraphQL specification of October 2021,
+-- section 2.2.
 use Rattle.std.specs.Prelude.{◌≡◌, List, [], Option}
 use Rattle.std.specs.Option.{option_copied}
 use Rattle.graphql_nodes.specs.Sources.{Files}
@@ -17,6 +18,7 @@ StandsFor s xs b = (option_copied b.schema ≡ s) × StateStands s xs b.state
 abbrev pub HasFailed : ExecutableDocumentBuilder → Type 0
 HasFailed b = StateFailed b.state
 
+-- the source files of the documents that were added; none once a call was refused
 abbrev pub state_sources : State → Files
 state_sources (Open tables) = tables.sources
 state_sources Failed = []

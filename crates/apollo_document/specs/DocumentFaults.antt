@@ -28,6 +28,7 @@ use Rattle.apollo_document.specs.KeptDefinitions.{root_type_of, kept_anonymous, 
 abbrev pub ambiguous : Option SourceSpan → Fault
 ambiguous location = (location, e.AmbiguousAnonymousOperation)
 
+-- the same fault, if there is such an operation
 abbrev pub ambiguous_if : Option (Option SourceSpan) → List Fault
 ambiguous_if None = []
 ambiguous_if (Some location) = ambiguous location ∷ []
@@ -42,6 +43,7 @@ abbrev pub rooted_faults : Option Schema → ExecutableDefinitionName → NodeVi
 rooted_faults s name n (Some root) = faults_of_selections s root (record { root = name; nested_fields = [] }) n.value.selection_set
 rooted_faults s name n None = (n.location, e.UndefinedRootOperation (operation_text n.value.operation_type)) ∷ []
 
+-- what is wrong with an operation itself: it has no root type, or its selections are at fault
 abbrev pub faults_in_operation : Option Schema → ExecutableDefinitionName → NodeView OperationDefinition → List Fault
 faults_in_operation s name n = rooted_faults s name n (root_type_of s n.value.operation_type)
 
@@ -63,6 +65,7 @@ abbrev pub unless_named : {A : Type 0} → List A → Option SourceSpan → List
 unless_named [] location wrong = wrong
 unless_named (x ∷ xs) location wrong = ambiguous location ∷ []
 
+-- what is wrong with an anonymous operation after a kept anonymous one, if there is one, or after named ones
 abbrev pub anonymous_faults : {A : Type 0} → Option Schema → Option (Option SourceSpan) → Bool → List A → NodeView OperationDefinition → List Fault
 anonymous_faults s (Some kept) repeated others n = after_anonymous repeated kept n.location
 anonymous_faults s None repeated others n = unless_named others n.location (faults_in_operation s (AnonymousOperation n.value.operation_type) n)
@@ -71,6 +74,7 @@ anonymous_faults s None repeated others n = unless_named others n.location (faul
 abbrev pub anonymous_location : Option Schema → List DocumentItem → Option (Option SourceSpan)
 anonymous_location s before = option_map (λ n. n.location) (kept_anonymous s before)
 
+-- what is wrong with an operation of this name, or an anonymous one, after these definitions
 abbrev pub operation_faults : Option Schema → List DocumentItem → NodeView OperationDefinition → Option NameView → List Fault
 operation_faults s before n (Some name) = named_faults s (anonymous_location s before) (lookup_key (same_text name) (kept_named s before)) name n
 operation_faults s before n None = anonymous_faults s (anonymous_location s before) (is_repeated s before) (kept_named s before) n
@@ -80,9 +84,11 @@ abbrev pub on_type_faults : Option Schema → NodeView FragmentDefinition → Bo
 on_type_faults s n true = faults_of_selections s n.value.type_condition (record { root = Fragment n.value.name; nested_fields = [] }) n.value.selection_set
 on_type_faults s n false = (n.value.type_condition.location, e.UndefinedTypeInNamedFragmentTypeCondition n.value.type_condition n.value.name) ∷ []
 
+-- what is wrong with a fragment itself: its condition is no type, or its selections are at fault
 abbrev pub faults_in_fragment : Option Schema → NodeView FragmentDefinition → List Fault
 faults_in_fragment s n = on_type_faults s n (has_type s n.value.type_condition)
 
+-- what is wrong with a fragment, where its name is taken if it is
 abbrev pub fragment_faults : Option Schema → Option NameView → NodeView FragmentDefinition → List Fault
 fragment_faults s taken n = unless_taken e.FragmentNameCollision n.value.name taken (faults_in_fragment s n)
 
@@ -97,6 +103,7 @@ definition_faults s before errors (d.OperationDefinition n) = operation_faults s
 definition_faults s before errors (d.FragmentDefinition n) = fragment_faults s (lookup_key (same_text n.value.name) (kept_fragments s before)) n
 definition_faults s before errors other = type_system_faults errors other
 
+-- what is wrong with a definition as it was added, after these
 abbrev pub faults_at : Option Schema → List DocumentItem → DocumentItem → List Fault
 faults_at s before x = definition_faults s before x.0 x.1
 

@@ -24,12 +24,15 @@ root_type_of (Some s) kind = option_map (λ root. root.name) (root_of s.schema_d
 abbrev pub is_rooted : Option Schema → NodeView OperationDefinition → Bool
 is_rooted s n = is_some (root_type_of s n.value.operation_type)
 
+-- an operation has no name
 abbrev pub is_anonymous : NodeView OperationDefinition → Bool
 is_anonymous n = not (is_some n.value.name)
 
+-- an operation, if it has no name
 abbrev pub if_anonymous : NodeView OperationDefinition → Option (NodeView OperationDefinition)
 if_anonymous n = cond (is_anonymous n) (Some n) None
 
+-- the first operation, if there is one and it has no name
 abbrev pub first_if_anonymous : Option (NodeView OperationDefinition) → Option (NodeView OperationDefinition)
 first_if_anonymous None = None
 first_if_anonymous (Some n) = if_anonymous n
@@ -50,6 +53,7 @@ kept_named s xs = first_of_each (same_key same_text) (filter_map operation_under
 abbrev pub is_on_type : Option Schema → NodeView FragmentDefinition → Bool
 is_on_type s n = has_type s n.value.type_condition
 
+-- a fragment under its name
 abbrev pub fragment_under_name : NodeView FragmentDefinition → NameView × NodeView FragmentDefinition
 fragment_under_name n = (n.value.name, n)
 

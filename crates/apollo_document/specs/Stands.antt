@@ -1,4 +1,5 @@
--- What a builder holds for a list. The code is proved against this.
+-- What a builder holds for a list. The code is proved against this. GraphQL specification of October 2021,
+-- sections 2.2 to 2.8.
 use Rattle.std.specs.Prelude.{◌≡◌, List, ◌∷◌, [], ◌++◌, map, Option, None, Some, option_map, unwrap_or, cond}
 use Rattle.graphql_nodes.specs.NameView.{NameView, plain_name}
 use Rattle.graphql_nodes.specs.NodeView.{NodeView}
@@ -34,12 +35,15 @@ rooted_operation s n = option_map (λ (root : NameView). at_place (operation_fro
 abbrev pub root_or_none : Option Schema → NodeView OperationDefinition → NameView
 root_or_none s n = unwrap_or (root_type_of s n.value.operation_type) (plain_name [])
 
+-- an operation that is kept, typed, where it stands
 abbrev pub typed_operation : Option Schema → NodeView OperationDefinition → NodeView Operation
 typed_operation s n = at_place (operation_from s (root_or_none s n)) n
 
+-- a fragment, typed in its condition
 abbrev pub fragment_on_type : Option Schema → FragmentDefinition → Fragment
 fragment_on_type s f = record { name = f.name; directives = f.directives; selection_set = elaborated s f.type_condition f.selection_set }
 
+-- a fragment, typed in its condition, where it stands
 abbrev pub typed_fragment : Option Schema → NodeView FragmentDefinition → NodeView Fragment
 typed_fragment s n = at_place (fragment_on_type s) n
 
@@ -62,6 +66,7 @@ pub record Stands (s : Option Schema) (xs : List DocumentItem) (t : Tables) : Ty
   pub anonymous : t.operations.anonymous ≡ option_map (typed_operation s) (kept_anonymous s xs)
   pub named : t.operations.named ≡ entries_by (typed_operation s) (kept_named s xs)
   pub fragments : t.fragments ≡ entries_by (typed_fragment s) (kept_fragments s xs)
+  -- an anonymous operation is kept, and another stands after it
   pub repeated : t.multiple_anonymous ≡ is_repeated s xs
   pub faults : t.faults ≡ document_faults s xs
 
@@ -69,6 +74,7 @@ pub record Stands (s : Option Schema) (xs : List DocumentItem) (t : Tables) : Ty
 abbrev pub StandsWith : Option Schema → List DocumentItem → Tables → Tables → Type 0
 StandsWith s new before after = (xs : List DocumentItem) → Stands s xs before → Stands s (xs ++ new) after
 
+-- no call was refused, and the tables are those of this list
 abbrev pub StateStands : Option Schema → List DocumentItem → State → Type 0
 StateStands s xs (Open tables) = Stands s xs tables
 StateStands s xs Failed = ⊥

@@ -1,4 +1,5 @@
--- What a step of a builder of documents does, for each list that its tables stand for.
+-- What a step of a builder of documents does, for each list that its tables stand for. GraphQL specification
+-- of October 2021, section 2.2.
 use Rattle.std.specs.Prelude.{List, [], ◌∷◌, ◌++◌, Option}
 use Rattle.apollo_schema.specs.declared.schema.Schema.{Schema}
 use Rattle.apollo_document.specs.AddedDefinitions.{DocumentItem}
