@@ -24,6 +24,7 @@ use Rattle.apollo_meaning.specs.Steps.Prefixes.{found, found_at}
 use Rattle.apollo_meaning.specs.Types.Components.{Sourced}
 use Rattle.apollo_meaning.specs.Types.Meaning.{extensions_with_origin, type_from, type_names}
 
+-- what holds of the types, names, extensions and faults of every list of definitions
 pub record MeaningLaws : Type 0 where
   -- a type is headed by its definition, and each kind is the same as itself
   pub kind : (head : TypePart) (ps : List Sourced) → type_kind (type_from head ps) ≡ kind_of head

@@ -20,13 +20,15 @@ use Rattle.apollo_types.specs.declared.extended_type.ExtendedType.{ExtendedType}
 use Rattle.apollo_types.specs.declared.extended_type.ExtendedType.TheVariants.{Scalar, Object, Interface, Union, Enum, InputObject}
 use Rattle.apollo_canonical.specs.Sections.{Sections, sections_of}
 
--- a component's node, and a name, with its origin
+-- a component's node, with its origin
 abbrev pub node_with_origin : {T : Type 0} → Component T → ComponentOrigin × NodeView T
 node_with_origin c = (c.origin, c.node)
 
+-- an interface or union member, with its origin
 abbrev pub name_with_origin : ComponentName → ComponentOrigin × NameView
 name_with_origin c = (c.origin, c.name)
 
+-- no components of any sort
 abbrev pub no_components : Sections
 no_components = record { directives = []; names = []; fields = []; values = []; input_fields = []; roots = [] }
 
