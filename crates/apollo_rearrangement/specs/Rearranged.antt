@@ -22,6 +22,7 @@ pub data Group : Type 0 where
   SchemaDefinitions : Group
   SchemaExtensions : Group
 
+-- whether an item of a list is in a group
 abbrev pub is_in : Group → ListItem → Bool
 is_in (DefinitionsOf n) x = option_map_or (λ p. same n (key_of p)) (defined_part x) false
 is_in (ExtensionsOf n) x = option_map_or (λ p. same n (key_of p)) (extended_part x) false
