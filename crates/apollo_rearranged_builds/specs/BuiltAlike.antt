@@ -1,4 +1,5 @@
--- What is built of two lists is the same, but for an order.
+-- What is built of two lists is the same, but for an order. GraphQL specification of October 2021, sections
+-- 3 and 3.4.3.
 use Rattle.std.specs.Prelude.{◌≡◌, ℕ, Bool, List}
 use Rattle.std.specs.List.Sorted.{IsPermutation}
 use Rattle.apollo_meaning.specs.Faults.Collisions.{Fault}
