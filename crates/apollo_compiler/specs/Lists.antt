@@ -21,10 +21,11 @@ all_definitions documents = flat_map (λ (document : Document). document.definit
 abbrev pub IsEmpty : Document → Type 0
 IsEmpty document = (document.definitions ≡ []) × (document.sources ≡ [])
 
--- the source files of all documents
+-- source files, and those of one document more
 abbrev pub with_sources : Files → Document → Files
 with_sources files document = merged files document.sources
 
+-- the source files of all documents
 abbrev pub all_sources : List Document → Files
 all_sources documents = fold with_sources [] documents
 
