@@ -40,10 +40,11 @@ abbrev pub declared_input_field : ExtendedType → NameView → Option (Componen
 declared_input_field (InputObject n) a = lookup (same_text a) n.value.fields
 declared_input_field _ a = None
 
--- the same in the type of this name
+-- the value of the second name in the enum type of the first
 abbrev pub enum_value_at : Types → NameView → NameView → Option (Component EnumValueDefinition)
 enum_value_at types t a = option_map_or (λ type. declared_enum_value type a) (type_at types t) None
 
+-- the field of the second name in the input object type of the first
 abbrev pub input_field_at : Types → NameView → NameView → Option (Component InputValueDefinition)
 input_field_at types t a = option_map_or (λ type. declared_input_field type a) (type_at types t) None
 

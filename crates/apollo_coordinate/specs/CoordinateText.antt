@@ -41,22 +41,27 @@ IsDirectiveArgumentText = IsArgumentText IsDirectiveText
 abbrev pub IsCoordinateText : List ℕ → Type 0
 IsCoordinateText t = IsTypeText t ⊎ IsAttributeText t ⊎ IsFieldArgumentText t ⊎ IsDirectiveText t ⊎ IsDirectiveArgumentText t
 
--- the text of a coordinate
+-- the text of a type's coordinate: `T`
 abbrev pub type_coordinate_text : TypeCoordinate → List ℕ
 type_coordinate_text c = c.ty.text
 
+-- the text of an attribute's coordinate: `T.a`
 abbrev pub attribute_coordinate_text : TypeAttributeCoordinate → List ℕ
 attribute_coordinate_text c = c.ty.text ++ (codes "." ++ c.attribute.text)
 
+-- the text of the coordinate of a field's argument: `T.f(a:)`
 abbrev pub field_argument_coordinate_text : FieldArgumentCoordinate → List ℕ
 field_argument_coordinate_text c = c.ty.text ++ (codes "." ++ (c.field.text ++ (codes "(" ++ (c.argument.text ++ codes ":)"))))
 
+-- the text of a directive's coordinate: `@d`
 abbrev pub directive_coordinate_text : DirectiveCoordinate → List ℕ
 directive_coordinate_text c = codes "@" ++ c.directive.text
 
+-- the text of the coordinate of a directive's argument: `@d(a:)`
 abbrev pub directive_argument_coordinate_text : DirectiveArgumentCoordinate → List ℕ
 directive_argument_coordinate_text c = codes "@" ++ (c.directive.text ++ (codes "(" ++ (c.argument.text ++ codes ":)")))
 
+-- the text of a coordinate of any form
 abbrev pub coordinate_text : SchemaCoordinate → List ℕ
 coordinate_text (Ty c) = type_coordinate_text c
 coordinate_text (TypeAttribute c) = attribute_coordinate_text c
@@ -80,22 +85,27 @@ HasNames c = AllByRecursion (λ n. IsName n.text) (coordinate_parts c)
 abbrev pub SaysCoordinate : List ℕ → SchemaCoordinate → Type 0
 SaysCoordinate t c = (coordinate_text c ≡ t) × AllByRecursion (λ n. IsName n.text × (n.location ≡ None)) (coordinate_parts c)
 
--- a coordinate without the locations of its names
+-- a type's coordinate without the location of its name
 abbrev pub bare_type_coordinate : TypeCoordinate → TypeCoordinate
 bare_type_coordinate c = record { ty = bare_name c.ty }
 
+-- an attribute's coordinate without the locations of its names
 abbrev pub bare_attribute_coordinate : TypeAttributeCoordinate → TypeAttributeCoordinate
 bare_attribute_coordinate c = record { ty = bare_name c.ty; attribute = bare_name c.attribute }
 
+-- the coordinate of a field's argument without the locations of its names
 abbrev pub bare_field_argument_coordinate : FieldArgumentCoordinate → FieldArgumentCoordinate
 bare_field_argument_coordinate c = record { ty = bare_name c.ty; field = bare_name c.field; argument = bare_name c.argument }
 
+-- a directive's coordinate without the location of its name
 abbrev pub bare_directive_coordinate : DirectiveCoordinate → DirectiveCoordinate
 bare_directive_coordinate c = record { directive = bare_name c.directive }
 
+-- the coordinate of a directive's argument without the locations of its names
 abbrev pub bare_directive_argument_coordinate : DirectiveArgumentCoordinate → DirectiveArgumentCoordinate
 bare_directive_argument_coordinate c = record { directive = bare_name c.directive; argument = bare_name c.argument }
 
+-- a coordinate of any form without the locations of its names
 abbrev pub bare_coordinate : SchemaCoordinate → SchemaCoordinate
 bare_coordinate (Ty c) = Ty (bare_type_coordinate c)
 bare_coordinate (TypeAttribute c) = TypeAttribute (bare_attribute_coordinate c)

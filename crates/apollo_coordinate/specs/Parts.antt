@@ -1,5 +1,5 @@
--- The parts of a text, borrowed from it: the coordinate that they make, its names at no location, and the error that a refusal
--- is answered as, where there is memory for it.
+-- The parts of a text, borrowed from it: the coordinate that they make, its names at no location, and the
+-- error that a refusal is answered as, where there is memory for it. Schema Coordinates RFC.
 use Rattle.std.specs.Prelude.{None}
 use Rattle.graphql_nodes.specs.NameView.{plain_name}
 use Rattle.apollo_coordinate.specs.declared.coordinates.TypeAttributeCoordinate.{TypeAttributeCoordinate}
@@ -17,15 +17,19 @@ use Rattle.apollo_coordinate.specs.declared.parts.Parts.TheVariants as parts
 use Rattle.apollo_coordinate.specs.declared.refusal.Refusal.{Refusal}
 use Rattle.apollo_coordinate.specs.declared.refusal.Refusal.TheVariants as refusals
 
+-- the attribute's coordinate that these parts make
 abbrev pub attribute_of : AttributeParts → TypeAttributeCoordinate
 attribute_of p = record { ty = plain_name p.ty.now; attribute = plain_name p.attribute.now }
 
+-- the coordinate of a field's argument that these parts make
 abbrev pub field_argument_of : FieldArgumentParts → FieldArgumentCoordinate
 field_argument_of p = record { ty = plain_name p.field.ty.now; field = plain_name p.field.attribute.now; argument = plain_name p.argument.now }
 
+-- the coordinate of a directive's argument that these parts make
 abbrev pub directive_argument_of : DirectiveArgumentParts → DirectiveArgumentCoordinate
 directive_argument_of p = record { directive = plain_name p.directive.now; argument = plain_name p.argument.now }
 
+-- the coordinate of any form that these parts make
 abbrev pub coordinate_of : Parts → SchemaCoordinate
 coordinate_of (parts.Ty part) = any.Ty (record { ty = plain_name part.now })
 coordinate_of (parts.TypeAttribute p) = any.TypeAttribute (attribute_of p)
@@ -33,6 +37,7 @@ coordinate_of (parts.FieldArgument p) = any.FieldArgument (field_argument_of p)
 coordinate_of (parts.Directive part) = any.Directive (record { directive = plain_name part.now })
 coordinate_of (parts.DirectiveArgument p) = any.DirectiveArgument (directive_argument_of p)
 
+-- the error that a refusal is answered as
 abbrev pub error_of : Refusal → SchemaCoordinateParseError
 error_of refusals.Format = InvalidFormat
 error_of (refusals.Name part) = InvalidName (record { name = part.now; location = None })

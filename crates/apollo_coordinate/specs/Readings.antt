@@ -1,4 +1,4 @@
--- What reading a text answers.
+-- What reading the text of a schema coordinate answers: Schema Coordinates RFC.
 use Rattle.std.specs.Prelude.{◌≡◌, ℕ, List, Result, IfOk, IfErr, MatchResult}
 use Rattle.apollo_coordinate.specs.CoordinateText.{SaysCoordinate, bare_coordinate}
 use Rattle.apollo_coordinate.specs.Refusals.{WhenRefused, IsNoCoordinate}
@@ -10,6 +10,6 @@ use Rattle.apollo_coordinate.specs.declared.parse_error.SchemaCoordinateParseErr
 abbrev pub IsReadingOf : List ℕ → Result SchemaCoordinate SchemaCoordinateParseError → Type 0
 IsReadingOf t result = IfOk result (SaysCoordinate t) × IfErr result (WhenRefused (IsNoCoordinate t))
 
--- the coordinate, at no location, or want of memory
+-- the coordinate, at no location; or memory ran out
 abbrev pub IsReadBack : SchemaCoordinate → Result SchemaCoordinate SchemaCoordinateParseError → Type 0
 IsReadBack c result = MatchResult result (λ d. d ≡ bare_coordinate c) (λ e. e ≡ Memory)

@@ -1,4 +1,5 @@
 -- Why a text is no coordinate. A text is read from the left: at the marks first, and then part by part.
+-- Schema Coordinates RFC.
 use Rattle.std.specs.Prelude.{◌≡◌, ◌≢◌, ◌⊎◌, ◌++◌, ◌==◌, ℕ, List, [], ◌∷◌, None, All, codes, if◌then◌else◌}
 use Rattle.graphql_nodes.specs.NameSyntax.{IsName}
 use Rattle.graphql_nodes.specs.declared.name.NameError.{NameError}
@@ -12,7 +13,7 @@ abbrev pub error_of_name : NameError → SchemaCoordinateParseError
 error_of_name (names.Invalid e) = InvalidName e
 error_of_name names.Memory = Memory
 
--- want of memory says nothing of the text
+-- that memory ran out says nothing of the text
 abbrev pub WhenRefused : (SchemaCoordinateParseError → Type 0) → SchemaCoordinateParseError → Type 0
 WhenRefused Holds Memory = Unit {0}
 WhenRefused Holds e = Holds e
