@@ -1,4 +1,4 @@
--- What the commands build.
+-- What the commands build: GraphQL specification of October 2021, section 3.
 use Rattle.std.specs.Prelude.{◌≡◌, ℕ, true, List, []}
 use Rattle.graphql_ast.specs.declared.document.Document.{Document}
 use Rattle.apollo_schema.specs.declared.schema.Schema.{Schema}
@@ -27,8 +27,8 @@ pub record IsBuilt (options : CompileOptions) (input : List ℕ) (schema : Schem
 abbrev pub IsCompiledInput : CompileOptions → List ℕ → Compiled → Type 0
 IsCompiledInput options input compiled = (documents : List Document) × (AreDocumentsOf input documents × IsCompiled options documents [] true compiled)
 
--- why nothing is built of an input with these options: a line says nothing where it stands, or the extensions spend the
--- numbers; want of memory says nothing
+-- why nothing is built of an input with these options: a line says nothing where it stands, or the
+-- extensions spend the numbers; that memory ran out says nothing of the input
 abbrev pub IsCause : CompileOptions → List ℕ → Failure → Type 0
 IsCause options input (failures.RefusedLine refused) = IsFirstRefused (lines_of input) refused
 IsCause options input failures.Memory = Unit {0}

@@ -1,4 +1,4 @@
--- The commands of the program: what each answers, and what is written of it.
+-- The commands of the program, docs/NOTATION.md: what each answers, and what is written of it.
 use Rattle.std.specs.Prelude.{◌≡◌, ◌++◌, ℕ, Bool, List, [], Option}
 use Rattle.std.specs.Io.KnownBytes.{Appends}
 use Rattle.graphql_ast.specs.declared.definition.Definition.{Definition}

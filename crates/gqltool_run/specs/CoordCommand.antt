@@ -1,4 +1,4 @@
--- What the command `coord` answers.
+-- What the command `coord` answers: docs/NOTATION.md, and Schema Coordinates RFC.
 use Rattle.std.specs.Prelude.{◌≡◌, ℕ, Bool, true, false, not, ◌&&◌, List, ◌++◌, ◌==◌, codes, length}
 use Rattle.apollo_coordinate.specs.CoordinateLookups.{PointsTo, PointsToNothing}
 use Rattle.apollo_coordinate.specs.CoordinateText.{coordinate_text}

@@ -1,4 +1,5 @@
--- What the command `doc` answers.
+-- What the command `doc` answers: docs/NOTATION.md, and GraphQL specification of October 2021, sections 2.2
+-- to 2.8.
 use Rattle.std.specs.Prelude.{◌≡◌, ◌&&◌, ◌==◌, ◌++◌, ℕ, Bool, not, List, length}
 use Rattle.apollo_executable.specs.Erasure.{erased_document}
 use Rattle.apollo_executable.specs.declared.document.ExecutableDocument.{ExecutableDocument}

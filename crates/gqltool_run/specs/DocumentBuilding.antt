@@ -1,4 +1,5 @@
--- What the commands on executable documents build.
+-- What the commands on executable documents build: GraphQL specification of October 2021, sections 2.2 to
+-- 2.8 and 3.
 use Rattle.std.specs.Prelude.{◌≡◌, ℕ, false, true, List, Some}
 use Rattle.graphql_ast.specs.declared.document.Document.{Document}
 use Rattle.apollo_schema.specs.declared.schema.Schema.{Schema}
@@ -36,8 +37,8 @@ pub record IsBuiltDocument (input : List ℕ) (schema : Schema) (document : Exec
 abbrev pub IsCompiledDivided : List ℕ → Compiled → Type 0
 IsCompiledDivided input compiled = (before : List Document) × ((behind : List Document) × (AreDividedDocumentsOf input before behind × IsCompiled no_options before behind true compiled))
 
--- why no document is built of an input: a line says nothing where it stands, none divides it, or the schema's extensions spend
--- the numbers; want of memory says nothing
+-- why no document is built of an input: a line says nothing where it stands, none divides it, or the
+-- schema's extensions spend the numbers; that memory ran out says nothing of the input
 abbrev pub IsDocumentCause : List ℕ → Failure → Type 0
 IsDocumentCause input (failures.RefusedLine refused) = IsDividedReadError (lines_of input) (reading.Refused refused)
 IsDocumentCause input failures.NoDivision = IsDividedReadError (lines_of input) reading.NoDivision

@@ -1,4 +1,4 @@
--- The lines that tell faults.
+-- The lines that report faults: docs/NOTATION.md.
 use Rattle.std.specs.Prelude.{◌≡◌, ℕ, List, [], ◌∷◌, ◌++◌, Option, None, Some, codes, decimal}
 use Rattle.graphql_nodes.specs.declared.source.SourceSpan.{SourceSpan}
 

@@ -11,7 +11,7 @@ IsNoText bytes = ¬ IsUtf8 bytes
 abbrev pub CannotBeRead : Option (List ℕ) → Type 0 → Type 0
 CannotBeRead held may_fail = may_fail ⊎ IfSome held IsNoText
 
--- why such an input is not read; want of memory says nothing
+-- why such an input is not read; that memory ran out says nothing of it
 abbrev pub IsInputCause : Option (List ℕ) → Type 0 → InputError → Type 0
 IsInputCause held may_fail errors.CannotRead = CannotBeRead held may_fail
 IsInputCause held may_fail errors.Memory = Unit {0}

@@ -1,4 +1,5 @@
--- What the command `leaf` answers.
+-- What the command `leaf` answers: docs/NOTATION.md, and GraphQL specification of October 2021, section
+-- 5.3.3.
 use Rattle.std.specs.Prelude.{◌≡◌, ◌&&◌, ◌==◌, ◌++◌, ℕ, Bool, not, List, length, codes}
 use Rattle.std.specs.List.{flat_map}
 use Rattle.leafcheck.specs.LeafFaults.{leaf_faults}

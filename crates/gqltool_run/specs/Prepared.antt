@@ -14,6 +14,7 @@ use Rattle.gqltool_run.specs.WalkCommand.{AreLines, any_fault}
 abbrev pub AreLinesOf : Compiled → List ℕ → Type 0
 AreLinesOf compiled text = AreLines compiled.document compiled.schema_faults.items compiled.document_faults.items text
 
+-- whether the schema or the document has a fault
 abbrev pub has_fault : Compiled → Bool
 has_fault compiled = any_fault compiled.schema_faults.items compiled.document_faults.items
 

@@ -15,7 +15,8 @@ use Rattle.gqltool_run.specs.Tasks.{AreNoCommand, AreWalkWords, Ask, AskNoCoordi
 
 -- In all of this an input holds `held`, if its bytes are known, and may fail for `may_fail`.
 
--- why there is no answer to what was asked and an input: it can't be read, or what was read has none; want of memory says nothing
+-- why there is no answer to what was asked and an input: it can't be read, or what was read has none; that
+-- memory ran out says nothing of the input
 abbrev pub IsCauseOver : Task → Option (List ℕ) → Type 0 → Failure → Type 0
 IsCauseOver task held may_fail failures.CannotRead = CannotBeRead held may_fail
 IsCauseOver task held may_fail failures.Memory = Unit {0}
@@ -37,7 +38,7 @@ IsWritten text has_faults old new s.Faults = (has_faults ≡ true) × Appends ol
 IsWritten text has_faults old new s.NotWritten = IsBegun text old new
 IsWritten text has_faults old new _ = ⊥
 
--- a run whose answer goes out while it is made ends so: memory may be wanting too, where a beginning is written
+-- a run whose answer goes out while it is made ends so: memory may run out too, where a beginning is written
 abbrev pub IsSentOut : List ℕ → Bool → Option (List ℕ) → Option (List ℕ) → Status → Type 0
 IsSentOut text has_faults old new s.Exhausted = IsBegun text old new
 IsSentOut text has_faults old new status = IsWritten text has_faults old new status
@@ -56,9 +57,11 @@ pub record IsRun {R O E : Type 0} (words : List (List ℕ)) (held : Option (List
   pub ends : MayEnd words held may_fail (contents output) (contents output_after) status
   pub refused : status ≡ s.Refused → output_after ≡ output
   pub exhausted : status ≡ s.Exhausted → ¬ AreWalkWords words → output_after ≡ output
-  -- the answer of `walk` goes out while it is made, so where memory is wanting a beginning of it may be written
+  -- the answer of `walk` goes out while it is made, so where memory runs out a beginning of it may be
+  -- written
   pub begun : status ≡ s.Exhausted → (output_after ≡ output) ⊎ IfSome held (AppendBeginning words (contents output) (contents output_after))
   pub quiet : Writes status → errors_after ≡ errors
-  -- words that are no command are refused before anything is read, and so is a text of no coordinate, but for want of memory
+  -- words that are no command are refused before anything is read, and so is a text of no coordinate, unless
+  -- memory runs out
   pub usage : AreNoCommand words → (status ≡ s.Refused) × (reader_after ≡ reader)
   pub no_coordinate : AskNoCoordinate words → ((status ≡ s.Refused) ⊎ (status ≡ s.Exhausted)) × (reader_after ≡ reader)

@@ -1,4 +1,4 @@
--- What the command `schema` answers.
+-- What the command `schema` answers: docs/NOTATION.md, and GraphQL specification of October 2021, section 3.
 use Rattle.std.specs.Prelude.{◌≡◌, ℕ, Bool, not, List, ◌++◌, ◌==◌, length}
 use Rattle.apollo_schema.specs.declared.schema.Schema.{Schema}
 use Rattle.apollo_schema.specs.SchemaWriteOut.{write_schema}

@@ -13,17 +13,19 @@ use Rattle.gqltool_run.specs.SchemaOptions.{AreSchemaWords}
 abbrev pub AreCoordWords : List (List ℕ) → List ℕ → Type 0
 AreCoordWords words text = words ≡ codes "coord" ∷ text ∷ []
 
--- these words are the command `doc`, or `walk`, or `leaf`
+-- these words are the command `doc`
 abbrev pub AreDocWords : List (List ℕ) → Type 0
 AreDocWords words = words ≡ codes "doc" ∷ []
 
+-- these words are the command `walk`
 abbrev pub AreWalkWords : List (List ℕ) → Type 0
 AreWalkWords words = words ≡ codes "walk" ∷ []
 
+-- these words are the command `leaf`
 abbrev pub AreLeafWords : List (List ℕ) → Type 0
 AreLeafWords words = words ≡ codes "leaf" ∷ []
 
--- these words are none of them
+-- these words are neither `doc` nor `walk` nor `leaf`
 pub record AreNoDocumentWords (words : List (List ℕ)) : Type 0 where
   pub no_doc : ¬ AreDocWords words
   pub no_walk : ¬ AreWalkWords words
@@ -47,7 +49,8 @@ pub record AreNoCommand (words : List (List ℕ)) : Type 0 where
 abbrev pub AskNoCoordinate : List (List ℕ) → Type 0
 AskNoCoordinate words = (text : List ℕ) × (AreCoordWords words text × ¬ IsCoordinateText text)
 
--- why a text is not read: it is of no coordinate, and is told without the `@` that it may begin with; or memory was wanting
+-- why a text is not read: it is of no coordinate, and is reported without the `@` that it may begin with; or
+-- memory ran out
 abbrev pub IsTextRefusal : List ℕ → Failure → Type 0
 IsTextRefusal text (failures.NoCoordinate error) = ¬ IsCoordinateText text × (error ≡ record { name = without_at text; location = None })
 IsTextRefusal text failures.Memory = Unit {0}

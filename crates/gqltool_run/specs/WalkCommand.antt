@@ -1,4 +1,5 @@
--- What the command `walk` answers.
+-- What the command `walk` answers: docs/NOTATION.md, and GraphQL specification of October 2021, sections 2.2
+-- to 2.8.
 use Rattle.std.specs.Prelude.{◌≡◌, ◌&&◌, ◌==◌, ◌++◌, ◌-◌, ◌^◌, ℕ, Bool, true, false, not, List, [], ◌∷◌, length, map, min, codes, decimal}
 use Rattle.std.specs.List.{flat_map}
 use Rattle.graphql_nodes.specs.NameView.{NameView}
@@ -19,10 +20,11 @@ use Rattle.bench_notation.specs.HeaderWords.{name_word}
 use Rattle.gqltool_run.specs.DocumentBuilding.{IsBuiltDocument}
 use Rattle.gqltool_run.specs.FaultLines.{AreFaultLines}
 
--- the line of an operation, and that of what stands under this name among the fragments
+-- the line of an operation
 abbrev pub operation_line : Operation → List ℕ
 operation_line operation = codes "walk operation " ++ (operation_text operation.operation_type ++ (codes " " ++ (name_word operation.name ++ codes "\n")))
 
+-- the line of what stands under this name among the fragments
 abbrev pub fragment_line : NameView → List ℕ
 fragment_line name = codes "walk fragment " ++ (name.text ++ codes "\n")
 
@@ -55,9 +57,11 @@ abbrev pub AreSetsText : ExecutableDocument → List (List ℕ × SelectionSet) 
 AreSetsText document [] text = text ≡ []
 AreSetsText document (set ∷ sets) text = (said : List ℕ) × (IsSetText document set.1 said × ((rest : List ℕ) × (AreSetsText document sets rest × (text ≡ set.0 ++ (said ++ rest)))))
 
+-- an operation's selections, and its line
 abbrev pub operation_with_line : NodeView Operation → List ℕ × SelectionSet
 operation_with_line operation = (operation_line operation.value, operation.value.selection_set)
 
+-- the selections of what stands under a name among the fragments, and its line
 abbrev pub fragment_with_line : NameView × NodeView Fragment → List ℕ × SelectionSet
 fragment_with_line entry = (fragment_line entry.0, entry.1.value.selection_set)
 
