@@ -1,4 +1,4 @@
--- What components add to the item that is being read.
+-- What components add to the item that is being read: docs/NOTATION.md.
 use Rattle.std.specs.Prelude.{ℕ, ◌-◌, List, [], ◌∷◌, ◌++◌, length, slice_get, Bool, true, false, Option, None, Some, option_map}
 use Rattle.graphql_ast.specs.DefinitionParts.{no_parts, with_part, type_definition, type_extension, schema_definition, schema_extension}
 use Rattle.graphql_ast.specs.declared.definition_parts.DefinitionPart.{DefinitionPart}
@@ -102,6 +102,7 @@ above_below (h.Directive name) field selections = a.Directive
 above_below (h.Schema role) field selections = a.Schema
 above_below (h.Executable header) field selections = a.Selections (levels_after selections)
 
+-- the header is that of an input object type
 abbrev pub is_input_object : Header → Bool
 is_input_object (h.Type role k.InputObject name) = true
 is_input_object _ = false
@@ -133,6 +134,7 @@ abbrev pub with_argument_below : NodeView InputValueDefinition → Option OpenFi
 with_argument_below argument None item = record item { directive = record item.directive { arguments = item.directive.arguments ++ argument ∷ [] } }
 with_argument_below argument (Some field) item = record item { last_field = Some (with_field_argument argument field) }
 
+-- an item and one argument more: of its last field, if it has one, or else of the item itself
 abbrev pub with_argument : NodeView InputValueDefinition → OpenItem → OpenItem
 with_argument argument item = with_argument_below argument item.last_field item
 

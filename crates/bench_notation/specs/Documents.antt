@@ -1,4 +1,4 @@
--- What documents the lines of a text say.
+-- What documents the lines of a text say: docs/NOTATION.md.
 use Rattle.std.specs.Prelude.{ℕ, List, [], ◌∷◌, ◌≡◌, ◌++◌, ◌+◌, ◌<◌, All, Bool, true, false, get_or, length, take, Option, None, Some, option_map}
 use Rattle.graphql_nodes.specs.declared.source.SourceSpan.{SourceSpan}
 use Rattle.graphql_ast.specs.declared.definition.Definition.{Definition}
@@ -25,6 +25,7 @@ abbrev pub with_item : List Definition → Option OpenItem → List Definition
 with_item definitions None = definitions
 with_item definitions (Some item) = definitions ++ whole_item item ∷ []
 
+-- a document without definitions and source files
 abbrev pub no_definitions : Document
 no_definitions = record { sources = []; definitions = [] }
 
@@ -106,7 +107,7 @@ pub record IsFirstRefusedFrom (start : DocumentReader) (lines : List (List ℕ))
   pub leads : LeadTo 1 (take before lines) start reader
   pub nothing : SaysNothing (position_next reader) (line_location refused.number) (get_or lines before [])
 
--- an error of taking these lines in a state of the reading; want of memory says nothing
+-- an error of taking these lines in a state of the reading; that memory ran out says nothing of them
 abbrev pub IsLinesError : DocumentReader → List (List ℕ) → ReadError → Type 0
 IsLinesError start lines (e.Refused refused) = IsFirstRefusedFrom start lines refused
 IsLinesError start lines e.NoDivision = ⊥

@@ -6,6 +6,7 @@ use Rattle.graphql_nodes.specs.declared.type_kind.TypeKind.TheVariants as k
 use Rattle.bench_notation.specs.declared.kind_words.Role.{Role}
 use Rattle.bench_notation.specs.declared.kind_words.Role.TheVariants as r
 
+-- the header of a definition of a type, and that of an extension
 abbrev pub role_word : Role → List ℕ
 role_word r.Definition = codes "def"
 role_word r.Extension = codes "ext"
@@ -15,6 +16,7 @@ abbrev pub schema_word : Role → List ℕ
 schema_word r.Definition = codes "schema"
 schema_word r.Extension = codes "ext-schema"
 
+-- the kind of a type
 abbrev pub kind_word : TypeKind → List ℕ
 kind_word k.Scalar = codes "scalar"
 kind_word k.Object = codes "object"

@@ -1,4 +1,4 @@
--- What the lines of the notation say.
+-- What the lines of the notation say: docs/NOTATION.md.
 use Rattle.std.specs.Prelude.{ℕ, List, [], ◌∷◌, ◌≡◌, ◌==◌, ◌≤◌, ◌+◌, Option, None, Some, IfSome, codes, decimal, length, map}
 use Rattle.std.specs.Borrow.{Bor}
 use Rattle.std.specs.List.{slice_split}

@@ -19,6 +19,7 @@ kind_above a.Directive = None
 kind_above a.Schema = None
 kind_above (a.Selections levels) = None
 
+-- object types and interfaces list interfaces, and their fields have arguments
 abbrev pub is_object_or_interface : Option TypeKind → Bool
 is_object_or_interface (Some k.Object) = true
 is_object_or_interface (Some k.Interface) = true
@@ -31,10 +32,12 @@ has_fields (Some k.Interface) = true
 has_fields (Some k.InputObject) = true
 has_fields _ = false
 
+-- union types have members
 abbrev pub is_union : Option TypeKind → Bool
 is_union (Some k.Union) = true
 is_union _ = false
 
+-- enum types have values
 abbrev pub is_enum : Option TypeKind → Bool
 is_enum (Some k.Enum) = true
 is_enum _ = false
@@ -91,7 +94,8 @@ stands above c.Repeatable = is_directive above
 stands above (c.Root operation name) = is_schema above
 stands above (c.Selection depth selected) = nat_lt depth (levels_above above)
 
--- what may stand here: a component where it has its place, a division where there may be one, any other line anywhere
+-- what may stand here: a component where it has its place, a division where there may be one, any other line
+-- anywhere
 abbrev pub StandsBelow : Position → Line → Type 0
 StandsBelow position l.Empty = Unit {0}
 StandsBelow position l.Break = Unit {0}

@@ -1,4 +1,4 @@
--- What is true where a line of the notation is refused.
+-- What is true where a line of the notation is refused: docs/NOTATION.md.
 use Rattle.std.specs.Prelude.{ℕ, List, ◌≡◌, ◌≤◌, ◌++◌, Bool, true, false, codes}
 use Rattle.graphql_nodes.specs.NameSyntax.{IsName}
 use Rattle.graphql_ast.specs.TypeReferences.{inner_name}
@@ -14,7 +14,7 @@ use Rattle.bench_notation.specs.Line.{SayLine, Says, SaysComponent}
 use Rattle.bench_notation.specs.Places.{StandsBelow, stands}
 use Rattle.bench_notation.specs.Text.{type_text, opened_brackets}
 
--- what is true where a line is refused; want of memory says nothing
+-- what is true where a line is refused; that memory ran out says nothing of it
 abbrev pub WhenRefused : Type 0 → LineError → Type 0
 WhenRefused P (e.Refused reason) = P
 WhenRefused P e.Memory = Unit {0}

@@ -1,4 +1,4 @@
--- The text of types and definitions in the notation.
+-- The text of types and definitions in the notation: docs/NOTATION.md.
 use Rattle.std.specs.Prelude.{ℕ, List, [], ◌++◌, ◌+◌, Bool, true, false, codes}
 use Rattle.std.specs.List.{flat_map}
 use Rattle.graphql_nodes.specs.NameView.{NameView}
@@ -36,6 +36,7 @@ type_step (Type-F.NonNullList inner) = codes "[" ++ inner ++ codes "]!"
 abbrev pub type_text : TypeReference → List ℕ
 type_text = fold-Type (List ℕ) type_step
 
+-- how many brackets are opened at one level, where what is inside a list has given its own
 abbrev pub brackets_step : Type-F ℕ → ℕ
 brackets_step (Type-F.Named name) = 0
 brackets_step (Type-F.NonNullNamed name) = 0
