@@ -1,4 +1,5 @@
--- What the open selections become with the lines to come.
+-- What the open selections become with the lines to come. docs/NOTATION.md, and GraphQL specification of
+-- October 2021, sections 2.4 to 2.8.
 use Rattle.std.specs.Prelude.{ℕ, ◌+◌, List, [], ◌∷◌, ◌++◌}
 use Rattle.graphql_ast.specs.declared.selection.Selection.{Selection}
 use Rattle.bench_selections.specs.Nesting.{selection_of, selections_at}
@@ -12,5 +13,6 @@ abbrev pub combined_at : ℕ → List OpenSelection → List Selection → List 
 combined_at depth [] selections lines = selections ++ selections_at depth lines
 combined_at depth (outer ∷ inner) selections lines = outer.before ++ selection_of outer.line (combined_at (depth + 1) inner selections lines) ∷ selections_at depth lines
 
+-- the selections that those known and the lines to come make
 abbrev pub combined : Nesting → List SelectionLine → List Selection
 combined nesting lines = combined_at 0 nesting.path.items nesting.selections lines

@@ -1,4 +1,5 @@
--- The text of selections in the notation: docs/NOTATION.md.
+-- The text of selections in the notation: docs/NOTATION.md, and GraphQL specification of October 2021,
+-- sections 2.4 to 2.8.
 use Rattle.std.specs.Prelude.{ℕ, ◌+◌, List, ◌++◌, Option, None, Some, codes, decimal}
 use Rattle.std.specs.List.{flat_map}
 use Rattle.graphql_nodes.specs.NameView.{NameView}
@@ -34,6 +35,7 @@ field_step field depth = head_text depth (codes "field ") ++ field.name.text ++ 
 abbrev pub inline_step : InlineFragment-F Text Text Text → Text
 inline_step fragment depth = head_text depth (codes "inline") ++ last_text fragment.type_condition ++ flat_map (λ (text : Text). text (depth + 1)) fragment.selection_set
 
+-- one level of a selection, where its field or inline fragment has given its own text
 abbrev pub selection_step : Selection-F Text Text Text → Text
 selection_step (Selection-F.Field field) = field.value
 selection_step (Selection-F.FragmentSpread spread) = spread_text spread.value
@@ -43,9 +45,11 @@ selection_step (Selection-F.InlineFragment fragment) = fragment.value
 abbrev pub selection_text : Selection → Text
 selection_text = fold-Selection Text Text Text selection_step field_step inline_step
 
+-- a field at a depth, with all that stands in it
 abbrev pub field_text : Field → Text
 field_text = fold-Field Text Text Text selection_step field_step inline_step
 
+-- an inline fragment at a depth, with all that stands in it
 abbrev pub inline_text : InlineFragment → Text
 inline_text = fold-InlineFragment Text Text Text selection_step field_step inline_step
 
