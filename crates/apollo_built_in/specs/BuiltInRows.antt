@@ -1,4 +1,5 @@
--- What rows stand for, as the code holds them.
+-- What rows of the table of built-in definitions stand for, as the code holds them: GraphQL specification of
+-- October 2021, section 4.2.
 use Rattle.std.specs.Prelude.{[], ◌∷◌}
 use Rattle.graphql_nodes.specs.NodeView.{NodeView}
 use Rattle.graphql_ast.specs.declared.type_reference.Type.{«Type» as TypeReference}
@@ -10,12 +11,14 @@ use Rattle.apollo_built_in.specs.declared.nodes.TypeRow.TheVariants as type_rows
 use Rattle.apollo_built_in.specs.declared.nodes.FieldRow.{FieldRow}
 use Rattle.apollo_built_in.specs.declared.nodes.FieldRow.TheVariants as field_rows
 
+-- the type that a row has: `text`, `text!`, `[text!]` or `[text!]!`
 abbrev pub row_type : TypeRow → TypeReference
 row_type (type_rows.Named text) = nodes.named_type text.now
 row_type (type_rows.NonNull text) = nodes.non_null text.now
 row_type (type_rows.ListOf text) = nodes.list_of (nodes.non_null text.now)
 row_type (type_rows.NonNullListOf text) = nodes.non_null_list_of (nodes.non_null text.now)
 
+-- the field that a row is: without arguments, or with `includeDeprecated`
 abbrev pub row_field : FieldRow → NodeView FieldDefinition
 row_field (field_rows.Field text ty) = nodes.field text.now [] (row_type ty)
 row_field (field_rows.Filtered text ty) = nodes.field text.now (include_deprecated ∷ []) (row_type ty)

@@ -13,19 +13,23 @@ use Rattle.graphql_ast.specs.declared.definition.Definition.{Definition}
 use Rattle.apollo_built_in.specs.BuiltInNodes as nodes
 use Rattle.apollo_built_in.specs.BuiltInNodes.{list_of, non_null_list_of}
 
--- parts of the table by their texts
+-- a nullable type of this name
 abbrev pub named_type : String → TypeReference
 named_type text = nodes.named_type (codes text)
 
+-- a non-null type of this name
 abbrev pub non_null : String → TypeReference
 non_null text = nodes.non_null (codes text)
 
+-- a field without arguments
 abbrev pub field : String → TypeReference → NodeView FieldDefinition
 field text ty = nodes.field (codes text) [] ty
 
+-- a field with one argument
 abbrev pub field_with : String → NodeView InputValueDefinition → TypeReference → NodeView FieldDefinition
 field_with text argument ty = nodes.field (codes text) (argument ∷ []) ty
 
+-- a value of an enum type
 abbrev pub value : String → NodeView EnumValueDefinition
 value text = nodes.enum_value (codes text)
 
@@ -33,32 +37,39 @@ value text = nodes.enum_value (codes text)
 abbrev pub include_deprecated : NodeView InputValueDefinition
 include_deprecated = nodes.argument (codes "includeDeprecated") (named_type "Boolean") (Some (Boolean false))
 
+-- the scalar types `Int`, `Float`, `String`, `Boolean` and `ID`
 abbrev pub built_in_scalars : List Definition
 built_in_scalars = map (λ text. nodes.scalar (codes text)) ("Int" ∷ "Float" ∷ "String" ∷ "Boolean" ∷ "ID" ∷ [])
 
+-- `directive @skip(if: Boolean!) on FIELD | FRAGMENT_SPREAD | INLINE_FRAGMENT`
 abbrev pub skip_directive : Definition
 skip_directive = nodes.directive (codes "skip")
     (nodes.argument (codes "if") (non_null "Boolean") None)
     (at.Field ∷ at.FragmentSpread ∷ at.InlineFragment ∷ [])
 
+-- `directive @include(if: Boolean!) on FIELD | FRAGMENT_SPREAD | INLINE_FRAGMENT`
 abbrev pub include_directive : Definition
 include_directive = nodes.directive (codes "include")
     (nodes.argument (codes "if") (non_null "Boolean") None)
     (at.Field ∷ at.FragmentSpread ∷ at.InlineFragment ∷ [])
 
+-- `directive @deprecated(reason: String = "No longer supported") on FIELD_DEFINITION | ENUM_VALUE`
 abbrev pub deprecated_directive : Definition
 deprecated_directive = nodes.directive (codes "deprecated")
     (nodes.argument (codes "reason") (named_type "String") (Some (Text (codes "No longer supported"))))
     (at.FieldDefinition ∷ at.EnumValue ∷ [])
 
+-- `directive @specifiedBy(url: String!) on SCALAR`
 abbrev pub specified_by_directive : Definition
 specified_by_directive = nodes.directive (codes "specifiedBy")
     (nodes.argument (codes "url") (non_null "String") None)
     (at.Scalar ∷ [])
 
+-- the directives `@skip`, `@include`, `@deprecated` and `@specifiedBy`
 abbrev pub built_in_directives : List Definition
 built_in_directives = skip_directive ∷ include_directive ∷ deprecated_directive ∷ specified_by_directive ∷ []
 
+-- `__Schema`: what introspection says of the schema
 abbrev pub schema_type : Definition
 schema_type = nodes.object (codes "__Schema") (
     field "description" (named_type "String")
@@ -69,6 +80,7 @@ schema_type = nodes.object (codes "__Schema") (
     ∷ field "directives" (non_null_list_of (non_null "__Directive"))
     ∷ [])
 
+-- `__Type`: what introspection says of a type
 abbrev pub type_type : Definition
 type_type = nodes.object (codes "__Type") (
     field "kind" (non_null "__TypeKind")
@@ -83,10 +95,12 @@ type_type = nodes.object (codes "__Type") (
     ∷ field "specifiedByURL" (named_type "String")
     ∷ [])
 
+-- `__TypeKind`: what a type may be, where lists and non-null types count as well
 abbrev pub type_kind_type : Definition
 type_kind_type = nodes.enumeration (codes "__TypeKind") (map value (
     "SCALAR" ∷ "OBJECT" ∷ "INTERFACE" ∷ "UNION" ∷ "ENUM" ∷ "INPUT_OBJECT" ∷ "LIST" ∷ "NON_NULL" ∷ []))
 
+-- `__Field`: what introspection says of a field
 abbrev pub field_type : Definition
 field_type = nodes.object (codes "__Field") (
     field "name" (non_null "String")
@@ -97,6 +111,7 @@ field_type = nodes.object (codes "__Field") (
     ∷ field "deprecationReason" (named_type "String")
     ∷ [])
 
+-- `__InputValue`: what introspection says of an argument or an input field
 abbrev pub input_value_type : Definition
 input_value_type = nodes.object (codes "__InputValue") (
     field "name" (non_null "String")
@@ -105,6 +120,7 @@ input_value_type = nodes.object (codes "__InputValue") (
     ∷ field "defaultValue" (named_type "String")
     ∷ [])
 
+-- `__EnumValue`: what introspection says of an enum value
 abbrev pub enum_value_type : Definition
 enum_value_type = nodes.object (codes "__EnumValue") (
     field "name" (non_null "String")
@@ -113,6 +129,7 @@ enum_value_type = nodes.object (codes "__EnumValue") (
     ∷ field "deprecationReason" (named_type "String")
     ∷ [])
 
+-- `__Directive`: what introspection says of a directive
 abbrev pub directive_type : Definition
 directive_type = nodes.object (codes "__Directive") (
     field "name" (non_null "String")
@@ -122,16 +139,19 @@ directive_type = nodes.object (codes "__Directive") (
     ∷ field "isRepeatable" (non_null "Boolean")
     ∷ [])
 
+-- `__DirectiveLocation`: what a directive may be applied to
 abbrev pub directive_location_type : Definition
 directive_location_type = nodes.enumeration (codes "__DirectiveLocation") (map value (
     "QUERY" ∷ "MUTATION" ∷ "SUBSCRIPTION" ∷ "FIELD" ∷ "FRAGMENT_DEFINITION" ∷ "FRAGMENT_SPREAD" ∷ "INLINE_FRAGMENT"
     ∷ "VARIABLE_DEFINITION" ∷ "SCHEMA" ∷ "SCALAR" ∷ "OBJECT" ∷ "FIELD_DEFINITION" ∷ "ARGUMENT_DEFINITION" ∷ "INTERFACE"
     ∷ "UNION" ∷ "ENUM" ∷ "ENUM_VALUE" ∷ "INPUT_OBJECT" ∷ "INPUT_FIELD_DEFINITION" ∷ []))
 
+-- the types of introspection, whose names begin with `__`
 abbrev pub introspection_types : List Definition
 introspection_types =
     schema_type ∷ type_type ∷ type_kind_type ∷ field_type ∷ input_value_type ∷ enum_value_type ∷ directive_type
     ∷ directive_location_type ∷ []
 
+-- the built-in definitions: scalar types, directives and the types of introspection
 unfoldable pub built_in_definitions : List Definition
 built_in_definitions = built_in_scalars ++ built_in_directives ++ introspection_types
