@@ -5,7 +5,7 @@ use Rattle.apollo_component.specs.declared.extension.ExtensionSource.{ExtensionS
 use Rattle.apollo_folding.specs.declared.builder_error.BuilderError.{BuilderError}
 use Rattle.apollo_folding.specs.declared.builder_error.BuilderError.TheVariants.{Memory, ExtensionIds, Failed}
 
--- memory was refused, or the identities were spent and P holds
+-- memory ran out, or the identities were spent and P holds
 abbrev pub RefusedAs : BuilderError → Type 0 → Type 0
 RefusedAs Memory P = Unit {0}
 RefusedAs ExtensionIds P = P

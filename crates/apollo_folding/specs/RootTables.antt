@@ -1,4 +1,5 @@
 -- The roots of a schema definition, named one after another: the form that the builder is proved against.
+-- GraphQL specification of October 2021, sections 3.3.1 and 3.3.2.
 use Rattle.std.specs.Prelude.{List, [], ◌∷◌, ◌++◌, map, Option, Some}
 use Rattle.std.specs.List.{find}
 use Rattle.std.specs.Option.{option_map, option_map_or, option_or}
@@ -15,6 +16,7 @@ use Rattle.apollo_meaning.specs.Types.Components.{component_name}
 use Rattle.apollo_meaning.specs.Schema.Definition.{same_operation}
 use Rattle.apollo_meaning.specs.Items.Parts.{Root}
 
+-- an operation type, and the name of its root type, with its origin
 abbrev pub NamedRoot : Type 0
 NamedRoot = OperationType × ComponentName
 

@@ -24,6 +24,7 @@ body_seen (bodies.InputObject fields) = InputObjectBody fields.now
 abbrev pub part_with : TypeBody → PartView → TypePart
 part_with body v = part_at v.location v.name.now (option_copied v.description) v.directives.now body
 
+-- the definition or extension of a type that is seen
 abbrev pub part_seen : PartView → TypePart
 part_seen v = part_with (body_seen v.body) v
 
