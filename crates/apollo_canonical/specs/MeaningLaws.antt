@@ -26,25 +26,36 @@ use Rattle.apollo_meaning.specs.Types.Meaning.{extensions_with_origin, type_from
 
 -- what holds of the types, names, extensions and faults of every list of definitions
 pub record MeaningLaws : Type 0 where
-  -- a type is headed by its definition, and each kind is the same as itself
+  -- a type has the kind of its first definition
   pub kind : (head : TypePart) (ps : List Sourced) → type_kind (type_from head ps) ≡ kind_of head
+  -- each kind is the same as itself
   pub own_kind : (k : TypeKind) → same_kind k k ≡ true
+  -- a type has the description of its first definition
   pub description : (head : TypePart) (ps : List Sourced) → type_description (type_from head ps) ≡ head.description
+  -- a type has the name of its first definition
   pub name : (head : TypePart) (ps : List Sourced) → type_name (type_from head ps) ≡ head.name
+  -- a type stands where its first definition does
   pub location : (head : TypePart) (ps : List Sourced) → type_location (type_from head ps) ≡ head.location
+  -- whether a definition may be ignored makes no difference to its type
   pub ignorable : (head : TypePart) (b : Bool) (ps : List Sourced)
       → type_from (record head { ignorable = b }) ((Definition, record head { ignorable = b }) ∷ ps) ≡ type_from head ((Definition, head) ∷ ps)
-  -- names are those of first definitions, and the front of a list defines first
+  -- the names of types are those of definitions, each once
   pub names : (xs : List ListItem) → type_names xs ≡ first_of_each same_text (map (λ p. p.name) (filter_map defined_part xs))
+  -- the first definition of a name in two lists is that of the one, or else that of the other
   pub joined : (xs ys : List ListItem) (n : List ℕ) → first (xs ++ ys) n ≡ option_or (first xs n) (first ys n)
-  -- the extensions that are folded, and how often each is met
+  -- the extensions of a name that are folded are all those of its kind, in order
   pub folded : (start : ℕ) (xs : List ListItem) (n : List ℕ) (d : TypePart) → first xs n ≡ Some d
       → map (λ s. s.1) (extensions_with_origin n start (folding_order xs)) ≡ of_kind (kind_of d) (extensions_of xs n)
+  -- the extensions of the schema that are folded are all, in order, where the schema has a definition
   pub schema_folded : (start : ℕ) (xs : List ListItem) (s : SchemaPart) → first_schema xs ≡ Some s
       → map (λ e. e.1) (schema_sourced start (folding_order xs)) ≡ schema_extensions xs
+  -- an extension of a type is met once if its name has a definition, and else never
   pub types_met : (xs : List ListItem) → All (λ e. times_met types xs e ≡ once_if_defined types xs e) (extension_places types xs)
+  -- an extension of the schema is met once if that has a definition, and else never
   pub schemas_met : (xs : List ListItem) → All (λ e. times_met schemas xs e ≡ once_if_defined schemas xs e) (extension_places schemas xs)
-  -- faults item by item, and which roots are the same
+  -- the faults are what is found item by item, extensions of types without a definition, what is found at
+  -- the implied definition, and extensions of the schema without a definition
   pub faults : (adopts : Bool) (xs : List ListItem) → let ys : List ListItem = with_adopted adopts xs in faults_in adopts xs
       ≡ found ys ++ (map orphan (flat_map (orphans_of ys) (extended_names ys)) ++ (each_after found_at ys (implied_schema adopts ys) ++ map schema_orphan (schema_orphans (completed adopts xs))))
+  -- a root is the same as itself, and sameness goes both ways and on from root to root
   pub same_root : IsEquivalence root_faults.same_root

@@ -22,6 +22,7 @@ use Rattle.apollo_component.specs.declared.parts_by_origin.PartsByOrigin.{PartsB
 -- components of each sort, in order
 pub record Sections : Type 0 where
   pub directives : List (ComponentOrigin × NodeView Directive)
+  -- the interfaces or union members that are listed
   pub names : List (ComponentOrigin × NameView)
   pub fields : List (ComponentOrigin × NodeView FieldDefinition)
   pub values : List (ComponentOrigin × NodeView EnumValueDefinition)

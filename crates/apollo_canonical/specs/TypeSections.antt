@@ -60,10 +60,15 @@ pub record HasWhatIsWritten (t u : ExtendedType) : Type 0 where
   pub description : type_description u ≡ type_description t
   pub name : type_name u ≡ type_name t
   pub location : type_location u ≡ type_location t
+  -- the parts of its own definition and of its extensions
   pub parts : PartsByOrigin
+  -- those of the definition are what is written as the definition
   pub definition : parts.definition ≡ (by_origin (type_components t)).definition
+  -- those of the extensions are what is written as extensions, where these stand
   pub extensions : placed parts.extensions ≡ placed (by_origin (type_components t)).extensions
+  -- no two extensions have one number
   pub distinct : IsDistinct same_id (map (λ e. e.0) parts.extensions)
+  -- it has these parts and nothing else
   pub sections : type_sections u ≡ sections_of parts
 
 -- no two names, fields, enum values or input fields have one name

@@ -20,8 +20,11 @@ pub record IsUnmarkedAndRooted (more : List Added) : Type 0 where
 
 -- a schema that some such list means, with extensions numbered from some number, under some setting of adoption
 pub record IsMeantByList (schema : Schema) : Type 0 where
+  -- the number of the first extension that is folded
   pub start : ℕ
+  -- whether names that are extended only are adopted
   pub adopts : Bool
+  -- what is added after the built-in definitions
   pub more : List Added
   pub within : IsUnmarkedAndRooted more
   pub means : MeansSchema start adopts (with_built_ins more) schema
