@@ -16,20 +16,29 @@ use Rattle.apollo_compiler.specs.declared.compiled.Compiled.{Compiled}
 -- these documents are compiled to this, with these options, and with definitions of the type system at fault in executable
 -- documents, or not
 pub record IsCompiled (options : CompileOptions) (schema_documents executable_documents : List Document) (errors : Bool) (c : Compiled) : Type 0 where
-  -- the schema that the list means, with its extensions numbered from 0, and the faults of the list
+  -- the schema that the list means, with its extensions numbered from 0
   pub schema : MeansSchema 0 options.adopt_orphan_extensions (schema_list options schema_documents) c.schema
+  -- its source files are those of the schema documents
   pub schema_sources : c.schema.sources ≡ all_sources schema_documents
+  -- the faults of the list
   pub schema_faults : c.schema_faults.items ≡ faults_of options.adopt_orphan_extensions (schema_list options schema_documents)
+  -- what the schema is written out as
   pub ast : c.ast.items ≡ write_schema c.schema
   -- the schema that the write-out alone means, with adoption, numbered from 0 as well
   pub rebuilt : MeansSchema 0 true (written_again false c.schema) c.rebuilt
+  -- it has no source files, as the write-out has none
   pub rebuilt_sources : c.rebuilt.sources ≡ []
+  -- the faults of the write-out
   pub rebuilt_faults : c.rebuilt_faults.items ≡ faults_of true (written_again false c.schema)
+  -- what the schema of the write-out is written out as
   pub rebuilt_ast : c.rebuilt_ast.items ≡ write_schema c.rebuilt
-  -- the document that the executable documents mean over the schema, its faults, and what it is erased to
+  -- the document that the executable documents mean over the schema
   pub document : IsDocumentOf (Some c.schema) (executable_list errors executable_documents) c.document
+  -- its source files are those of the executable documents
   pub document_sources : c.document.sources ≡ all_sources executable_documents
+  -- the faults of the executable documents over the schema
   pub document_faults : c.document_faults.items ≡ faults_of_document (Some c.schema) (executable_list errors executable_documents)
+  -- what the document is erased to
   pub erased : c.erased ≡ erased_document c.document
 
 -- documents, and what they are compiled to
@@ -37,6 +46,7 @@ pub record Compilation : Type 0 where
   pub options : CompileOptions
   pub schema_documents : List Document
   pub executable_documents : List Document
+  -- whether definitions of the type system are at fault in executable documents
   pub errors : Bool
   pub compiled : Compiled
   pub is : IsCompiled options schema_documents executable_documents errors compiled

@@ -41,9 +41,12 @@ type_named c name = lookup (by_text name) c.compiled.schema.types
 -- a type of this name: the first definition with all extensions of that one's kind, wherever they stand, in order. What is of an
 -- extension has its identity: its location, and its number, by which it is told apart from all others that are folded
 pub record IsFolded (items : List ListItem) (name : List ℕ) (t : ExtendedType) : Type 0 where
+  -- the first definition of the name
   pub definition : TypePart
   pub is_first : first items name ≡ Some definition
+  -- the extensions of the name that have its kind are folded, all and in order
   pub are_all : map (λ e. e.1) (extensions_with_origin name 0 (folding_order items)) ≡ of_kind (kind_of definition) (extensions_of items name)
+  -- the type is what the definition and these extensions make
   pub is : t ≡ type_from definition (parts 0 (folding_order items) name definition)
 
 -- the operations that a document keeps of a list: the anonymous one, then the named ones
@@ -65,10 +68,15 @@ kept_definitions s xs = filter_map (operation_stripped s) (kept_operations s xs)
 -- there is one walk over a set: these fields, each that is reached exactly as often as it stands there, in the order of walks;
 -- in so many turns, which are at most two for each selection in reach, and one
 pub record HasOneWalk (deep : Bool) (document : ExecutableDocument) (set : SelectionSet) : Type 0 where
+  -- the fields that the walk gives
   pub fields : List (NodeView Field)
   pub walked : AreWalked deep document set fields
+  -- no other fields, and no other order, are those of the walk
   pub no_others : (others : List (NodeView Field)) → AreWalked deep document set others → others ≡ fields
+  -- how many turns the walk takes
   pub turns : ℕ
   pub all : TakesAllTurns deep document set turns
+  -- no other number of turns is that of the walk
   pub no_more : (others : ℕ) → TakesAllTurns deep document set others → others ≡ turns
+  -- they are at most two for each selection in reach, and one
   pub few : IsWithinTurns deep document set turns
