@@ -16,6 +16,9 @@ IsUnderName R kept entry = (entry.0 ≡ kept.0) × R kept.1 entry.1
 
 -- the operations and fragments are the kept ones of the list, each at its place among them
 pub record IsDocumentOf (s : Option Schema) (xs : List DocumentItem) (document : ExecutableDocument) : Type 0 where
+  -- the kept anonymous operation, typed, if there is one
   pub anonymous : AllZip (IsOperationOf s) (listed (kept_anonymous s xs)) (listed document.operations.anonymous)
+  -- the kept named operations, typed, each under its name
   pub named : AllZip (IsUnderName (IsOperationOf s)) (kept_named s xs) document.operations.named
+  -- the kept fragments, typed, each under its name
   pub fragments : AllZip (IsUnderName (IsFragmentOf s)) (kept_fragments s xs) document.fragments

@@ -63,11 +63,15 @@ put_unless_taken name (Some kept) v es = es
 
 -- these tables are those of the list
 pub record Stands (s : Option Schema) (xs : List DocumentItem) (t : Tables) : Type 0 where
+  -- the kept anonymous operation, typed, if there is one
   pub anonymous : t.operations.anonymous ≡ option_map (typed_operation s) (kept_anonymous s xs)
+  -- the kept named operations, typed, each under its name
   pub named : t.operations.named ≡ entries_by (typed_operation s) (kept_named s xs)
+  -- the kept fragments, typed, each under its name
   pub fragments : t.fragments ≡ entries_by (typed_fragment s) (kept_fragments s xs)
   -- an anonymous operation is kept, and another stands after it
   pub repeated : t.multiple_anonymous ≡ is_repeated s xs
+  -- what is wrong with the list, in order
   pub faults : t.faults ≡ document_faults s xs
 
 -- tables that stood for some list stand for it with these definitions behind it
