@@ -24,7 +24,8 @@ selection_in X X' X'' X3 k' k'' (Selection-F.Field n) ty = k' n.value ty
 selection_in X X' X'' X3 k' k'' (Selection-F.FragmentSpread n) ty = Unit {0}
 selection_in X X' X'' X3 k' k'' (Selection-F.InlineFragment n) ty = k'' n.value ty
 
--- one level of a field: it is typable, the definition is its own, and its set is right for its child type
+-- one level of a field: it is typable with the definition that it has, and its set is right for its child
+-- type
 abbrev pub typed_field_in : Option Schema → (X X' X'' X3 : Type 0) → (X3 → SelectionSet) → (X3 → In) → Field-F X X' X'' X3 → In
 typed_field_in s X X' X'' X3 v3 k3 f ty = (typable_field s ty f.name (is_bare (v3 f.selection_set).selections) ≡ Ok f.definition) × k3 f.selection_set (child_of f.definition)
 
