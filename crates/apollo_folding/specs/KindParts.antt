@@ -10,7 +10,9 @@ use Rattle.apollo_meaning.specs.Types.Meaning.{scalar_of, object_of, interface_o
 
 -- a node of one kind is what parts make, and others make such a node as well
 pub record IsOf {T : Type 0} (make : NodeView T → ExtendedType) (of : TypePart → List Sourced → T) (b : TypeBody) (head : TypePart) (done : List Sourced) (n : NodeView T) : Type 0 where
+  -- the node has the value that the parts make, and the location of their head
   pub node : n ≡ record { value = of head done; location = head.location }
+  -- with any other parts the head makes a node of the same kind
   pub more : (parts : List Sourced) → type_of_kind b head parts ≡ make (record { value = of head parts; location = head.location })
 
 -- a type is what parts make, by its kind
