@@ -43,5 +43,7 @@ directive_names ds = map (λ d. d.value.name) (first_of_each (λ a b. same_text 
 
 -- this table holds what the names of these definitions mean, in the order of first definition
 pub record AreDirectivesOf (ds : Directives) (table : List (NameView × NodeView DirectiveDefinition)) : Type 0 where
+  -- the names that are defined, in order
   pub names : keys_of table ≡ directive_names ds
+  -- under each name the definition that it means, and under each other text none
   pub each : (n : List ℕ) → lookup (by_text n) table ≡ directive_of ds n

@@ -13,8 +13,11 @@ use Rattle.apollo_meaning.specs.declared.collision.Collection.TheVariants as c
 
 -- a component of a type: its collection, its name and location, and the type's name as the part has it where it stands
 pub record TypeComponent : Type 0 where
+  -- what it is there, as a field of an interface type
   pub collection : Collection
+  -- its name, and where it stands
   pub entry : Entry
+  -- the name of the type, as its definition or extension writes it
   pub type_name : NameView
 
 -- a component of this collection, in a part with this type name

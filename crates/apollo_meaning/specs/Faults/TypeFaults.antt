@@ -88,7 +88,7 @@ extension_faults d before e = joining_fault d (d ∷ of_kind (kind_of d) before)
 abbrev pub redefinition : TypePart → TypePart → Fault
 redefinition d e = (e.name.location, errors.TypeDefinitionCollision d.name.location e.name)
 
--- the fault of a further definition of a built-in type: as a scalar type's it has an error of its own
+-- the fault of a further definition of a built-in type; where it defines a scalar it has an error of its own
 abbrev pub built_in_redefinition : TypePart → TypePart → Fault
 built_in_redefinition d e = if same_kind kinds.Scalar (kind_of e) then (e.location, errors.BuiltInScalarTypeRedefinition) else redefinition d e
 

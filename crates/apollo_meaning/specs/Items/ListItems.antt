@@ -14,10 +14,15 @@ use Rattle.graphql_ast.specs.declared.type_system.SchemaDefinition.{SchemaDefini
 
 -- one entry of the list: a type or the schema is defined, or extended, or something else stands there
 pub data ListItem : Type 0 where
+  -- the definition of a type
   Defined : TypePart → ListItem
+  -- the extension of a type
   Extended : TypePart → ListItem
+  -- the definition of the schema
   SchemaDefined : SchemaPart → ListItem
+  -- the extension of the schema
   SchemaExtended : SchemaPart → ListItem
+  -- a directive definition, an operation or a fragment
   Other : Definition → ListItem
 
 -- what a definition of a document says of types and of the schema

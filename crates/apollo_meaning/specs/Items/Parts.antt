@@ -56,11 +56,17 @@ roots_in = flat_map (λ s. s.roots)
 
 -- what the definitions and extensions of one kind hold besides directives
 pub data TypeBody : Type 0 where
+  -- nothing
   ScalarBody : TypeBody
+  -- interfaces and fields
   ObjectBody : List NameView → List (NodeView FieldDefinition) → TypeBody
+  -- interfaces and fields
   InterfaceBody : List NameView → List (NodeView FieldDefinition) → TypeBody
+  -- members
   UnionBody : List NameView → TypeBody
+  -- values
   EnumBody : List (NodeView EnumValueDefinition) → TypeBody
+  -- fields
   InputObjectBody : List (NodeView InputValueDefinition) → TypeBody
 
 -- a definition or extension of a type
@@ -69,6 +75,7 @@ pub record TypePart : Type 0 where
   pub location : Option SourceSpan
   pub description : Option NameView
   pub directives : List (NodeView Directive)
+  -- what it holds besides directives
   pub body : TypeBody
   -- a definition that is passed over without a fault where its name's first one is built in
   pub ignorable : Bool

@@ -82,11 +82,11 @@ adopted_schema = record {
   location = None;
 }
 
--- their fault where they are adopted: a root is named twice
+-- the fault of these extensions where they are adopted: a second root for queries
 abbrev pub adopted_faults : List Fault
 adopted_faults = (line 5, errors.DuplicateRootOperation (line 3) (codes "query")) ∷ []
 
--- their faults where they are not adopted: none of them has a definition
+-- the faults of these extensions where they are not adopted: none has a definition
 abbrev pub orphan_faults : List Fault
 orphan_faults =
     (line 6, errors.OrphanTypeExtension (name_on_line (codes "B") 6))

@@ -118,7 +118,9 @@ type_of start folded xs n = option_map (λ d. type_from d (parts start folded n 
 -- these types are those of the list, where these extensions are folded, in this order: each under its name, in the
 -- order of first definition
 pub record AreTypesOf (start : ℕ) (folded : List Folding) (xs : List ListItem) (types : List (NameView × ExtendedType)) : Type 0 where
+  -- the names that are defined, in order
   pub names : keys_of types ≡ type_names xs
+  -- under each name the type that it means, and under each other text none
   pub each : (n : List ℕ) → lookup (by_text n) types ≡ type_of start folded xs n
 
 -- extensions that are folded, each with its number
