@@ -17,7 +17,9 @@ MeanEqualSchemas adopts xs ys = (start other : ℕ) (s t : Schema) → MeansSche
 
 -- builders with one setting of adoption, of which one stands for the first list and the other for the second
 pub record StandFor (xs ys : List Added) (b c : SchemaBuilder) : Type 0 where
+  -- the number of the first list's first extension
   pub start : ℕ
+  -- the number of the second list's first extension
   pub other : ℕ
   pub first : StandsFor start xs b
   pub second : StandsFor other ys c
