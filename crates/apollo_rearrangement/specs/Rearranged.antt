@@ -16,10 +16,15 @@ use Rattle.apollo_types.specs.BareTypes.{BareSchemaDefinition, BareType, bare_ex
 -- definitions among which the order counts: those of a type's name, the extensions of a type's name, the directive
 -- definitions of a name, the definitions of the schema, and its extensions
 pub data Group : Type 0 where
+  -- the definitions of the type of this name
   DefinitionsOf : List ℕ → Group
+  -- the extensions of the type of this name
   ExtensionsOf : List ℕ → Group
+  -- the definitions of the directive of this name
   DirectiveDefinitionsOf : List ℕ → Group
+  -- the definitions of the schema
   SchemaDefinitions : Group
+  -- the extensions of the schema
   SchemaExtensions : Group
 
 -- whether an item of a list is in a group
