@@ -15,6 +15,7 @@ use Rattle.apollo_meaning.specs.Schema.Whole.{whole}
 -- the schema has the schema definition, the types and the directive definitions of the list, where these extensions are
 -- folded, in this order
 pub record AreOf (start : ℕ) (folded : List Folding) (xs : List ListItem) (schema : Schema) : Type 0 where
+  -- the schema definition that the list means, or where it means none, one without anything
   pub definition : schema.schema_definition ≡ unwrap_or (schema_of start folded xs) no_schema
   pub types : AreTypesOf start folded xs schema.types
   pub directives : AreDirectivesOf (directive_definitions xs) schema.directive_definitions

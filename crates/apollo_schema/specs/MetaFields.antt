@@ -13,7 +13,7 @@ use Rattle.apollo_component.specs.declared.extension.ComponentOrigin.TheVariants
 abbrev pub plain_node : {T : Type 0} → T → NodeView T
 plain_node value = record { value = value; location = None }
 
--- a field of a definition
+-- a field with these arguments and this type, which comes from a definition
 abbrev pub plain_field : List ℕ → List (NodeView InputValueDefinition) → TypeReference → Component FieldDefinition
 plain_field text arguments ty = record {
   origin = Definition;

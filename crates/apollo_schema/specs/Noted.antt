@@ -7,7 +7,7 @@ use Rattle.graphql_nodes.specs.Tables.{lookup, insert_entry}
 use Rattle.apollo_component.specs.declared.component.ComponentName.{ComponentName}
 use Rattle.apollo_schema.specs.declared.implementers.Implementers.{Implementers}
 
--- neither an object type nor an interface type
+-- no implementers: neither object types nor interface types
 abbrev pub no_implementers : Implementers
 no_implementers = record { objects = []; interfaces = [] }
 
