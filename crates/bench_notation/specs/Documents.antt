@@ -73,9 +73,12 @@ MayStand line reader = StandsBelow (position_next reader) line
 
 -- one line leads from a state of the reading to another
 pub record Takes (text : List ℕ) (location : SourceSpan) (old new : DocumentReader) : Type 0 where
+  -- what the text of the line says
   pub line : Line
   pub says : Says location text line
+  -- such a line may stand there
   pub stands : MayStand line old
+  -- the new state is the old one with this line added
   pub added : new ≡ line_added line location old
 
 -- these lines, of which the first has this number, lead from a state of the reading to another
@@ -85,26 +88,35 @@ LeadTo number (text ∷ texts) old new = (next : DocumentReader) × (Takes text 
 
 -- the documents that a text says: its lines lead to them, counted from 1, and none divides them
 pub record AreDocumentsOf (text : List ℕ) (documents : List Document) : Type 0 where
+  -- the state after the last line
   pub end : DocumentReader
   pub leads : LeadTo 1 (lines_of text) (nothing_read v.Never) end
   pub are : documents ≡ (document_ended end).documents
 
 -- the documents that a text says before the line that divides it, and behind it
 pub record AreDividedDocumentsOf (text : List ℕ) (schema executable : List Document) : Type 0 where
+  -- the state after the last line
   pub end : DocumentReader
   pub leads : LeadTo 1 (lines_of text) (nothing_read v.ToCome) end
+  -- the documents before the line that divides the text
   pub before : end.division ≡ v.After schema
+  -- the documents behind that line
   pub behind : executable ≡ (document_ended end).documents
 
 -- read from a state of the reading, the refused line is one of these lines; those before it say something, and where
 -- they lead, it says nothing that may stand there
 pub record IsFirstRefusedFrom (start : DocumentReader) (lines : List (List ℕ)) (refused : RefusedLine) : Type 0 where
+  -- how many lines stand before the refused one
   pub before : ℕ
+  -- lines are counted from 1
   pub number : refused.number ≡ before + 1
   pub within : before < length lines
+  -- all lines before it say something
   pub read : All IsLine (take before lines)
+  -- the state that those lines lead to
   pub reader : DocumentReader
   pub leads : LeadTo 1 (take before lines) start reader
+  -- the line says nothing that may stand there
   pub nothing : SaysNothing (position_next reader) (line_location refused.number) (get_or lines before [])
 
 -- an error of taking these lines in a state of the reading; that memory ran out says nothing of them
@@ -123,8 +135,10 @@ IsReadError = IsLinesError (nothing_read v.Never)
 
 -- all of these lines say something, and none divides them
 pub record AreUndivided (lines : List (List ℕ)) : Type 0 where
+  -- the state after the last line
   pub end : DocumentReader
   pub leads : LeadTo 1 lines (nothing_read v.ToCome) end
+  -- no line divides them
   pub whole : (before : List Document) → ¬ (end.division ≡ v.After before)
 
 -- an error of reading these lines, where one is to divide them

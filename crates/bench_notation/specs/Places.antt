@@ -94,7 +94,7 @@ stands above c.Repeatable = is_directive above
 stands above (c.Root operation name) = is_schema above
 stands above (c.Selection depth selected) = nat_lt depth (levels_above above)
 
--- what may stand here: a component where it has its place, a division where there may be one, any other line
+-- what may stand here: a component below what takes it, a division where there may be one, any other line
 -- anywhere
 abbrev pub StandsBelow : Position → Line → Type 0
 StandsBelow position l.Empty = Unit {0}
