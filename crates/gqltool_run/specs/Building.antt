@@ -17,10 +17,14 @@ use Rattle.bench_notation.specs.Documents.{AreDocumentsOf, IsFirstRefused}
 
 -- the schema that the input means with these options, and its faults
 pub record IsBuilt (options : CompileOptions) (input : List ℕ) (schema : Schema) (faults : List Fault) : Type 0 where
+  -- the documents that the input says
   pub documents : List Document
   pub says : AreDocumentsOf input documents
+  -- the schema that these documents mean, with its extensions numbered from 0
   pub means : MeansSchema 0 options.adopt_orphan_extensions (schema_list options documents) schema
+  -- its source files are those of these documents
   pub sources : schema.sources ≡ all_sources documents
+  -- the faults are those of these documents
   pub are : faults ≡ faults_of options.adopt_orphan_extensions (schema_list options documents)
 
 -- what the documents of the input are compiled to with these options, without executable documents

@@ -53,9 +53,12 @@ pub record IsCoordAnswer (coordinate : SchemaCoordinate) (input text : List ℕ)
   pub schema : Schema
   pub faults : List Fault
   pub means : IsBuilt no_options input schema faults
+  -- whether the coordinate points to something
   pub is_found : Bool
+  -- the line that says so
   pub finding : List ℕ
   pub finds : IsFindingLine schema coordinate is_found finding
+  -- the lines of the schema's faults
   pub lines : List ℕ
   pub prints : text ≡ coordinate_line coordinate ++ (finding ++ lines)
   pub tells : AreFaultLines faults lines

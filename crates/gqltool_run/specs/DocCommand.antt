@@ -17,7 +17,9 @@ pub record IsDocAnswer (input text : List ℕ) (has_faults : Bool) : Type 0 wher
   pub schema_faults : List Fault
   pub faults : List DocumentFault
   pub means : IsBuiltDocument input schema document schema_faults faults
+  -- the lines of the schema's faults
   pub schema_lines : List ℕ
+  -- the lines of the document's faults
   pub lines : List ℕ
   pub prints : text ≡ printed_definitions (erased_document document).definitions ++ (schema_lines ++ lines)
   pub schema_tells : AreFaultLines schema_faults schema_lines

@@ -23,14 +23,18 @@ use Rattle.gqltool_run.specs.declared.failure.Failure.TheVariants as failures
 -- the schema that the input means, which has no options, its typed document over that, the faults of the schema, and those of the
 -- document, in which definitions of the type system are at fault
 pub record IsBuiltDocument (input : List ℕ) (schema : Schema) (document : ExecutableDocument) (schema_faults : List Fault) (faults : List DocumentFault) : Type 0 where
+  -- the documents before the line that divides the input
   pub schema_documents : List Document
+  -- the documents behind that line
   pub executable_documents : List Document
   pub says : AreDividedDocumentsOf input schema_documents executable_documents
   pub means : MeansSchema 0 false (schema_list no_options schema_documents) schema
   pub schema_sources : schema.sources ≡ all_sources schema_documents
+  -- the faults of the schema are those of the former documents
   pub schema_are : schema_faults ≡ faults_of false (schema_list no_options schema_documents)
   pub typed : IsDocumentOf (Some schema) (executable_list true executable_documents) document
   pub document_sources : document.sources ≡ all_sources executable_documents
+  -- the faults of the document are those of the latter over the schema
   pub are : faults ≡ document_faults (Some schema) (executable_list true executable_documents)
 
 -- what the documents before the division of the input and those behind it are compiled to, without options

@@ -30,7 +30,9 @@ pub record IsLeafAnswer (input text : List ℕ) (has_faults : Bool) : Type 0 whe
   pub schema_faults : List Fault
   pub faults : List DocumentFault
   pub means : IsBuiltDocument input schema document schema_faults faults
+  -- the lines of the schema's faults
   pub schema_lines : List ℕ
+  -- the lines of the document's faults
   pub lines : List ℕ
   pub prints : text ≡ flat_map leaf_line (leaf_faults schema document) ++ (schema_lines ++ lines)
   pub schema_tells : AreFaultLines schema_faults schema_lines

@@ -54,14 +54,17 @@ MayEnd words held may_fail old new s.NotWritten = IfSome held (AppendBeginning w
 
 -- a run on these words and an input that ended so, with its reader and its writers before it and after it
 pub record IsRun {R O E : Type 0} (words : List (List ℕ)) (held : Option (List ℕ)) (may_fail : Type 0) (contents : O → Option (List ℕ)) (reader reader_after : R) (output output_after : O) (errors errors_after : E) (status : Status) : Type 0 where
+  -- what it wrote, and how it ended, is as it may be
   pub ends : MayEnd words held may_fail (contents output) (contents output_after) status
+  -- where it was refused it wrote nothing
   pub refused : status ≡ s.Refused → output_after ≡ output
+  -- where memory or numbers ran out it wrote nothing either, unless it was `walk`
   pub exhausted : status ≡ s.Exhausted → ¬ AreWalkWords words → output_after ≡ output
-  -- the answer of `walk` goes out while it is made, so where memory runs out a beginning of it may be
-  -- written
+  -- the answer of `walk` goes out while it is made: a beginning may be out where memory runs out
   pub begun : status ≡ s.Exhausted → (output_after ≡ output) ⊎ IfSome held (AppendBeginning words (contents output) (contents output_after))
+  -- where its answer is written whole, nothing else is reported
   pub quiet : Writes status → errors_after ≡ errors
-  -- words that are no command are refused before anything is read, and so is a text of no coordinate, unless
-  -- memory runs out
+  -- words that are no command are refused before anything is read
   pub usage : AreNoCommand words → (status ≡ s.Refused) × (reader_after ≡ reader)
+  -- a text of no coordinate is refused before anything is read, unless memory runs out
   pub no_coordinate : AskNoCoordinate words → ((status ≡ s.Refused) ⊎ (status ≡ s.Exhausted)) × (reader_after ≡ reader)

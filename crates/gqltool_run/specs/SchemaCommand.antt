@@ -13,6 +13,7 @@ pub record IsAnswer (options : CompileOptions) (input text : List ℕ) (has_faul
   pub schema : Schema
   pub faults : List Fault
   pub means : IsBuilt options input schema faults
+  -- the lines of the schema's faults
   pub lines : List ℕ
   pub prints : text ≡ printed_definitions (write_schema schema) ++ lines
   pub tells : AreFaultLines faults lines

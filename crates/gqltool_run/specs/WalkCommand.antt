@@ -40,14 +40,17 @@ turns_line word turns = word ++ (decimal turns ++ codes "\n")
 pub record IsWalkText (deep : Bool) (word turns_word : List ℕ) (document : ExecutableDocument) (set : SelectionSet) (text : List ℕ) : Type 0 where
   pub fields : List (NodeView Field)
   pub walked : AreWalked deep document set fields
+  -- how many turns the walk takes
   pub turns : ℕ
   pub takes : TakesAllTurns deep document set turns
   pub says : text ≡ flat_map (field_line word) fields ++ turns_line turns_word (min turns (2 ^ 64 - 1))
 
 -- the walk over root fields, and then the walk over all
 pub record IsSetText (document : ExecutableDocument) (set : SelectionSet) (text : List ℕ) : Type 0 where
+  -- the text of the walk over root fields
   pub root : List ℕ
   pub root_says : IsWalkText false (codes "root ") (codes "root-turns ") document set root
+  -- the text of the walk over all fields
   pub all : List ℕ
   pub all_says : IsWalkText true (codes "all ") (codes "all-turns ") document set all
   pub says : text ≡ root ++ all
@@ -73,10 +76,13 @@ AreWalksText document text =
 
 -- the text is that of the walks over a document, and then of the faults of its schema and its own
 pub record AreLines (document : ExecutableDocument) (schema_faults : List Fault) (faults : List DocumentFault) (text : List ℕ) : Type 0 where
+  -- the text of the walks
   pub walks : List ℕ
   pub walk : AreWalksText document walks
+  -- the lines of the schema's faults
   pub schema_lines : List ℕ
   pub schema_tells : AreFaultLines schema_faults schema_lines
+  -- the lines of the document's faults
   pub lines : List ℕ
   pub tells : AreFaultLines faults lines
   pub prints : text ≡ walks ++ (schema_lines ++ lines)
