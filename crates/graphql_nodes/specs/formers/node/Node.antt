@@ -30,11 +30,11 @@ use Rattle.graphql_nodes.specs.declared.node.Node.TheView.{view, invariant}
 use Rattle.graphql_nodes.specs.contracts.node.Node as C
 use Rattle.graphql_nodes.specs.contracts.node.Node.TheInside as I
 
--- a node stands for its value and its location
+-- what a node stands for: its value and its location
 abbrev pub the_former : Former {0} → Former {0}
 the_former g = via (pair g (const (Option SourceSpan))) (λ X. NodeView (g.Of X)) (λ X n. (n.value, n.location)) (λ X v. record { value = v.0; location = v.1 }) (λ X n. refl) (λ X v. refl)
 
--- a node weighs what its value weighs
+-- the weight of a node: that of its value
 abbrev pub the_weighed : {g : Former {0}} → Weighed g → Weighed (the_former g)
 the_weighed w = record { weight = λ X μ n. w.weight X μ n.value; puts = λ X μ n. w.puts X μ n.value }
 

@@ -24,11 +24,11 @@ use Rattle.graphql_nodes.specs.declared.collections.boxed.Boxed.TheView.{view, i
 use Rattle.graphql_nodes.specs.contracts.collections.boxed.Boxed as C
 use Rattle.graphql_nodes.specs.contracts.collections.boxed.Boxed.TheInside as I
 
--- a box stands for what it holds
+-- what a box stands for: that which it holds
 abbrev pub the_former : Former {0} → Former {0}
 the_former g = g
 
--- a box weighs what it holds weighs
+-- the weight of a box: that of what it holds
 abbrev pub the_weighed : {g : Former {0}} → Weighed g → Weighed (the_former g)
 the_weighed w = w
 

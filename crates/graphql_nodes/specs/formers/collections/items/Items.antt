@@ -19,11 +19,11 @@ use Rattle.graphql_nodes.specs.declared.collections.items.Items.TheView.{view, i
 use Rattle.graphql_nodes.specs.contracts.collections.items.Items as C
 use Rattle.graphql_nodes.specs.contracts.collections.items.Items.TheInside as I
 
--- a list stands for its elements, in order
+-- what a list stands for: its elements, in order
 abbrev pub the_former : Former {0} → Former {0}
 the_former g = list g
 
--- a list is weighed by its elements
+-- the weight of a list: that of its heaviest element
 abbrev pub the_weighed : {g : Former {0}} → Weighed g → Weighed (the_former g)
 the_weighed w = w_list w
 
