@@ -9,7 +9,7 @@ use Rattle.apollo_canonical.specs.WrittenAgain.{with_built_ins}
 use Rattle.apollo_document.specs.AddedDefinitions.{DocumentItem, document_list}
 use Rattle.apollo_compiler.specs.declared.compile_options.CompileOptions.{CompileOptions}
 
--- neither option
+-- neither names that are extended only are adopted, nor redefinitions of built-in types ignored
 abbrev pub no_options : CompileOptions
 no_options = record { adopt_orphan_extensions = false; ignore_builtin_redefinitions = false }
 
