@@ -23,6 +23,6 @@ bare_component_name c = bare_name c.name
 abbrev pub bare_directives : DirectiveList → List Directive
 bare_directives l = map (bare_component bare_directive) l.0
 
--- the number of the extension, if it is one
+-- the number of the extension that an origin is, if it is one
 abbrev pub bare_origin : ComponentOrigin → Option ℕ
 bare_origin o = option_map number_of (id_of o)
