@@ -78,11 +78,11 @@ IsAttribute s t a (attributes.Field f) = IsFieldName s t a × (field_at s t a �
 abbrev pub HasNoAttribute : Schema → NameView → NameView → Type 0
 HasNoAttribute s t a = IsFieldName s t a × (field_at s t a ≡ None)
 
--- the arguments' first definition of the name, of the field of this name in the type of this name
+-- the first definition of an argument of this name, of the field of this name in the type of this name
 abbrev pub field_argument_at : Schema → NameView → NameView → NameView → Option (Option (NodeView InputValueDefinition))
 field_argument_at s t f a = option_map (λ d. defined_argument d.node.value.arguments a) (field_at s t f)
 
--- the same of the directive of this name
+-- the first definition of an argument of this name, of the directive of this name
 abbrev pub directive_argument_at : Schema → NameView → NameView → Option (Option (NodeView InputValueDefinition))
 directive_argument_at s d a = option_map (λ definition. defined_argument definition.value.arguments a) (directive_at s d)
 
