@@ -47,11 +47,12 @@ rooted_faults s name n None = (n.location, e.UndefinedRootOperation (operation_t
 abbrev pub faults_in_operation : Option Schema → ExecutableDefinitionName → NodeView OperationDefinition → List Fault
 faults_in_operation s name n = rooted_faults s name n (root_type_of s n.value.operation_type)
 
--- a named operation whose name is taken, if it is
+-- what is wrong with a named operation, where its name is taken if it is
 abbrev pub faults_of_named : Option Schema → Option NameView → NameView → NodeView OperationDefinition → List Fault
 faults_of_named s taken name n = unless_taken e.OperationNameCollision name taken (faults_in_operation s (NamedOperation n.value.operation_type name) n)
 
--- a named operation, after an anonymous one at this location if there is one, and where its name is taken if it is
+-- what is wrong with a named operation, after an anonymous one at this location if there is one, and where
+-- its name is taken if it is
 abbrev pub named_faults : Option Schema → Option (Option SourceSpan) → Option NameView → NameView → NodeView OperationDefinition → List Fault
 named_faults s anonymous taken name n = ambiguous_if anonymous ++ faults_of_named s taken name n
 
@@ -60,7 +61,7 @@ abbrev pub after_anonymous : Bool → Option SourceSpan → Option SourceSpan �
 after_anonymous false kept location = ambiguous kept ∷ ambiguous location ∷ []
 after_anonymous true kept location = ambiguous location ∷ []
 
--- one after a kept named one is at fault; else what is wrong with it is
+-- an anonymous operation after a kept named one is at fault; else what is wrong with it is
 abbrev pub unless_named : {A : Type 0} → List A → Option SourceSpan → List Fault → List Fault
 unless_named [] location wrong = wrong
 unless_named (x ∷ xs) location wrong = ambiguous location ∷ []

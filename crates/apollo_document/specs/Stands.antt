@@ -31,7 +31,7 @@ operation_from s root o = operation_over o (elaborated s root o.selection_set)
 abbrev pub rooted_operation : Option Schema → NodeView OperationDefinition → Option (NodeView Operation)
 rooted_operation s n = option_map (λ (root : NameView). at_place (operation_from s root) n) (root_type_of s n.value.operation_type)
 
--- an operation that is kept is rooted
+-- the root type of an operation that is kept, which has one
 abbrev pub root_or_none : Option Schema → NodeView OperationDefinition → NameView
 root_or_none s n = unwrap_or (root_type_of s n.value.operation_type) (plain_name [])
 
