@@ -13,7 +13,7 @@ abbrev pub key_in : Option Schema → NameView → Option NameView
 key_in None ty = None
 key_in (Some s) ty = lookup_key (same_text ty) s.types
 
--- the type
+-- the type of this name
 abbrev pub type_in : Option Schema → NameView → Option ExtendedType
 type_in None ty = None
 type_in (Some s) ty = type_at s.types ty

@@ -23,7 +23,7 @@ inside path key = record { root = path.root; nested_fields = path.nested_fields 
 abbrev pub FS : Type 0
 FS = NameView → SelectionPath → List Fault
 
--- those of a field or an inline fragment, by the location of its node too
+-- the faults of a field or an inline fragment in a type, by the location of its node and by its path
 abbrev pub FN : Type 0
 FN = NameView → Wrong
 
@@ -33,11 +33,11 @@ faults_step (Selection-F.Field n) ty path = n.value ty n.location path
 faults_step (Selection-F.FragmentSpread n) ty path = []
 faults_step (Selection-F.InlineFragment n) ty path = n.value ty n.location path
 
--- those of selections, in order
+-- the faults of selections, in order
 abbrev pub faults_below : List FS → FS
 faults_below ss ty path = flat_map (λ (s : FS). s ty path) ss
 
--- those below what is typable, or what is wrong
+-- the faults below what is typable, or what is wrong with what isn't
 abbrev pub below_or_wrong : {A : Type 0} → (A → List Fault) → Option SourceSpan → SelectionPath → Result A Wrong → List Fault
 below_or_wrong below location path (Ok a) = below a
 below_or_wrong below location path (Err wrong) = wrong location path
