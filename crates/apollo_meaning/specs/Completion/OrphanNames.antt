@@ -11,6 +11,6 @@ abbrev pub first_name : List TypePart → List NameView
 first_name [] = []
 first_name (e ∷ es) = e.name ∷ []
 
--- those of a list, in order of first extension, each as its first extension has it
+-- the names of a list that are extended and not defined, in order of first extension, each as that writes it
 abbrev pub orphan_names : List ListItem → List NameView
 orphan_names xs = flat_map (λ n. first_name (orphans_of xs n)) (extended_names xs)

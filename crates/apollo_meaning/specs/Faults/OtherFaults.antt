@@ -12,13 +12,15 @@ use Rattle.apollo_meaning.specs.Directives.{Directives, has_text, is_handed_in}
 use Rattle.apollo_meaning.specs.declared.build_error.BuildError.TheVariants as errors
 use Rattle.graphql_ast.specs.declared.definition.Definition.TheVariants as ast
 
--- what is wrong with a definition that stands after these: it is dropped where one of its name was handed in before
+-- what is wrong with a directive definition that stands after these: it is dropped where one of its name was
+-- handed in before
 abbrev pub directive_faults : Directives → NodeView DirectiveDefinition → List Fault
 directive_faults ds d = option_map_or
     (λ kept. (d.value.name.location, errors.DirectiveDefinitionCollision kept.value.name.location d.value.name) ∷ [])
     (find (λ e. has_text d.value.name.text e && is_handed_in e) ds) []
 
--- something else than a type's definition or extension, where these directive definitions stand before it
+-- what is wrong with something else than a definition or extension of a type or the schema, after these
+-- directive definitions
 abbrev pub other_faults : Directives → Definition → List Fault
 other_faults ds (ast.DirectiveDefinition n) = directive_faults ds n
 other_faults ds (ast.OperationDefinition n) = (n.location, errors.ExecutableDefinition (definition_text (ast.OperationDefinition n))) ∷ []

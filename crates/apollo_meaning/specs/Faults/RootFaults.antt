@@ -11,7 +11,7 @@ use Rattle.apollo_meaning.specs.Faults.Collisions.{Fault}
 use Rattle.apollo_meaning.specs.Schema.Definition.{same_operation}
 use Rattle.apollo_meaning.specs.declared.build_error.BuildError.TheVariants as errors
 
--- a root with these before it: it is dropped where one of them is named for its operation
+-- what is wrong with a root with these before it: it is dropped where one of them is named for its operation
 abbrev pub root_fault : List Root → Root → List Fault
 root_fault before r = option_map_or
     (λ kept. (r.location, errors.DuplicateRootOperation kept.value.1.location (operation_text r.value.0)) ∷ [])
@@ -33,10 +33,10 @@ dropped_root kept r = (r.location, errors.DuplicateRootOperation (kept_for same_
 abbrev pub schema_faults : List SchemaPart → SchemaPart → List Fault
 schema_faults parts s = root_faults (roots_in parts) s.roots
 
--- a further definition of the schema, with this first one
+-- the fault of a further definition of the schema, with this first one
 abbrev pub further_schema : SchemaPart → SchemaPart → Fault
 further_schema s t = (t.location, errors.SchemaDefinitionCollision s.location)
 
--- an extension of a schema without a definition
+-- the fault of an extension of a schema without a definition
 abbrev pub schema_orphan : SchemaPart → Fault
 schema_orphan e = (e.location, errors.OrphanSchemaExtension)

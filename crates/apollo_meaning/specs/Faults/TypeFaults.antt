@@ -72,15 +72,17 @@ body_faults (InputObjectBody fields) ty parts = collisions c.InputFields ty (inp
 abbrev pub part_faults : List TypePart → TypePart → List Fault
 part_faults parts p = body_faults p.body p.name parts
 
--- an extension of another kind than its name's definition
+-- the fault of an extension of another kind than its name's definition
 abbrev pub kind_mismatch : TypePart → TypePart → Fault
 kind_mismatch d e = (e.name.location, errors.TypeExtensionKindMismatch e.name (kind_text (kind_of e) ++ codes " extension") d.name.location (kind_text (kind_of d)))
 
--- an extension that doesn't have the kind of this definition, or the components that are dropped where it joins these parts
+-- what is wrong with an extension: it doesn't have the kind of this definition, or components are dropped
+-- where it joins these parts
 abbrev pub joining_fault : TypePart → List TypePart → TypePart → List Fault
 joining_fault d parts e = if same_kind (kind_of d) (kind_of e) then part_faults parts e else kind_mismatch d e ∷ []
 
--- an extension of a name with this first definition, where these extensions of the name stand before it
+-- what is wrong with an extension of a name with this first definition, where these extensions of the name
+-- stand before it
 abbrev pub extension_faults : TypePart → List TypePart → TypePart → List Fault
 extension_faults d before e = joining_fault d (d ∷ of_kind (kind_of d) before) e
 
@@ -97,6 +99,6 @@ abbrev pub further_definition : TypePart → TypePart → List Fault
 further_definition d e =
     if is_built_in d.location then (if e.ignorable then [] else built_in_redefinition d e ∷ []) else redefinition d e ∷ []
 
--- an extension of a name without a definition
+-- the fault of an extension of a name without a definition
 abbrev pub orphan : TypePart → Fault
 orphan e = (e.name.location, errors.OrphanTypeExtension e.name)

@@ -89,7 +89,7 @@ pub data Folding : Type 0 where
   OfType : TypePart → Folding
   OfSchema : SchemaPart → Folding
 
--- the same, as it is added: a definition of a type may be ignorable
+-- an item as it is added: a definition of a type may be ignorable
 abbrev pub ignorable_if : Bool → ListItem → ListItem
 ignorable_if b (Defined p) = Defined (record p { ignorable = b })
 ignorable_if b (Extended p) = Extended p

@@ -24,7 +24,7 @@ first xs n = lookup (same n) (definitions xs)
 abbrev pub extensions_of : List ListItem → List ℕ → List TypePart
 extensions_of xs n = filter (λ p. same n (key_of p)) (filter_map extended_part xs)
 
--- those of a kind
+-- the definitions or extensions of a kind
 abbrev pub of_kind : TypeKind → List TypePart → List TypePart
 of_kind k = filter (λ p. same_kind k (kind_of p))
 

@@ -41,7 +41,7 @@ definition_places f xs = filter_map (placed_by f.defined) (enumerate_from 0 xs)
 abbrev pub extension_places : {P : Type 0} → Family P → List ListItem → List (Placed P)
 extension_places f xs = filter_map (placed_by f.extended) (enumerate_from 0 xs)
 
--- the first definition of a key
+-- the first definition of a key, with its place
 abbrev pub first_place : {P : Type 0} → Family P → List ListItem → List ℕ → Option (Placed P)
 first_place f xs n = lookup (same n) (map (λ e. (f.key e.1, e)) (definition_places f xs))
 

@@ -65,7 +65,7 @@ abbrev pub of_schema : ℕ × Folding → Option (ℕ × SchemaPart)
 of_schema (i, OfType p) = None
 of_schema (i, OfSchema s) = Some (i, s)
 
--- those, with their origins
+-- the extensions of the schema among those that are folded, with their origins
 abbrev pub schema_sourced : ℕ → List Folding → List SourcedSchema
 schema_sourced start folded = map schema_extension_source (filter_map of_schema (enumerate_from start folded))
 
@@ -73,7 +73,7 @@ schema_sourced start folded = map schema_extension_source (filter_map of_schema 
 abbrev pub schema_parts : ℕ → List Folding → SchemaPart → List SourcedSchema
 schema_parts start folded s = (Definition, s) ∷ schema_sourced start folded
 
--- the schema definition, where these extensions are folded, in this order
+-- the schema definition of a list, where these extensions are folded, in this order
 abbrev pub schema_of : ℕ → List Folding → List ListItem → Option (NodeView SchemaDefinition)
 schema_of start folded xs = option_map (λ s. schema_from s (schema_parts start folded s)) (first_schema xs)
 

@@ -4,10 +4,10 @@ use Rattle.apollo_meaning.specs.Items.ListItems.{ListItem, Added, added_items}
 use Rattle.apollo_meaning.specs.Completion.ImpliedSchema.{completed}
 use Rattle.apollo_meaning.specs.Order.Places.{folding_order}
 
--- all that a list means, with and without adoption
+-- the list with all that it is completed with, with adoption or without
 abbrev pub whole : Bool → List Added → List ListItem
 whole adopts xs = completed adopts (added_items xs)
 
--- how many extensions are folded
+-- how many extensions the completed list folds
 abbrev pub folds : Bool → List Added → ℕ
 folds adopts xs = length (folding_order (whole adopts xs))

@@ -23,7 +23,8 @@ types_folded_at before (SchemaDefined s) = []
 types_folded_at before (SchemaExtended e) = []
 types_folded_at before (Other d) = []
 
--- the extensions of the schema that are folded at an item: all before its first definition, or one after it
+-- the extensions of the schema that are folded at an item: at its first definition all before it, at a later
+-- extension that one
 abbrev pub schemas_folded_at : List ListItem → ListItem → List SchemaPart
 schemas_folded_at before (Defined d) = []
 schemas_folded_at before (Extended e) = []
