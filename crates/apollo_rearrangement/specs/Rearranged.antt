@@ -45,10 +45,10 @@ pub record AreRearranged (xs ys : List ListItem) : Type 0 where
 abbrev pub type_meant : ℕ → List ListItem → List ℕ → Option BareType
 type_meant start xs n = option_map bare_extended_type (type_of start (folding_order xs) xs n)
 
--- the same of the schema definition, if the list means one
+-- what `==` compares of the schema definition that a list means, if it means one
 abbrev pub schema_meant : ℕ → List ListItem → Option BareSchemaDefinition
 schema_meant start xs = option_map (λ s. bare_schema_definition s.value) (schema_of start (folding_order xs) xs)
 
--- the same of the directive definition that a name means
+-- what `==` compares of the directive definition that a name means
 abbrev pub directive_meant : List ListItem → List ℕ → Option DirectiveDefinition
 directive_meant xs n = option_map (λ d. bare_directive_definition d.value) (directive_of (directive_definitions xs) n)
