@@ -4,6 +4,6 @@ use Rattle.std.specs.Prelude.{List, ◌++◌}
 use Rattle.graphql_nodes.specs.NameView.{NameView}
 use Rattle.apollo_schema.specs.declared.implementers.ImplementersIter.{ImplementersIter}
 
--- those of object types, and then those of interface types
+-- the names of object types that are left, and then those of interface types
 abbrev pub names_left : ImplementersIter → List NameView
 names_left names = names.objects ++ names.interfaces

@@ -20,6 +20,6 @@ with_implementer false name m = record m { interfaces = insert_key same_text m.i
 abbrev pub noted : Bool → NameView → List (NameView × Implementers) → ComponentName → List (NameView × Implementers)
 noted is_object name map i = insert_entry same_text map i.name (with_implementer is_object name (unwrap_or (lookup (same_text i.name) map) no_implementers))
 
--- and under several, one after another
+-- the table with the name noted under several interfaces, one after another
 abbrev pub noted_under : Bool → NameView → List (NameView × Implementers) → List ComponentName → List (NameView × Implementers)
 noted_under is_object name map interfaces = fold (noted is_object name) map interfaces

@@ -13,7 +13,7 @@ use Rattle.apollo_meaning.specs.Steps.Prefixes.{folded}
 abbrev pub Becomes : Tables → (List ListItem → List ListItem) → Tables → Type 0
 Becomes old another new = (start : ℕ) (xs : List ListItem) → Stands start xs old → Stands start (another xs) new
 
--- the numbers don't suffice for that list
+-- the numbers don't suffice for the list after the step
 abbrev pub SpentOn : Tables → (List ListItem → List ListItem) → Type 0
 SpentOn old another = (start : ℕ) (xs : List ListItem) → Stands start xs old → 2 ^ 64 ≤ start + length (folded (another xs))
 
