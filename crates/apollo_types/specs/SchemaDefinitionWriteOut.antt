@@ -19,11 +19,11 @@ use Rattle.apollo_types.specs.TypeKinds.{is_object}
 use Rattle.apollo_types.specs.declared.extended_type.ExtendedType.{ExtendedType}
 use Rattle.apollo_types.specs.declared.schema_definition.SchemaDefinition.{SchemaDefinition}
 
--- the components: directives, roots
+-- the components of a schema definition: directives, roots
 abbrev pub schema_components : SchemaDefinition → List SourcedPart
 schema_components s = map of_directive s.directives.0 ++ map of_root (named_roots s)
 
--- a root is of the definition
+-- a root comes from the definition itself, not from an extension
 abbrev pub has_own_root : SchemaDefinition → Bool
 has_own_root s = list_any (λ r. same_origin origins.Definition r.1.origin) (named_roots s)
 
@@ -36,7 +36,7 @@ abbrev pub is_some_object : Option ExtendedType → Bool
 is_some_object None = false
 is_some_object (Some t) = is_object t
 
--- the text of that name, where an object type stands under it
+-- the text of that default name, where an object type stands under it
 abbrev pub implied_name : List (NameView × ExtendedType) → OperationType → Option (List ℕ)
 implied_name types op = if is_some_object (lookup (same_text (default_name op)) types) then Some (default_type_text op) else None
 

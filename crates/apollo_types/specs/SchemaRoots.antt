@@ -6,7 +6,7 @@ use Rattle.graphql_nodes.specs.declared.operation_type.OperationType.TheVariants
 use Rattle.apollo_component.specs.declared.component.ComponentName.{ComponentName}
 use Rattle.apollo_types.specs.declared.schema_definition.SchemaDefinition.{SchemaDefinition}
 
--- no description, directive or root
+-- the schema definition without description, directives and roots
 abbrev pub no_schema_definition : SchemaDefinition
 no_schema_definition = record { description = None; directives = record { 0 = [] }; query = None; mutation = None; subscription = None }
 
@@ -20,7 +20,7 @@ root_of s Query = s.query
 root_of s Mutation = s.mutation
 root_of s Subscription = s.subscription
 
--- the same, beside the operation type
+-- the root of an operation type, beside that
 abbrev pub named_root : SchemaDefinition → OperationType → Option (OperationType × ComponentName)
 named_root s op = option_map (λ n. (op, n)) (root_of s op)
 
