@@ -152,7 +152,7 @@ header_text (d.UnionTypeExtension n) = type_head_text r.Extension k.Union n.valu
 header_text (d.EnumTypeExtension n) = type_head_text r.Extension k.Enum n.value.name n.value.directives.0
 header_text (d.InputObjectTypeExtension n) = type_head_text r.Extension k.InputObject n.value.name n.value.directives.0
 
--- the lines below that
+-- the lines below the header of a definition or extension
 abbrev pub body_text : Definition → List ℕ
 body_text (d.OperationDefinition n) = selections_text 0 n.value.selection_set
 body_text (d.FragmentDefinition n) = selections_text 0 n.value.selection_set
