@@ -5,7 +5,7 @@ use Rattle.graphql_nodes.specs.KindTexts.{kind_definition_text, kind_extension_t
 use Rattle.graphql_ast.specs.declared.definition.Definition.{Definition}
 use Rattle.graphql_ast.specs.declared.definition.Definition.TheVariants as d
 
--- a definition or extension
+-- what messages call a definition or extension
 abbrev pub definition_text : Definition → List ℕ
 definition_text (d.OperationDefinition n) = codes "an operation definition"
 definition_text (d.FragmentDefinition n) = codes "a fragment definition"
