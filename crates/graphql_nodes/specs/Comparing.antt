@@ -11,11 +11,11 @@ use Rattle.graphql_nodes.specs.declared.name.InvalidNameError.{InvalidNameError}
 abbrev pub ComparesBy : {A B : Type 0} → (A → A → Bool) → (A → B) → Type 0
 ComparesBy {A} test f = (a b : A) → IsTrue (test a b) ↔ (f a ≡ f b)
 
--- a name, or a shared text
+-- a name, or a text that is kept as one, without its location
 abbrev pub bare_name : NameView → NameView
 bare_name n = record { text = n.text; location = None }
 
--- the error of a text that is no name
+-- the error of a text that is no name, without its location
 abbrev pub bare_invalid_name : InvalidNameError → InvalidNameError
 bare_invalid_name e = record { name = e.name; location = None }
 

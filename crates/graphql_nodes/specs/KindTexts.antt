@@ -4,7 +4,7 @@ use Rattle.std.specs.Prelude.{ℕ, List, codes}
 use Rattle.graphql_nodes.specs.declared.type_kind.TypeKind.{TypeKind}
 use Rattle.graphql_nodes.specs.declared.type_kind.TypeKind.TheVariants as k
 
--- a kind alone
+-- what messages call a kind of types
 abbrev pub kind_text : TypeKind → List ℕ
 kind_text k.Scalar = codes "a scalar type"
 kind_text k.Object = codes "an object type"
@@ -13,7 +13,7 @@ kind_text k.Union = codes "a union type"
 kind_text k.Enum = codes "an enum type"
 kind_text k.InputObject = codes "an input object type"
 
--- a definition of a type of this kind
+-- what messages call the definition of a type of this kind
 abbrev pub kind_definition_text : TypeKind → List ℕ
 kind_definition_text k.Scalar = codes "a scalar type definition"
 kind_definition_text k.Object = codes "an object type definition"
@@ -22,7 +22,7 @@ kind_definition_text k.Union = codes "a union type definition"
 kind_definition_text k.Enum = codes "an enum type definition"
 kind_definition_text k.InputObject = codes "an input object type definition"
 
--- an extension of one
+-- what messages call the extension of a type of this kind
 abbrev pub kind_extension_text : TypeKind → List ℕ
 kind_extension_text k.Scalar = codes "a scalar type extension"
 kind_extension_text k.Object = codes "an object type extension"

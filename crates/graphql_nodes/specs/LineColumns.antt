@@ -23,11 +23,11 @@ begins_char b = nat_lt b 128 || nat_le 192 b
 abbrev pub line_of : List ℕ → ℕ → ℕ
 line_of text offset = 1 + count_before (ends_line text) offset
 
--- its column: one more than the characters that begin before it, on its line
+-- the column of an offset: one more than the characters that begin before it, on its line
 abbrev pub column_of : List ℕ → ℕ → ℕ
 column_of text offset = 1 + count_before (λ i. begins_char (slice_index text i) && nat_eq (line_of text i) (line_of text offset)) offset
 
--- its line and column, if it is within the text or at its end
+-- the line and column of an offset, if it is within the text or at its end
 abbrev pub line_column_of : List ℕ → ℕ → Option LineColumn
 line_column_of text offset = cond (nat_le offset (length text)) (Some record { line = line_of text offset; column = column_of text offset }) None
 
@@ -35,10 +35,10 @@ line_column_of text offset = cond (nat_le offset (length text)) (Some record { l
 abbrev pub start_of : SourceSpan → Files → Option LineColumn
 start_of span files = option_and_then (λ file. line_column_of file.text span.start) (lookup (same_file span.file) files)
 
--- and where it ends
+-- the line and column where a span ends, in the file of its number
 abbrev pub end_of : SourceSpan → Files → Option LineColumn
 end_of span files = option_and_then (λ file. line_column_of file.text span.end) (lookup (same_file span.file) files)
 
--- both, if there are both
+-- where a span starts and where it ends, if both are within the file
 abbrev pub range_of : SourceSpan → Files → Option (Range LineColumn)
 range_of span files = option_and_then (λ from. option_map (λ to. record { start = from; end = to }) (end_of span files)) (start_of span files)

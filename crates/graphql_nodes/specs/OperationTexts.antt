@@ -3,13 +3,13 @@ use Rattle.std.specs.Prelude.{ℕ, List, codes}
 use Rattle.graphql_nodes.specs.declared.operation_type.OperationType.{OperationType}
 use Rattle.graphql_nodes.specs.declared.operation_type.OperationType.TheVariants.{Query, Mutation, Subscription}
 
--- the keyword
+-- the keyword of an operation type
 abbrev pub operation_text : OperationType → List ℕ
 operation_text Query = codes "query"
 operation_text Mutation = codes "mutation"
 operation_text Subscription = codes "subscription"
 
--- the name of the root type where no schema definition names one
+-- the name of an operation type's root type where no schema definition names one
 abbrev pub default_type_text : OperationType → List ℕ
 default_type_text Query = codes "Query"
 default_type_text Mutation = codes "Mutation"

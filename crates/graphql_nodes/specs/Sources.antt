@@ -12,6 +12,6 @@ Files = List (FileId × SourceFile)
 abbrev pub same_file : FileId → FileId → Bool
 same_file a b = nat_eq a.0 b.0
 
--- the files with more after them: a later file of a number takes the place of the earlier
+-- the files with more after them: a later file of a number replaces the earlier one
 abbrev pub merged : Files → Files → Files
 merged files more = insert_all same_file files more
