@@ -1,4 +1,5 @@
 pub mod ComponentEquality
+mod DrawnLemmas
 pub mod FirstOfEachLemmas
 pub mod LaterLemmas
 pub mod Lists

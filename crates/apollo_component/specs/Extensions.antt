@@ -1,5 +1,5 @@
 -- Identities of extensions: GraphQL specification of October 2021, sections 3.3.2 and 3.4.3.
-use Rattle.std.specs.Prelude.{ℕ, Option, None, Some, Bool, true, false, ◌==◌}
+use Rattle.std.specs.Prelude.{ℕ, ◌+◌, List, [], ◌∷◌, Option, None, Some, Bool, true, false, ◌==◌}
 use Rattle.graphql_nodes.specs.declared.source.SourceSpan.{SourceSpan}
 use Rattle.apollo_component.specs.declared.extension.ExtensionSource.{ExtensionSource}
 use Rattle.apollo_component.specs.declared.extension.ExtensionId.{ExtensionId}
@@ -25,6 +25,11 @@ source_at n = record { next = n }
 -- the number that a source gives next
 abbrev pub next_number : ExtensionSource → ℕ
 next_number s = s.next
+
+-- the identities that are drawn from this number on, one for an extension at each of these locations
+abbrev pub drawn_from : ℕ → List (Option SourceSpan) → List ExtensionId
+drawn_from n [] = []
+drawn_from n (location ∷ locations) = extension_id n location ∷ drawn_from (n + 1) locations
 
 -- the identity of an origin that is an extension
 abbrev pub id_of : ComponentOrigin → Option ExtensionId

@@ -1,5 +1,5 @@
 //! Identities of extensions: GraphQL specification of October 2021, sections 3.3.2 and 3.4.3.
-ghost use Rattle.std.specs.Prelude.{◌≡◌, ◌+◌, ◌-◌, ◌^◌, IfOk, OnErr, None, Some, nat_eq};
+ghost use Rattle.std.specs.Prelude.{◌≡◌, ◌+◌, ◌-◌, ◌^◌, IfOk, IsErr, OnErr, None, Some, nat_eq};
 ghost use Rattle.std.specs.Cmp.{on_equiv, on_per};
 ghost use Rattle.std.specs.Cmp.Rules.{hashing};
 ghost use Rattle.std.specs.Cmp;
@@ -54,6 +54,7 @@ impl ExtensionSource {
     pub fn draw(&mut self, location: Option<SourceSpan>) -> Result<ExtensionId, IdsSpent>
         ensures drawn { IfOk result (λ id. (id ≡ extension_id (next_number self.old) location) × (self.new ≡ source_at (next_number self.old + 1))) }
         ensures spent { OnErr result (next_number self.old ≡ 2 ^ 64 - 1) }
+        ensures last { next_number self.old ≡ 2 ^ 64 - 1 → IsErr result }
         ensures err { OnErr result (self.new ≡ self.old) }
     {
         let number = self.next;
@@ -83,6 +84,7 @@ impl ExtensionId {
     ) -> Result<ExtensionId, IdsSpent>
         ensures drawn { IfOk result (λ id. (id ≡ extension_id (next_number source.old) extension.now.location) × (source.new ≡ source_at (next_number source.old + 1))) }
         ensures spent { OnErr result (next_number source.old ≡ 2 ^ 64 - 1) }
+        ensures last { next_number source.old ≡ 2 ^ 64 - 1 → IsErr result }
         ensures err { OnErr result (source.new ≡ source.old) }
     {
         source.draw(extension.location())

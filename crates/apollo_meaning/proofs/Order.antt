@@ -1,5 +1,6 @@
 pub mod FoldingLemmas
 pub mod LongerLemmas
 pub mod MomentLemmas
+pub mod NumberLemmas
 pub mod OnceLemmas
 pub mod PlaceLemmas

@@ -1,5 +1,6 @@
 //! Laws of the definitions, for those who build on them; and what `==` and clones are at the errors of a build.
-ghost use Rattle.std.specs.Prelude.{◌≡◌, ◌≤◌, ◌+◌, ℕ, Bool, List, [], ◌∷◌, ◌++◌, None, Some, true, false, length, codes, map, filter_map, flat_map, option_map, All};
+ghost use Rattle.std.specs.Prelude.{◌≡◌, ◌≤◌, ◌+◌, ℕ, Bool, List, [], ◌∷◌, ◌++◌, None, Some, true, false, length, codes, map, filter_map, flat_map, option_map, nat_eq, All};
+ghost use Rattle.std.specs.List.{enumerate_from};
 ghost use Rattle.std.specs.Option.{option_or};
 ghost use Rattle.std.specs.Cmp.{IsEquivalence};
 ghost use Rattle.apollo_meaning.specs.Items.Parts.{TypePart, SchemaPart, kind_of, key_of, same_kind, Root, roots_in};
@@ -27,11 +28,13 @@ ghost use Rattle.apollo_meaning.specs.Rows.BuiltInNames.{defined_names, componen
 ghost use Rattle.apollo_meaning.specs.Order.SpentIds.{SpendsIdsSoFar, SpendsIds};
 ghost use Rattle.apollo_types.specs.TypeWriteOut.{type_description, type_kind, type_location, type_name, write_type};
 ghost use Rattle.apollo_component.specs.EachAfter.{each_after};
+ghost use Rattle.apollo_component.specs.Extensions.{same_origin};
 ghost use Rattle.apollo_component.specs.declared.extension.ComponentOrigin.TheVariants.{Definition};
 ghost use Rattle.graphql_nodes.specs.declared.type_kind.TypeKind.{TypeKind};
 ghost use Rattle.apollo_component.specs.FirstOfEach.{first_of_each, later_of_each, same_key};
 ghost use Rattle.graphql_nodes.specs.NameView.{NameView};
 ghost use Rattle.graphql_nodes.specs.SameText.{same_text};
+ghost use Rattle.graphql_nodes.specs.Tables.{HasUniqueKeys};
 ghost use Rattle.graphql_nodes.specs.Clones.{IsExact};
 ghost use Rattle.graphql_nodes.specs.Comparing.{ComparesBy};
 ghost use Rattle.apollo_meaning.specs.Faults.BareErrors.{bare_build_error};
@@ -51,6 +54,15 @@ pub fn folded_extensions()
 pub fn folded_schema_extensions()
     ensures { (start : ℕ) (xs : List ListItem) (s : SchemaPart) → first_schema xs ≡ Some s
         → map (λ e. e.1) (schema_sourced start (folding_order xs)) ≡ schema_extensions xs }
+{}
+
+/// No two extensions that a list folds have one number, whether of types or of the schema: they are numbered in folding order. So
+/// the components of two extensions of one type, or of the schema, have two origins. GraphQL specification of October 2021,
+/// sections 3.3.2 and 3.4.3.
+pub fn folded_extensions_have_numbers_of_their_own()
+    ensures numbers { (start : ℕ) (xs : List ListItem) → HasUniqueKeys nat_eq (enumerate_from start (folding_order xs)) }
+    ensures of_a_type { (start : ℕ) (xs : List ListItem) (n : List ℕ) → HasUniqueKeys same_origin (extensions_with_origin n start (folding_order xs)) }
+    ensures of_the_schema { (start : ℕ) (xs : List ListItem) → HasUniqueKeys same_origin (schema_sourced start (folding_order xs)) }
 {}
 
 /// A type has the kind, the description, the name and the location of the definition that its parts begin with, and each kind

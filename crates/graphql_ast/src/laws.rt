@@ -30,6 +30,7 @@ use graphql_nodes::collections::items::Items;
 use graphql_nodes::collections::key_set::KeySet;
 use graphql_nodes::collections::table::Table;
 use graphql_nodes::directive_location::DirectiveLocation;
+use graphql_nodes::line_column::LineColumn;
 use graphql_nodes::name::InvalidNameError;
 use graphql_nodes::operation_type::OperationType;
 use graphql_nodes::source::{FileId, SourceFile, SourceSpan};
@@ -126,6 +127,7 @@ pub fn clones_are_exact()
     ensures input_object_type_extension { IsExact ⟦<InputObjectTypeExtension as Clone>⟧.is_clone }
     ensures source_file { IsExact ⟦<SourceFile as Clone>⟧.is_clone }
     ensures source_span { IsExact ⟦<SourceSpan as Clone>⟧.is_clone }
+    ensures line_column { IsExact ⟦<LineColumn as Clone>⟧.is_clone }
     ensures file_id { IsExact ⟦<FileId as Clone>⟧.is_clone }
     ensures operation_type { IsExact ⟦<OperationType as Clone>⟧.is_clone }
     ensures type_kind { IsExact ⟦<TypeKind as Clone>⟧.is_clone }

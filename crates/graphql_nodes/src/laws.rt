@@ -14,6 +14,7 @@ use crate::collections::static_text::StaticText;
 use crate::collections::table::Table;
 use crate::collections::text::Text;
 use crate::directive_location::DirectiveLocation;
+use crate::line_column::LineColumn;
 use crate::name::{InvalidNameError, Name};
 use crate::node::Node;
 use crate::node_str::NodeStr;
@@ -49,10 +50,11 @@ pub fn equality_of_names()
     ensures static_text { ComparesBy ⟦<StaticText as PartialEq>⟧.eq (λ t. t) }
 {}
 
-/// Locations, source files, kinds and keys are equal exactly where they are one.
+/// Locations, lines with their columns, source files, kinds and keys are equal exactly where they are one.
 pub fn equality_of_locations_and_kinds()
     ensures file_id { ComparesBy ⟦<FileId as PartialEq>⟧.eq (λ id. id) }
     ensures source_span { ComparesBy ⟦<SourceSpan as PartialEq>⟧.eq (λ span. span) }
+    ensures line_column { ComparesBy ⟦<LineColumn as PartialEq>⟧.eq (λ place. place) }
     ensures source_file { ComparesBy ⟦<SourceFile as PartialEq>⟧.eq (λ file. file) }
     ensures operation_type { ComparesBy ⟦<OperationType as PartialEq>⟧.eq (λ kind. kind) }
     ensures type_kind { ComparesBy ⟦<TypeKind as PartialEq>⟧.eq (λ kind. kind) }

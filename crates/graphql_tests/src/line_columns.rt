@@ -90,3 +90,10 @@ fn lines_and_columns_of_spans(rt: HostRuntime) {
         )
     );
 }
+
+#[test]
+fn line_columns_are_equal_by_both_numbers(rt: HostRuntime) {
+    assert!(rt; at(2, 3) == at(2, 3));
+    assert!(rt; at(2, 3) != at(2, 4));
+    assert!(rt; at(2, 3) != at(3, 3));
+}

@@ -2,7 +2,7 @@ use Rattle.graphql_nodes.specs.contracts.operation_type.OperationType as operati
 use Rattle.graphql_nodes.specs.contracts.type_kind.TypeKind as kind
 use Rattle.graphql_nodes.specs.contracts.directive_location.DirectiveLocation as location
 use Rattle.graphql_nodes.proofs.Comparisons.{kinds}
-use Rattle.graphql_nodes.proofs.LocationEquality.{file_ids, source_spans, source_files, hash_keys}
+use Rattle.graphql_nodes.proofs.LocationEquality.{file_ids, source_spans, line_columns, source_files, hash_keys}
 use Rattle.graphql_nodes.proofs.laws.equality_of_locations_and_kinds.Goals as goal
 
 pub returns-clause-file_id : goal.returns-clause-file_id
@@ -10,6 +10,9 @@ returns-clause-file_id c = file_ids.at
 
 pub returns-clause-source_span : goal.returns-clause-source_span
 returns-clause-source_span c = source_spans.at
+
+pub returns-clause-line_column : goal.returns-clause-line_column
+returns-clause-line_column c = line_columns.at
 
 pub returns-clause-source_file : goal.returns-clause-source_file
 returns-clause-source_file c = source_files.at
