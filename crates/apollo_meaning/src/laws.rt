@@ -18,8 +18,8 @@ ghost use Rattle.apollo_meaning.specs.Faults.TypeFaults.{orphan};
 ghost use Rattle.apollo_meaning.specs.Faults.ListFaults.{faults_in, faults_of, found_of_type, found_of_schema};
 ghost use Rattle.apollo_meaning.specs.Steps.Prefixes.{found, found_at};
 ghost use Rattle.apollo_meaning.specs.Rows.FaultRows.{faulty_list, its_faults};
-ghost use Rattle.apollo_meaning.specs.Completion.Adoption.{adopted, extended_names, orphans_of, schema_orphans, with_adopted};
-ghost use Rattle.apollo_meaning.specs.Completion.ImpliedSchema.{completed, implied_schema};
+ghost use Rattle.apollo_meaning.specs.Completion.Adoption.{adopted, adopted_part, extended_names, orphans_of, schema_orphans, with_adopted};
+ghost use Rattle.apollo_meaning.specs.Completion.ImpliedSchema.{completed, implicit_roots, implied_schema, schema_of_roots};
 ghost use Rattle.apollo_meaning.specs.Completion.OrphanNames.{orphan_names};
 ghost use Rattle.apollo_meaning.specs.Schema.Definition.{schema_of, schema_sourced};
 ghost use Rattle.apollo_meaning.specs.Rows.SchemaRows.{type_name_of, extensions_alone, adopted_schema, adopted_faults, orphan_faults, query_type_alone, implied_query, schema_extensions_that_wait, waited_for_schema, dropped_root_fault, built_in_int, int_again, redefinition_fault};
@@ -82,6 +82,32 @@ pub fn types_are_headed_by_their_definitions()
 /// one text. GraphQL specification of October 2021, section 3.3.
 pub fn type_names_are_the_first_of_each_text()
     ensures { (xs : List ListItem) → type_names xs ≡ first_of_each same_text (map (λ p. p.name) (filter_map defined_part xs)) }
+{}
+
+/// The definition that the type of a name has in a completed list, case by case: the first one of the list; where there is none
+/// and extensions are adopted, an empty one of the kind, with the name and at the location of the name's first extension; and
+/// else none. GraphQL specification of October 2021, sections 3.4 and 3.4.3.
+pub fn definitions_by_cases()
+    ensures defined { (adopts : Bool) (xs : List ListItem) (n : List ℕ) (d : TypePart) → first xs n ≡ Some d → first (completed adopts xs) n ≡ Some d }
+    ensures adopted { (xs : List ListItem) (n : List ℕ) (e : TypePart) (es : List TypePart) → first xs n ≡ None → extensions_of xs n ≡ e ∷ es
+        → first (completed true xs) n ≡ Some (adopted_part e) }
+    ensures orphaned { (xs : List ListItem) (n : List ℕ) → first xs n ≡ None → first (completed false xs) n ≡ None }
+    ensures unknown { (adopts : Bool) (xs : List ListItem) (n : List ℕ) → first xs n ≡ None → extensions_of xs n ≡ [] → first (completed adopts xs) n ≡ None }
+{}
+
+/// The definition that the schema has in a completed list, case by case: the first one of the list. Where there is none and the
+/// schema's extensions are adopted, it has no root of its own if they name one, and else the implicit roots, of which there may be
+/// none. Where they are not adopted, it has the implicit roots, and without one there is no definition. GraphQL specification of
+/// October 2021, sections 3.3, 3.3.1 and 3.3.2.
+pub fn schema_definitions_by_cases()
+    ensures written { (adopts : Bool) (xs : List ListItem) (s : SchemaPart) → first_schema xs ≡ Some s → first_schema (completed adopts xs) ≡ Some s }
+    ensures named { (xs : List ListItem) (r : Root) (rs : List Root) → first_schema xs ≡ None → roots_in (schema_extensions xs) ≡ r ∷ rs
+        → first_schema (completed true xs) ≡ Some (schema_of_roots []) }
+    ensures unnamed { (xs : List ListItem) → first_schema xs ≡ None → roots_in (schema_extensions xs) ≡ []
+        → first_schema (completed true xs) ≡ Some (schema_of_roots (implicit_roots (with_adopted true xs))) }
+    ensures implicit { (xs : List ListItem) (r : Root) (rs : List Root) → first_schema xs ≡ None → implicit_roots xs ≡ r ∷ rs
+        → first_schema (completed false xs) ≡ Some (schema_of_roots (r ∷ rs)) }
+    ensures none { (xs : List ListItem) → first_schema xs ≡ None → implicit_roots xs ≡ [] → first_schema (completed false xs) ≡ None }
 {}
 
 /// Of a joined list, the first definition of a name is that of the front, or else that of the rest: GraphQL specification of

@@ -1,5 +1,5 @@
 -- What a list that is completed at its end leaves without a definition, and what is found in it.
-use Rattle.apollo_meaning.proofs.Prelude.{◌≡◌, ℕ, Bool, true, false, cond, not, ◌==◌, List, [], ◌∷◌, ◌++◌, length, filter, map, Option, Some, None, is_some, refl, sym, ap, subst, ◌∙◌, arith, AllByRecursion, filter_map, flat_map, list_any, option_map_or, option_or, nat_list_eq_equiv, nat_tests, append-nil, filter_map-append, list_any-first_of_each, each_after, TypePart, key_of, ListItem, extended_part, same, first, extensions_of, Fault, orphan, schema_orphan, extended_names, orphans_of, schema_orphans, adopted_part, adopted_by, adopted, with_adopted, implied_schema, completed, found_at, found, same-true}
+use Rattle.apollo_meaning.proofs.Prelude.{◌≡◌, ℕ, Bool, true, false, cond, not, ◌||◌, ◌==◌, List, [], ◌∷◌, ◌++◌, length, filter, map, Option, Some, None, refl, sym, ap, ◌∙◌, arith, AllByRecursion, filter_map, flat_map, list_any, option_map_or, option_or, nat_list_eq_equiv, nat_tests, append-nil, filter_map-append, list_any-first_of_each, each_after, TypePart, key_of, ListItem, Defined, extended_part, same, first, extensions_of, Fault, orphan, schema_orphan, extended_names, orphans_of, schema_orphans, adopted_part, adopted_by, adopted, with_adopted, implied_schema, completed, found_at, found, same-true}
 use Rattle.apollo_meaning.proofs.Items.ItemLemmas.{first-append}
 use Rattle.apollo_meaning.specs.Faults.ListFaults.{found_from, faults_in}
 use Rattle.apollo_meaning.specs.Completion.OrphanNames.{first_name, orphan_names}
@@ -18,41 +18,74 @@ extensions_of-own n (p ∷ ps) = by (same n (key_of p)) refl (extensions_of-own 
 
 module _ (xs : List ListItem) where
   -- what is adopted for these names
-  abbrev adopted_for : List (List ℕ) → List ListItem
+  abbrev pub adopted_for : List (List ℕ) → List ListItem
   adopted_for = flat_map (λ n. adopted_by (orphans_of xs n))
 
-  -- it extends nothing
-  adopted-unextended : (ns : List (List ℕ)) → filter_map extended_part (adopted_for ns) ≡ []
-  adopted-unextended [] = refl
-  adopted-unextended (n ∷ ns) = by (orphans_of xs n) (adopted-unextended ns)
+  orphans_of-own : (n : List ℕ) → AllByRecursion (λ p. same n (key_of p) ≡ true) (orphans_of xs n)
+  orphans_of-own n = by (first xs n)
     where
-      by : (ps : List TypePart) → filter_map extended_part (adopted_for ns) ≡ [] → filter_map extended_part (adopted_by ps ++ adopted_for ns) ≡ []
+      by : (o : Option TypePart) → AllByRecursion (λ p. same n (key_of p) ≡ true) (option_map_or (λ _. []) o (extensions_of xs n))
+      by None = extensions_of-own n (filter_map extended_part xs)
+      by (Some d) = tt
+
+  -- it holds definitions of types alone
+  pub adopted-alone : {B : Type 0} (f : ListItem → Option B) → ((p : TypePart) → f (Defined p) ≡ None) → (ns : List (List ℕ)) → filter_map f (adopted_for ns) ≡ []
+  adopted-alone f none [] = refl
+  adopted-alone f none (n ∷ ns) = by (orphans_of xs n) (adopted-alone f none ns)
+    where
+      by : (ps : List TypePart) → filter_map f (adopted_for ns) ≡ [] → filter_map f (adopted_by ps ++ adopted_for ns) ≡ []
       by [] rest = rest
-      by (p ∷ ps) rest = rest
+      by (p ∷ ps) rest = rw (none (adopted_part p)) rest
 
   extensions_of-adopted : (n : List ℕ) → extensions_of (xs ++ adopted xs) n ≡ extensions_of xs n
   extensions_of-adopted n =
-      ap (filter (λ p. same n (key_of p))) (filter_map-append extended_part xs (adopted xs) ∙ ap (λ l. filter_map extended_part xs ++ l) (adopted-unextended (extended_names xs)) ∙ append-nil (filter_map extended_part xs))
+      ap (filter (λ p. same n (key_of p))) (filter_map-append extended_part xs (adopted xs) ∙ ap (λ l. filter_map extended_part xs ++ l) (adopted-alone extended_part (λ p. refl) (extended_names xs)) ∙ append-nil (filter_map extended_part xs))
 
-  -- and defines each of them that has an extension and no definition
-  adopted-defined : (n : List ℕ) (p : TypePart) (ps : List TypePart) → orphans_of xs n ≡ p ∷ ps → same n (key_of p) ≡ true → (ns : List (List ℕ)) → list_any (same n) ns ≡ true → is_some (first (adopted_for ns) n) ≡ true
-  adopted-defined n p ps orphaned own [] among = absurd (let h : false ≡ true = among in cc)
-  adopted-defined n p ps orphaned own (m ∷ ms) among = by (same n m) refl among (adopted-defined n p ps orphaned own ms)
+  -- the definition that a name without one is given
+  abbrev pub adopted_first : List TypePart → Option TypePart
+  adopted_first [] = None
+  adopted_first (e ∷ es) = Some (adopted_part e)
+
+  -- it defines each of them that has an extension and no definition, and no other name
+  first-adopted_for : (n : List ℕ) (ns : List (List ℕ)) → first (adopted_for ns) n ≡ cond (list_any (same n) ns) (adopted_first (orphans_of xs n)) None
+  first-adopted_for n [] = refl
+  first-adopted_for n (m ∷ ms) = by (same n m) refl (first-adopted_for n ms)
     where
-      defines : (b : Bool) (q : TypePart) (o : Option TypePart) → is_some o ≡ true → is_some (cond b (Some q) o) ≡ true
-      defines true q o rest = refl
-      defines false q o rest = rest
+      itself : (ps : List TypePart) → AllByRecursion (λ p. same n (key_of p) ≡ true) ps → (b : Bool) → first (adopted_for ms) n ≡ cond b (adopted_first ps) None
+          → first (adopted_by ps ++ adopted_for ms) n ≡ adopted_first ps
+      itself [] own true rest = rest
+      itself [] own false rest = rest
+      itself (p ∷ ps) own b rest = ap (λ c. cond c (Some (adopted_part p)) (first (adopted_for ms) n)) own.0
 
-      other : (qs : List TypePart) → is_some (first (adopted_for ms) n) ≡ true → is_some (first (adopted_by qs ++ adopted_for ms) n) ≡ true
-      other [] rest = rest
-      other (q ∷ qs) rest = defines (same n (key_of q)) (adopted_part q) (first (adopted_for ms) n) rest
+      other : (ps : List TypePart) → AllByRecursion (λ p. same m (key_of p) ≡ true) ps → same n m ≡ false → first (adopted_by ps ++ adopted_for ms) n ≡ first (adopted_for ms) n
+      other [] own apart = refl
+      other (p ∷ ps) own apart = ap (λ c. cond c (Some (adopted_part p)) (first (adopted_for ms) n)) (ap (same n) (sym (same-true m (key_of p) own.0)) ∙ apart)
 
-      by : (b : Bool) → same n m ≡ b → list_any (same n) (m ∷ ms) ≡ true → (list_any (same n) ms ≡ true → is_some (first (adopted_for ms) n) ≡ true) → is_some (first (adopted_for (m ∷ ms)) n) ≡ true
-      by true e among rest =
-          ap (λ (k : List ℕ). is_some (first (adopted_by (orphans_of xs k) ++ adopted_for ms) n)) (sym (same-true n m e))
-          ∙ ap (λ l. is_some (first (adopted_by l ++ adopted_for ms) n)) orphaned
-          ∙ ap (λ b. is_some (cond b (Some (adopted_part p)) (first (adopted_for ms) n))) own
-      by false e among rest = other (orphans_of xs m) (rest (let h = rw e at among in h))
+      by : (b : Bool) → same n m ≡ b → first (adopted_for ms) n ≡ cond (list_any (same n) ms) (adopted_first (orphans_of xs n)) None
+          → first (adopted_for (m ∷ ms)) n ≡ cond (b || list_any (same n) ms) (adopted_first (orphans_of xs n)) None
+      by true e rest =
+          ap (λ (k : List ℕ). first (adopted_by (orphans_of xs k) ++ adopted_for ms) n) (sym (same-true n m e))
+          ∙ itself (orphans_of xs n) (orphans_of-own n) (list_any (same n) ms) rest
+      by false e rest = other (orphans_of xs m) (orphans_of-own m) e ∙ rest
+
+  -- a name without an extension is not among those that are extended
+  extended-or_none : (n : List ℕ) (b : Bool) (ps : List TypePart) → orphans_of xs n ≡ ps → (length (extensions_of xs n) == 0) ≡ not b → cond b (adopted_first ps) None ≡ adopted_first ps
+  extended-or_none n true ps is some = refl
+  extended-or_none n false [] is some = refl
+  extended-or_none n false (p ∷ ps) is some = absurd (let h : (length (p ∷ ps) == 0) ≡ true = ap (λ l. length l == 0) (sym (orphans-some p ps is)) ∙ some in grind (arith, nat_tests, h))
+    where
+      orphans-some : (p : TypePart) (ps : List TypePart) → orphans_of xs n ≡ p ∷ ps → extensions_of xs n ≡ p ∷ ps
+      orphans-some p ps is = by (first xs n) is
+        where
+          by : (o : Option TypePart) → option_map_or (λ _. []) o (extensions_of xs n) ≡ p ∷ ps → extensions_of xs n ≡ p ∷ ps
+          by None h = h
+          by (Some d) h = cc
+
+  pub first-adopted : (n : List ℕ) → first (adopted xs) n ≡ adopted_first (orphans_of xs n)
+  first-adopted n =
+      first-adopted_for n (extended_names xs)
+      ∙ extended-or_none n (list_any (same n) (extended_names xs)) (orphans_of xs n) refl
+      (no_extension n (filter_map extended_part xs) ∙ ap not (sym (list_any-first_of_each same nat_list_eq_equiv n (map key_of (filter_map extended_part xs)))))
 
   -- so no name is left without a definition
   adopted-orphans_of : (n : List ℕ) → orphans_of (xs ++ adopted xs) n ≡ []
@@ -65,31 +98,11 @@ module _ (xs : List ListItem) where
           either : (o : Option TypePart) → option_map_or (λ _. []) o (extensions_of (xs ++ adopted xs) n) ≡ []
           either (Some d) = refl
           either None = extensions_of-adopted n ∙ f
-      by None e (p ∷ ps) f = either (first (xs ++ adopted xs) n) refl
-        where
-          orphaned : orphans_of xs n ≡ p ∷ ps
-          orphaned = ap (λ o. option_map_or (λ _. []) o (extensions_of xs n)) e ∙ f
-
-          own : same n (key_of p) ≡ true
-          own = (subst (AllByRecursion (λ p. same n (key_of p) ≡ true)) f (extensions_of-own n (filter_map extended_part xs))).0
-
-          some : (b : Bool) → (length (extensions_of xs n) == 0) ≡ not b → b ≡ true
-          some true h = refl
-          some false h = absurd (let g : (length (p ∷ ps) == 0) ≡ true = ap (λ l. length l == 0) (sym f) ∙ h in grind (arith, nat_tests, g))
-
-          extended : list_any (same n) (extended_names xs) ≡ true
-          extended =
-              list_any-first_of_each same nat_list_eq_equiv n (map key_of (filter_map extended_part xs))
-              ∙ some (list_any (same n) (map key_of (filter_map extended_part xs))) (no_extension n (filter_map extended_part xs))
-
-          defined : is_some (first (xs ++ adopted xs) n) ≡ true
-          defined =
-              ap is_some (first-append xs (adopted xs) n ∙ ap (λ o. option_or o (first (adopted xs) n)) e)
-              ∙ adopted-defined n p ps orphaned own (extended_names xs) extended
-
-          either : (o : Option TypePart) → first (xs ++ adopted xs) n ≡ o → orphans_of (xs ++ adopted xs) n ≡ []
-          either (Some d) g = ap (λ o. option_map_or (λ _. []) o (extensions_of (xs ++ adopted xs) n)) g
-          either None g = absurd (let h : false ≡ true = sym (ap is_some g) ∙ defined in cc)
+      by None e (p ∷ ps) f =
+          let orphaned : orphans_of xs n ≡ p ∷ ps = ap (λ o. option_map_or (λ _. []) o (extensions_of xs n)) e ∙ f in
+          let defined : first (xs ++ adopted xs) n ≡ Some (adopted_part p) =
+          first-append xs (adopted xs) n ∙ ap (λ o. option_or o (first (adopted xs) n)) e ∙ first-adopted n ∙ ap adopted_first orphaned in
+          ap (λ o. option_map_or (λ _. []) o (extensions_of (xs ++ adopted xs) n)) defined
 
   pub orphan_names-adopted : orphan_names (xs ++ adopted xs) ≡ []
   orphan_names-adopted = none (extended_names (xs ++ adopted xs))
