@@ -1,4 +1,5 @@
 pub mod BuiltInNames
+pub mod DirectiveRows
 pub mod FaultRows
 pub mod SchemaRows
 pub mod TypeRows

@@ -17,13 +17,16 @@ ghost use Rattle.apollo_meaning.specs.Faults.RootFaults.{root_faults, same_root,
 ghost use Rattle.apollo_meaning.specs.Faults.TypeFaults.{orphan};
 ghost use Rattle.apollo_meaning.specs.Faults.ListFaults.{faults_in, faults_of, found_of_type, found_of_schema};
 ghost use Rattle.apollo_meaning.specs.Steps.Prefixes.{found, found_at};
+ghost use Rattle.apollo_meaning.specs.Rows.DirectiveRows.{directive_at, directives_replaced, replaced_twice};
 ghost use Rattle.apollo_meaning.specs.Rows.FaultRows.{faulty_list, its_faults};
 ghost use Rattle.apollo_meaning.specs.Completion.Adoption.{adopted, adopted_part, extended_names, orphans_of, schema_orphans, with_adopted};
 ghost use Rattle.apollo_meaning.specs.Completion.ImpliedSchema.{completed, implicit_roots, implied_schema, schema_of_roots};
 ghost use Rattle.apollo_meaning.specs.Completion.OrphanNames.{orphan_names};
 ghost use Rattle.apollo_meaning.specs.Schema.Definition.{schema_of, schema_sourced};
 ghost use Rattle.apollo_meaning.specs.Rows.SchemaRows.{type_name_of, extensions_alone, adopted_schema, adopted_faults, orphan_faults, query_type_alone, implied_query, schema_extensions_that_wait, waited_for_schema, dropped_root_fault, built_in_int, int_again, redefinition_fault};
+ghost use Rattle.apollo_built_in.specs.BuiltInNodes.{built_in_location};
 ghost use Rattle.apollo_built_in.specs.BuiltInTable.{built_in_definitions};
+ghost use Rattle.apollo_meaning.specs.Directives.{directive_definitions, directive_names, directive_of};
 ghost use Rattle.apollo_meaning.specs.Rows.BuiltInNames.{defined_names, component_names, Distinct};
 ghost use Rattle.apollo_meaning.specs.Order.SpentIds.{SpendsIdsSoFar, SpendsIds};
 ghost use Rattle.apollo_types.specs.TypeWriteOut.{type_description, type_kind, type_location, type_name, write_type};
@@ -263,6 +266,15 @@ pub fn schema_extensions_that_wait()
 pub fn built_in_scalar_redefined()
     ensures ignored { faults_of false (added false built_in_int ++ added true int_again) ≡ [] }
     ensures refused { faults_of false (added false built_in_int ++ added false int_again) ≡ redefinition_fault }
+{}
+
+/// A built-in directive that is defined again, twice, computed: its name stands where it stood and means the first of these two; the
+/// second one is a fault, and each other name means its one definition. GraphQL specification of October 2021, section 3.13.
+pub fn directives_replaced()
+    ensures names { map (λ name. name.text) (directive_names (directive_definitions (added_items (added false directives_replaced)))) ≡ codes "a" ∷ codes "b" ∷ codes "c" ∷ [] }
+    ensures replaced { directive_of (directive_definitions (added_items (added false directives_replaced))) (codes "a") ≡ Some (directive_at (line 3) (codes "a") 3) }
+    ensures built_in { directive_of (directive_definitions (added_items (added false directives_replaced))) (codes "b") ≡ Some (directive_at built_in_location (codes "b") 2) }
+    ensures faults { faults_of false (added false directives_replaced) ≡ replaced_twice }
 {}
 
 /// Errors of a build are equal exactly where they are one without the locations of the names in them. The locations of what
