@@ -1,12 +1,13 @@
 -- What a document of a list is erased to: what is kept of the list, stripped.
-use Rattle.std.proofs.Common.{◌≡◌, ◌∙◌, ap, refl, sym, List, [], ◌∷◌, ◌++◌, map, Option, option_map}
-use Rattle.std.specs.List.{AllZip, cons_option, filter_map}
+use Rattle.std.proofs.Common.{◌≡◌, ◌∙◌, ap, refl, sym, true, List, [], ◌∷◌, ◌++◌, map, Option, option_map}
+use Rattle.std.specs.List.{AllByRecursion, AllZip, cons_option, filter_map}
 use Rattle.graphql_nodes.specs.NameView.{NameView}
 use Rattle.graphql_nodes.specs.NodeView.{NodeView}
 use Rattle.graphql_nodes.specs.Tables.{values_of}
 use Rattle.graphql_ast.specs.declared.definition.Definition.TheVariants as d
 use Rattle.graphql_ast.specs.declared.operation.FragmentDefinition.{FragmentDefinition}
 use Rattle.graphql_ast.specs.declared.operation.OperationDefinition.{OperationDefinition}
+use Rattle.apollo_component.proofs.Lists.Each.{each-append}
 use Rattle.apollo_schema.specs.declared.schema.Schema.{Schema}
 use Rattle.apollo_executable.specs.Erasure.{at_place, erased_definitions, erased_fragment, erased_operation}
 use Rattle.apollo_executable.specs.Listed.{listed}
@@ -16,7 +17,7 @@ use Rattle.apollo_executable.specs.declared.operation.Fragment.{Fragment}
 use Rattle.apollo_executable.specs.declared.operation.Operation.{Operation}
 use Rattle.apollo_document.specs.AddedDefinitions.{DocumentItem}
 use Rattle.apollo_document.specs.Documents.{IsDocumentOf, IsUnderName}
-use Rattle.apollo_document.specs.KeptDefinitions.{kept_anonymous, kept_fragments, kept_named}
+use Rattle.apollo_document.specs.KeptDefinitions.{is_rooted, kept_anonymous, kept_fragments, kept_named}
 use Rattle.apollo_document.specs.TypedDefinitions.{IsFragmentOf, IsOperationOf, stripped_operation}
 use Rattle.apollo_compiler.specs.Headline.{fragment_stripped, kept_definitions, kept_operations, operation_stripped}
 
@@ -56,3 +57,13 @@ document-kept s xs document h =
     h.anonymous (zip-values (IsOperationOf s) (kept_named s xs) document.operations.named h.named)) in
     let fragments = fragments-kept s (values_of (kept_fragments s xs)) (values_of document.fragments) (zip-values (IsFragmentOf s) (kept_fragments s xs) document.fragments h.fragments) in
     λ i. operations i ++ fragments i
+
+-- each operation that is kept has a root type
+each-value : (s : Option Schema) (es : List (NameView × NodeView OperationDefinition)) → AllByRecursion (λ e. is_rooted s e.1 ≡ true) es → AllByRecursion (λ n. is_rooted s n ≡ true) (values_of es)
+each-value s [] a = tt
+each-value s (e ∷ es) a = (a.0, each-value s es a.1)
+
+pub operations-rooted : (s : Option Schema) (xs : List DocumentItem) → AllByRecursion (λ n. is_rooted s n ≡ true) (listed (kept_anonymous s xs)) → AllByRecursion (λ e. is_rooted s e.1 ≡ true) (kept_named s xs)
+    → AllByRecursion (λ n. is_rooted s n ≡ true) (kept_operations s xs)
+operations-rooted s xs anonymous named =
+    each-append (λ n. is_rooted s n ≡ true) (listed (kept_anonymous s xs)) (values_of (kept_named s xs)) anonymous (each-value s (kept_named s xs) named)

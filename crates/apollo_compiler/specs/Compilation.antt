@@ -41,16 +41,6 @@ pub record IsCompiled (options : CompileOptions) (schema_documents executable_do
   -- what the document is erased to
   pub erased : c.erased ≡ erased_document c.document
 
--- documents, and what they are compiled to
-pub record Compilation : Type 0 where
-  pub options : CompileOptions
-  pub schema_documents : List Document
-  pub executable_documents : List Document
-  -- whether definitions of the type system are at fault in executable documents
-  pub errors : Bool
-  pub compiled : Compiled
-  pub is : IsCompiled options schema_documents executable_documents errors compiled
-
 -- the rebuild is without fault, equal, and written out the same
 pub record IsRebuiltAsItWas (c : Compiled) : Type 0 where
   pub faultless : c.rebuilt_faults.items ≡ []

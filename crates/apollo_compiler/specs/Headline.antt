@@ -1,22 +1,28 @@
 -- The words of the headline: GraphQL specification of October 2021, sections 2.2 to 2.8, 3, 3.4.3 and 6.3.2.
-use Rattle.std.specs.Prelude.{◌≡◌, ℕ, Bool, List, ◌++◌, map, Option, Some, option_map}
-use Rattle.std.specs.List.{filter_map}
+use Rattle.std.specs.Prelude.{◌≡◌, ◌↔◌, ℕ, Bool, List, [], ◌++◌, map, Option, None, Some, IsSome, nat_eq, option_map}
+use Rattle.std.specs.List.{enumerate_from, filter_map}
 use Rattle.graphql_nodes.specs.NameView.{NameView}
 use Rattle.graphql_nodes.specs.NodeView.{NodeView}
-use Rattle.graphql_nodes.specs.SameText.{by_text}
-use Rattle.graphql_nodes.specs.Tables.{lookup, values_of}
+use Rattle.graphql_nodes.specs.SameText.{by_text, same_text}
+use Rattle.graphql_nodes.specs.Tables.{HasUniqueKeys, keys_of, lookup, values_of}
 use Rattle.graphql_ast.specs.declared.definition.Definition as ast
 use Rattle.graphql_ast.specs.declared.definition.Definition.TheVariants as d
 use Rattle.graphql_ast.specs.declared.operation.FragmentDefinition.{FragmentDefinition}
 use Rattle.graphql_ast.specs.declared.operation.OperationDefinition.{OperationDefinition}
 use Rattle.apollo_types.specs.declared.extended_type.ExtendedType.{ExtendedType}
-use Rattle.apollo_meaning.specs.Items.ListItems.{ListItem}
-use Rattle.apollo_meaning.specs.Items.Named.{extensions_of, first, of_kind}
-use Rattle.apollo_meaning.specs.Items.Parts.{TypePart, kind_of}
+use Rattle.apollo_component.specs.FirstOfEach.{first_of_each}
+use Rattle.apollo_meaning.specs.Directives.{directive_definitions, directive_names, directive_of}
+use Rattle.apollo_meaning.specs.Faults.ListFaults.{faults_of}
+use Rattle.apollo_meaning.specs.Items.ListItems.{ListItem, defined_part}
+use Rattle.apollo_meaning.specs.Items.Named.{extensions_of, first, first_schema, of_kind, schema_extensions}
+use Rattle.apollo_meaning.specs.Items.Parts.{SchemaPart, TypePart, kind_of}
 use Rattle.apollo_meaning.specs.Order.Places.{folding_order}
-use Rattle.apollo_meaning.specs.Schema.Whole.{whole}
+use Rattle.apollo_meaning.specs.Schema.Definition.{no_schema, schema_from, schema_parts, schema_sourced}
 use Rattle.apollo_meaning.specs.Types.Meaning.{parts, extensions_with_origin, type_from}
+use Rattle.apollo_schema.specs.EqualSchemas.{AreEqualSchemas}
+use Rattle.apollo_schema.specs.SchemaWriteOut.{write_schema}
 use Rattle.apollo_schema.specs.declared.schema.Schema.{Schema}
+use Rattle.apollo_canonical.specs.WrittenAgain.{written_again}
 use Rattle.apollo_executable.specs.Erasure.{at_place}
 use Rattle.apollo_executable.specs.Listed.{listed}
 use Rattle.apollo_executable.specs.Walks.WalkView.{AreWalked, IsWithinTurns, TakesAllTurns}
@@ -26,28 +32,49 @@ use Rattle.apollo_executable.specs.declared.selection.SelectionSet.{SelectionSet
 use Rattle.apollo_document.specs.AddedDefinitions.{DocumentItem}
 use Rattle.apollo_document.specs.KeptDefinitions.{kept_anonymous, kept_fragments, kept_named, root_type_of}
 use Rattle.apollo_document.specs.TypedDefinitions.{stripped_fragment, stripped_operation}
-use Rattle.apollo_compiler.specs.Compilation.{Compilation}
-use Rattle.apollo_compiler.specs.Lists.{schema_list}
-
--- all that is defined and extended: the built-in definitions, those of the schema documents, and what that is completed with,
--- as adopted types
-abbrev pub all_items : Compilation → List ListItem
-all_items c = whole c.options.adopt_orphan_extensions (schema_list c.options c.schema_documents)
 
 -- the type that stands under a name
-abbrev pub type_named : Compilation → List ℕ → Option ExtendedType
-type_named c name = lookup (by_text name) c.compiled.schema.types
+abbrev pub type_named : Schema → List ℕ → Option ExtendedType
+type_named schema name = lookup (by_text name) schema.types
 
 -- a type of this name: the first definition with all extensions of that one's kind, wherever they stand, in order. What is of an
 -- extension has its identity: its location, and its number, by which it is told apart from all others that are folded
-pub record IsFolded (items : List ListItem) (name : List ℕ) (t : ExtendedType) : Type 0 where
+pub record IsFolded (start : ℕ) (items : List ListItem) (name : List ℕ) (t : ExtendedType) : Type 0 where
   -- the first definition of the name
   pub definition : TypePart
   pub is_first : first items name ≡ Some definition
   -- the extensions of the name that have its kind are folded, all and in order
-  pub are_all : map (λ e. e.1) (extensions_with_origin name 0 (folding_order items)) ≡ of_kind (kind_of definition) (extensions_of items name)
+  pub are_all : map (λ e. e.1) (extensions_with_origin name start (folding_order items)) ≡ of_kind (kind_of definition) (extensions_of items name)
   -- the type is what the definition and these extensions make
-  pub is : t ≡ type_from definition (parts 0 (folding_order items) name definition)
+  pub is : t ≡ type_from definition (parts start (folding_order items) name definition)
+
+-- the schema of a list, from all that it defines and extends and what that is completed with, its extensions numbered from `start`
+pub record IsSchemaOf (start : ℕ) (items : List ListItem) (schema : Schema) : Type 0 where
+  -- each type is its name's first definition with all extensions of its kind
+  pub folds : (name : List ℕ) (t : ExtendedType) → type_named schema name ≡ Some t → IsFolded start items name t
+  -- each name that is defined has a type, and no other
+  pub defined : (name : List ℕ) → IsSome (type_named schema name) ↔ IsSome (first items name)
+  -- the types stand in the order of their first definitions
+  pub order : keys_of schema.types ≡ first_of_each same_text (map (λ p. p.name) (filter_map defined_part items))
+  -- no two extensions that are folded, of types or of the schema, have one number
+  pub numbers : HasUniqueKeys nat_eq (enumerate_from start (folding_order items))
+  -- a directive's name means its first definition that is handed in, or else the built-in one
+  pub directives : (name : List ℕ) → lookup (by_text name) schema.directive_definitions ≡ directive_of (directive_definitions items) name
+  -- the directive definitions stand in the order of their first ones
+  pub directive_order : keys_of schema.directive_definitions ≡ directive_names (directive_definitions items)
+  -- the schema definition is the first one with all its extensions: directives joined, and the first root for each operation
+  pub definition : (s : SchemaPart) → first_schema items ≡ Some s → schema.schema_definition ≡ schema_from s (schema_parts start (folding_order items) s)
+  -- all extensions of the schema are folded into it, in order
+  pub extended : (s : SchemaPart) → first_schema items ≡ Some s → map (λ e. e.1) (schema_sourced start (folding_order items)) ≡ schema_extensions items
+  -- without one it is empty
+  pub without_definition : first_schema items ≡ None → schema.schema_definition ≡ no_schema
+
+-- a schema that the write-out of another means, with adoption, is equal to that one, has the same write-out, and nothing is at fault
+pub record IsRebuiltEqual (ignores : Bool) (schema rebuilt : Schema) : Type 0 where
+  -- nothing of the write-out is at fault
+  pub faultless : faults_of true (written_again ignores schema) ≡ []
+  pub equal : AreEqualSchemas rebuilt schema
+  pub same : write_schema rebuilt ≡ write_schema schema
 
 -- the operations that a document keeps of a list: the anonymous one, then the named ones
 abbrev pub kept_operations : Option Schema → List DocumentItem → List (NodeView OperationDefinition)

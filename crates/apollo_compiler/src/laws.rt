@@ -4,15 +4,21 @@
 //! Each law is a function that does nothing. A proof cites it by a call, and finds its clauses there. A layer's module keeps the
 //! laws of its crate; those that say what the product is for stand here by name too. (A validator above has its own:
 //! `leafcheck::laws`.)
-ghost use Rattle.std.specs.Prelude.{◌≡◌, ◌↔◌, ℕ, Bool, List, Some, IsSome};
-ghost use Rattle.apollo_canonical.specs.WrittenAgain.{IsUnmarkedAndRooted};
+ghost use Rattle.std.specs.Prelude.{◌≡◌, ℕ, Bool, true, List, Option};
+ghost use Rattle.std.specs.List.{AllByRecursion};
+ghost use Rattle.apollo_canonical.specs.WrittenAgain.{IsMeantByList, written_again};
+ghost use Rattle.apollo_document.specs.AddedDefinitions.{DocumentItem};
+ghost use Rattle.apollo_document.specs.Documents.{IsDocumentOf};
+ghost use Rattle.apollo_document.specs.KeptDefinitions.{is_rooted};
+ghost use Rattle.apollo_executable.specs.Erasure.{erased_definitions};
+ghost use Rattle.apollo_executable.specs.Walks.WalkView.{IsNewWalk, WalkView};
 ghost use Rattle.apollo_executable.specs.declared.document.ExecutableDocument.{ExecutableDocument};
 ghost use Rattle.apollo_executable.specs.declared.selection.SelectionSet.{SelectionSet};
-ghost use Rattle.apollo_meaning.specs.Items.Named.{first};
-ghost use Rattle.apollo_types.specs.declared.extended_type.ExtendedType.{ExtendedType};
-ghost use Rattle.apollo_compiler.specs.Compilation.{Compilation, IsRebuiltAsItWas};
-ghost use Rattle.apollo_compiler.specs.Headline.{HasOneWalk, IsFolded, all_items, kept_definitions, type_named};
-ghost use Rattle.apollo_compiler.specs.Lists.{executable_list, handed_in};
+ghost use Rattle.apollo_meaning.specs.Items.ListItems.{Added};
+ghost use Rattle.apollo_meaning.specs.Schema.Whole.{whole};
+ghost use Rattle.apollo_schema.specs.MeantSchema.{MeansSchema};
+ghost use Rattle.apollo_schema.specs.declared.schema.Schema.{Schema};
+ghost use Rattle.apollo_compiler.specs.Headline.{HasOneWalk, IsRebuiltEqual, IsSchemaOf, kept_definitions, kept_operations};
 ghost use Rattle.graphql_nodes.specs.Clones.{IsExact};
 ghost use Rattle.graphql_nodes.specs.Comparing.{ComparesBy};
 
@@ -68,8 +74,13 @@ use crate::compile_error::CompileError;
 use crate::compile_options::CompileOptions;
 pub use apollo_document::laws as document;
 pub use apollo_document::laws::document_again;
+use apollo_document::laws::{every_list_means_a_document, kept_operations_are_rooted};
 use apollo_executable::selection::Field;
-use apollo_meaning::laws::folded_extensions;
+use apollo_meaning::laws::{
+    folded_extensions, folded_extensions_have_numbers_of_their_own, folded_schema_extensions,
+    type_names_are_the_first_of_each_text,
+};
+use apollo_schema::laws::every_list_means_a_schema;
 use apollo_walks::laws::{
     reachable_names_are_one_list, walks_have_one_order, walks_reach_each_field_once,
     walks_take_few_turns,
@@ -77,33 +88,50 @@ use apollo_walks::laws::{
 use graphql_nodes::node::Node;
 
 /// Every list of documents builds to the schema in which each name's type is its first definition with all its kind's
-/// extensions folded in, in order, wherever they stand, each under an identity of its own (`folds`), and in which each name that
-/// is defined has a type, and no other (`defined`); the schema's write-out rebuilds with adoption, without fault, to an equal schema and the same write-out
-/// (`rebuilds`); kept operations and fragments erase to exactly their typable selections (`keeps`); and a walk gives each field
-/// that is reached exactly as often as it stands there, in one order, within two turns for each selection in reach and one
-/// (`walks`). GraphQL specification of October 2021, sections 2.2 to 2.8, 3, 3.4.3 and 6.3.2.
+/// extensions folded in, in order, wherever they stand, each under an identity of its own, and in which each name that is defined
+/// has a type, and no other (`means`, `schema`); the schema's write-out rebuilds with adoption, without fault, to an equal schema and
+/// the same write-out (`rebuilds`); kept operations and fragments erase to exactly their typable selections (`keeps`); and a walk
+/// gives each field that is reached exactly as often as it stands there, in one order, within two turns for each selection in reach
+/// and one (`walks`, `begins`). GraphQL specification of October 2021, sections 2.2 to 2.8, 3, 3.4.3 and 6.3.2.
 ///
-/// It is said of every list, faulty ones too, and under any options: what is at fault is left out of the schema, and weakens
-/// none of this. The built-in definitions stand before those of the first document. A type that is extended only has a
-/// definition where it is adopted, an empty one behind all others; elsewhere it has none.
+/// Nothing is assumed of a call. Every list means a schema (`means`), and no two but for their sources
+/// ([`a_list_means_one_schema`](apollo_schema::laws::a_list_means_one_schema)): faulty lists too, with adoption or without, and with
+/// extensions numbered from any number. So it is with documents (`typed`,
+/// [`document_again`](apollo_document::laws::document_again)). What is at fault is left out, and weakens none of this. That `compile`
+/// answers that schema, its faults, its rebuild and that document is its contract.
 ///
-/// `rebuilds` alone has premises: no definition that is handed in is marked built-in, and each schema definition names a root.
-/// `keeps` takes whatever schema came of the list, and `walks` takes any document, also one that was made by hand, with cycles of
-/// fragments.
+/// A type that is extended only has a definition where it is adopted, an empty one behind all others; elsewhere it has none
+/// ([`definitions_by_cases`](apollo_meaning::laws::definitions_by_cases)). Which definition the schema has where none is written, and
+/// with which roots, says [`schema_definitions_by_cases`](apollo_meaning::laws::schema_definitions_by_cases).
 ///
-/// Want of memory, and of numbers for extensions, is an answer of its own. That the code gives these fields, and takes these
-/// turns, say [`SelectionSet::root_fields`](apollo_executable::selection::SelectionSet::root_fields), `all_fields`, and the `next`
-/// and `turns` of the walks that they make.
+/// `rebuilds` alone has premises: the built-in definitions stand first, none behind them is marked built-in, and each schema
+/// definition names a root. `keeps` takes any schema value, or none; each operation that is kept has a root type (`rooted`). `walks`
+/// takes any document, also one that was made by hand, with cycles of fragments. The walks of `begins` are those that
+/// [`SelectionSet::root_fields`](apollo_executable::selection::SelectionSet::root_fields) and `all_fields` make. What their `next`
+/// gives call by call, and that the turns are within that bound at every moment, says
+/// [`walks_by_their_calls`](apollo_executable::laws::calls_of_walks::walks_by_their_calls).
 pub fn headline()
-    ensures folds { (c : Compilation) (name : List ℕ) (t : ExtendedType) → type_named c name ≡ Some t → IsFolded (all_items c) name t }
-    ensures defined { (c : Compilation) (name : List ℕ) → IsSome (type_named c name) ↔ IsSome (first (all_items c) name) }
-    ensures rebuilds { (c : Compilation) → IsUnmarkedAndRooted (handed_in c.options c.schema_documents) → IsRebuiltAsItWas c.compiled }
-    ensures keeps { (c : Compilation) → c.compiled.erased.definitions ≡ kept_definitions (Some c.compiled.schema) (executable_list c.errors c.executable_documents) }
+    ensures means { (start : ℕ) (adopts : Bool) (xs : List Added) → (schema : Schema) × MeansSchema start adopts xs schema }
+    ensures schema { (start : ℕ) (adopts : Bool) (xs : List Added) (schema : Schema) → MeansSchema start adopts xs schema → IsSchemaOf start (whole adopts xs) schema }
+    ensures rebuilds { (schema rebuilt : Schema) → IsMeantByList schema → (ignores : Bool) (start : ℕ) → MeansSchema start true (written_again ignores schema) rebuilt
+        → IsRebuiltEqual ignores schema rebuilt }
+    ensures typed { (schema : Option Schema) (xs : List DocumentItem) → (document : ExecutableDocument) × IsDocumentOf schema xs document }
+    ensures keeps { (schema : Option Schema) (xs : List DocumentItem) (document : ExecutableDocument) → IsDocumentOf schema xs document
+        → erased_definitions document ≡ kept_definitions schema xs }
+    ensures rooted { (schema : Option Schema) (xs : List DocumentItem) → AllByRecursion (λ operation. is_rooted schema operation ≡ true) (kept_operations schema xs) }
     ensures walks { (deep : Bool) (document : ExecutableDocument) (set : SelectionSet) → HasOneWalk deep document set }
+    ensures begins { (deep : Bool) (document : ExecutableDocument) (set : SelectionSet) (walk : WalkView) → IsNewWalk deep document set walk
+        → (one : HasOneWalk deep document set) → walk.coming ≡ one.fields }
 {
     canonical();
+    every_list_means_a_schema();
+    every_list_means_a_document();
     folded_extensions();
+    folded_extensions_have_numbers_of_their_own();
+    folded_schema_extensions();
+    kept_operations_are_rooted();
     reachable_names_are_one_list::<Node<Field>>();
+    type_names_are_the_first_of_each_text();
     walks_have_one_order::<Node<Field>>();
     walks_reach_each_field_once::<Node<Field>>();
     walks_take_few_turns::<Node<Field>>();

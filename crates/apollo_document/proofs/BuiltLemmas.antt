@@ -67,6 +67,17 @@ rooted_named s (o ∷ os) = by (is_rooted s o) refl (rooted_named s os)
     by true e rest = put o.value.name e rest
     by false e rest = rest
 
+pub anonymous-rooted : (s : Option Schema) (xs : List DocumentItem) → AllByRecursion (λ n. is_rooted s n ≡ true) (listed (kept_anonymous s xs))
+anonymous-rooted s xs = by (kept_anonymous s xs) refl
+  where
+    by : (o : Option Op) → kept_anonymous s xs ≡ o → AllByRecursion (λ n. is_rooted s n ≡ true) (listed o)
+    by None e = tt
+    by (Some n) e = (rooted_first s (operations xs) n e, tt)
+
+pub named-rooted : (s : Option Schema) (xs : List DocumentItem) → AllByRecursion (λ (x : NameView × Op). is_rooted s x.1 ≡ true) (kept_named s xs)
+named-rooted s xs =
+    each-first (λ (x : NameView × Op). is_rooted s x.1 ≡ true) (same_key same_text) (filter_map operation_under_name (filter (is_rooted s) (operations xs))) (rooted_named s (operations xs))
+
 built_table : {A B : Type 0} (R : A → B → Type 0) (f : A → B) (P : A → Type 0) → ((a : A) → P a → R a (f a)) → (es : List (NameView × A)) → AllByRecursion (λ x. P x.1) es → AllZip (IsUnderName R) es (entries_by f es)
 built_table R f P made [] a = tt
 built_table R f P made (e ∷ es) a = ((refl, made e.1 a.0), built_table R f P made es a.1)
@@ -110,16 +121,29 @@ module _ (sets : ElaboratedSetsLaw) where
       let same : at_place erased_fragment (typed_fragment s n) ≡ at_place (stripped_fragment s) n = ap (fragment_with n) (sets.kept s n.value.type_condition n.value.selection_set) in
       (same, sets.typed s n.value.type_condition n.value.selection_set)
 
+  -- the document of a list
+  pub document_of : Option Schema → List DocumentItem → ExecutableDocument
+  document_of s xs = record {
+    sources = [];
+    operations = record { anonymous = option_map (typed_operation s) (kept_anonymous s xs); named = entries_by (typed_operation s) (kept_named s xs) };
+    fragments = entries_by (typed_fragment s) (kept_fragments s xs);
+  }
+
+  pub is_document : (s : Option Schema) (xs : List DocumentItem) → IsDocumentOf s xs (document_of s xs)
+  is_document s xs =
+      record {
+        anonymous = built_option (IsOperationOf s) (typed_operation s) (kept_anonymous s xs) (λ n e. built_operation s n (rooted_first s (operations xs) n e));
+        named = built_table (IsOperationOf s) (typed_operation s) (λ n. is_rooted s n ≡ true) (built_operation s) (kept_named s xs) (named-rooted s xs);
+        fragments = built_table (IsFragmentOf s) (typed_fragment s) (λ n. Unit {0}) (λ n _. built_fragment s n) (kept_fragments s xs) (any_table (kept_fragments s xs));
+      }
+
   pub built_document : (s : Option Schema) (xs : List DocumentItem) (t : Tables) (document : ExecutableDocument) → Stands s xs t → document.operations ≡ t.operations → document.fragments ≡ t.fragments → IsDocumentOf s xs document
   built_document s xs t document stands ops frags =
-      let os = operations xs in
+      let is = is_document s xs in
       record {
-        anonymous = subst (λ o. AllZip (IsOperationOf s) (listed (kept_anonymous s xs)) (listed o)) (sym (ap (λ m. m.anonymous) ops ∙ stands.anonymous))
-            (built_option (IsOperationOf s) (typed_operation s) (kept_anonymous s xs) (λ n e. built_operation s n (rooted_first s os n e)));
-        named = subst (λ es. AllZip (IsUnderName (IsOperationOf s)) (kept_named s xs) es) (sym (ap (λ m. m.named) ops ∙ stands.named))
-            (built_table (IsOperationOf s) (typed_operation s) (λ n. is_rooted s n ≡ true) (built_operation s) (kept_named s xs) (each-first (λ (x : NameView × Op). is_rooted s x.1 ≡ true) (same_key same_text) (filter_map operation_under_name (filter (is_rooted s) os)) (rooted_named s os)));
-        fragments = subst (λ es. AllZip (IsUnderName (IsFragmentOf s)) (kept_fragments s xs) es) (sym (frags ∙ stands.fragments))
-            (built_table (IsFragmentOf s) (typed_fragment s) (λ n. Unit {0}) (λ n _. built_fragment s n) (kept_fragments s xs) (any_table (kept_fragments s xs)));
+        anonymous = subst (λ o. AllZip (IsOperationOf s) (listed (kept_anonymous s xs)) (listed o)) (sym (ap (λ m. m.anonymous) ops ∙ stands.anonymous)) is.anonymous;
+        named = subst (λ es. AllZip (IsUnderName (IsOperationOf s)) (kept_named s xs) es) (sym (ap (λ m. m.named) ops ∙ stands.named)) is.named;
+        fragments = subst (λ es. AllZip (IsUnderName (IsFragmentOf s)) (kept_fragments s xs) es) (sym (frags ∙ stands.fragments)) is.fragments;
       }
 
   -- what the code makes of an operation and of a fragment

@@ -1,15 +1,18 @@
 //! Laws of documents, for those who build on them.
 //!
 //! Each law is a function that does nothing. A proof cites it by a call, and finds its clauses there.
-ghost use Rattle.std.specs.Prelude.{◌≡◌, ◌⊎◌, Bool, List, Option};
+ghost use Rattle.std.specs.Prelude.{◌≡◌, ◌⊎◌, Bool, true, List, Option};
+ghost use Rattle.std.specs.List.{AllByRecursion};
 ghost use Rattle.std.specs.Option.{option_copied};
+ghost use Rattle.apollo_executable.specs.Listed.{listed};
 ghost use Rattle.apollo_document.specs.AddedDefinitions.{DocumentItem};
 ghost use Rattle.apollo_document.specs.BuilderStands.{StandsFor, HasFailed};
 ghost use Rattle.apollo_document.specs.Documents.{IsDocumentOf};
+ghost use Rattle.apollo_document.specs.KeptDefinitions.{is_rooted, kept_anonymous, kept_named};
 ghost use Rattle.apollo_document.specs.WrittenAgain.{AreOneButSources, IsBuiltAgain, ambiguous_again, faults_again};
 
 use crate::document_builder::ExecutableDocumentBuilder;
-use apollo_elaboration::laws::typed_sets;
+use apollo_elaboration::laws::{elaborated_sets, typed_sets};
 use apollo_executable::document::ExecutableDocument;
 use apollo_schema::schema::Schema;
 
@@ -26,6 +29,21 @@ pub fn document_again()
 {
     typed_sets();
 }
+
+/// Every list of definitions means a document, over any schema value and without a schema: so what is said of the documents that a
+/// list means is said of one. GraphQL specification of October 2021, sections 2.2 to 2.8.
+pub fn every_list_means_a_document()
+    ensures { (schema : Option Schema) (xs : List DocumentItem) → (document : ExecutableDocument) × IsDocumentOf schema xs document }
+{
+    elaborated_sets();
+}
+
+/// Each operation that is kept has a root type: the one that the schema names for its kind, or without a schema the default name.
+/// GraphQL specification of October 2021, sections 2.3 and 3.3.1.
+pub fn kept_operations_are_rooted()
+    ensures anonymous { (schema : Option Schema) (xs : List DocumentItem) → AllByRecursion (λ operation. is_rooted schema operation ≡ true) (listed (kept_anonymous schema xs)) }
+    ensures named { (schema : Option Schema) (xs : List DocumentItem) → AllByRecursion (λ entry. is_rooted schema entry.1 ≡ true) (kept_named schema xs) }
+{}
 
 /// Every builder stands for some list over its schema, or a call was refused.
 pub fn every_builder_stands_for_a_list_or_has_failed(builder: &ExecutableDocumentBuilder<'_>)

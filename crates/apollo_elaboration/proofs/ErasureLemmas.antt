@@ -5,6 +5,8 @@ use Rattle.graphql_nodes.specs.NameView.{NameView}
 use Rattle.graphql_nodes.specs.NodeView.{NodeView}
 use Rattle.graphql_ast.specs.declared.directive.Argument.{Argument}
 use Rattle.graphql_ast.specs.declared.directive.DirectiveList.{DirectiveList}
+use Rattle.graphql_ast.specs.declared.selection.FragmentSpread as syntax_spread
+use Rattle.graphql_ast.specs.declared.selection.Selection.TheVariants as variant
 use Rattle.graphql_ast.specs.declared.selection.Selection as ast
 use Rattle.graphql_ast.specs.declared.selection.Selection.TheOpen as layer
 use Rattle.graphql_ast.specs.declared.selection.Selection.TheFolds as folds
@@ -32,7 +34,7 @@ kept_in s xs t = stripped s t xs
 each_stripped : Option Schema → ast.Selection → SS
 each_stripped s = folds.fold-Selection SS SF SI strip_step (strip_field_step s) (strip_fragment_step s)
 
-stripped-field : (s : Option Schema) (ty : NameView) (f : ast_field.Field)
+pub stripped-field : (s : Option Schema) (ty : NameView) (f : ast_field.Field)
     → stripped_field s ty f ≡ if_typable (kept_field f.alias f.name f.arguments f.directives (kept_in s f.selection_set)) (typable_field s ty f.name (is_bare f.selection_set))
 unfolding each_stripped
 stripped-field s ty f =
@@ -40,7 +42,7 @@ stripped-field s ty f =
     let b : stripped_below (map (each_stripped s) f.selection_set) ≡ kept_in s f.selection_set = λ i t. filter_map-map (each_stripped s) (λ (u : SS). u t) f.selection_set i in
     e ∙ (λ i. if_typable (kept_field f.alias f.name f.arguments f.directives (b i)) (typable_field s ty f.name (is_bare-map (each_stripped s) f.selection_set i)))
 
-stripped-fragment : (s : Option Schema) (ty : NameView) (f : ast_inline.InlineFragment)
+pub stripped-fragment : (s : Option Schema) (ty : NameView) (f : ast_inline.InlineFragment)
     → stripped_inline_fragment s ty f ≡ if_typable (kept_fragment f.type_condition f.directives (kept_in s f.selection_set)) (typable_fragment s ty f.type_condition)
 unfolding each_stripped
 stripped-fragment s ty f =
@@ -131,6 +133,11 @@ elaborated-roll s ty x = ap (λ (u : TS). u ty) (folds.fold-roll-Selection TS TF
 stripped-roll : (s : Option Schema) (ty : NameView) (x : layer.Selection-F ast.Selection ast_field.Field ast_inline.InlineFragment)
     → stripped_selection s ty (ast.roll-Selection x) ≡ strip_step (folds.map-Selection ast.Selection ast_field.Field ast_inline.InlineFragment SS SF SI (λ y t. stripped_selection s t y) (λ y t. stripped_field s t y) (λ y t. stripped_inline_fragment s t y) x) ty
 stripped-roll s ty x = ap (λ (u : SS). u ty) (folds.fold-roll-Selection SS SF SI strip_step (strip_field_step s) (strip_fragment_step s) x)
+
+-- a spread stays as it is
+pub stripped-spread : (s : Option Schema) (ty : NameView) (n : NodeView syntax_spread.FragmentSpread) → stripped_selection s ty (variant.FragmentSpread n) ≡ Some (variant.FragmentSpread n)
+stripped-spread s ty n =
+    ap (stripped_selection s ty) (sym (variant.rolls-FragmentSpread n)) ∙ stripped-roll s ty (layer.Selection-F.FragmentSpread n) ∙ ap Some (variant.rolls-FragmentSpread n)
 
 abbrev plain : (s : Option Schema) → layer.Selection-F (WS s) (WF s) (WI s) → layer.Selection-F ast.Selection ast_field.Field ast_inline.InlineFragment
 plain s = folds.map-Selection (WS s) (WF s) (WI s) ast.Selection ast_field.Field ast_inline.InlineFragment (λ y. y.0) (λ y. y.0) (λ y. y.0)

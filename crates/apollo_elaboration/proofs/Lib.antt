@@ -3,4 +3,5 @@ pub mod Equations
 pub mod ErasureLemmas
 pub mod ErrorEquality
 pub mod LeafLemmas
+pub mod TypableLemmas
 pub mod TypingLemmas

@@ -2,19 +2,27 @@
 //! of these errors are.
 //!
 //! Each law is a function that does nothing. A proof cites it by a call, and finds its clauses there.
-ghost use Rattle.std.specs.Prelude.{◌≡◌, true, List, [], Option, Some};
+ghost use Rattle.std.specs.Prelude.{◌≡◌, ◌⊎◌, ◌↔◌, Bool, true, false, List, [], Option, None, Some, Ok, option_map};
 ghost use Rattle.std.specs.List.{AllByRecursion};
 ghost use Rattle.graphql_nodes.specs.Clones.{IsExact};
 ghost use Rattle.graphql_nodes.specs.Comparing.{ComparesBy};
 ghost use Rattle.graphql_nodes.specs.NameView.{NameView};
 ghost use Rattle.graphql_nodes.specs.NodeView.{NodeView};
+ghost use Rattle.graphql_ast.specs.declared.selection.Field as syntax_field;
+ghost use Rattle.graphql_ast.specs.declared.selection.FragmentSpread as syntax_spread;
+ghost use Rattle.graphql_ast.specs.declared.selection.InlineFragment as syntax_fragment;
+ghost use Rattle.graphql_ast.specs.declared.selection.Selection.TheVariants as syntax;
+ghost use Rattle.graphql_ast.specs.declared.type_system.FieldDefinition.{FieldDefinition};
+ghost use Rattle.apollo_types.specs.TypeKinds.{is_leaf};
+ghost use Rattle.apollo_schema.specs.Lookups.{field_at, refers_to};
 ghost use Rattle.apollo_executable.specs.Erasure.{erased_set};
 ghost use Rattle.apollo_executable.specs.Walks.FieldsIn.{fields_in};
 ghost use Rattle.apollo_elaboration.specs.BareErrors.{bare_root, bare_path, bare_build_error};
 ghost use Rattle.apollo_elaboration.specs.BareLeaves.{IsBareOnLeaf};
 ghost use Rattle.apollo_elaboration.specs.Elaborated.{elaborated};
 ghost use Rattle.apollo_elaboration.specs.SelectionFaults.{faults_of_selections};
-ghost use Rattle.apollo_elaboration.specs.Stripped.{stripped};
+ghost use Rattle.apollo_elaboration.specs.Stripped.{kept_field, kept_fragment, stripped, stripped_field, stripped_inline_fragment, stripped_selection};
+ghost use Rattle.apollo_elaboration.specs.Typable.{has_type, if_typable, is_bare, typable_field, typable_fragment, unknown_field};
 ghost use Rattle.apollo_elaboration.specs.TypedSelections.{IsTypedSet};
 
 use crate::build_error::BuildError;
@@ -39,6 +47,25 @@ pub fn elaborated_sets()
     ensures typed { (schema : Option Schema) (ty : NameView) (xs : List Selection) → IsTypedSet schema ty (elaborated schema ty xs) }
     ensures unique { (schema : Option Schema) (ty : NameView) (xs : List Selection) (set : SelectionSet) → erased_set set ≡ stripped schema ty xs → IsTypedSet schema ty set
         → set ≡ elaborated schema ty xs }
+{}
+
+/// What is typable in a type, plainly. Over a schema, a field is if the type has a field of its name, and it has no subselections or
+/// the name inside all lists of its type is no scalar or enum (`field`). An inline fragment is without a condition, from that type
+/// (`without_condition`), and with one if the schema has a type of that name, from that (`condition`). A spread always is
+/// (`spread`). Without a schema each selection is, and the type of each field is `UNKNOWN` (`any_field`). So a list is stripped: each
+/// selection alone, a field from the inner type of its definition, an inline fragment from its child type (`stripped_field`,
+/// `stripped_fragment`). GraphQL specification of October 2021, sections 2.4 to 2.8.
+pub fn what_is_typable()
+    ensures field { (s : Schema) (ty name : NameView) (bare : Bool) (d : NodeView FieldDefinition) → (typable_field (Some s) ty name bare ≡ Ok d)
+        ↔ ((option_map (λ c. c.node) (field_at s ty name) ≡ Some d) × ((bare ≡ true) ⊎ (refers_to is_leaf s.types d.value.ty ≡ false))) }
+    ensures any_field { (ty name : NameView) (bare : Bool) → typable_field None ty name bare ≡ Ok (unknown_field name) }
+    ensures condition { (schema : Option Schema) (ty condition child : NameView) → (typable_fragment schema ty (Some condition) ≡ Ok child) ↔ ((child ≡ condition) × (has_type schema condition ≡ true)) }
+    ensures without_condition { (schema : Option Schema) (ty : NameView) → typable_fragment schema ty None ≡ Ok ty }
+    ensures spread { (schema : Option Schema) (ty : NameView) (n : NodeView syntax_spread.FragmentSpread) → stripped_selection schema ty (syntax.FragmentSpread n) ≡ Some (syntax.FragmentSpread n) }
+    ensures stripped_field { (schema : Option Schema) (ty : NameView) (f : syntax_field.Field) → stripped_field schema ty f
+        ≡ if_typable (kept_field f.alias f.name f.arguments f.directives (λ child. stripped schema child f.selection_set)) (typable_field schema ty f.name (is_bare f.selection_set)) }
+    ensures stripped_fragment { (schema : Option Schema) (ty : NameView) (f : syntax_fragment.InlineFragment) → stripped_inline_fragment schema ty f
+        ≡ if_typable (kept_fragment f.type_condition f.directives (λ child. stripped schema child f.selection_set)) (typable_fragment schema ty f.type_condition) }
 {}
 
 /// In a set that is typed over a schema no field has subselections whose type is a scalar or enum of that schema. GraphQL

@@ -1,3 +1,4 @@
+pub mod CallLemmas
 pub mod FieldsInLemmas
 pub mod FlagLemmas
 pub mod IntrospectionLemmas

@@ -1,3 +1,4 @@
+pub mod Calls
 pub mod FieldsIn
 pub mod Introspection
 pub mod Left

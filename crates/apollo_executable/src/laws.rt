@@ -9,6 +9,7 @@ ghost use Rattle.apollo_executable.specs.BareSelections.{bare_selection, bare_fi
 ghost use Rattle.apollo_executable.specs.BareErrors.{bare_new_field_error, bare_request_error};
 ghost use Rattle.apollo_executable.specs.BareDocuments.{bare_operation, bare_fragment, bare_operation_map, bare_document};
 
+pub mod calls_of_walks;
 pub mod fields_in;
 
 use crate::document::ExecutableDocument;

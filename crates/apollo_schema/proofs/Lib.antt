@@ -1,6 +1,7 @@
 pub mod BuiltInLemmas
 pub mod CloneLemmas
 pub mod Ends
+pub mod EveryMeaning
 pub mod ImplementerLemmas
 pub mod LookupEquality
 mod OneMeaning

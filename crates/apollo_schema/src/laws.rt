@@ -76,6 +76,13 @@ pub fn a_list_means_one_schema()
         → s ≡ record t { sources = s.sources } }
 {}
 
+/// Every list of definitions means a schema, faulty lists too, whether extensions are adopted or not, and with its extensions
+/// numbered from any number: so what is said of the schemas that a list means is said of one. GraphQL specification of October
+/// 2021, section 3.3.
+pub fn every_list_means_a_schema()
+    ensures { (start : ℕ) (adopts : Bool) (xs : List Added) → (schema : Schema) × MeansSchema start adopts xs schema }
+{}
+
 /// Every builder stands for some list, with its extensions numbered from the builder's first number, or a call was
 /// refused.
 pub fn every_builder_stands_for_a_list_or_has_failed(builder: &SchemaBuilder)

@@ -3,6 +3,7 @@ use Rattle.std.proofs.lemmas.Result.{err_from_is_err_and}
 use Rattle.apollo_compiler.specs.Compilation.{IsCompiled}
 use Rattle.apollo_compiler.specs.Lists.{schema_list}
 use Rattle.apollo_compiler.specs.declared.compiled.Compiled.{Compiled}
+use Rattle.apollo_compiler.proofs.HeadlineLemmas.{rebuilt-as_it_was}
 use Rattle.apollo_compiler.proofs.compiling.compile_with_keys.Goals as goal
 
 pub returns : goal.returns
@@ -36,14 +37,7 @@ returns c =
     } in
     record {
       compiled = is;
-      rebuilds = λ within. c.headline.ensures.rebuilds (record {
-        options = c.args.options;
-        schema_documents = c.args.schema_documents.now;
-        executable_documents = c.args.executable_documents.now;
-        errors = c.args.type_system_definitions_are_errors;
-        compiled = compiled;
-        is = is;
-      }) within;
+      rebuilds = rebuilt-as_it_was c.headline.ensures.rebuilds c.args.options c.args.schema_documents.now c.args.executable_documents.now c.args.type_system_definitions_are_errors compiled is;
       spent = λ other. cc;
     }
 

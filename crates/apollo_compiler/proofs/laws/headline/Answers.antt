@@ -1,53 +1,38 @@
-use Rattle.std.proofs.Common.{◌≡◌, ◌∙◌, ap, false, Option, Some, is_some, sym}
-use Rattle.graphql_ast.specs.declared.document.Document.{Document}
-use Rattle.apollo_component.proofs.Lists.Cases.{is_some-map}
-use Rattle.apollo_types.specs.declared.extended_type.ExtendedType.{ExtendedType}
-use Rattle.apollo_meaning.specs.Items.Named.{first}
-use Rattle.apollo_meaning.specs.Items.Parts.{TypePart}
-use Rattle.apollo_meaning.specs.Order.Places.{folding_order}
-use Rattle.apollo_meaning.specs.Types.Meaning.{parts, type_from}
-use Rattle.apollo_canonical.specs.WrittenAgain.{IsMeantByList}
+use Rattle.std.proofs.Common.{◌≡◌, true, [], ◌∷◌, Option, Some, None}
+use Rattle.std.specs.List.{AllByRecursion}
+use Rattle.graphql_nodes.specs.NodeView.{NodeView}
+use Rattle.graphql_ast.specs.declared.operation.OperationDefinition.{OperationDefinition}
+use Rattle.apollo_document.specs.KeptDefinitions.{is_rooted, kept_anonymous, kept_named}
+use Rattle.apollo_executable.specs.Listed.{listed}
 use Rattle.apollo_executable.specs.Walks.Plain.{fragments_of, plain}
 use Rattle.apollo_walks.specs.Selections.{no_names}
-use Rattle.apollo_compiler.specs.Headline.{all_items, type_named}
-use Rattle.apollo_compiler.specs.Lists.{executable_list, handed_in, schema_list}
-use Rattle.apollo_compiler.proofs.HeadlineLemmas.{type-folded}
-use Rattle.apollo_compiler.proofs.KeptLemmas.{document-kept}
+use Rattle.apollo_compiler.proofs.HeadlineLemmas.{ListLaws, is-schema}
+use Rattle.apollo_compiler.proofs.KeptLemmas.{document-kept, operations-rooted}
 use Rattle.apollo_compiler.proofs.laws.headline.Goals as goal
 
-pub returns-clause-folds : goal.returns-clause-folds
-returns-clause-folds c = λ m name t there.
-    type-folded (all_items m) name t (c.folded_extensions.ensures 0 (all_items m) name) (sym (m.is.schema.types.each name) ∙ there)
+pub returns-clause-means : goal.returns-clause-means
+returns-clause-means c = c.every_list_means_a_schema.ensures
 
-pub returns-clause-defined : goal.returns-clause-defined
-returns-clause-defined c = λ m name.
-    let xs = all_items m in
-    let same : is_some (type_named m name) ≡ is_some (first xs name) =
-    ap (λ (o : Option ExtendedType). is_some o) (m.is.schema.types.each name) ∙ is_some-map (λ (d : TypePart). type_from d (parts 0 (folding_order xs) name d)) (first xs name) in
-    (λ there. sym same ∙ there, λ there. same ∙ there)
+pub returns-clause-schema : goal.returns-clause-schema
+returns-clause-schema c =
+    let laws : ListLaws = record { folded = c.folded_extensions.ensures; schema_folded = c.folded_schema_extensions.ensures; numbers = c.folded_extensions_have_numbers_of_their_own.ensures.numbers; names = c.type_names_are_the_first_of_each_text.ensures } in
+    is-schema laws
 
 pub returns-clause-rebuilds : goal.returns-clause-rebuilds
-unfolding schema_list
-returns-clause-rebuilds c = λ m within.
-    let schema = m.compiled.schema in
-    let rebuilt = m.compiled.rebuilt in
-    let meant : IsMeantByList schema = record {
-      start = 0;
-      adopts = m.options.adopt_orphan_extensions;
-      more = handed_in m.options m.schema_documents;
-      within = within;
-      means = m.is.schema;
-    } in
-    record {
-      faultless = m.is.rebuilt_faults ∙ c.canonical.ensures.faults schema meant false;
-      equal = c.canonical.ensures.equal schema rebuilt meant false 0 m.is.rebuilt;
-      same = m.is.rebuilt_ast ∙ c.canonical.ensures.written schema rebuilt meant false 0 m.is.rebuilt ∙ sym m.is.ast;
-    }
+returns-clause-rebuilds c = λ schema rebuilt meant ignores start means. record {
+  faultless = c.canonical.ensures.faults schema meant ignores;
+  equal = c.canonical.ensures.equal schema rebuilt meant ignores start means;
+  same = c.canonical.ensures.written schema rebuilt meant ignores start means;
+}
+
+pub returns-clause-typed : goal.returns-clause-typed
+returns-clause-typed c = c.every_list_means_a_document.ensures
 
 pub returns-clause-keeps : goal.returns-clause-keeps
-returns-clause-keeps c = λ m.
-    ap (λ (d : Document). d.definitions) m.is.erased
-    ∙ document-kept (Some m.compiled.schema) (executable_list m.errors m.executable_documents) m.compiled.document m.is.document
+returns-clause-keeps c = document-kept
+
+pub returns-clause-rooted : goal.returns-clause-rooted
+returns-clause-rooted c = λ schema xs. operations-rooted schema xs (c.kept_operations_are_rooted.ensures.anonymous schema xs) (c.kept_operations_are_rooted.ensures.named schema xs)
 
 pub returns-clause-walks : goal.returns-clause-walks
 returns-clause-walks c = λ deep document set.
@@ -64,3 +49,6 @@ returns-clause-walks c = λ deep document set.
       no_more = λ others other. c.reachable_names_are_one_list.ensures.turns fragments s others all.0 other all.1;
       few = c.walks_take_few_turns.ensures.few fragments s all.0 all.1;
     }
+
+pub returns-clause-begins : goal.returns-clause-begins
+returns-clause-begins c = λ deep document set walk new one. one.no_others walk.coming new.coming
