@@ -8,6 +8,7 @@ ghost use Rattle.apollo_schema.specs.EqualSchemas.{AreEqualSchemas};
 ghost use Rattle.apollo_schema.specs.Implementers.{is_implementer};
 ghost use Rattle.apollo_schema.specs.Lookups.{Types, type_at, interface_node, is_subtype};
 ghost use Rattle.apollo_schema.specs.MeantSchema.{MeansSchema};
+ghost use Rattle.apollo_schema.specs.declared.schema_builder.SchemaBuilder as builders;
 ghost use Rattle.graphql_nodes.specs.Clones.{IsExact};
 ghost use Rattle.graphql_nodes.specs.Comparing.{ComparesBy, entries_by_text};
 ghost use Rattle.graphql_nodes.specs.NameView.{NameView};
@@ -68,6 +69,16 @@ pub fn implementers()
         → IsTrue (is_subtype types i t) ↔ IsTrue (is_implementer types i t) }
 {}
 
+/// It is so of the types of each schema, whatever made it: its table has no two of one name. Contracts see a table as the list of
+/// its entries, which doesn't say so, but the table itself does.
+pub fn implementers_in_a_schema(schema: &Schema)
+    ensures { (i t : NameView) → IsSome (interface_node (type_at schema.now.types i))
+        → IsTrue (is_subtype schema.now.types i t) ↔ IsTrue (is_implementer schema.now.types i t) }
+{
+    implementers();
+    let _count = schema.types.len();
+}
+
 /// A list of definitions means one schema, but for the source files: schemas that it means, with its extensions numbered from
 /// one number, have the same schema definition, the same directive definitions and the same types, in the same order, with every
 /// location and origin. GraphQL specification of October 2021, section 3.3.
@@ -81,6 +92,11 @@ pub fn a_list_means_one_schema()
 /// 2021, section 3.3.
 pub fn every_list_means_a_schema()
     ensures { (start : ℕ) (adopts : Bool) (xs : List Added) → (schema : Schema) × MeansSchema start adopts xs schema }
+{}
+
+/// A builder that stands for a list has not failed: no call on it was refused.
+pub fn a_builder_that_stands_for_a_list_has_not_failed()
+    ensures { (start : ℕ) (xs : List Added) (builder : builders.SchemaBuilder) → StandsFor start xs builder → ¬ HasFailed builder }
 {}
 
 /// Every builder stands for some list, with its extensions numbered from the builder's first number, or a call was
