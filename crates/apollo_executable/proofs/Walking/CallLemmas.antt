@@ -1,5 +1,5 @@
 -- What calls of `next` give of a walk, one after another.
-use Rattle.std.proofs.Common.{◌≡◌, ◌≤◌, Bool, true, false, List, [], ◌∷◌, ◌++◌, Option, None, Some, Ok, Err, refl, sym, ap, subst, ◌∙◌, arith, append_assoc, append-nil, true≢false}
+use Rattle.std.proofs.Common.{◌≡◌, Bool, true, false, List, [], ◌∷◌, ◌++◌, Option, None, Some, Ok, Err, refl, sym, ap, subst, ◌∙◌, arith, append_assoc, append-nil, true≢false}
 use Rattle.graphql_nodes.specs.NodeView.{NodeView}
 use Rattle.apollo_executable.specs.Walks.Calls.{HasGiven, none_yet, one_more, IsWhole}
 use Rattle.apollo_executable.specs.Walks.NextItem.{Item, IsNext, IsOver}
