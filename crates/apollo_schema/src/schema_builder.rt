@@ -205,6 +205,7 @@ impl SchemaBuilder {
         ensures sources { IfOk result.0 (λ schema. schema.sources ≡ sources_of self) }
         ensures failed { HasFailed self ↔ (result.0 ≡ Err BuildFailure.Failed) }
         ensures spent { result.0 ≡ Err BuildFailure.ExtensionIds → (start : ℕ) (xs : List Added) → StandsFor start xs self → SpendsIds start (adopts self) xs }
+        ensures unspent { HasBuilt result.0 → (start : ℕ) (xs : List Added) → StandsFor start xs self → ¬ SpendsIds start (adopts self) xs }
         ensures source { HasBuilt result.0 → (start : ℕ) (xs : List Added) → StandsFor start xs self → result.1 ≡ source_at (start + folds (adopts self) xs) }
         ensures rolled_back { WasRefused result.0 → (start : ℕ) (xs : List Added) → StandsFor start xs self → result.1 ≡ source_at (start + folds_so_far xs) }
         ensures left { HasFailed self → IsLeftWith result.1 self }

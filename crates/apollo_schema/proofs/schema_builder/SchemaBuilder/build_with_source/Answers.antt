@@ -1,4 +1,4 @@
-use Rattle.apollo_meaning.proofs.Prelude.{◌+◌, List, length, sym, ap, subst, ◌∙◌, source_at, Folding, added_items}
+use Rattle.apollo_meaning.proofs.Prelude.{◌+◌, List, length, sym, ap, subst, ◌∙◌, arith, next_number, source_at, Folding, added_items}
 use Rattle.std.proofs.Math.Logic.{∥∥₁_elim}
 use Rattle.std.proofs.Math.Bridge.{le_prop}
 use Rattle.apollo_schema.specs.declared.state.State.{State}
@@ -27,6 +27,12 @@ returns-in-Open-clause-spent c = λ spent start xs was. c.finish.ensures.spent s
 
 pub returns-in-Open-clause-source : goal.returns-in-Open-clause-source
 returns-in-Open-clause-source c = λ built start xs was. c.finish.ensures.source built start xs (subst (StateStands start (added_items xs)) c.in-Open.is was.1)
+
+-- the source that is handed back has a number
+pub returns-in-Open-clause-unspent : goal.returns-in-Open-clause-unspent
+returns-in-Open-clause-unspent c = λ built start xs was spent.
+    let left = ap next_number (returns-in-Open-clause-source c built start xs was) in
+    omega (arith, c.finish.type_inv, left, spent)
 
 pub returns-in-Open-clause-rolled_back : goal.returns-in-Open-clause-rolled_back
 returns-in-Open-clause-rolled_back c = λ refused start xs was.
