@@ -1,3 +1,4 @@
+mod FormatLemmas
 mod GrammarLemmas
 mod LookupEquality
 mod MarkLemmas

@@ -16,7 +16,7 @@ use Rattle.apollo_coordinate.specs.declared.parse_error.SchemaCoordinateParseErr
 use Rattle.apollo_coordinate.proofs.MarkLemmas.{one_cut}
 use Rattle.apollo_coordinate.proofs.GrammarLemmas.{BeginsAt, point, bracket, colon, name_lacks, type_begins, attribute_begins, field_argument_begins, attribute_lacks, directive_lacks, attribute_cut, argument_cut}
 
-field_argument_form : (c : FieldArgumentCoordinate) → IsName c.ty.text → IsName c.field.text → IsName c.argument.text → IsFieldArgumentText (coordinate_text (FieldArgument c))
+pub field_argument_form : (c : FieldArgumentCoordinate) → IsName c.ty.text → IsName c.field.text → IsName c.argument.text → IsFieldArgumentText (coordinate_text (FieldArgument c))
 field_argument_form c ty field argument =
     let head : IsAttributeText (c.ty.text ++ (codes "." ++ c.field.text)) = (c.ty.text, c.field.text, refl, ty, field) in
     (c.ty.text ++ (codes "." ++ c.field.text), c.argument.text, sym (append_assoc c.ty.text (codes "." ++ c.field.text) (codes "(" ++ (c.argument.text ++ codes ":)"))), head, argument)

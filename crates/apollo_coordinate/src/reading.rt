@@ -2,11 +2,13 @@
 //!
 //! A text is first read into its parts, in place. Only if all of it is of the form are they made names, from the left: a text
 //! that is read takes memory for its names alone. A refused text takes memory for the one text that `InvalidName` carries,
-//! and for `InvalidFormat` none. `Memory` says nothing of the text.
-ghost use Rattle.std.specs.Prelude.{◌≡◌, IfOk, IfErr, OnOk};
+//! and for `InvalidFormat` none: where the format is refused, it is whatever memory there is. `Memory` says nothing more of the
+//! text than that.
+ghost use Rattle.std.specs.Prelude.{◌≡◌, Err, IfOk, IfErr, OnOk};
 ghost use Rattle.apollo_coordinate.specs.CoordinateText.{IsCoordinateText, SaysCoordinate};
 ghost use Rattle.apollo_coordinate.specs.Parts.{attribute_of, field_argument_of, directive_argument_of, coordinate_of};
-ghost use Rattle.apollo_coordinate.specs.Refusals.{WhenRefused, IsNoName, IsNoAttribute, IsNoDirective, IsNoFieldArgument, IsNoDirectiveArgument, IsNoCoordinate};
+ghost use Rattle.apollo_coordinate.specs.Readings.{IsReadingOf};
+ghost use Rattle.apollo_coordinate.specs.Refusals.{WhenRefused, IsNoName, IsNoAttribute, IsNoDirective, IsNoFieldArgument, IsNoDirectiveArgument};
 ghost use Rattle.apollo_coordinate.specs.declared.coordinates.SchemaCoordinate.TheVariants as any;
 
 use crate::coordinates::{
@@ -106,6 +108,7 @@ impl TypeAttributeCoordinate {
     ) -> Result<TypeAttributeCoordinate, SchemaCoordinateParseError>
         ensures says { IfOk result (λ c. SaysCoordinate text.now (any.TypeAttribute c)) }
         ensures refused { IfErr result (WhenRefused (IsNoAttribute text.now)) }
+        ensures format { IsNoAttribute text.now SchemaCoordinateParseError.InvalidFormat → result ≡ Err SchemaCoordinateParseError.InvalidFormat }
     {
         match AttributeParts::read(text) {
             Ok(attribute) => Ok(attribute.into_coordinate(alloc)?),
@@ -128,6 +131,7 @@ impl FieldArgumentCoordinate {
     ) -> Result<FieldArgumentCoordinate, SchemaCoordinateParseError>
         ensures says { IfOk result (λ c. SaysCoordinate text.now (any.FieldArgument c)) }
         ensures refused { IfErr result (WhenRefused (IsNoFieldArgument text.now)) }
+        ensures format { IsNoFieldArgument text.now SchemaCoordinateParseError.InvalidFormat → result ≡ Err SchemaCoordinateParseError.InvalidFormat }
     {
         match FieldArgumentParts::read(text) {
             Ok(argument) => Ok(argument.into_coordinate(alloc)?),
@@ -149,6 +153,7 @@ impl DirectiveCoordinate {
     ) -> Result<DirectiveCoordinate, SchemaCoordinateParseError>
         ensures says { IfOk result (λ c. SaysCoordinate text.now (any.Directive c)) }
         ensures refused { IfErr result (WhenRefused (IsNoDirective text.now)) }
+        ensures format { IsNoDirective text.now SchemaCoordinateParseError.InvalidFormat → result ≡ Err SchemaCoordinateParseError.InvalidFormat }
     {
         match directive_part(text) {
             Ok(directive) => Ok(DirectiveCoordinate {
@@ -173,6 +178,7 @@ impl DirectiveArgumentCoordinate {
     ) -> Result<DirectiveArgumentCoordinate, SchemaCoordinateParseError>
         ensures says { IfOk result (λ c. SaysCoordinate text.now (any.DirectiveArgument c)) }
         ensures refused { IfErr result (WhenRefused (IsNoDirectiveArgument text.now)) }
+        ensures format { IsNoDirectiveArgument text.now SchemaCoordinateParseError.InvalidFormat → result ≡ Err SchemaCoordinateParseError.InvalidFormat }
     {
         match DirectiveArgumentParts::read(text) {
             Ok(argument) => Ok(argument.into_coordinate(alloc)?),
@@ -191,9 +197,8 @@ impl SchemaCoordinate {
         alloc: Global,
         text: &str,
     ) -> Result<SchemaCoordinate, SchemaCoordinateParseError>
-        ensures says { IfOk result (SaysCoordinate text.now) }
+        ensures reading { IsReadingOf text.now result }
         ensures grammar { OnOk result (IsCoordinateText text.now) }
-        ensures refused { IfErr result (WhenRefused (IsNoCoordinate text.now)) }
     {
         match Parts::read(text) {
             Ok(parts) => Ok(parts.into_coordinate(alloc)?),

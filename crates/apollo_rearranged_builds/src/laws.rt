@@ -8,6 +8,8 @@ ghost use Rattle.apollo_rearrangement.specs.Equal.{AreEqualLists};
 ghost use Rattle.apollo_rearrangement.specs.Rearranged.{AreRearranged};
 ghost use Rattle.apollo_rearranged_builds.specs.BuiltAlike.{BuildEqualSchemas, BuildFaultlessTogether, BuildSameFaults, MeanEqualSchemas, StandFor};
 ghost use Rattle.apollo_schema.specs.BuilderStands.{StandsFor};
+ghost use Rattle.apollo_schema.specs.MeantSchema.{MeansSchema};
+ghost use Rattle.apollo_schema.specs.declared.schema.Schema.{Schema};
 ghost use Rattle.apollo_schema.specs.declared.schema_builder.SchemaBuilder.{SchemaBuilder};
 
 use apollo_rearrangement::laws::{
@@ -16,6 +18,7 @@ use apollo_rearrangement::laws::{
     rearranged_schema_definitions_are_equal, rearranged_types_are_equal,
     rearranging_is_an_equivalence,
 };
+use apollo_schema::laws::a_list_means_one_schema;
 
 /// Two lists of the same definitions that keep, for each type name, the order of its definitions and the order of its
 /// extensions, and so for the directive definitions of each name, the schema definitions and the schema extensions, mean
@@ -37,10 +40,15 @@ pub fn rearranged()
 }
 
 /// Documents that are added one by one, with one setting, mean the schema of one document of all their definitions, and have
-/// its faults in the same order; and a builder to which they were added stands for what that one adds.
+/// its faults in the same order; and a builder to which they were added stands for what that one adds. It is the same schema, with
+/// every location, origin and number, where the extensions of both are numbered from one number, and an equal one where they
+/// aren't.
 pub fn documents_one_by_one()
     ensures schemas { (adopts ignores : Bool) (xs : List Added) (documents : Documents)
         → MeanEqualSchemas adopts (xs ++ added_each ignores documents) (xs ++ added_joined ignores documents) }
+    ensures same { (start : ℕ) (adopts ignores : Bool) (xs : List Added) (documents : Documents) (s t : Schema)
+        → MeansSchema start adopts (xs ++ added_each ignores documents) s → MeansSchema start adopts (xs ++ added_joined ignores documents) t
+        → s ≡ record t { sources = s.sources } }
     ensures faults { (adopts ignores : Bool) (xs : List Added) (documents : Documents)
         → faults_of adopts (xs ++ added_each ignores documents) ≡ faults_of adopts (xs ++ added_joined ignores documents) }
     ensures stands { (b : SchemaBuilder) (n : ℕ) (ignores : Bool) (xs : List Added) (documents : Documents)
@@ -49,6 +57,7 @@ pub fn documents_one_by_one()
     rearranged();
     rearranging_is_an_equivalence();
     apollo_rearrangement::laws::documents_one_by_one();
+    a_list_means_one_schema();
 }
 
 /// Two lists whose definitions are equal one by one, whatever their locations, and whose directive definitions are marked

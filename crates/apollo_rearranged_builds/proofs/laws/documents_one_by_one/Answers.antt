@@ -5,12 +5,18 @@ use Rattle.apollo_rearrangement.specs.Documents.{added_each, added_joined}
 use Rattle.apollo_rearrangement.specs.Rearranged.{AreRearranged}
 use Rattle.apollo_rearranged_builds.proofs.laws.documents_one_by_one.Goals as goal
 use Rattle.apollo_schema.specs.BuilderStands.{StandsFor}
+use Rattle.apollo_schema.specs.MeantSchema.{MeansSchema}
 
 pub returns-clause-schemas : goal.returns-clause-schemas
 returns-clause-schemas c = λ adopts ignores xs documents.
     let list = xs ++ added_each ignores documents in
     c.rearranged.ensures.schemas adopts list (xs ++ added_joined ignores documents)
     (subst (λ l. AreRearranged (added_items list) (added_items (xs ++ l))) (c.documents_one_by_one.ensures ignores documents) (c.rearranging_is_an_equivalence.ensures.itself (added_items list)))
+
+pub returns-clause-same : goal.returns-clause-same
+returns-clause-same c = λ start adopts ignores xs documents s t means other.
+    c.a_list_means_one_schema.ensures start adopts (xs ++ added_joined ignores documents) s t
+    (subst (λ l. MeansSchema start adopts (xs ++ l) s) (c.documents_one_by_one.ensures ignores documents) means) other
 
 pub returns-clause-faults : goal.returns-clause-faults
 returns-clause-faults c = λ adopts ignores xs documents. ap (λ l. faults_of adopts (xs ++ l)) (c.documents_one_by_one.ensures ignores documents)
