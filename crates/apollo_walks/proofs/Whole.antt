@@ -1,127 +1,68 @@
 -- What the order of a whole walk gives and opens, and in how many turns.
-use Rattle.std.proofs.Common.{◌≡◌, inl, inr, ℕ, suc, ◌+◌, ◌*◌, ◌≤◌, true, List, [], ◌∷◌, ◌++◌, length, Some, refl, sym, ap, ◌∙◌, subst, arith, append_assoc}
+use Rattle.std.proofs.Common.{◌≡◌, ◌⊎◌, inl, inr, ℕ, ◌+◌, ◌*◌, ◌≤◌, true, List, [], ◌∷◌, ◌++◌, length, Some, refl, sym, ap, ◌∙◌, subst, arith, append_assoc, length-append}
 use Rattle.std.specs.List.Sorted.{IsPermutation}
-use Rattle.std.proofs.lemmas.List.Sorted.{IsPermutation-refl, IsPermutation-cons, IsPermutation-trans, IsPermutation-append, IsPermutation-append_left, IsPermutation-append_comm}
-use Rattle.apollo_walks.specs.Selections.{Selections, none, field, spread, inline, Fragments, Names, no_names, with_name, with_names, fragment_of, occurrences, spread_names}
-use Rattle.apollo_walks.specs.Reachable.{Among, Reachable, spread_at_the_start, spread_in_a_fragment, AreReachable, at_fragment, occurrences_in}
-use Rattle.apollo_walks.specs.Turns.{size, lists_below, own_turns, whole_turns, total, AreAllTurns, AreWithinTurns}
-use Rattle.apollo_walks.specs.WalkOrder.{Order, of_none, of_field, of_inline, of_undefined, of_opened, of_fragment}
+use Rattle.std.proofs.lemmas.Grind.{flat_map-append}
+use Rattle.std.proofs.lemmas.List.Sums.{sum_by-append, sum_by-cons}
+use Rattle.std.proofs.lemmas.List.Sorted.{IsPermutation-refl, IsPermutation-cons, IsPermutation-trans, IsPermutation-append, IsPermutation-append_left, IsPermutation-append_right, IsPermutation-append_comm}
+use Rattle.apollo_walks.specs.Selections.{Selections, none, field, spread, inline, Fragments, Names, no_names, with_names, fragment_of, occurrences, spread_names}
+use Rattle.apollo_walks.specs.Reachable.{Among, Reachable, spread_at_the_start, spread_in_a_fragment, AreReachable, at_fragment, occurrences_in, reachable_occurrences}
+use Rattle.apollo_walks.specs.Turns.{size, lists_below, own_turns, whole_turns, total, turns_in_reach, selections_in_reach, AreAllTurns}
+use Rattle.apollo_walks.specs.WalkOrder.{Order, of_none, of_inline, of_field, of_passed, of_fragment}
 use Rattle.apollo_walks.specs.Whole.{IsWalk}
-use Rattle.apollo_walks.proofs.Names.{Among-left, Among-right, Among-split, with_name-has, with_names-append, with_names-keeps, with_names-cases, Fresh, Fresh-append, Fresh-distinct}
-use Rattle.apollo_walks.proofs.Totals.{total-append, occurrences_in-append, shuffle}
+use Rattle.apollo_walks.proofs.Names.{Among-left, Among-right, Among-split, with_names-append, with_names-in, with_names-cases, Fresh, Fresh-append, Fresh-distinct}
 
 pub opened-among : (n : List ℕ) (ns : List (List ℕ)) → with_names ns no_names n ≡ true → Among n ns
 opened-among n ns h = elim (with_names-cases ns n no_names h) [ inl nothing ↦ absurd (cc) | inr among ↦ among ]
 
+-- the names of the first list and then of the second are opened
+both-opened : (ms ns : List (List ℕ)) (before : Names) (n : List ℕ)
+    → (with_names ms before n ≡ true) ⊎ (with_names ns (with_names ms before) n ≡ true) → with_names (ms ++ ns) before n ≡ true
+both-opened ms ns before n (inl h) = ap (λ (N : Names). N n) (with_names-append ms ns before) ∙ with_names-in ns n (with_names ms before) (inl h)
+both-opened ms ns before n (inr h) = ap (λ (N : Names). N n) (with_names-append ms ns before) ∙ h
+
+-- a ++ b and c ++ d, as a ++ c and b ++ d
+shuffle : {F : Type 0} (a b c d : List F) → IsPermutation ((a ++ b) ++ (c ++ d)) ((a ++ c) ++ (b ++ d))
+shuffle a b c d =
+    let left : (a ++ b) ++ (c ++ d) ≡ a ++ ((b ++ c) ++ d) = simp append_assoc in
+    let right : a ++ ((c ++ b) ++ d) ≡ (a ++ c) ++ (b ++ d) = simp append_assoc in
+    rw (left, ← right) (IsPermutation-append_right a ((b ++ c) ++ d) ((c ++ b) ++ d) (IsPermutation-append_left d (b ++ c) (c ++ b) (IsPermutation-append_comm b c)))
+
 module _ {F : Type 0} (fragments : Fragments F) where
-  -- each name is new when it is opened
-  order-fresh : {before : Names} {s : Selections F} {fs : List F} {ns : List (List ℕ)} → Order fragments before s fs ns → Fresh ns before
-  order-fresh of_none = tt
-  order-fresh {before = before} (of_field {opened = ms} {more = ns} a b) = Fresh-append ms ns before (order-fresh a) (order-fresh b)
-  order-fresh {before = before} (of_inline {opened = ms} {more = ns} a b) = Fresh-append ms ns before (order-fresh a) (order-fresh b)
-  order-fresh (of_undefined missing a) = order-fresh a
-  order-fresh (of_opened opened a) = order-fresh a
-  order-fresh {before = before} (of_fragment {n = n} {opened = ms} {more = ns} closed found a b) = (closed, Fresh-append ms ns (with_name n before) (order-fresh a) (order-fresh b))
+  -- what s leads to, where t leads to the fragments that are spread in s
+  reach-through : (s t : Selections F) → ((m : List ℕ) (at : Selections F) → Among m (spread_names s) → fragment_of fragments m ≡ Some at → Reachable fragments t m)
+      → (n : List ℕ) → Reachable fragments s n → Reachable fragments t n
+  reach-through s t start n (spread_at_the_start among found) = start n _ among found
+  reach-through s t start n (spread_in_a_fragment {m = m} before at among found) = spread_in_a_fragment (reach-through s t start m before) at among found
 
-  -- ---- the fields
+  -- what these fields and these names are to selections
+  record Holds (before : Names) (s : Selections F) (fs : List F) (ns : List (List ℕ)) : Type 0 where
+    -- each name is new when it is opened
+    fresh : Fresh ns before
+    gives : IsPermutation fs (reachable_occurrences fragments s ns)
+    sound : (n : List ℕ) → Among n ns → Reachable fragments s n
+    -- the names that are spread are opened
+    covers : (n : List ℕ) (at : Selections F) → Among n (spread_names s) → fragment_of fragments n ≡ Some at → with_names ns before n ≡ true
+    -- and those that are spread in a fragment that is opened
+    closes : (m n : List ℕ) (at inner : Selections F) → Among m ns → fragment_of fragments m ≡ Some at
+        → Among n (spread_names at) → fragment_of fragments n ≡ Some inner → with_names ns before n ≡ true
+    few : turns_in_reach fragments s ns ≤ 2 * selections_in_reach fragments s ns + 1
 
-  both-give : (xs ys own others : List F) (ms ns : List (List ℕ)) → IsPermutation xs (own ++ occurrences_in fragments ms) → IsPermutation ys (others ++ occurrences_in fragments ns)
-      → IsPermutation (xs ++ ys) ((own ++ others) ++ occurrences_in fragments (ms ++ ns))
-  both-give xs ys own others ms ns p q =
-      let a = occurrences_in fragments ms in
-      let b = occurrences_in fragments ns in
-      IsPermutation-trans (xs ++ ys) ((own ++ a) ++ (others ++ b)) ((own ++ others) ++ occurrences_in fragments (ms ++ ns))
-      (IsPermutation-append xs (own ++ a) ys (others ++ b) p q) (rw (occurrences_in-append fragments ms ns) (shuffle own a others b))
-
-  order-gives : {before : Names} {s : Selections F} {fs : List F} {ns : List (List ℕ)} → Order fragments before s fs ns → IsPermutation fs (occurrences s ++ occurrences_in fragments ns)
-  order-gives of_none = IsPermutation-refl []
-  order-gives (of_field {f = f} {below = below} {rest = rest} {first = xs} {others = ys} {opened = ms} {more = ns} a b) =
-      IsPermutation-cons f (xs ++ ys) ((occurrences below ++ occurrences rest) ++ occurrences_in fragments (ms ++ ns))
-      (both-give xs ys (occurrences below) (occurrences rest) ms ns (order-gives a) (order-gives b))
-  order-gives (of_inline {inner = inner} {rest = rest} {first = xs} {others = ys} {opened = ms} {more = ns} a b) =
-      both-give xs ys (occurrences inner) (occurrences rest) ms ns (order-gives a) (order-gives b)
-  order-gives (of_undefined missing a) = order-gives a
-  order-gives (of_opened opened a) = order-gives a
-  order-gives (of_fragment {set = set} {rest = rest} {first = xs} {others = ys} {opened = ms} {more = ns} closed found a b) =
-      let inside = occurrences_in fragments (ms ++ ns) in
-      rw (found, ← append_assoc (occurrences rest) (occurrences set) inside)
-      (IsPermutation-trans (xs ++ ys) ((occurrences set ++ occurrences rest) ++ inside) ((occurrences rest ++ occurrences set) ++ inside)
-      (both-give xs ys (occurrences set) (occurrences rest) ms ns (order-gives a) (order-gives b))
-      (IsPermutation-append_left inside (occurrences set ++ occurrences rest) (occurrences rest ++ occurrences set) (IsPermutation-append_comm (occurrences set) (occurrences rest))))
-
-  -- ---- the names
-
-  -- what fewer spreads lead to
-  reach-more : (s t : Selections F) → ((m : List ℕ) → Among m (spread_names s) → Among m (spread_names t)) → (n : List ℕ) → Reachable fragments s n → Reachable fragments t n
-  reach-more s t more n (spread_at_the_start among found) = spread_at_the_start (more n among) found
-  reach-more s t more n (spread_in_a_fragment {m = m} before at among found) = spread_in_a_fragment (reach-more s t more m before) at among found
-
-  -- what a fragment leads to
-  reach-inside : (t set : Selections F) (m : List ℕ) → Reachable fragments t m → fragment_of fragments m ≡ Some set → (n : List ℕ) → Reachable fragments set n → Reachable fragments t n
-  reach-inside t set m reached at n (spread_at_the_start among found) = spread_in_a_fragment reached at among found
-  reach-inside t set m reached at n (spread_in_a_fragment {m = k} before inner among found) = spread_in_a_fragment (reach-inside t set m reached at k before) inner among found
-
-  order-sound : {before : Names} {s : Selections F} {fs : List F} {ns : List (List ℕ)} → Order fragments before s fs ns → (n : List ℕ) → Among n ns → Reachable fragments s n
-  order-sound of_none n h = absurd h
-  order-sound (of_field {f = f} {below = below} {rest = rest} {opened = ms} {more = ns} a b) n h =
-      elim (Among-split n ms ns h) [
-        | inl one ↦ reach-more below (field f below rest) (λ m. Among-left m (spread_names below) (spread_names rest)) n (order-sound a n one)
-        | inr two ↦ reach-more rest (field f below rest) (λ m. Among-right m (spread_names below) (spread_names rest)) n (order-sound b n two)
-      ]
-  order-sound (of_inline {inner = inner} {rest = rest} {opened = ms} {more = ns} a b) n h =
-      elim (Among-split n ms ns h) [
-        | inl one ↦ reach-more inner (inline inner rest) (λ m. Among-left m (spread_names inner) (spread_names rest)) n (order-sound a n one)
-        | inr two ↦ reach-more rest (inline inner rest) (λ m. Among-right m (spread_names inner) (spread_names rest)) n (order-sound b n two)
-      ]
-  order-sound (of_undefined {n = k} {rest = rest} missing a) n h = reach-more rest (spread k rest) (λ m later. inr later) n (order-sound a n h)
-  order-sound (of_opened {n = k} {rest = rest} opened a) n h = reach-more rest (spread k rest) (λ m later. inr later) n (order-sound a n h)
-  order-sound (of_fragment {n = k} {set = set} closed found a b) n (inl e) = spread_at_the_start (inl e) (ap (fragment_of fragments) e ∙ found)
-  order-sound (of_fragment {n = k} {set = set} {rest = rest} {opened = ms} {more = ns} closed found a b) n (inr h) =
-      elim (Among-split n ms ns h) [
-        | inl one ↦ reach-inside (spread k rest) set k (spread_at_the_start (inl refl) found) found n (order-sound a n one)
-        | inr two ↦ reach-more rest (spread k rest) (λ m later. inr later) n (order-sound b n two)
-      ]
-
-  -- what is opened stays so
-  kept : (ms ns : List (List ℕ)) (before : Names) (n : List ℕ) → with_names ms before n ≡ true → with_names (ms ++ ns) before n ≡ true
-  kept ms ns before n h = ap (λ (N : Names). N n) (with_names-append ms ns before) ∙ with_names-keeps ns n (with_names ms before) h
-
-  then_opened : (ms ns : List (List ℕ)) (before : Names) (n : List ℕ) → with_names ns (with_names ms before) n ≡ true → with_names (ms ++ ns) before n ≡ true
-  then_opened ms ns before n h = ap (λ (N : Names). N n) (with_names-append ms ns before) ∙ h
-
-  -- the names that are spread are opened
-  order-covers : {before : Names} {s : Selections F} {fs : List F} {ns : List (List ℕ)} → Order fragments before s fs ns
-      → (n : List ℕ) (at : Selections F) → Among n (spread_names s) → fragment_of fragments n ≡ Some at → with_names ns before n ≡ true
-  order-covers of_none n at h found = absurd h
-  order-covers {before = before} (of_field {below = below} {rest = rest} {opened = ms} {more = ns} a b) n at h found =
-      elim (Among-split n (spread_names below) (spread_names rest) h) [ inl one ↦ kept ms ns before n (order-covers a n at one found) | inr two ↦ then_opened ms ns before n (order-covers b n at two found) ]
-  order-covers {before = before} (of_inline {inner = inner} {rest = rest} {opened = ms} {more = ns} a b) n at h found =
-      elim (Among-split n (spread_names inner) (spread_names rest) h) [ inl one ↦ kept ms ns before n (order-covers a n at one found) | inr two ↦ then_opened ms ns before n (order-covers b n at two found) ]
-  order-covers (of_undefined missing a) n at (inl e) found = let none_there = sym found ∙ ap (fragment_of fragments) e ∙ missing in absurd (cc)
-  order-covers (of_undefined missing a) n at (inr h) found = order-covers a n at h found
-  order-covers {before = before} (of_opened {more = ns} opened a) n at (inl e) found = with_names-keeps ns n before (ap before e ∙ opened)
-  order-covers (of_opened opened a) n at (inr h) found = order-covers a n at h found
-  order-covers {before = before} (of_fragment {n = k} {opened = ms} {more = ns} closed at_k a b) n at (inl e) found =
-      with_names-keeps (ms ++ ns) n (with_name k before) (ap (with_name k before) e ∙ with_name-has k before)
-  order-covers {before = before} (of_fragment {n = k} {opened = ms} {more = ns} closed at_k a b) n at (inr h) found = then_opened ms ns (with_name k before) n (order-covers b n at h found)
-
-  -- and those that are spread in a fragment that is opened
-  order-closes : {before : Names} {s : Selections F} {fs : List F} {ns : List (List ℕ)} → Order fragments before s fs ns
-      → (m n : List ℕ) (at inner : Selections F) → Among m ns → fragment_of fragments m ≡ Some at → Among n (spread_names at) → fragment_of fragments n ≡ Some inner → with_names ns before n ≡ true
-  order-closes of_none m n at inner h at_m in_m found = absurd h
-  order-closes {before = before} (of_field {opened = ms} {more = ns} a b) m n at inner h at_m in_m found =
-      elim (Among-split m ms ns h) [ inl one ↦ kept ms ns before n (order-closes a m n at inner one at_m in_m found) | inr two ↦ then_opened ms ns before n (order-closes b m n at inner two at_m in_m found) ]
-  order-closes {before = before} (of_inline {opened = ms} {more = ns} a b) m n at inner h at_m in_m found =
-      elim (Among-split m ms ns h) [ inl one ↦ kept ms ns before n (order-closes a m n at inner one at_m in_m found) | inr two ↦ then_opened ms ns before n (order-closes b m n at inner two at_m in_m found) ]
-  order-closes (of_undefined missing a) m n at inner h at_m in_m found = order-closes a m n at inner h at_m in_m found
-  order-closes (of_opened opened a) m n at inner h at_m in_m found = order-closes a m n at inner h at_m in_m found
-  order-closes {before = before} (of_fragment {n = k} {set = set} {opened = ms} {more = ns} closed at_k a b) m n at inner (inl e) at_m in_m found =
-      let same : at ≡ set = (let both = sym at_m ∙ ap (fragment_of fragments) e ∙ at_k in cc) in
-      kept ms ns (with_name k before) n (order-covers a n inner (subst (λ (t : Selections F). Among n (spread_names t)) same in_m) found)
-  order-closes {before = before} (of_fragment {n = k} {opened = ms} {more = ns} closed at_k a b) m n at inner (inr h) at_m in_m found =
-      elim (Among-split m ms ns h) [ inl one ↦ kept ms ns (with_name k before) n (order-closes a m n at inner one at_m in_m found) | inr two ↦ then_opened ms ns (with_name k before) n (order-closes b m n at inner two at_m in_m found) ]
-
-  -- ---- the turns
+  of-both : {before : Names} {p q : Selections F} {xs ys : List F} {ms ns : List (List ℕ)}
+      → Holds before p xs ms → Holds (with_names ms before) q ys ns → Holds before (inline p q) (xs ++ ys) (ms ++ ns)
+  of-both {before = before} {p = p} {q = q} {xs = xs} {ys = ys} {ms = ms} {ns = ns} a b = record {
+    fresh = Fresh-append ms ns before a.fresh b.fresh;
+    gives = IsPermutation-trans _ _ _ (IsPermutation-append xs _ ys _ a.gives b.gives)
+        (rw (flat_map-append (λ n. at_fragment [] occurrences (fragment_of fragments n)) ms ns) (shuffle (occurrences p) (occurrences_in fragments ms) (occurrences q) (occurrences_in fragments ns)));
+    sound = λ n h. elim (Among-split n ms ns h) [
+      | inl one ↦ reach-through p (inline p q) (λ m at in_p. spread_at_the_start (Among-left m (spread_names p) (spread_names q) in_p)) n (a.sound n one)
+      | inr two ↦ reach-through q (inline p q) (λ m at in_q. spread_at_the_start (Among-right m (spread_names p) (spread_names q) in_q)) n (b.sound n two)
+    ];
+    covers = λ n at h found. both-opened ms ns before n
+        (elim (Among-split n (spread_names p) (spread_names q) h) [ inl one ↦ inl (a.covers n at one found) | inr two ↦ inr (b.covers n at two found) ]);
+    closes = λ m n at inner h at_m in_m found. both-opened ms ns before n
+        (elim (Among-split m ms ns h) [ inl one ↦ inl (a.closes m n at inner one at_m in_m found) | inr two ↦ inr (b.closes m n at inner two at_m in_m found) ]);
+    few = omega (arith, a.few, b.few, length-append ms ns, sum_by-append (λ n. at_fragment 0 size (fragment_of fragments n)) ms ns, sum_by-append (λ n. at_fragment 0 own_turns (fragment_of fragments n)) ms ns);
+  }
 
   some_below : (s : Selections F) → lists_below s ≤ 1
   some_below none = omega arith
@@ -129,50 +70,104 @@ module _ {F : Type 0} (fragments : Fragments F) where
   some_below (spread n rest) = omega arith
   some_below (inline inner rest) = omega arith
 
-  order-bound : {before : Names} {s : Selections F} {fs : List F} {ns : List (List ℕ)} → Order fragments before s fs ns
-      → whole_turns s + total whole_turns fragments ns ≤ suc (2 * size s) + 2 * total size fragments ns
-  order-bound of_none = omega arith
-  order-bound (of_field {below = below} {opened = ms} {more = ns} a b) =
-      omega (arith, some_below below, order-bound a, order-bound b, total-append whole_turns fragments ms ns, total-append size fragments ms ns)
-  order-bound (of_inline {opened = ms} {more = ns} a b) =
-      omega (arith, order-bound a, order-bound b, total-append whole_turns fragments ms ns, total-append size fragments ms ns)
-  order-bound (of_undefined missing a) = omega (arith, order-bound a)
-  order-bound (of_opened opened a) = omega (arith, order-bound a)
-  order-bound (of_fragment {n = k} {set = set} {opened = ms} {more = ns} closed found a b) =
-      let turns = ap (at_fragment 0 whole_turns) found in
-      let selections = ap (at_fragment 0 size) found in
-      omega (arith, turns, selections, order-bound a, order-bound b, total-append whole_turns fragments ms ns, total-append size fragments ms ns)
+  holds : {before : Names} {s : Selections F} {fs : List F} {ns : List (List ℕ)} → Order fragments before s fs ns → Holds before s fs ns
+  holds of_none = record {
+    fresh = tt;
+    gives = IsPermutation-refl [];
+    sound = λ n h. absurd h;
+    covers = λ n at h found. absurd h;
+    closes = λ m n at inner h at_m in_m found. absurd h;
+    few = omega arith;
+  }
+  holds (of_inline a b) = of-both (holds a) (holds b)
+  holds (of_field {f = f} {below = below} {rest = rest} {fields = fs} {opened = ns} a) =
+      let h = holds a in record {
+        fresh = h.fresh;
+        gives = IsPermutation-cons f fs (reachable_occurrences fragments (inline below rest) ns) h.gives;
+        sound = λ n among. reach-through (inline below rest) (field f below rest) (λ m at. spread_at_the_start) n (h.sound n among);
+        covers = h.covers;
+        closes = h.closes;
+        few = omega (arith, some_below below, h.few);
+      }
+  holds {before = before} (of_passed {n = k} {rest = rest} {opened = ns} why a) =
+      let h = holds a in
+      let passed : (n : List ℕ) (at : Selections F) → n ≡ k → fragment_of fragments n ≡ Some at → with_names ns before n ≡ true =
+      λ n at e found. elim why [
+        | inl opened ↦ with_names-in ns n before (inl (ap before e ∙ opened))
+        | inr missing ↦ (let none_there = sym found ∙ ap (fragment_of fragments) e ∙ missing in absurd (cc))
+      ] in
+      record {
+        fresh = h.fresh;
+        gives = h.gives;
+        sound = λ n among. reach-through rest (spread k rest) (λ m at later. spread_at_the_start (inr later)) n (h.sound n among);
+        covers = λ n at among found. elim among [ inl e ↦ passed n at e found | inr later ↦ h.covers n at later found ];
+        closes = h.closes;
+        few = omega (arith, h.few);
+      }
+  holds {before = before} (of_fragment {n = k} {set = set} {rest = rest} {fields = fs} {opened = ns} closed at_k a) =
+      let h = holds a in
+      let here : Reachable fragments (spread k rest) k = spread_at_the_start (inl refl) at_k in
+      let inside = occurrences_in fragments ns in
+      let own = ap (at_fragment 0 own_turns) at_k in
+      let selections = ap (at_fragment 0 size) at_k in
+      let own_first = sum_by-cons (λ n. at_fragment 0 own_turns (fragment_of fragments n)) k ns in
+      let size_first = sum_by-cons (λ n. at_fragment 0 size (fragment_of fragments n)) k ns in
+      record {
+        fresh = (closed, h.fresh);
+        gives = rw (at_k, ← append_assoc (occurrences rest) (occurrences set) inside) (IsPermutation-trans _ _ _ h.gives
+            (IsPermutation-append_left inside _ _ (IsPermutation-append_comm (occurrences set) (occurrences rest))));
+        sound = λ n among. elim among [
+          | inl e ↦ spread_at_the_start (inl e) (ap (fragment_of fragments) e ∙ at_k)
+          | inr later ↦ reach-through (inline set rest) (spread k rest)
+              (λ m at in_m found. elim (Among-split m (spread_names set) (spread_names rest) in_m) [
+                | inl in_set ↦ spread_in_a_fragment here at_k in_set found
+                | inr in_rest ↦ spread_at_the_start (inr in_rest) found
+              ]) n (h.sound n later)
+        ];
+        covers = λ n at among found. elim among [
+          | inl e ↦ with_names-in (k ∷ ns) n before (inr (inl e))
+          | inr later ↦ h.covers n at (Among-right n (spread_names set) (spread_names rest) later) found
+        ];
+        closes = λ m n at inner among at_m in_m found. elim among [
+          | inl e ↦ (
+              let same : at ≡ set = (let both = sym at_m ∙ ap (fragment_of fragments) e ∙ at_k in cc) in
+              let in_set = subst (λ (t : Selections F). Among n (spread_names t)) same in_m in
+              h.covers n inner (Among-left n (spread_names set) (spread_names rest) in_set) found)
+          | inr later ↦ h.closes m n at inner later at_m in_m found
+        ];
+        few = omega (arith, h.few, own, selections, own_first, size_first);
+      }
 
   pub reach-found : (s : Selections F) (n : List ℕ) → Reachable fragments s n → (set : Selections F) × (fragment_of fragments n ≡ Some set)
   reach-found s n (spread_at_the_start {set = set} in_s found) = (set, found)
   reach-found s n (spread_in_a_fragment {set = set} before found_at in_at found) = (set, found)
 
-  total-turns : (ns : List (List ℕ)) → ((n : List ℕ) → Among n ns → (set : Selections F) × (fragment_of fragments n ≡ Some set)) → total whole_turns fragments ns ≡ length ns + total own_turns fragments ns
-  total-turns [] all = omega arith
-  total-turns (n ∷ ns) all =
-      let here = all n (inl refl) in
-      let own = ap (at_fragment 0 own_turns) here.1 in
-      let turns = ap (at_fragment 0 whole_turns) here.1 in
-      let rest = total-turns ns (λ m among. all m (inr among)) in
-      omega (arith, own, turns, rest)
+  total-turns : (s : Selections F) (ns : List (List ℕ)) → ((n : List ℕ) → Among n ns → Reachable fragments s n)
+      → total whole_turns fragments ns ≡ length ns + total own_turns fragments ns
+  total-turns s [] sound = omega arith
+  total-turns s (n ∷ ns) sound =
+      let found = (reach-found s n (sound n (inl refl))).1 in
+      let own = ap (at_fragment 0 own_turns) found in
+      let turns = ap (at_fragment 0 whole_turns) found in
+      let own_first = sum_by-cons (λ n. at_fragment 0 own_turns (fragment_of fragments n)) n ns in
+      let turns_first = sum_by-cons (λ n. at_fragment 0 whole_turns (fragment_of fragments n)) n ns in
+      let rest = total-turns s ns (λ m among. sound m (inr among)) in
+      omega (arith, own, turns, own_first, turns_first, rest)
 
-  -- ---- a walk for which no name is opened
-
+  -- a walk for which no name is opened
   module _ (s : Selections F) (fs : List F) (ns : List (List ℕ)) (order : Order fragments no_names s fs ns) where
     complete : (n : List ℕ) → Reachable fragments s n → Among n ns
-    complete n (spread_at_the_start in_s found) = opened-among n ns (order-covers order n _ in_s found)
-    complete n (spread_in_a_fragment {m = m} before found_at in_at found) = opened-among n ns (order-closes order m n _ _ (complete m before) found_at in_at found)
+    complete n (spread_at_the_start in_s found) = opened-among n ns ((holds order).covers n _ in_s found)
+    complete n (spread_in_a_fragment {m = m} before found_at in_at found) = opened-among n ns ((holds order).closes m n _ _ (complete m before) found_at in_at found)
 
     pub order-reaches : AreReachable fragments s ns
-    order-reaches = record { each_once = Fresh-distinct ns no_names (order-fresh order); sound = order-sound order; complete = complete }
+    order-reaches = record { each_once = Fresh-distinct ns no_names (holds order).fresh; sound = (holds order).sound; complete = complete }
 
     pub order-walk : IsWalk fragments s fs
-    order-walk = record { opened = ns; order = order; reachable = order-reaches; each_once = order-gives order }
+    order-walk = record { opened = ns; order = order; reachable = order-reaches; each_once = (holds order).gives }
 
     pub order-turns : AreAllTurns fragments s (whole_turns s + total whole_turns fragments ns)
-    order-turns =
-        let count = total-turns ns (λ n among. reach-found s n (order-sound order n among)) in
-        (ns, order-reaches, omega (arith, count))
+    order-turns = let count = total-turns s ns (holds order).sound in (ns, order-reaches, omega (arith, count))
 
-    pub order-few : AreWithinTurns fragments s (whole_turns s + total whole_turns fragments ns)
-    order-few = (ns, order-reaches, omega (arith, order-bound order))
+    pub order-few : turns_in_reach fragments s ns ≤ 2 * selections_in_reach fragments s ns + 1
+    order-few = (holds order).few
