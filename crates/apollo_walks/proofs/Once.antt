@@ -4,7 +4,7 @@ use Rattle.std.specs.List.Sorted.{IsPermutation}
 use Rattle.std.proofs.lemmas.List.Sorted.{IsPermutation-refl, IsPermutation-sym, IsPermutation-cons, IsPermutation-trans, IsPermutation-middle, sum_by-IsPermutation, length_permutation}
 use Rattle.apollo_walks.specs.Selections.{Selections, Fragments, fragment_of, no_names}
 use Rattle.apollo_walks.specs.Reachable.{Among, EachOnce, AreReachable, at_fragment}
-use Rattle.apollo_walks.specs.Turns.{size, own_turns, selections_in_reach, turns_in_reach, AreAllTurns}
+use Rattle.apollo_walks.specs.Turns.{size, whole_turns, selections_in_reach, turns_in_reach, AreAllTurns}
 use Rattle.apollo_walks.proofs.Existence.{ordered}
 use Rattle.apollo_walks.proofs.Reached.{Among-shuffled}
 use Rattle.apollo_walks.proofs.Whole.{order-reaches, order-few}
@@ -39,7 +39,7 @@ module _ {F : Type 0} (fragments : Fragments F) (s : Selections F) where
   reachable-shuffled ms ns p q = same-members ms ns p.each_once q.each_once (λ n h. q.complete n (p.sound n h)) (λ n h. p.complete n (q.sound n h))
 
   turns-same : (ms ns : List (List ℕ)) → IsPermutation ms ns → turns_in_reach fragments s ms ≡ turns_in_reach fragments s ns
-  turns-same ms ns p = omega (arith, length_permutation ms ns p, sum_by-IsPermutation (λ n. at_fragment 0 own_turns (fragment_of fragments n)) ms ns p)
+  turns-same ms ns p = omega (arith, sum_by-IsPermutation (λ n. at_fragment 0 whole_turns (fragment_of fragments n)) ms ns p)
 
   pub all-turns-same : (m n : ℕ) → AreAllTurns fragments s m → AreAllTurns fragments s n → m ≡ n
   all-turns-same m n p q = p.2 ∙ turns-same p.0 q.0 (reachable-shuffled p.0 q.0 p.1 q.1) ∙ sym q.2

@@ -1,5 +1,5 @@
 -- What is to come of a walk, turn by turn.
-use Rattle.std.proofs.Common.{◌≡◌, ◌⊎◌, inr, ◌+◌, ℕ, true, false, List, [], ◌∷◌, ◌++◌, None, Some, refl, sym, ap, ◌∙◌, subst, arith, append_assoc, append-nil}
+use Rattle.std.proofs.Common.{◌≡◌, ◌⊎◌, inr, ◌+◌, ℕ, true, false, List, [], ◌∷◌, ◌++◌, None, Some, refl, sym, ap, ◌∙◌, arith, append_assoc, append-nil}
 use Rattle.std.proofs.lemmas.List.Sums.{sum_by-cons}
 use Rattle.apollo_walks.specs.Selections.{Selections, none, field, spread, inline, Fragments, Names, no_names, with_name, with_names, fragment_of}
 use Rattle.apollo_walks.specs.Reachable.{at_fragment}
@@ -7,11 +7,10 @@ use Rattle.apollo_walks.specs.ToCome.{ToCome, IsToCome, joined, turns_of_lists}
 use Rattle.apollo_walks.specs.TurnByTurn.{a_turn_before, over, AreTurnByTurn, IsAllToCome}
 use Rattle.apollo_walks.specs.Turns.{lists_below, own_turns, whole_turns, total}
 use Rattle.apollo_walks.specs.WalkOrder.{Order, of_none, of_inline, of_field, of_passed, of_fragment}
-use Rattle.apollo_walks.specs.Whole.{IsWalk}
 use Rattle.apollo_walks.proofs.Existence.{ordered}
 use Rattle.apollo_walks.proofs.Names.{with_names-append, with_names-in}
 use Rattle.apollo_walks.proofs.Orders.{order-determined}
-use Rattle.apollo_walks.proofs.Whole.{opened-among, order-reaches, order-walk, order-turns}
+use Rattle.apollo_walks.proofs.Whole.{opened-among, order-reaches, order-walk}
 
 module _ {F : Type 0} (fragments : Fragments F) where
   -- there is one that is to come
@@ -78,23 +77,18 @@ module _ {F : Type 0} (fragments : Fragments F) where
     }
 
   -- a walk begins with one list
+  alone : {s : Selections F} {fs : List F} {ns : List (List ℕ)} → Order fragments no_names (inline s none) fs ns → Order fragments no_names s fs ns
+  alone (of_inline {first = fs} {opened = ns} a of_none) = rw (append-nil fs, append-nil ns) a
+
   pub begins : (s : Selections F) (x : ToCome F) → IsToCome fragments no_names (s ∷ []) x → IsAllToCome fragments s x
-  begins s x p = by refl p.order p.opened p.turns
-    where
-      by : {gs : List F} {ks : List (List ℕ)} → x.fields ≡ gs → Order fragments no_names (joined (s ∷ [])) gs ks → x.opened ≡ with_names ks no_names
-          → x.turns ≡ turns_of_lists (s ∷ []) + total whole_turns fragments ks → IsAllToCome fragments s x
-      by is (of_inline {first = fs} {opened = ns} a of_none) opened turns =
-          let fields : fs ≡ x.fields = sym (is ∙ append-nil fs) in
-          let names = append-nil ns in
-          let at_end : x.opened ≡ with_names ns no_names = opened ∙ ap (λ (l : List (List ℕ)). with_names l no_names) names in
-          let inside = ap (total whole_turns fragments) names in
-          let reaches = order-reaches fragments s fs ns a in
-          let all = order-turns fragments s fs ns a in
-          record {
-            walk = subst (IsWalk fragments s) fields (order-walk fragments s fs ns a);
-            turns = (all.0, all.1, omega (arith, turns, inside, all.2));
-            opens = λ n. (
-              λ h. reaches.sound n (opened-among n ns (sym (ap (λ (N : Names). N n) at_end) ∙ h)),
-              λ reached. ap (λ (N : Names). N n) at_end ∙ with_names-in ns n no_names (inr (reaches.complete n reached)),
-            );
-          }
+  begins s x p =
+      let order = alone p.order in
+      let reaches = order-reaches fragments s x.fields p.names order in
+      record {
+        walk = order-walk fragments s x.fields p.names order;
+        turns = (p.names, reaches, omega (arith, p.turns));
+        opens = λ n. (
+          λ h. reaches.sound n (opened-among n p.names (rw p.opened at h)),
+          λ reached. rw p.opened (with_names-in p.names n no_names (inr (reaches.complete n reached))),
+        );
+      }
