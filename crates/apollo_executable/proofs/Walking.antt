@@ -4,6 +4,4 @@ pub mod IntrospectionLemmas
 pub mod ItemLemmas
 pub mod NextLemmas
 pub mod PlainLemmas
-pub mod TurnLemmas
 pub mod WalkLemmas
-pub mod WholeLemmas

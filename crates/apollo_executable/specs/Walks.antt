@@ -1,8 +1,10 @@
 pub mod FieldsIn
 pub mod Introspection
 pub mod Left
+pub mod LeftByTurn
 pub mod NextItem
 pub mod Plain
 pub mod Seen
+pub mod Step
 pub mod Taken
 pub mod WalkView

@@ -1,7 +1,7 @@
 -- The names of the fragments whose places are marked.
 use Rattle.std.proofs.Common.{◌≡◌, ◌↔◌, inl, inr, ℕ, Bool, true, false, ◌||◌, cond, List, [], ◌∷◌, map, filter, Option, None, Some, refl, sym, ap, ◌∙◌, get_or, eq-eqb}
 use Rattle.std.specs.Prelude.{nat_eq, position, slice_index_or}
-use Rattle.std.specs.Option.{option_map_or}
+use Rattle.std.specs.Option.{option_map, option_map_or}
 use Rattle.std.proofs.lemmas.Bool.{eqb-true}
 use Rattle.std.proofs.lemmas.List.Quantifiers.{position-Some}
 use Rattle.graphql_nodes.specs.NameView.{NameView}
@@ -18,30 +18,25 @@ use Rattle.apollo_executable.specs.declared.document.ExecutableDocument.{Executa
 
 -- ---- fragments under their keys
 
-unfoldable plain_in : Bool → Option (NodeView Fragment) → Option Plain
-plain_in deep None = None
-plain_in deep (Some n) = Some (plain deep n.value.selection_set.selections)
-
 fragment_of-entries : (deep : Bool) (es : List (NameView × NodeView Fragment)) (n : List ℕ)
-    → fragment_of (map (λ e. (e.0.text, plain deep e.1.value.selection_set.selections)) es) n ≡ plain_in deep (lookup (by_text n) es)
-unfolding plain_in
+    → fragment_of (map (λ e. (e.0.text, plain deep e.1.value.selection_set.selections)) es) n
+    ≡ option_map (λ f. plain deep f.value.selection_set.selections) (lookup (by_text n) es)
 fragment_of-entries deep [] n = refl
-fragment_of-entries deep (e ∷ es) n = at (same n e.0.text) (fragment_of-entries deep es n)
+fragment_of-entries deep (e ∷ es) n = at (same n e.0.text) (fragment_of _ n) (lookup (by_text n) es) (fragment_of-entries deep es n)
   where
-    at : (b : Bool) → fragment_of (map (λ e. (e.0.text, plain deep e.1.value.selection_set.selections)) es) n ≡ plain_in deep (lookup (by_text n) es) →
-        cond b (Some (plain deep e.1.value.selection_set.selections)) (fragment_of (map (λ e. (e.0.text, plain deep e.1.value.selection_set.selections)) es) n)
-        ≡ plain_in deep (cond b (Some e.1) (lookup (by_text n) es))
-    at true h = refl
-    at false h = h
+    at : (b : Bool) (found : Option Plain) (f : Option (NodeView Fragment)) → found ≡ option_map (λ f. plain deep f.value.selection_set.selections) f
+        → cond b (Some (plain deep e.1.value.selection_set.selections)) found ≡ option_map (λ f. plain deep f.value.selection_set.selections) (cond b (Some e.1) f)
+    at true found f h = refl
+    at false found f h = h
 
-pub found-some : (deep : Bool) (d : ExecutableDocument) (n : List ℕ) (f : NodeView Fragment) → lookup (by_text n) d.fragments ≡ Some f
-    → fragment_of (fragments_of deep d) n ≡ Some (plain deep f.value.selection_set.selections)
-unfolding fragments_of plain_in
-found-some deep d n f is = fragment_of-entries deep d.fragments n ∙ ap (plain_in deep) is
+module _ (deep : Bool) (d : ExecutableDocument) (n : List ℕ) where
+  pub fragment-found : (f : NodeView Fragment) → lookup (by_text n) d.fragments ≡ Some f → fragment_of (fragments_of deep d) n ≡ Some (plain deep f.value.selection_set.selections)
+  unfolding fragments_of
+  fragment-found f is = rw is at (fragment_of-entries deep d.fragments n)
 
-pub found-none : (deep : Bool) (d : ExecutableDocument) (n : List ℕ) → lookup (by_text n) d.fragments ≡ None → fragment_of (fragments_of deep d) n ≡ None
-unfolding fragments_of plain_in
-found-none deep d n is = fragment_of-entries deep d.fragments n ∙ ap (plain_in deep) is
+  pub fragment-missing : lookup (by_text n) d.fragments ≡ None → fragment_of (fragments_of deep d) n ≡ None
+  unfolding fragments_of
+  fragment-missing is = rw is at (fragment_of-entries deep d.fragments n)
 
 -- ---- marks
 

@@ -4,6 +4,7 @@ use Rattle.graphql_nodes.specs.NodeView.{NodeView}
 use Rattle.apollo_walks.specs.Selections.{none, field, spread, inline}
 use Rattle.apollo_walks.specs.TurnByTurn.{over}
 use Rattle.apollo_executable.specs.Walks.Plain.{Plain, PS, PF, PI, PL, when_deep, put_before, in_order, seen_selection, plain, below_of}
+use Rattle.apollo_executable.specs.Walks.LeftByTurn.{with_list}
 use Rattle.apollo_executable.specs.declared.selection.Selection.{Selection, roll-Selection, out-Selection, para-roll-Selection}
 use Rattle.apollo_executable.specs.declared.selection.Selection.TheVariants as variant
 use Rattle.apollo_executable.specs.declared.selection.Selection.TheOpen.{Selection-F}
@@ -76,11 +77,12 @@ module _ (deep : Bool) where
       ap (λ s. plain deep (s ∷ ss)) (sym (variant.rolls-InlineFragment n)) ∙ plain-rolled (Selection-F.InlineFragment n) ss
       ∙ ap (λ (p : Plain). inline p (plain deep ss)) (seen-inline n.value)
 
-  -- a list with a selection in it is opened
-  pub over-cons : (s : Selection) (ss : List Selection) (others : List Plain) → over (plain deep (s ∷ ss)) others ≡ plain deep (s ∷ ss) ∷ others
-  over-cons s ss others = rw (plain-first s ss) (at (opened_up (out-Selection s)))
+  -- a list is opened if there is something in it
+  pub over-list : (below : List Selection) (lists : List (List Selection)) → over (plain deep below) (map (plain deep) lists) ≡ map (plain deep) (with_list below lists)
+  over-list [] lists = rw plain-none
+  over-list (s ∷ ss) lists = rw (plain-first s ss) (at (opened_up (out-Selection s)))
     where
-      at : (z : Selection-F PS PF PI PL) → over (put_before deep z (plain deep ss)) others ≡ put_before deep z (plain deep ss) ∷ others
+      at : (z : Selection-F PS PF PI PL) → over (put_before deep z (plain deep ss)) (map (plain deep) lists) ≡ put_before deep z (plain deep ss) ∷ map (plain deep) lists
       at (Selection-F.Field n) = refl
       at (Selection-F.FragmentSpread n) = refl
       at (Selection-F.InlineFragment n) = refl

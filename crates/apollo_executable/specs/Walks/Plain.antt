@@ -4,7 +4,7 @@ use Rattle.std.specs.Prelude.{Bool, List, [], ◌∷◌, map, cond}
 use Rattle.graphql_nodes.specs.NodeView.{NodeView}
 use Rattle.apollo_walks.specs.Selections.{Selections, none, field, spread, inline, Fragments}
 use Rattle.apollo_executable.specs.declared.selection.Selection.{Selection, para-Selection}
-use Rattle.apollo_executable.specs.declared.selection.Selection.TheOpen.{Selection-F, Field-F, InlineFragment-F, SelectionSet-F}
+use Rattle.apollo_executable.specs.declared.selection.Selection.TheOpen.{Selection-F}
 use Rattle.apollo_executable.specs.declared.selection.Field.{Field}
 use Rattle.apollo_executable.specs.declared.selection.InlineFragment.{InlineFragment}
 use Rattle.apollo_executable.specs.declared.selection.SelectionSet.{SelectionSet}
