@@ -1,5 +1,5 @@
 -- Lists of names, and sets of names that grow by one name after the other.
-use Rattle.std.proofs.Common.{◌≡◌, ◌⊎◌, inl, inr, ℕ, true, false, List, [], ◌∷◌, ◌++◌, refl, sym, ap, ◌∙◌}
+use Rattle.std.proofs.Common.{◌≡◌, ◌⊎◌, inl, inr, ℕ, true, List, [], ◌∷◌, ◌++◌, refl, sym, ap, ◌∙◌}
 use Rattle.std.proofs.lemmas.Bool.{or_cases, or_left, or_right}
 use Rattle.graphql_nodes.proofs.Texts.{same-true, same-refl}
 use Rattle.graphql_nodes.specs.SameText.{same}
@@ -50,21 +50,9 @@ with_names-cases (n ∷ ns) q before h =
       | inr among ↦ inr (inr among)
     ]
 
--- each is new when it is added
-abbrev pub Fresh : List (List ℕ) → Names → Type 0
-Fresh [] before = Unit {0}
-Fresh (n ∷ ns) before = (before n ≡ false) × Fresh ns (with_name n before)
-
-pub Fresh-append : (xs ys : List (List ℕ)) (before : Names) → Fresh xs before → Fresh ys (with_names xs before) → Fresh (xs ++ ys) before
-Fresh-append [] ys before a b = b
-Fresh-append (x ∷ xs) ys before a b = (a.0, Fresh-append xs ys (with_name x before) a.1 b)
-
-Fresh-not : (ns : List (List ℕ)) (q : List ℕ) (before : Names) → Fresh ns before → before q ≡ true → Among q ns → ⊥
-Fresh-not [] q before fresh h among = among
-Fresh-not (n ∷ ns) q before fresh h (inl e) = let here = sym h ∙ ap before e ∙ fresh.0 in cc
-Fresh-not (n ∷ ns) q before fresh h (inr among) = Fresh-not ns q (with_name n before) fresh.1 (with_name-in n q before (inl h)) among
-
-pub Fresh-distinct : (ns : List (List ℕ)) (before : Names) → Fresh ns before → EachOnce ns
-Fresh-distinct [] before fresh = tt
-Fresh-distinct (n ∷ ns) before fresh =
-    (Fresh-not ns n (with_name n before) fresh.1 (with_name-in n n before (inr refl)), Fresh-distinct ns (with_name n before) fresh.1)
+pub EachOnce-append : {A : Type 0} (xs ys : List A) → EachOnce xs → EachOnce ys → ((a : A) → Among a xs → Among a ys → ⊥) → EachOnce (xs ++ ys)
+EachOnce-append [] ys one two apart = two
+EachOnce-append (x ∷ xs) ys one two apart = (
+  λ h. elim (Among-split x xs ys h) [ inl among ↦ one.0 among | inr among ↦ apart x (inl refl) among ],
+  EachOnce-append xs ys one.1 two (λ a among. apart a (inr among)),
+)

@@ -5,11 +5,11 @@ use Rattle.std.proofs.lemmas.Grind.{flat_map-append}
 use Rattle.std.proofs.lemmas.List.Sums.{sum_by-append, sum_by-cons}
 use Rattle.std.proofs.lemmas.List.Sorted.{IsPermutation-refl, IsPermutation-cons, IsPermutation-trans, IsPermutation-append, IsPermutation-append_left, IsPermutation-append_right, IsPermutation-append_comm}
 use Rattle.apollo_walks.specs.Selections.{Selections, none, field, spread, inline, Fragments, Names, no_names, with_name, with_names, fragment_of, occurrences, spread_names}
-use Rattle.apollo_walks.specs.Reachable.{Among, Reachable, spread_at_the_start, spread_in_a_fragment, AreReachable, at_fragment, occurrences_in, reachable_occurrences}
+use Rattle.apollo_walks.specs.Reachable.{Among, EachOnce, Reachable, spread_at_the_start, spread_in_a_fragment, AreReachable, at_fragment, occurrences_in, reachable_occurrences}
 use Rattle.apollo_walks.specs.Turns.{size, lists_below, whole_turns, turns_in_reach, selections_in_reach}
 use Rattle.apollo_walks.specs.WalkOrder.{Order, of_none, of_inline, of_field, of_passed, of_fragment}
 use Rattle.apollo_walks.specs.Whole.{IsWalk}
-use Rattle.apollo_walks.proofs.Names.{Among-left, Among-right, Among-split, with_names-append, with_names-in, with_names-cases, Fresh, Fresh-append, Fresh-distinct}
+use Rattle.apollo_walks.proofs.Names.{Among-left, Among-right, Among-split, with_names-append, with_names-in, with_names-cases, EachOnce-append}
 
 pub opened-among : (n : List ℕ) (ns : List (List ℕ)) → with_names ns no_names n ≡ true → Among n ns
 opened-among n ns h = elim (with_names-cases ns n no_names h) [ inl nothing ↦ absurd (cc) | inr among ↦ among ]
@@ -40,8 +40,9 @@ module _ {F : Type 0} (fragments : Fragments F) where
 
   -- what is so of these selections, with these fields and names
   record Holds (before : Names) (s : Selections F) (fs : List F) (ns : List (List ℕ)) : Type 0 where
-    -- each name is new when it is opened
-    fresh : Fresh ns before
+    -- each name is opened once, and was not before
+    once : EachOnce ns
+    fresh : (n : List ℕ) → before n ≡ true → Among n ns → ⊥
     gives : IsPermutation fs (reachable_occurrences fragments s ns)
     -- what leads to the names that are spread leads to those that are opened
     sound : (t : Selections F) → EachSpread s (Reachable fragments t) → (n : List ℕ) → Among n ns → Reachable fragments t n
@@ -53,7 +54,8 @@ module _ {F : Type 0} (fragments : Fragments F) where
   of-both : {before : Names} {p q : Selections F} {xs ys : List F} {ms ns : List (List ℕ)}
       → Holds before p xs ms → Holds (with_names ms before) q ys ns → Holds before (inline p q) (xs ++ ys) (ms ++ ns)
   of-both {before = before} {p = p} {q = q} {xs = xs} {ys = ys} {ms = ms} {ns = ns} a b = record {
-    fresh = Fresh-append ms ns before a.fresh b.fresh;
+    once = EachOnce-append ms ns a.once b.once (λ n one. b.fresh n (with_names-in ms n before (inr one)));
+    fresh = λ n is h. elim (Among-split n ms ns h) [ inl one ↦ a.fresh n is one | inr two ↦ b.fresh n (with_names-in ms n before (inl is)) two ];
     gives = IsPermutation-trans _ _ _ (IsPermutation-append xs _ ys _ a.gives b.gives)
         (rw (flat_map-append (λ n. at_fragment [] occurrences (fragment_of fragments n)) ms ns) (shuffle (occurrences p) (occurrences_in fragments ms) (occurrences q) (occurrences_in fragments ns)));
     sound = λ t start n h. elim (Among-split n ms ns h) [
@@ -68,28 +70,19 @@ module _ {F : Type 0} (fragments : Fragments F) where
   }
 
   of-field : {before : Names} {f : F} {below rest : Selections F} {fs : List F} {ns : List (List ℕ)} → Holds before (inline below rest) fs ns → Holds before (field f below rest) (f ∷ fs) ns
-  of-field {f = f} {below = below} {rest = rest} {fs = fs} {ns = ns} h = record {
-    fresh = h.fresh;
-    gives = IsPermutation-cons f fs (reachable_occurrences fragments (inline below rest) ns) h.gives;
-    sound = h.sound;
-    covers = h.covers;
-    closes = h.closes;
-    few = omega (arith, some_below below, h.few);
-  }
+  of-field {f = f} {below = below} {rest = rest} {fs = fs} {ns = ns} h =
+      let gives = IsPermutation-cons f fs (reachable_occurrences fragments (inline below rest) ns) h.gives in
+      let few : turns_in_reach fragments (field f below rest) ns ≤ 2 * selections_in_reach fragments (field f below rest) ns + 1 = omega (arith, some_below below, h.few) in
+      search (gives, few, h)
 
   of-spread : {before : Names} {k : List ℕ} {rest : Selections F} {fs : List F} {ns : List (List ℕ)}
       → ((at : Selections F) → fragment_of fragments k ≡ Some at → with_names ns before k ≡ true) → Holds before rest fs ns → Holds before (spread k rest) fs ns
-  of-spread {before = before} {k = k} {ns = ns} opened h = record {
-    fresh = h.fresh;
-    gives = h.gives;
-    sound = λ t start. h.sound t (λ m at later. start m at (inr later));
-    covers = λ n at among found. elim among [
-      | inl e ↦ ap (with_names ns before) e ∙ opened at (ap (fragment_of fragments) (sym e) ∙ found)
-      | inr later ↦ h.covers n at later found
-    ];
-    closes = h.closes;
-    few = omega (arith, h.few);
-  }
+  of-spread {before = before} {k = k} {rest = rest} {ns = ns} opened h =
+      let covers : EachSpread (spread k rest) (λ n. with_names ns before n ≡ true) = λ n at among found. elim among [
+        | inl e ↦ ap (with_names ns before) e ∙ opened at (ap (fragment_of fragments) (sym e) ∙ found)
+        | inr later ↦ h.covers n at later found
+      ] in
+      search (h, h.sound, h.few, covers, inr, arith)
 
   of-opened : {before : Names} {k : List ℕ} {set rest : Selections F} {fs : List F} {ns : List (List ℕ)} → before k ≡ false → fragment_of fragments k ≡ Some set
       → Holds (with_name k before) (inline set rest) fs ns → Holds before (spread k rest) fs (k ∷ ns)
@@ -100,7 +93,11 @@ module _ {F : Type 0} (fragments : Fragments F) where
       let turns_first = sum_by-cons (λ n. at_fragment 0 whole_turns (fragment_of fragments n)) k ns in
       let size_first = sum_by-cons (λ n. at_fragment 0 size (fragment_of fragments n)) k ns in
       record {
-        fresh = (closed, h.fresh);
+        once = (h.fresh k (with_names-in (k ∷ []) k before (inr (inl refl))), h.once);
+        fresh = λ n is among. elim among [
+          | inl e ↦ (let both = sym is ∙ ap before e ∙ closed in cc)
+          | inr later ↦ h.fresh n (with_names-in (k ∷ []) n before (inl is)) later
+        ];
         gives = rw (at_k, ← append_assoc (occurrences rest) (occurrences set) inside) (IsPermutation-trans _ _ _ h.gives
             (IsPermutation-append_left inside _ _ (IsPermutation-append_comm (occurrences set) (occurrences rest))));
         sound = λ t start n among. elim among [
@@ -125,14 +122,7 @@ module _ {F : Type 0} (fragments : Fragments F) where
       }
 
   holds : {before : Names} {s : Selections F} {fs : List F} {ns : List (List ℕ)} → Order fragments before s fs ns → Holds before s fs ns
-  holds of_none = record {
-    fresh = tt;
-    gives = IsPermutation-refl [];
-    sound = λ t start n h. absurd h;
-    covers = λ n at h found. absurd h;
-    closes = λ m at h. absurd h;
-    few = omega arith;
-  }
+  holds of_none = search (arith, IsPermutation-refl)
   holds (of_inline a b) = of-both (holds a) (holds b)
   holds (of_field a) = of-field (holds a)
   holds {before = before} (of_passed {n = k} {opened = ns} (inl opened) a) = of-spread (λ at found. with_names-in ns k before (inl opened)) (holds a)
@@ -151,7 +141,7 @@ module _ {F : Type 0} (fragments : Fragments F) where
 
     pub order-reaches : AreReachable fragments s ns
     order-reaches = record {
-      each_once = Fresh-distinct ns no_names (holds order).fresh;
+      each_once = (holds order).once;
       sound = (holds order).sound s (λ n at among found. spread_at_the_start among found);
       complete = complete;
     }
