@@ -5,6 +5,4 @@ pub mod IntrospectionLemmas
 pub mod ItemLemmas
 pub mod NextLemmas
 pub mod PlainLemmas
-pub mod TurnLemmas
 pub mod WalkLemmas
-pub mod WholeLemmas

@@ -2,8 +2,10 @@ pub mod Calls
 pub mod FieldsIn
 pub mod Introspection
 pub mod Left
+pub mod LeftByTurn
 pub mod NextItem
 pub mod Plain
 pub mod Seen
+pub mod Step
 pub mod Taken
 pub mod WalkView

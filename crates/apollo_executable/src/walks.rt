@@ -10,5 +10,6 @@ mod calls;
 pub mod field_walk;
 mod flags;
 mod introspection;
+mod left;
 mod open_lists;
 mod walk;

@@ -4,5 +4,4 @@ pub mod Once
 pub mod Orders
 pub mod Reached
 pub mod Steps
-pub mod Totals
 pub mod Whole

@@ -1,82 +1,53 @@
 -- Lists without repetition that have the same in them are one but for their order.
-use Rattle.std.proofs.Common.{◌≡◌, ◌⊎◌, inl, inr, ℕ, ◌+◌, ◌*◌, ◌≤◌, List, [], ◌∷◌, ◌++◌, refl, sym, ap, ◌∙◌, subst, arith}
-use Rattle.std.specs.List.{sum_by}
+use Rattle.std.proofs.Common.{◌≡◌, inl, inr, ℕ, ◌+◌, ◌*◌, ◌≤◌, List, [], ◌∷◌, ◌++◌, append-nil, refl, sym, ◌∙◌, subst, arith, length-append}
 use Rattle.std.specs.List.Sorted.{IsPermutation}
 use Rattle.std.proofs.lemmas.List.Sorted.{IsPermutation-refl, IsPermutation-sym, IsPermutation-cons, IsPermutation-trans, IsPermutation-middle, sum_by-IsPermutation, length_permutation}
-use Rattle.std.proofs.lemmas.List.Sums.{sum_by-cons}
-use Rattle.apollo_walks.specs.Selections.{Selections, Fragments, fragment_of}
+use Rattle.apollo_walks.specs.Selections.{Selections, Fragments, fragment_of, no_names}
 use Rattle.apollo_walks.specs.Reachable.{Among, EachOnce, AreReachable, at_fragment}
-use Rattle.apollo_walks.specs.Turns.{size, own_turns, total, selections_in_reach, turns_in_reach, AreAllTurns}
-use Rattle.apollo_walks.specs.Selections.{no_names}
+use Rattle.apollo_walks.specs.Turns.{size, whole_turns, selections_in_reach, turns_in_reach, AreAllTurns}
 use Rattle.apollo_walks.proofs.Existence.{ordered}
-use Rattle.apollo_walks.proofs.Whole.{order-turns, order-few}
-use Rattle.apollo_walks.proofs.Names.{Among-left, Among-right, Among-split}
+use Rattle.apollo_walks.proofs.Reached.{Among-shuffled}
+use Rattle.apollo_walks.proofs.Whole.{order-reaches, order-few}
 
 module _ {A : Type 0} where
-  taken-out : (x : A) (ys : List A) → Among x ys → (us : List A) × (vs : List A) × (ys ≡ us ++ x ∷ vs)
+  taken-out : (x : A) (ys : List A) → Among x ys → (others : List A) × IsPermutation ys (x ∷ others)
   taken-out x [] h = absurd h
-  taken-out x (y ∷ ys) (inl e) = ([], ys, ap (λ k. k ∷ ys) (sym e))
-  taken-out x (y ∷ ys) (inr h) = let r = taken-out x ys h in (y ∷ r.0, r.1, ap (λ l. y ∷ l) r.2)
+  taken-out x (y ∷ ys) (inl e) = (ys, subst (λ k. IsPermutation (y ∷ ys) (k ∷ ys)) (sym e) (IsPermutation-refl (y ∷ ys)))
+  taken-out x (y ∷ ys) (inr h) =
+      let r = taken-out x ys h in
+      (y ∷ r.0, IsPermutation-trans _ _ _ (IsPermutation-cons y ys (x ∷ r.0) r.1) (IsPermutation-middle (y ∷ []) x r.0))
 
-  Among-with : (z x : A) (us vs : List A) → Among z (us ++ vs) → Among z (us ++ x ∷ vs)
-  Among-with z x us vs h = elim (Among-split z us vs h) [ inl a ↦ Among-left z us (x ∷ vs) a | inr b ↦ Among-right z us (x ∷ vs) (inr b) ]
+  all-taken-out : (xs ys : List A) → EachOnce xs → ((z : A) → Among z xs → Among z ys) → (others : List A) × IsPermutation ys (xs ++ others)
+  all-taken-out [] ys once within = (ys, IsPermutation-refl ys)
+  all-taken-out (x ∷ xs) ys once within =
+      let one = taken-out x ys (within x (inl refl)) in
+      let all = all-taken-out xs one.0 once.1 (λ z h. elim (Among-shuffled z ys (x ∷ one.0) one.1 (within z (inr h))) [
+        | inl e ↦ absurd (once.0 (subst (λ k. Among k xs) e h))
+        | inr later ↦ later
+      ]) in
+      (all.0, IsPermutation-trans _ _ _ one.1 (IsPermutation-cons x one.0 (xs ++ all.0) all.1))
 
-  Among-without : (z x : A) (us vs : List A) → Among z (us ++ x ∷ vs) → (z ≡ x) ⊎ Among z (us ++ vs)
-  Among-without z x us vs h =
-      elim (Among-split z us (x ∷ vs) h) [
-        | inl a ↦ inr (Among-left z us vs a)
-        | inr b ↦ elim b [ inl e ↦ inl e | inr c ↦ inr (Among-right z us vs c) ]
-      ]
+  same-members : (xs ys : List A) → EachOnce xs → EachOnce ys → ((z : A) → Among z xs → Among z ys) → ((z : A) → Among z ys → Among z xs) → IsPermutation xs ys
+  same-members xs ys once once' to back = let all = all-taken-out xs ys once to in by all.0 all.1 (all-taken-out ys xs once' back)
+    where
+      by : (others : List A) → IsPermutation ys (xs ++ others) → (more : List A) × IsPermutation xs (ys ++ more) → IsPermutation xs ys
+      by [] p q = IsPermutation-sym ys xs (rw append-nil at p)
+      by (o ∷ os) p q = absurd (omega (arith, length_permutation _ _ p, length-append xs (o ∷ os), length_permutation _ _ q.1, length-append ys q.0))
 
-  EachOnce-without : (x : A) (us vs : List A) → EachOnce (us ++ x ∷ vs) → EachOnce (us ++ vs) × (Among x (us ++ vs) → ⊥)
-  EachOnce-without x [] vs once = (once.1, once.0)
-  EachOnce-without x (u ∷ us) vs once =
-      let rest = EachOnce-without x us vs once.1 in (
-        (λ h. once.0 (Among-with u x us vs h), rest.0),
-        λ h. elim h [ inl e ↦ once.0 (Among-right u us (x ∷ vs) (inl (sym e))) | inr later ↦ rest.1 later ],
-      )
+module _ {F : Type 0} (fragments : Fragments F) (s : Selections F) where
+  pub reachable-shuffled : (ms ns : List (List ℕ)) → AreReachable fragments s ms → AreReachable fragments s ns → IsPermutation ms ns
+  reachable-shuffled ms ns p q = same-members ms ns p.each_once q.each_once (λ n h. q.complete n (p.sound n h)) (λ n h. p.complete n (q.sound n h))
 
-  pub same-members : (xs ys : List A) → EachOnce xs → EachOnce ys → ((z : A) → Among z xs → Among z ys) → ((z : A) → Among z ys → Among z xs) → IsPermutation xs ys
-  same-members [] [] once once' to back = IsPermutation-refl []
-  same-members [] (y ∷ ys) once once' to back = absurd (back y (inl refl))
-  same-members (x ∷ xs) ys once once' to back =
-      let r = taken-out x ys (to x (inl refl)) in
-      let us = r.0 in
-      let vs = r.1 in
-      let w = EachOnce-without x us vs (subst (λ l. EachOnce l) r.2 once') in
-      let inner = same-members xs (us ++ vs) once.1 w.0
-      (λ z h. elim (Among-without z x us vs (subst (λ l. Among z l) r.2 (to z (inr h)))) [ inl e ↦ absurd (once.0 (subst (λ k. Among k xs) e h)) | inr rest ↦ rest ])
-      (λ z h. elim (back z (subst (λ l. Among z l) (sym r.2) (Among-with z x us vs h))) [ inl e ↦ absurd (w.1 (subst (λ k. Among k (us ++ vs)) e h)) | inr rest ↦ rest ]) in
-      subst (λ l. IsPermutation (x ∷ xs) l) (sym r.2)
-      (IsPermutation-trans (x ∷ xs) (x ∷ (us ++ vs)) (us ++ x ∷ vs) (IsPermutation-cons x xs (us ++ vs) inner) (IsPermutation-sym (us ++ x ∷ vs) (x ∷ (us ++ vs)) (IsPermutation-middle us x vs)))
+  turns-same : (ms ns : List (List ℕ)) → IsPermutation ms ns → turns_in_reach fragments s ms ≡ turns_in_reach fragments s ns
+  turns-same ms ns p = omega (arith, sum_by-IsPermutation (λ n. at_fragment 0 whole_turns (fragment_of fragments n)) ms ns p)
 
-module _ {F : Type 0} (fragments : Fragments F) where
-  total-sum : (f : Selections F → ℕ) (ns : List (List ℕ)) → total f fragments ns ≡ sum_by (λ n. at_fragment 0 f (fragment_of fragments n)) ns
-  total-sum f [] = refl
-  total-sum f (n ∷ ns) =
-      ap (λ k. at_fragment 0 f (fragment_of fragments n) + k) (total-sum f ns) ∙ sym (sum_by-cons (λ m. at_fragment 0 f (fragment_of fragments m)) n ns)
+  pub all-turns-same : (m n : ℕ) → AreAllTurns fragments s m → AreAllTurns fragments s n → m ≡ n
+  all-turns-same m n p q = p.2 ∙ turns-same p.0 q.0 (reachable-shuffled p.0 q.0 p.1 q.1) ∙ sym q.2
 
-  total-shuffled : (f : Selections F → ℕ) (ms ns : List (List ℕ)) → IsPermutation ms ns → total f fragments ms ≡ total f fragments ns
-  total-shuffled f ms ns p = total-sum f ms ∙ sym (sum_by-IsPermutation (λ n. at_fragment 0 f (fragment_of fragments n)) ms ns p) ∙ sym (total-sum f ns)
-
-  module _ (s : Selections F) where
-    pub reachable-shuffled : (ms ns : List (List ℕ)) → AreReachable fragments s ms → AreReachable fragments s ns → IsPermutation ms ns
-    reachable-shuffled ms ns p q = same-members ms ns p.each_once q.each_once (λ n h. q.complete n (p.sound n h)) (λ n h. p.complete n (q.sound n h))
-
-    pub selections-same : (ms ns : List (List ℕ)) → AreReachable fragments s ms → AreReachable fragments s ns → selections_in_reach fragments s ms ≡ selections_in_reach fragments s ns
-    selections-same ms ns p q = ap (λ k. size s + k) (total-shuffled size ms ns (reachable-shuffled ms ns p q))
-
-    pub turns-same : (ms ns : List (List ℕ)) → AreReachable fragments s ms → AreReachable fragments s ns → turns_in_reach fragments s ms ≡ turns_in_reach fragments s ns
-    turns-same ms ns p q =
-        let shuffled = reachable-shuffled ms ns p q in
-        omega (arith, length_permutation ms ns shuffled, total-shuffled own_turns ms ns shuffled)
-
-    pub all-turns-same : (m n : ℕ) → AreAllTurns fragments s m → AreAllTurns fragments s n → m ≡ n
-    all-turns-same m n p q = p.2 ∙ turns-same p.0 q.0 p.1 q.1 ∙ sym q.2
-
-    pub turns-few : (ns : List (List ℕ)) → AreReachable fragments s ns → turns_in_reach fragments s ns ≤ 2 * selections_in_reach fragments s ns + 1
-    turns-few ns p =
-        let o = ordered fragments no_names s in
-        let all = order-turns fragments s o.fields o.opened o.order in
-        let few = order-few fragments s o.fields o.opened o.order in
-        omega (arith, all.2, few.2, turns-same all.0 ns all.1 p, selections-same few.0 ns few.1 p)
+  pub turns-few : (ns : List (List ℕ)) → AreReachable fragments s ns → turns_in_reach fragments s ns ≤ 2 * selections_in_reach fragments s ns + 1
+  turns-few ns p =
+      let o = ordered fragments no_names s in
+      let few = order-few fragments s o.fields o.opened o.order in
+      let shuffled = reachable-shuffled o.opened ns (order-reaches fragments s o.fields o.opened o.order) p in
+      let size_same = sum_by-IsPermutation (λ n. at_fragment 0 size (fragment_of fragments n)) o.opened ns shuffled in
+      omega (arith, few, size_same, turns-same o.opened ns shuffled)

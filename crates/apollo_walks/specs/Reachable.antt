@@ -1,6 +1,6 @@
 -- The fragments that selections lead to, and the fields that are reached: GraphQL specification of October 2021, sections 2.8
 -- and 6.3.2.
-use Rattle.std.specs.Prelude.{◌≡◌, ◌⊎◌, ℕ, true, List, [], ◌∷◌, ◌++◌, Option, None, Some}
+use Rattle.std.specs.Prelude.{◌≡◌, ◌⊎◌, ℕ, true, List, [], ◌∷◌, ◌++◌, flat_map, Option, None, Some}
 use Rattle.apollo_walks.specs.Selections.{Selections, Fragments, Names, fragment_of, occurrences, spread_names}
 
 -- it is one of them
@@ -40,8 +40,7 @@ module _ {F : Type 0} where
 
   -- the fields of each of these fragments
   abbrev pub occurrences_in : Fragments F → List (List ℕ) → List F
-  occurrences_in fragments [] = []
-  occurrences_in fragments (n ∷ ns) = at_fragment [] occurrences (fragment_of fragments n) ++ occurrences_in fragments ns
+  occurrences_in fragments = flat_map (λ n. at_fragment [] occurrences (fragment_of fragments n))
 
   -- the fields that are reached from s, as often as each stands there, where these are the names that s leads to: those of s
   -- and those of each fragment, each fragment once

@@ -1,5 +1,5 @@
 -- What is to come of a walk that has some lists open, turn by turn: what its next turn does, by what the innermost list begins with.
-use Rattle.std.specs.Prelude.{◌≡◌, ◌↔◌, ◌<◌, ℕ, suc, true, false, List, [], ◌∷◌, None, Some}
+use Rattle.std.specs.Prelude.{◌≡◌, ◌⊎◌, ◌↔◌, ◌<◌, ℕ, suc, true, false, List, [], ◌∷◌, None, Some}
 use Rattle.apollo_walks.specs.Selections.{Selections, none, field, spread, inline, Fragments, Names, with_name, fragment_of}
 use Rattle.apollo_walks.specs.Reachable.{Reachable}
 use Rattle.apollo_walks.specs.ToCome.{ToCome, IsToCome}
@@ -32,11 +32,9 @@ pub record AreTurnByTurn {F : Type 0} (fragments : Fragments F) (before : Names)
   -- the list of an inline fragment is opened, empty or not
   pub goes_inside : (inner rest : Selections F) (ss : List (Selections F)) (x : ToCome F)
       → IsToCome fragments before (inner ∷ rest ∷ ss) x → IsToCome fragments before (inline inner rest ∷ ss) (a_turn_before x)
-  -- a spread of a name that is opened is passed over
-  pub passes_opened : (n : List ℕ) (rest : Selections F) (ss : List (Selections F)) (x : ToCome F) → before n ≡ true
-      → IsToCome fragments before (rest ∷ ss) x → IsToCome fragments before (spread n rest ∷ ss) (a_turn_before x)
-  -- and so is one of a name without a fragment
-  pub passes_undefined : (n : List ℕ) (rest : Selections F) (ss : List (Selections F)) (x : ToCome F) → fragment_of fragments n ≡ None
+  -- a spread of a name that is opened, or that has no fragment, is passed over
+  pub passes : (n : List ℕ) (rest : Selections F) (ss : List (Selections F)) (x : ToCome F)
+      → (before n ≡ true) ⊎ (fragment_of fragments n ≡ None)
       → IsToCome fragments before (rest ∷ ss) x → IsToCome fragments before (spread n rest ∷ ss) (a_turn_before x)
   -- at any other spread the name and the list of its fragment are opened
   pub opens : (n : List ℕ) (set rest : Selections F) (ss : List (Selections F)) (x : ToCome F) → before n ≡ false → fragment_of fragments n ≡ Some set

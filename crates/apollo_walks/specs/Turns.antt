@@ -1,6 +1,6 @@
 -- The turns of a walk. A turn is one look at the innermost open list: one selection taken, or one list found empty and closed.
 -- A list is opened for each inline fragment, for each fragment that is opened, and for each field that has selections.
-use Rattle.std.specs.Prelude.{◌≡◌, ◌≤◌, ℕ, suc, ◌+◌, ◌*◌, List, [], ◌∷◌, length}
+use Rattle.std.specs.Prelude.{◌≡◌, ◌≤◌, ℕ, suc, ◌+◌, ◌*◌, List, sum_by}
 use Rattle.apollo_walks.specs.Selections.{Selections, none, field, spread, inline, Fragments, fragment_of}
 use Rattle.apollo_walks.specs.Reachable.{AreReachable, at_fragment}
 
@@ -30,8 +30,7 @@ module _ {F : Type 0} where
 
   -- what f counts in each of these fragments, summed up
   abbrev pub total : (Selections F → ℕ) → Fragments F → List (List ℕ) → ℕ
-  total f fragments [] = 0
-  total f fragments (n ∷ ns) = at_fragment 0 f (fragment_of fragments n) + total f fragments ns
+  total f fragments = sum_by (λ n. at_fragment 0 f (fragment_of fragments n))
 
   -- N: all selections of s and of these fragments
   abbrev pub selections_in_reach : Fragments F → Selections F → List (List ℕ) → ℕ
@@ -39,7 +38,7 @@ module _ {F : Type 0} where
 
   -- the turns of a whole walk over s, where these are the names that s leads to
   abbrev pub turns_in_reach : Fragments F → Selections F → List (List ℕ) → ℕ
-  turns_in_reach fragments s names = 1 + length names + own_turns s + total own_turns fragments names
+  turns_in_reach fragments s names = whole_turns s + total whole_turns fragments names
 
   -- so many turns are those of a whole walk over s
   abbrev pub AreAllTurns : Fragments F → Selections F → ℕ → Type 0

@@ -1,5 +1,5 @@
 -- Fields all of whose names stand at the root of queries of each schema.
-use Rattle.std.proofs.Common.{◌≡◌, ◌↔◌, inl, inr, false, List, [], ◌∷◌, Some, Ok, sym, subst}
+use Rattle.std.proofs.Common.{◌≡◌, ◌↔◌, inl, inr, false, List, Some, Ok, sym, subst}
 use Rattle.std.specs.Borrow.{Bor}
 use Rattle.graphql_nodes.specs.NodeView.{NodeView}
 use Rattle.graphql_nodes.specs.declared.operation_type.OperationType.TheVariants.{Query}
@@ -13,25 +13,15 @@ use Rattle.apollo_executable.specs.declared.operation.Operation.{Operation}
 use Rattle.apollo_executable.specs.declared.document.ExecutableDocument.{ExecutableDocument}
 
 abbrev pub AreMeta : List (NodeView Field) → Type 0
-AreMeta [] = Unit {0}
-AreMeta (n ∷ ns) = IsMetaName n.value.name.text × AreMeta ns
-
-each-meta : (ns : List (NodeView Field)) → AreMeta ns → (n : NodeView Field) → Among n ns → IsMetaName n.value.name.text
-each-meta [] all n h = absurd h
-each-meta (m ∷ ns) all n (inl e) = subst (λ (k : NodeView Field). IsMetaName k.value.name.text) (sym e) all.0
-each-meta (m ∷ ns) all n (inr later) = each-meta ns all.1 n later
-
-meta-each : (ns : List (NodeView Field)) → ((n : NodeView Field) → Among n ns → IsMetaName n.value.name.text) → AreMeta ns
-meta-each [] each = tt
-meta-each (n ∷ ns) each = (each n (inl (λ _. n)), meta-each ns (λ m later. each m (inr later)))
+AreMeta fields = (n : NodeView Field) → Among n fields → IsMetaName n.value.name.text
 
 module _ (document : ExecutableDocument) (operation : Operation) (fields : List (NodeView Field))
     (given : (n : NodeView Field) → Among n fields ↔ IsReached (fragments_of false document) (plain false operation.selection_set.selections) n) where
   pub meta-introspection : operation.operation_type ≡ Query → AreMeta fields → IsIntrospection document operation
-  meta-introspection query all = (query, λ n reached. each-meta fields all n ((given n).1 reached))
+  meta-introspection query all = (query, λ n reached. all n ((given n).1 reached))
 
   pub introspection-meta : IsIntrospection document operation → AreMeta fields
-  introspection-meta is = meta-each fields (λ n h. is.1 n ((given n).0 h))
+  introspection-meta is n h = is.1 n ((given n).0 h)
 
 -- the fields that a walk gave until now have such names: so all of it have, if and only if those have that are still to come
 pub record HasGivenMeta (initial now : WalkView) : Type 0 where
@@ -44,6 +34,9 @@ given-none walk = record { all = λ all. all; others = λ all. all }
 pub given-one_more : (initial now new : WalkView) (field : Bor (NodeView Field)) → IsMetaName field.now.value.name.text → IsNext now (Some (Ok field)) new
     → HasGivenMeta initial now → HasGivenMeta initial new
 given-one_more initial now new field named next before = record {
-  all = λ all. before.all (subst AreMeta (sym next.gives.0) (named, all));
-  others = λ all. (subst AreMeta next.gives.0 (before.others all)).1;
+  all = λ all. before.all (rw next.gives.0 (λ n h. elim h [
+    | inl e ↦ subst (λ (k : NodeView Field). IsMetaName k.value.name.text) (sym e) named
+    | inr later ↦ all n later
+  ]));
+  others = λ all n later. before.others all n (rw next.gives.0 (inr later));
 }

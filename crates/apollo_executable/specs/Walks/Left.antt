@@ -7,7 +7,7 @@ use Rattle.graphql_nodes.specs.NodeView.{NodeView}
 use Rattle.graphql_nodes.specs.SameText.{by_text}
 use Rattle.graphql_nodes.specs.Tables.{keys_of}
 use Rattle.apollo_walks.specs.Selections.{Names, no_names}
-use Rattle.apollo_walks.specs.ToCome.{ToCome, IsToCome}
+use Rattle.apollo_walks.specs.ToCome.{ToCome}
 use Rattle.apollo_walks.specs.TurnByTurn.{a_turn_before, a_field_before}
 use Rattle.apollo_walks.proofs.Steps.{what_is_to_come}
 use Rattle.apollo_executable.specs.Walks.Plain.{plain, fragments_of}
@@ -38,14 +38,7 @@ names_opened w = marked_names w.document.now w.opened.items
 abbrev pub lists_of : OpenLists → List (List Selection)
 lists_of w = cond w.ended [] (w.current.now ∷ waiting_lists w.waiting.items)
 
--- where these names are opened and these lists are open, that is to come
-unfoldable pub IsLeft : Bool → ExecutableDocument → Names → List (List Selection) → ToCome (NodeView Field) → Type 0
-IsLeft deep document names lists x = IsToCome (fragments_of deep document) names (map (plain deep) lists) x
-
-abbrev pub IsLeftOf : OpenLists → ToCome (NodeView Field) → Type 0
-IsLeftOf w x = IsLeft w.deep w.document.now (names_opened w) (lists_of w) x
-
--- the one that is to come
+-- what is to come where these names are opened and these lists are open
 unfoldable pub left_in : Bool → ExecutableDocument → Names → List (List Selection) → ToCome (NodeView Field)
 left_in deep document names lists = (what_is_to_come (fragments_of deep document) names (map (plain deep) lists)).0
 
@@ -59,15 +52,14 @@ whole_walk deep document set = left_in deep document no_names (set.selections �
 
 -- what was to come before a turn, by what is to come after it
 abbrev pub IsTurn : OpenLists → Result (Option (Bor (NodeView Field))) AllocError → OpenLists → Type 0
-IsTurn old (Ok (Some field)) new = ((x : ToCome (NodeView Field)) → IsLeftOf new x → IsLeftOf old (a_field_before field.now x)) × (new.ended ≡ false)
-IsTurn old (Ok None) new = (x : ToCome (NodeView Field)) → IsLeftOf new x → IsLeftOf old (a_turn_before x)
-IsTurn old (Err error) new = ((x : ToCome (NodeView Field)) → IsLeftOf new x → IsLeftOf old x) × (new.ended ≡ false)
+IsTurn old (Ok (Some field)) new = (left_of old ≡ a_field_before field.now (left_of new)) × (new.ended ≡ false)
+IsTurn old (Ok None) new = left_of old ≡ a_turn_before (left_of new)
+IsTurn old (Err error) new = left_of old ≡ left_of new
 
 -- the same, where old looks at a spread, and then at the rest
 abbrev pub IsSpreadTurn : OpenLists → NodeView FragmentSpread → List Selection → OpenLists → Type 0
-IsSpreadTurn old n rest new = (x : ToCome (NodeView Field))
-    → IsLeft new.deep new.document.now (names_opened new) (new.current.now ∷ waiting_lists new.waiting.items) x
-    → IsLeft old.deep old.document.now (names_opened old) ((variant.FragmentSpread n ∷ rest) ∷ waiting_lists old.waiting.items) (a_turn_before x)
+IsSpreadTurn old n rest new = left_in old.deep old.document.now (names_opened old) ((variant.FragmentSpread n ∷ rest) ∷ waiting_lists old.waiting.items)
+    ≡ a_turn_before (left_in new.deep new.document.now (names_opened new) (new.current.now ∷ waiting_lists new.waiting.items))
 
 -- the same lists are open, and the same names are opened
 pub record AreSameLists (old new : OpenLists) : Type 0 where

@@ -3,12 +3,11 @@
 use Rattle.std.specs.Prelude.{Bool, List, [], ◌∷◌, map, cond}
 use Rattle.graphql_nodes.specs.NodeView.{NodeView}
 use Rattle.apollo_walks.specs.Selections.{Selections, none, field, spread, inline, Fragments}
-use Rattle.apollo_executable.specs.declared.selection.Selection.{Selection, fold-Selection, roll-Selection}
-use Rattle.apollo_executable.specs.declared.selection.Selection.TheOpen.{Selection-F, Field-F, InlineFragment-F, SelectionSet-F}
-use Rattle.apollo_executable.specs.declared.selection.Selection.TheFolds.{map-Selection, map-Field, map-InlineFragment, map-SelectionSet}
-use Rattle.apollo_executable.specs.declared.selection.Field.{Field, roll-Field}
-use Rattle.apollo_executable.specs.declared.selection.InlineFragment.{InlineFragment, roll-InlineFragment}
-use Rattle.apollo_executable.specs.declared.selection.SelectionSet.{SelectionSet, roll-SelectionSet}
+use Rattle.apollo_executable.specs.declared.selection.Selection.{Selection, para-Selection}
+use Rattle.apollo_executable.specs.declared.selection.Selection.TheOpen.{Selection-F}
+use Rattle.apollo_executable.specs.declared.selection.Field.{Field}
+use Rattle.apollo_executable.specs.declared.selection.InlineFragment.{InlineFragment}
+use Rattle.apollo_executable.specs.declared.selection.SelectionSet.{SelectionSet}
 use Rattle.apollo_executable.specs.declared.document.ExecutableDocument.{ExecutableDocument}
 
 abbrev pub Plain : Type 0
@@ -45,24 +44,12 @@ abbrev pub in_order : List PS → Plain
 in_order [] = none
 in_order (s ∷ ss) = s.1 (in_order ss)
 
-abbrev pub selection_step : Bool → Selection-F PS PF PI PL → PS
-selection_step deep s = (roll-Selection (map-Selection PS PF PI PL Selection Field InlineFragment SelectionSet (λ e. e.0) (λ e. e.0) (λ e. e.0) (λ e. e.0) s), put_before deep s)
-
-abbrev pub field_step : Field-F PS PF PI PL → PF
-field_step f = (roll-Field (map-Field PS PF PI PL Selection Field InlineFragment SelectionSet (λ e. e.0) (λ e. e.0) (λ e. e.0) (λ e. e.0) f), f.selection_set.1)
-
-abbrev pub inline_step : InlineFragment-F PS PF PI PL → PI
-inline_step f = (roll-InlineFragment (map-InlineFragment PS PF PI PL Selection Field InlineFragment SelectionSet (λ e. e.0) (λ e. e.0) (λ e. e.0) (λ e. e.0) f), f.selection_set.1)
-
-abbrev pub set_step : SelectionSet-F PS PF PI PL → PL
-set_step s = (roll-SelectionSet (map-SelectionSet PS PF PI PL Selection Field InlineFragment SelectionSet (λ e. e.0) (λ e. e.0) (λ e. e.0) (λ e. e.0) s), in_order s.selections)
-
-abbrev pub seen_selection : Bool → Selection → PS
-seen_selection deep = fold-Selection PS PF PI PL (selection_step deep) field_step inline_step set_step
+abbrev pub seen_selection : Bool → Selection → Plain → Plain
+seen_selection deep = para-Selection (Plain → Plain) Plain Plain Plain (put_before deep) (λ f. f.selection_set.1) (λ f. f.selection_set.1) (λ s. in_order s.selections)
 
 -- some selections, as a walk sees them
 unfoldable pub plain : Bool → List Selection → Plain
-plain deep ss = in_order (map (seen_selection deep) ss)
+plain deep ss = in_order (map (λ s. (s, seen_selection deep s)) ss)
 
 -- what a walk looks at below a field
 abbrev pub below_of : Bool → Field → List Selection

@@ -5,7 +5,7 @@ ghost use Rattle.apollo_walks.specs.Selections.{no_names};
 use crate::document::ExecutableDocument;
 use crate::selection::{Field, FragmentSpread, Selection, SelectionSet};
 use crate::walks::flags;
-use apollo_walks::laws::walks_go_turn_by_turn;
+use crate::walks::left::walks_are_left_by_turn;
 use graphql_nodes::node::Node;
 use std::alloc::{AllocError, Global};
 
@@ -77,7 +77,7 @@ impl<'doc> OpenLists<'doc> {
         ensures turn { OnOk result (IsSpreadTurn self.old spread.now rest.now self.new) }
         ensures refused { OnErr result (AreSameLists self.old self.new) }
     {
-        walks_go_turn_by_turn::<Node<Field>>();
+        walks_are_left_by_turn();
         let fragments = &self.document.fragments;
         let Some((place, _, fragment)) = fragments.get_full(&spread.fragment_name) else {
             self.current = rest;
@@ -112,7 +112,7 @@ impl<'doc> OpenLists<'doc> {
         ensures deep { self.new.deep ≡ self.old.deep }
         ensures turn { IsTurn self.old result self.new }
     {
-        walks_go_turn_by_turn::<Node<Field>>();
+        walks_are_left_by_turn();
         match self.current.split_first() {
             None => {
                 match self.waiting.pop() {

@@ -1,13 +1,13 @@
 //! A walk, whether below fields or not, with its turns counted.
-ghost use Rattle.std.specs.Prelude.{◌≡◌, ◌≤◌, ◌-◌, ◌^◌, min, false, is_err};
+ghost use Rattle.std.specs.Prelude.{◌≡◌, ◌<◌, ◌≤◌, ◌-◌, ◌^◌, min, false, is_err, OnOk};
 ghost use Rattle.apollo_executable.specs.Walks.Left.{left_of, whole_walk};
 ghost use Rattle.apollo_executable.specs.Walks.WalkView.{IsNewWalk, IsWithinTurns};
 ghost use Rattle.apollo_executable.specs.Walks.Taken.{turns_taken};
 
 use crate::document::ExecutableDocument;
 use crate::selection::{Field, SelectionSet};
+use crate::walks::left::walks_are_left_by_turn;
 use crate::walks::open_lists::OpenLists;
-use apollo_walks::laws::{walks_go_turn_by_turn, walks_open_what_is_reached, walks_take_few_turns};
 use graphql_nodes::node::Node;
 use std::alloc::{AllocError, Global};
 
@@ -26,9 +26,9 @@ pub(crate) struct Walk<'doc> {
 }
 
 impl<'doc> Walk<'doc> {
-    ghost use Rattle.apollo_executable.specs.Walks.Left.{IsTurn};
     ghost use Rattle.apollo_executable.specs.Walks.NextItem.{IsNext};
     ghost use Rattle.apollo_executable.specs.Walks.Seen.{seen};
+    ghost use Rattle.apollo_executable.specs.Walks.Step.{IsStep};
 
     /// A walk over a set, which goes below fields if it is `deep`.
     pub(crate) fn new(
@@ -39,7 +39,7 @@ impl<'doc> Walk<'doc> {
     ) -> Walk<'doc>
         ensures { IsNewWalk deep document.now set.now (seen result) }
     {
-        walks_go_turn_by_turn::<Node<Field>>();
+        walks_are_left_by_turn();
         Walk {
             start: set,
             lists: OpenLists::new(alloc, document, set, deep),
@@ -53,8 +53,7 @@ impl<'doc> Walk<'doc> {
         ensures turns { result ≡ min (seen self.now).taken (2 ^ 64 - 1) }
         ensures few { IsWithinTurns self.now.lists.deep self.now.lists.document.now self.now.start.now (seen self.now).taken }
     {
-        walks_go_turn_by_turn::<Node<Field>>();
-        walks_take_few_turns::<Node<Field>>();
+        walks_are_left_by_turn();
         self.turns
     }
 
@@ -62,13 +61,11 @@ impl<'doc> Walk<'doc> {
     fn turn(&mut self) -> Result<Option<&'doc Node<Field>>, AllocError>
         requires going { self.old.lists.ended ≡ false }
         requires fine { self.old.refused ≡ false }
-        ensures start { self.new.start ≡ self.old.start }
-        ensures document { self.new.lists.document ≡ self.old.lists.document }
-        ensures deep { self.new.lists.deep ≡ self.old.lists.deep }
         ensures refused { self.new.refused ≡ is_err result }
-        ensures turn { IsTurn self.old.lists result self.new.lists }
+        ensures step { IsStep (seen self.old) result (seen self.new) }
+        ensures less { OnOk result ((left_of self.new.lists).turns < (left_of self.old.lists).turns) }
     {
-        walks_go_turn_by_turn::<Node<Field>>();
+        walks_are_left_by_turn();
         let turn = self.lists.turn();
         self.turns = self.turns.saturating_add(1);
         self.refused = turn.is_err();
@@ -79,9 +76,7 @@ impl<'doc> Walk<'doc> {
     pub(crate) fn advance(&mut self) -> Option<Result<&'doc Node<Field>, AllocError>>
         ensures { IsNext (seen self.old) result (seen self.new) }
     {
-        walks_go_turn_by_turn::<Node<Field>>();
-        walks_take_few_turns::<Node<Field>>();
-        walks_open_what_is_reached::<Node<Field>>();
+        walks_are_left_by_turn();
         if self.refused {
             return None;
         }

@@ -1,10 +1,10 @@
-use Rattle.std.proofs.Common.{rules, ◌≡◌, Some, Result, Ok, Bor, refl, sym, ap, subst, ◌∙◌, true≢false}
+use Rattle.std.proofs.Common.{rules, inl, ◌≡◌, Some, Result, Ok, Bor, refl, sym, ap, subst, ◌∙◌, true≢false}
 use Rattle.std.specs.declared.alloc.AllocError.{AllocError}
 use Rattle.graphql_nodes.specs.NodeView.{NodeView}
 use Rattle.apollo_executable.specs.Walks.Introspection.{IsMetaName}
 use Rattle.apollo_executable.specs.Walks.NextItem.{IsNext}
 use Rattle.apollo_executable.specs.declared.selection.Field.{Field}
-use Rattle.apollo_executable.proofs.Walking.IntrospectionLemmas.{AreMeta, given-none, given-one_more, meta-introspection, introspection-meta}
+use Rattle.apollo_executable.proofs.Walking.IntrospectionLemmas.{given-none, given-one_more, meta-introspection, introspection-meta}
 use Rattle.apollo_executable.proofs.operation.Operation.is_introspection.Goals as goal
 
 pub returns-then-not-is_meta_name-clause-answer : goal.returns-then-not-is_meta_name-clause-answer
@@ -17,7 +17,7 @@ returns-then-not-is_meta_name-clause-answer c =
       λ no. absurd (true≢false (sym no)),
       λ is.
           let all = introspection-meta c.args.document.now c.args.self.now walk.result.coming (λ n. c.walks_give_what_is_reached.ensures _ _ _ n walk.ensures.coming) is in
-          let head = (subst AreMeta next.gives.0 (c.loop-field.invariant.others all)).0 in
+          let head = c.loop-field.invariant.others all field.now (rw next.gives.0 (inl refl)) in
           sym c.if-not-is_meta_name.true ∙ c.is_meta_name.ensures.1 (subst IsMetaName (sym named) head),
     )
 
@@ -25,7 +25,7 @@ pub returns-clause-answer : goal.returns-clause-answer
 returns-clause-answer c =
     let walk = c.root_fields-walk in (
       λ _. meta-introspection c.args.document.now c.args.self.now walk.result.coming (λ n. c.walks_give_what_is_reached.ensures _ _ _ n walk.ensures.coming) (c.is_query.ensures.0 c.if-not-is_query.false)
-          (c.loop-field.invariant.all (subst AreMeta (sym c.in_default.ensures.steps.gives.0) tt)),
+          (c.loop-field.invariant.all (rw c.in_default.ensures.steps.gives.0 (λ n h. absurd h))),
       λ _. refl,
     )
 

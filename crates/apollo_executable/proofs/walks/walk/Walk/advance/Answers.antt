@@ -1,55 +1,32 @@
-use Rattle.std.proofs.Common.{Option, None, Some, Ok, Err, Bor, ap, subst, arith}
-use Rattle.graphql_nodes.specs.NodeView.{NodeView}
-use Rattle.apollo_walks.specs.ToCome.{ToCome}
-use Rattle.apollo_executable.specs.Walks.Left.{IsTurn}
-use Rattle.apollo_executable.specs.declared.selection.Field.{Field}
-use Rattle.apollo_executable.proofs.Walking.NextLemmas.{IsWalkTurn, WholeWalkLaws, gives-field, gives-error, gives-none, stays-refused, turns-later, later-itself}
-use Rattle.apollo_executable.proofs.Walking.WalkLemmas.{turn-leaves}
+use Rattle.std.proofs.Common.{refl, true≢false}
+use Rattle.apollo_executable.specs.Walks.Seen.{seen}
+use Rattle.apollo_executable.proofs.Walking.NextLemmas.{later-itself, turns-later, gives-none, gives-field, gives-error}
+use Rattle.apollo_executable.proofs.Walking.WalkLemmas.{at-end}
 use Rattle.apollo_executable.proofs.walks.walk.Walk.advance.Goals as goal
 
 pub returns-then-self : goal.returns-then-self
 returns-then-self c =
-    let e = c.walks_go_turn_by_turn.ensures in
-    let laws : WholeWalkLaws = record { walks = record { one = e.one; steps = e.turns; begins = e.begins }; few = c.walks_take_few_turns.ensures.few; defined = c.walks_open_what_is_reached.ensures.defined } in
-    stays-refused laws c.args.self.now c.if-self.true
+    let w = c.args.self.now in
+    let refused = c.if-self.true in
+    let bound = (c.walks_are_left_by_turn.ensures.whole _ _ w.start.now).within (seen w).taken w.bounded in
+    gives-none (later-itself (seen w)) (rw refused refl) (rw refused refl) bound (rw refused (λ going. absurd (true≢false going)))
 
 pub loop-self-init : goal.loop-self-init
-loop-self-init c = later-itself c.args.self.now c.if-self.false
+loop-self-init c = (later-itself (seen c.args.self.now), c.if-self.false)
 
 pub loop-self-preserved : goal.loop-self-preserved
-loop-self-preserved c =
-    let e = c.walks_go_turn_by_turn.ensures in
-    let laws : WholeWalkLaws = record { walks = record { one = e.one; steps = e.turns; begins = e.begins }; few = c.walks_take_few_turns.ensures.few; defined = c.walks_open_what_is_reached.ensures.defined } in
-    let t = c.turn.ensures in
-    let turn : IsWalkTurn c.loop-self.self (Ok None) c.turn.new.self = record { document = t.document; start = t.start; deep = t.deep; refused = c.in-Ok-None.ensures.refused; turn = subst (λ (o : Option (Bor (NodeView Field))). IsTurn c.loop-self.self.lists (Ok o) c.turn.new.self.lists) c.in-Ok-None.field-0-is c.in-Ok-None.ensures.turn } in
-    turns-later laws c.args.self.now c.loop-self.self c.turn.new.self c.loop-self.invariant c.loop-self-test.true turn
-
-pub loop-self-smaller : goal.loop-self-smaller
-loop-self-smaller c =
-    let e = c.walks_go_turn_by_turn.ensures in
-    let laws : WholeWalkLaws = record { walks = record { one = e.one; steps = e.turns; begins = e.begins }; few = c.walks_take_few_turns.ensures.few; defined = c.walks_open_what_is_reached.ensures.defined } in
-    let leaves = turn-leaves laws.walks c.loop-self.self.lists c.turn.new.self.lists (Ok None) (subst (λ (o : Option (Bor (NodeView Field))). IsTurn c.loop-self.self.lists (Ok o) c.turn.new.self.lists) c.in-Ok-None.field-0-is c.in-Ok-None.ensures.turn) in
-    let one_less = ap (λ (x : ToCome (NodeView Field)). x.turns) leaves in
-    omega (arith, one_less)
+loop-self-preserved c = (turns-later c.loop-self.invariant.0 (rw c.in-Ok-None.field-0-is at c.in-Ok-None.ensures.step), c.in-Ok-None.ensures.refused)
 
 pub returns-in-Ok-Some : goal.returns-in-Ok-Some
-returns-in-Ok-Some c =
-    let e = c.walks_go_turn_by_turn.ensures in
-    let laws : WholeWalkLaws = record { walks = record { one = e.one; steps = e.turns; begins = e.begins }; few = c.walks_take_few_turns.ensures.few; defined = c.walks_open_what_is_reached.ensures.defined } in
-    let t = c.turn.ensures in
-    let turn : IsWalkTurn c.loop-self.self (Ok (Some c.in-Ok-Some.field)) c.turn.new.self = record { document = t.document; start = t.start; deep = t.deep; refused = c.in-Ok-Some.ensures.refused; turn = subst (λ (o : Option (Bor (NodeView Field))). IsTurn c.loop-self.self.lists (Ok o) c.turn.new.self.lists) c.in-Ok-Some.field-0-is c.in-Ok-Some.ensures.turn } in
-    gives-field laws c.args.self.now c.loop-self.self c.turn.new.self c.in-Ok-Some.field c.if-self.false c.loop-self.invariant c.loop-self-test.true turn
+returns-in-Ok-Some c = gives-field c.loop-self.invariant.0 (rw c.in-Ok-Some.field-0-is at c.in-Ok-Some.ensures.step)
 
 pub returns-in-Err : goal.returns-in-Err
-returns-in-Err c =
-    let e = c.walks_go_turn_by_turn.ensures in
-    let laws : WholeWalkLaws = record { walks = record { one = e.one; steps = e.turns; begins = e.begins }; few = c.walks_take_few_turns.ensures.few; defined = c.walks_open_what_is_reached.ensures.defined } in
-    let t = c.turn.ensures in
-    let turn : IsWalkTurn c.loop-self.self (Err c.in-Err.error) c.turn.new.self = record { document = t.document; start = t.start; deep = t.deep; refused = c.in-Err.ensures.refused; turn = c.in-Err.ensures.turn } in
-    gives-error laws c.args.self.now c.loop-self.self c.turn.new.self c.in-Err.error c.if-self.false c.loop-self.invariant c.loop-self-test.true turn
+returns-in-Err c = gives-error c.loop-self.invariant.0 c.in-Err.ensures.step
 
 pub returns : goal.returns
 returns c =
-    let e = c.walks_go_turn_by_turn.ensures in
-    let laws : WholeWalkLaws = record { walks = record { one = e.one; steps = e.turns; begins = e.begins }; few = c.walks_take_few_turns.ensures.few; defined = c.walks_open_what_is_reached.ensures.defined } in
-    gives-none laws c.args.self.now c.loop-self.self c.if-self.false c.loop-self.invariant c.loop-self-test.false
+    let now = c.loop-self.self in
+    let law = c.walks_are_left_by_turn.ensures in
+    let over = at-end law.turns law.whole now c.loop-self.invariant.1 c.loop-self-test.false in
+    let bound = (law.whole _ _ now.start.now).within (seen now).taken now.bounded in
+    gives-none c.loop-self.invariant.0 over.0 (rw (c.loop-self.invariant.1, c.loop-self-test.false) refl) bound (λ _. over.1)
