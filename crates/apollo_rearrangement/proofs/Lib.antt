@@ -3,7 +3,11 @@ pub mod Permutations
 pub mod Subjects
 mod Regrouped
 mod Rearranging
+mod Sorts
+mod FoundSorts
 mod Reported
+mod AfterFirst
+mod Dropped
 mod Found
 mod Bare
 mod BareCompletion
