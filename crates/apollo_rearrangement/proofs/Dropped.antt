@@ -1,11 +1,10 @@
 -- The faults of a list that are of what is dropped as a whole, sort by sort: operations and fragments, further definitions, and
 -- extensions without a definition.
-use Rattle.apollo_meaning.proofs.Prelude.{◌&&◌, ◌++◌, ◌∙◌, ◌∷◌, ◌≡◌, Added, AllByRecursion, Bool, Defined, Definition, DirectiveDefinition, Extended, Fault, List, ListItem, NodeView, None, Option, Other, Placed, SchemaDefined, SchemaExtended, SchemaPart, Some, TypePart, [], added_item, added_items, adopted, adopted_by, ap, append-nil, arith, completed, cond, defined_part, defined_schema, directive_definitions, each_after, extended_names, extended_part, extended_schema, extension_places, extensions_of, false, filter, filter_map, filter_map-append, find, first, first_place, first_schema, flat_map, found, found_at, further_definition, further_schema, implied_schema, is_built_in, is_some, item_of, key_of, kind_of, map, map-map, not, option_map, option_map_or, option_or, orphan, orphans_of, refl, roots_in, same, same-true, same_kind, schema_extensions, schema_for, schema_orphan, schema_orphans, schemas, slice_get, sym, true, types, with_adopted, ℕ, filter-append, length, Root, adopted_part, map-append, lookup, first_of_each}
-use Rattle.apollo_rearrangement.proofs.Words.{all-kept, cons_option, directive_part, faults_in, filter-map, find-made, has_text, implicit_roots, is_handed_in, lookup-keyed, redefinition, filter_map-numbered, filter_agree}
+use Rattle.apollo_meaning.proofs.Prelude.{◌&&◌, ◌++◌, ◌∙◌, ◌∷◌, ◌≡◌, Added, Bool, Defined, Definition, DirectiveDefinition, Fault, List, ListItem, NodeView, None, Option, Other, Placed, SchemaDefined, SchemaPart, Some, TypePart, [], added_items, adopted, adopted_by, ap, append-nil, arith, completed, cond, defined_part, defined_schema, directive_definitions, each_after, extended_names, extended_part, extended_schema, extension_places, extensions_of, false, filter, filter_map, filter_map-append, find, first, first_place, first_schema, flat_map, found_at, further_definition, further_schema, implied_schema, is_built_in, item_of, key_of, map, map-map, not, option_map, option_map_or, option_or, orphan, orphans_of, refl, roots_in, same, same-true, schema_extensions, schema_for, schema_orphan, schema_orphans, schemas, sym, true, types, with_adopted, ℕ, filter-append, length, Root, adopted_part, map-append, lookup, first_of_each}
+use Rattle.apollo_rearrangement.proofs.Words.{all-kept, cons_option, directive_part, faults_in, filter-map, has_text, implicit_roots, is_handed_in, lookup-keyed, redefinition, filter_map-numbered, filter_agree}
 use Rattle.std.specs.Prelude.{is_none, option_and_then}
-use Rattle.graphql_nodes.specs.declared.type_kind.TypeKind.TheVariants as kinds
 use Rattle.apollo_meaning.proofs.Completion.CompletionLemmas.{orphan_names-adopted}
-use Rattle.apollo_meaning.proofs.Items.ItemLemmas.{first-append, first_schema-push_definition}
+use Rattle.apollo_meaning.proofs.Items.ItemLemmas.{first_schema-push_definition}
 use Rattle.apollo_meaning.proofs.Order.PlaceLemmas.{first-forget, first-none, first-some, first_schema-none, first_schema-some}
 use Rattle.apollo_meaning.specs.Completion.OrphanNames.{first_name}
 use Rattle.apollo_meaning.specs.Faults.TypeFaults.{built_in_redefinition}
@@ -14,7 +13,6 @@ use Rattle.apollo_meaning.specs.Items.ListItems.{ignorable_if}
 use Rattle.apollo_meaning.specs.Items.Named.{named}
 use Rattle.apollo_meaning.proofs.Items.ItemLemmas.{first_schema-push_definition}
 use Rattle.std.specs.Prelude.{option_and_then}
-use Rattle.apollo_meaning.specs.declared.build_error.BuildError.TheVariants as errors
 use Rattle.graphql_ast.specs.declared.definition.Definition.TheVariants as ast
 use Rattle.apollo_rearrangement.specs.Reported.{Sort, Executable, FurtherSchema, FurtherDirective, FurtherType, OrphanOfType, OrphanOfSchema, same_sort}
 use Rattle.apollo_rearrangement.specs.Dropped.{Dropped, executable_fault, further_directive, further_directives, further_schemas, further_type, further_types, handed_in, is_passed_over, orphans_by_name, undefined_places}

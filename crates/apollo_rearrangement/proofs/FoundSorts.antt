@@ -1,7 +1,7 @@
 -- What the sorts of faults are about; which faults are found at an item, of what it is about or for the item itself; and those of a
 -- sort among all faults of a list.
-use Rattle.apollo_meaning.proofs.Prelude.{◌&&◌, ◌++◌, ◌∙◌, ◌∷◌, ◌≡◌, AllByRecursion, Bool, Defined, Definition, Directives, Extended, Fault, List, ListItem, None, Option, Other, SchemaDefined, SchemaExtended, SchemaPart, Some, TypePart, [], ap, append-nil, arith, completed, cond, directive_definitions, each_after, each_after-append, extended_names, extended_part, extension_faults, extensions_of, false, filter, filter-append, filter_map, find, first, first_schema, flat_map, found, found_at, further_definition, further_schema, implied_schema, key_of, kind_of, map, of_kind, option_map_or, orphan, orphans_of, other_faults, part_faults, refl, roots_in, same, same-is, same-true, same_kind, schema_begun_faults, schema_extensions, schema_faults, schema_orphan, schema_orphans, subst, sym, true, with_adopted, ℕ, each-weaken}
-use Rattle.apollo_rearrangement.proofs.Words.{BuildError, each-append, faults-completed, faults_in, filter-fails, filter-wider, filter_passes, has_text, is_handed_in, joining_fault, kind_mismatch, recursion_from_All, type_begun_faults}
+use Rattle.apollo_meaning.proofs.Prelude.{◌&&◌, ◌++◌, ◌∙◌, ◌∷◌, ◌≡◌, AllByRecursion, Bool, Defined, Extended, Fault, List, ListItem, None, Option, Other, SchemaDefined, SchemaExtended, SchemaPart, Some, TypePart, [], ap, append-nil, arith, completed, cond, directive_definitions, each_after, each_after-append, extended_names, extended_part, extension_faults, extensions_of, false, filter, filter-append, filter_map, find, first, first_schema, flat_map, found, found_at, further_definition, further_schema, implied_schema, key_of, kind_of, map, of_kind, option_map_or, orphan, orphans_of, other_faults, part_faults, refl, roots_in, same, same-is, same-true, same_kind, schema_begun_faults, schema_extensions, schema_faults, schema_orphan, schema_orphans, subst, sym, true, with_adopted, ℕ, each-weaken}
+use Rattle.apollo_rearrangement.proofs.Words.{each-append, faults-completed, faults_in, filter-fails, filter-wider, filter_passes, has_text, is_handed_in, joining_fault, kind_mismatch, recursion_from_All, type_begun_faults}
 use Rattle.apollo_rearrangement.specs.Reported.{Sort, Executable, FurtherSchema, FurtherDirective, FurtherType, OrphanOfType, OrphanOfSchema, OtherKind, RepeatedComponent, RepeatedRoot, same_sort, sort_of}
 use Rattle.apollo_rearrangement.specs.Dropped.{further_directive}
 use Rattle.graphql_ast.specs.declared.definition.Definition.TheVariants as ast

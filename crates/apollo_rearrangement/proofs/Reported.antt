@@ -1,13 +1,13 @@
 -- The faults of a list that are of what is dropped from a type or from the schema, its repeated components or roots and its
 -- extensions of another kind, are those that its first definition and its extensions have, in order.
-use Rattle.apollo_meaning.proofs.Prelude.{◌&&◌, ◌++◌, ◌∙◌, ◌∷◌, ◌≡◌, AllByRecursion, Bool, Family, Fault, List, ListItem, None, Option, Placed, SchemaPart, Some, TypePart, [], ap, append-nil, arith, completed, cond, defined_schema, each_after, extended_part, extension_places, extensions_of, false, filter, filter-append, filter_map, first, first_place, first_schema, flat_map, found, found_at, key_of, kind_of, map, not, of_kind, option_map_or, part_faults, refl, same, same-is, same-true, same_kind, schema_begun_faults, schema_extensions, schema_faults, schemas, slice_get, sym, true, types, ℕ, further_definition}
+use Rattle.apollo_meaning.proofs.Prelude.{◌&&◌, ◌++◌, ◌∙◌, ◌∷◌, ◌≡◌, AllByRecursion, Bool, Family, Fault, List, ListItem, None, Option, Placed, SchemaPart, Some, TypePart, [], ap, append-nil, completed, cond, defined_schema, each_after, extended_part, extension_places, extensions_of, false, filter, filter-append, filter_map, first, first_place, first_schema, flat_map, found, found_at, key_of, kind_of, map, not, of_kind, option_map_or, part_faults, refl, same, same-is, same-true, same_kind, schema_begun_faults, schema_extensions, schema_faults, schemas, slice_get, sym, true, types, ℕ, further_definition}
 use Rattle.apollo_rearrangement.proofs.Words.{all-kept, faults_in, filter-map, filter_agree, found-push, found_of_schema, found_of_type, joined_faults, joining_fault, kind_mismatch, type_begun_faults, filter_map-numbered}
 use Rattle.std.proofs.lemmas.Simd.{map-map}
 use Rattle.apollo_meaning.proofs.Faults.FoundLemmas.{schema_faults_with, schema_faults_with-joining}
 use Rattle.apollo_meaning.proofs.Order.PlaceLemmas.{first-none, first-some, first_schema-none, first_schema-some}
 use Rattle.apollo_meaning.proofs.Types.WholeTypeLemmas.{found-joined}
 use Rattle.apollo_meaning.specs.Order.Places.{is_folded}
-use Rattle.apollo_rearrangement.specs.Reported.{Sort, OtherKind, RepeatedComponent, RepeatedRoot, FurtherType, same_sort, sort_of, OrphanOfType, OrphanOfSchema}
+use Rattle.apollo_rearrangement.specs.Reported.{Sort, OtherKind, RepeatedComponent, RepeatedRoot, FurtherType, same_sort, OrphanOfType, OrphanOfSchema}
 use Rattle.apollo_rearrangement.specs.Dropped.{of_another_kind}
 use Rattle.apollo_rearrangement.proofs.Subjects.{Subject, TypeNamed, TheSchema, NoSubject, same_subject, first-is}
 use Rattle.apollo_rearrangement.proofs.Regrouped.{Finding, Plays, at_definition, at_extension, by_plays, defined_of, extended_of, finding_schemas, finding_types, plays-schema, plays-type}

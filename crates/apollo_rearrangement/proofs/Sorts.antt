@@ -1,16 +1,12 @@
 -- The sorts of the faults that are found, and which faults of one sort another sort keeps.
-use Rattle.apollo_meaning.proofs.Prelude.{◌&&◌, ◌++◌, ◌∙◌, ◌∷◌, ◌≡◌, AllByRecursion, Bool, Defined, Definition, DirectiveDefinition, Directives, Entry, EnumBody, Extended, Family, Fault, InputObjectBody, InterfaceBody, List, ListItem, NameView, NodeView, None, ObjectBody, Option, Other, Placed, Root, ScalarBody, SchemaDefined, SchemaExtended, SchemaPart, Some, TypeBody, TypePart, UnionBody, [], ap, append-nil, arith, body_faults, collision, collision_at, collisions, completed, cond, defined_schema, directive_definitions, each_after, each_after-append, extended_names, extended_part, extension_faults, extension_places, extensions_of, false, field_entries, field_names, filter, filter-append, filter_map, find, first, first_place, first_schema, flat_map, found, found_at, further_definition, further_schema, implied_schema, interface_names, key_of, kind_of, map, name_entries, of_kind, option_map_or, orphan, orphans_of, other_faults, part_faults, refl, roots_in, same, same-is, same-true, same_kind, same_text, schema_begun_faults, schema_extensions, schema_faults, schema_joining_faults, schema_orphan, schema_orphans, schemas, slice_get, subst, sym, true, types, with_adopted, ℕ}
-use Rattle.apollo_rearrangement.proofs.Words.{All-filter, BuildError, all-kept, each-append, faults-completed, faults_in, filter-each, filter-fails, filter_agree, filter_passes, found-push, found_of_schema, found_of_type, has_text, input_field_entries, input_field_names, is_handed_in, joined_faults, joining_fault, kind_mismatch, member_names, operation_text, recursion_from_All, redefinition, root_fault, root_faults, same_operation, type_begun_faults, value_entries, value_names, IsTest}
+use Rattle.apollo_meaning.proofs.Prelude.{◌&&◌, ◌++◌, ◌∙◌, ◌∷◌, ◌≡◌, AllByRecursion, Bool, Entry, EnumBody, Fault, InputObjectBody, InterfaceBody, List, ListItem, NameView, None, ObjectBody, Option, Root, ScalarBody, SchemaPart, Some, TypeBody, TypePart, UnionBody, [], ap, arith, body_faults, collision, collision_at, collisions, cond, each_after, extended_part, extensions_of, false, field_entries, field_names, filter, filter_map, find, further_definition, interface_names, key_of, kind_of, map, name_entries, of_kind, option_map_or, part_faults, refl, roots_in, same, same-true, same_kind, same_text, schema_begun_faults, schema_faults, schema_joining_faults, subst, sym, true, ℕ}
+use Rattle.apollo_rearrangement.proofs.Words.{All-filter, all-kept, each-append, filter-each, filter-fails, filter_passes, input_field_entries, input_field_names, joined_faults, member_names, operation_text, recursion_from_All, redefinition, root_fault, root_faults, same_operation, value_entries, value_names, IsTest}
 use Rattle.graphql_nodes.specs.BuiltIn.{is_built_in}
 use Rattle.apollo_meaning.specs.declared.collision.Collection.{Collection}
 use Rattle.apollo_meaning.specs.declared.collision.Collection.TheVariants.{ObjectInterfaces, InterfaceInterfaces, ObjectFields, InterfaceFields, EnumValues, UnionMembers, InputFields}
-use Rattle.apollo_meaning.proofs.Faults.FoundLemmas.{schema_faults_with, schema_faults_with-joining}
-use Rattle.apollo_meaning.proofs.Order.PlaceLemmas.{first-none, first-some, first_schema-none, first_schema-some}
-use Rattle.apollo_meaning.proofs.Types.WholeTypeLemmas.{found-joined}
-use Rattle.apollo_rearrangement.specs.Reported.{Sort, Executable, FurtherSchema, FurtherDirective, FurtherType, OrphanOfType, OrphanOfSchema, OtherKind, RepeatedComponent, RepeatedRoot, is_of_sort, same_sort, sort_of}
+use Rattle.apollo_rearrangement.specs.Reported.{Sort, FurtherType, OtherKind, RepeatedComponent, RepeatedRoot, is_of_sort, same_sort, sort_of}
 use Rattle.graphql_nodes.proofs.Texts.{same-refl}
 use Rattle.graphql_nodes.specs.declared.type_kind.TypeKind.TheVariants as kinds
-use Rattle.graphql_ast.specs.declared.definition.Definition.TheVariants as ast
 use Rattle.apollo_meaning.specs.declared.build_error.BuildError.TheVariants as errors
 
 -- sorts are told apart

@@ -1,6 +1,6 @@
 -- What is dropped from a list, by places of the whole list, and the fault of each: GraphQL specification of October 2021, sections
 -- 2.2, 3, 3.3, 3.3.2, 3.4.3 and 3.13.
-use Rattle.std.specs.Prelude.{ℕ, Bool, List, None, Some, Option, ◌&&◌, filter, filter_map, flat_map, if◌then◌else◌, is_none, map, nat_lt, not, option_and_then, option_map}
+use Rattle.std.specs.Prelude.{ℕ, Bool, List, None, Some, Option, ◌&&◌, filter, filter_map, flat_map, if◌then◌else◌, is_none, nat_lt, not, option_and_then, option_map}
 use Rattle.std.specs.List.{enumerate_from}
 use Rattle.graphql_nodes.specs.BuiltIn.{is_built_in}
 use Rattle.graphql_nodes.specs.NodeView.{NodeView}
