@@ -3,6 +3,7 @@ pub mod Permutations
 pub mod Subjects
 mod Regrouped
 mod Rearranging
+mod Grouped
 mod Sorts
 mod FoundSorts
 mod Reported

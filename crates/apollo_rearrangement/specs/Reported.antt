@@ -1,6 +1,7 @@
 -- The faults of a list by their sorts: GraphQL specification of October 2021, sections 2.2, 3, 3.3, 3.4.3, 3.5 to 3.10 and 3.13.
-use Rattle.std.specs.Prelude.{ℕ, Bool, true, false, List, filter}
+use Rattle.std.specs.Prelude.{ℕ, Bool, true, false, List, filter, map}
 use Rattle.graphql_nodes.specs.SameText.{same}
+use Rattle.apollo_component.specs.FirstOfEach.{first_of_each}
 use Rattle.apollo_meaning.specs.declared.build_error.BuildError.{BuildError}
 use Rattle.apollo_meaning.specs.declared.build_error.BuildError.TheVariants as errors
 use Rattle.apollo_meaning.specs.Faults.Collisions.{Fault}
@@ -60,3 +61,7 @@ is_of_sort s e = same_sort s (sort_of e)
 -- the faults of a list that are of this sort, in order of discovery
 abbrev pub reported : Sort → Bool → List Added → List Fault
 reported s adopts xs = filter (λ f. is_of_sort s f.1) (faults_of adopts xs)
+
+-- the sorts that a list has faults of, in order of discovery
+abbrev pub reported_sorts : Bool → List Added → List Sort
+reported_sorts adopts xs = first_of_each same_sort (map (λ f. sort_of f.1) (faults_of adopts xs))

@@ -1,6 +1,6 @@
 //! Laws of lists of definitions that are equal or rearranged, and of the faults of a list name by name, for those who build on
 //! what such a list means.
-ghost use Rattle.std.specs.Prelude.{◌≡◌, ◌++◌, ◌∷◌, [], ℕ, Bool, List, None, Some, codes, filter, filter_map, map, not, true, false};
+ghost use Rattle.std.specs.Prelude.{◌≡◌, ◌++◌, ◌∷◌, [], ℕ, Bool, List, None, Some, codes, filter, filter_map, flat_map, map, not, true, false};
 ghost use Rattle.std.specs.List.Sorted.{IsPermutation};
 ghost use Rattle.apollo_meaning.specs.Completion.ImpliedSchema.{completed};
 ghost use Rattle.apollo_meaning.specs.Directives.{directive_definitions, directive_of};
@@ -18,7 +18,7 @@ ghost use Rattle.apollo_rearrangement.specs.Documents.{Documents, added_each, ad
 ghost use Rattle.apollo_rearrangement.specs.Equal.{AreEqualLists};
 ghost use Rattle.apollo_rearrangement.specs.Rearranged.{AreRearranged, Group, directive_meant, is_in, schema_meant, type_meant};
 ghost use Rattle.apollo_rearrangement.specs.Dropped.{executable_fault, further_directive, further_directives, further_schemas, further_type, further_types, is_passed_over, of_another_kind, orphans_by_name, undefined_places};
-ghost use Rattle.apollo_rearrangement.specs.Reported.{Executable, FurtherDirective, FurtherSchema, FurtherType, OrphanOfSchema, OrphanOfType, OtherKind, RepeatedComponent, RepeatedRoot, Sort, is_of_sort, reported, sort_of};
+ghost use Rattle.apollo_rearrangement.specs.Reported.{Executable, FurtherDirective, FurtherSchema, FurtherType, OrphanOfSchema, OrphanOfType, OtherKind, RepeatedComponent, RepeatedRoot, Sort, is_of_sort, reported, reported_sorts, sort_of};
 ghost use Rattle.apollo_rearrangement.specs.ReportedRows.{its_further_definition, its_mismatch, its_orphan, its_sorts};
 
 use apollo_meaning::laws::{folded_extensions, folded_schema_extensions};
@@ -82,11 +82,12 @@ pub fn rearranged_faults_are_the_same()
     ensures { (adopts : Bool) (xs ys : List Added) → AreRearranged (added_items xs) (added_items ys) → IsPermutation (faults_of adopts xs) (faults_of adopts ys) }
 {}
 
-/// Each error of a build is of exactly one sort. So the faults of a list that are reported sort by sort are all of them, each
-/// once.
+/// Each error of a build is of exactly one sort. So the faults of a list are what is reported of each sort that it has a fault of,
+/// in another order: none is lost, and none is reported twice.
 pub fn each_fault_is_of_one_sort()
     ensures own { (e : BuildError) → is_of_sort (sort_of e) e ≡ true }
     ensures alone { (s : Sort) (e : BuildError) → is_of_sort s e ≡ true → s ≡ sort_of e }
+    ensures together { (adopts : Bool) (xs : List Added) → IsPermutation (faults_of adopts xs) (flat_map (λ s. reported s adopts xs) (reported_sorts adopts xs)) }
 {}
 
 /// Those faults of a list that say that a definition is not of the type system are those of its operations and fragments: one
