@@ -12,6 +12,7 @@ ghost use Rattle.apollo_meaning.specs.Items.Named.{first_schema, schema_extensio
 ghost use Rattle.apollo_meaning.specs.Items.Parts.{SchemaPart, TypePart, key_of};
 ghost use Rattle.apollo_meaning.specs.Order.Places.{Placed, first_place, schemas, types};
 ghost use Rattle.apollo_meaning.specs.Rows.FaultRows.{faulty_list};
+ghost use Rattle.apollo_meaning.specs.Rows.SchemaRows.{built_in_int, int_again};
 ghost use Rattle.apollo_meaning.specs.Schema.Whole.{whole};
 ghost use Rattle.apollo_meaning.specs.declared.build_error.BuildError.{BuildError};
 ghost use Rattle.apollo_rearrangement.specs.Documents.{Documents, added_each, added_joined};
@@ -153,6 +154,17 @@ pub fn faults_by_sort()
     ensures further { reported FurtherType false (added false faulty_list) ≡ its_further_definition }
     ensures other_kind { reported (OtherKind (codes "T")) false (added false faulty_list) ≡ its_mismatch }
     ensures orphan { reported OrphanOfType false (added false faulty_list) ≡ its_orphan }
+{}
+
+/// What is dropped from the same list as a whole, by places from 0 on, computed: the further definition of `T`, at place
+/// 3; the extension of `T` of another kind, at place 1; that of `U`, at place 5. No further definition is passed over, also where
+/// it may be ignored, as `T` is not built-in; of a built-in type one is.
+pub fn dropped_by_places()
+    ensures further { map (λ p. p.1.0) (further_types (whole false (added false faulty_list))) ≡ 3 ∷ [] }
+    ensures other_kind { map (λ e. e.0) (of_another_kind (whole false (added false faulty_list)) (codes "T")) ≡ 1 ∷ [] }
+    ensures orphan { map (λ e. e.0) (orphans_by_name (whole false (added false faulty_list))) ≡ 5 ∷ [] }
+    ensures kept { filter is_passed_over (further_types (whole false (added true faulty_list))) ≡ [] }
+    ensures passed_over { map (λ p. p.1.0) (filter is_passed_over (further_types (whole false (added false built_in_int ++ added true int_again)))) ≡ 1 ∷ [] }
 {}
 
 /// Documents that are added one by one add what one document of all their definitions adds.
