@@ -75,16 +75,34 @@ module _ {P : Type 0} (f : Family P) where
           (first_before-append before (x ∷ xs) (f.key p) (length before) (omega arith) ∙ first_before-end before (f.key p))
           ∙ own p (first_place f before (f.key p))
 
--- the faults of those of them that pass a test, as they come
-pub dropped-on : {P Y : Type 0} (f : Family P) (which : ListItem → Option P) (test : Dropped P → Bool) (fault : Dropped P → Y) (xs : List ListItem)
-    → each_after (λ before x. map fault (filter test (with_first f before (which x)))) [] xs ≡ map fault (filter test (after_first f xs (filter_map (placed_by which) (enumerate_from 0 xs))))
-dropped-on {P} f which test fault xs = kept [] xs ∙ ap (λ l. map fault (filter test l)) (sym (after_first-on f which [] xs))
-  where
-    at : List ListItem → ListItem → List (Dropped P)
-    at before x = with_first f before (which x)
+module _ {P Y : Type 0} (f : Family P) (test : Dropped P → Bool) (fault : Dropped P → Y) where
+  -- the fault of a definition that stands after the first one of its key, if the two pass a test
+  abbrev pub faults_after : List ListItem → Option P → List Y
+  faults_after before o = map fault (filter test (with_first f before o))
 
-    kept : (before xs : List ListItem) → each_after (λ before x. map fault (filter test (at before x))) before xs ≡ map fault (filter test (each_after at before xs))
-    kept before [] = refl
-    kept before (x ∷ xs) =
-        ap (λ l. map fault (filter test (at before x)) ++ l) (kept (before ++ x ∷ []) xs)
-        ∙ sym (ap (map fault) (filter-append test (at before x) (each_after at (before ++ x ∷ []) xs)) ∙ map-append fault (filter test (at before x)) (filter test (each_after at (before ++ x ∷ []) xs)))
+  -- it is seen with that first one
+  pub faults_after-one : (before : List ListItem) (p : P) (o : Option (Placed P)) → first_place f before (f.key p) ≡ o
+      → faults_after before (Some p) ≡ option_map_or (λ d. map fault (filter test ((d, (length before, p)) ∷ []))) o []
+  faults_after-one before p o is = ap (λ o. map fault (filter test (option_map_or (λ d. (d, (length before, p)) ∷ []) o []))) is ∙ by o
+    where
+      by : (o : Option (Placed P))
+          → map fault (filter test (option_map_or (λ d. (d, (length before, p)) ∷ []) o [])) ≡ option_map_or (λ d. map fault (filter test ((d, (length before, p)) ∷ []))) o []
+      by None = refl
+      by (Some d) = refl
+
+  -- as they come they are those of the definitions at such places
+  pub dropped-on : (which : ListItem → Option P) (xs : List ListItem) → each_after (λ before x. faults_after before (which x)) [] xs
+      ≡ map fault (filter test (after_first f xs (filter_map (placed_by which) (enumerate_from 0 xs))))
+  dropped-on which xs = kept [] xs ∙ ap (λ l. map fault (filter test l)) (sym (after_first-on f which [] xs))
+    where
+      at : List ListItem → ListItem → List (Dropped P)
+      at before x = with_first f before (which x)
+
+      kept : (before xs : List ListItem)
+          → each_after (λ before x. faults_after before (which x)) before xs ≡ map fault (filter test (each_after at before xs))
+      kept before [] = refl
+      kept before (x ∷ xs) =
+          let here = at before x in
+          let rest = each_after at (before ++ x ∷ []) xs in
+          ap (λ l. map fault (filter test here) ++ l) (kept (before ++ x ∷ []) xs)
+          ∙ sym (ap (map fault) (filter-append test here rest) ∙ map-append fault (filter test here) (filter test rest))

@@ -102,13 +102,20 @@ dropped-of before (Other (ast.FragmentDefinition n)) = (refl, tt)
 dropped-of before (Other d) = tt
 dropped-of before x = tt
 
--- of what is dropped at an item all is of the item's sort
-pub dropped-kept : (s : Sort) (before : List ListItem) (x : ListItem) → filter (has_sort s) (dropped_at before x) ≡ cond (same_sort s (sort_at x)) (dropped_at before x) []
+-- where the item is of this sort
+abbrev pub kept_at : Sort → List ListItem → ListItem → List Fault
+kept_at s before x = cond (same_sort s (sort_at x)) (dropped_at before x) []
+
+-- so those of a sort are there
+pub dropped-kept : (s : Sort) (before : List ListItem) (x : ListItem) → filter (has_sort s) (dropped_at before x) ≡ kept_at s before x
 dropped-kept s before x = by (same_sort s (sort_at x)) refl
   where
-    by : (b : Bool) → same_sort s (sort_at x) ≡ b → filter (has_sort s) (dropped_at before x) ≡ cond b (dropped_at before x) []
-    by true e = all-stay s (dropped_at before x) (subst (λ t. AllOf t (dropped_at before x)) (sym (sort_laws.is s (sort_at x) e)) (dropped-of before x))
-    by false e = none-stay s (sort_at x) (dropped_at before x) e (dropped-of before x)
+    here : List Fault
+    here = dropped_at before x
+
+    by : (b : Bool) → same_sort s (sort_at x) ≡ b → filter (has_sort s) here ≡ cond b here []
+    by true e = all-stay s here (subst (λ t. AllOf t here) (sym (sort_laws.is s (sort_at x) e)) (dropped-of before x))
+    by false e = none-stay s (sort_at x) here e (dropped-of before x)
 
 -- what is found at an item is about the subject of the item, which stays; or the item itself is dropped
 data FoundAt (x : ListItem) (all dropped : List Fault) : Type 0 where

@@ -8,7 +8,9 @@ mod Sorts
 mod FoundSorts
 mod Reported
 mod AfterFirst
+mod Completed
 mod Dropped
+mod Orphans
 mod Found
 mod Bare
 mod BareCompletion

@@ -1,5 +1,5 @@
 use Rattle.apollo_meaning.specs.Items.ListItems.{added_items}
-use Rattle.apollo_rearrangement.proofs.Dropped.{no-orphans, no-schema_orphans, reported-orphans, reported-schema_orphans}
+use Rattle.apollo_rearrangement.proofs.Orphans.{no-orphans, no-schema_orphans, reported-orphans, reported-schema_orphans}
 use Rattle.apollo_rearrangement.proofs.laws.reported_orphans_are_the_extensions_without_a_definition.Goals as goal
 
 pub returns-clause-types : goal.returns-clause-types
