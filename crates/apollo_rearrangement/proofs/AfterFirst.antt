@@ -13,8 +13,10 @@ if_before i o = option_and_then (λ d. cond (nat_lt d.0 i) (Some d) None) o
 
 module _ {P : Type 0} (f : Family P) where
   -- one more item leaves what stands before its place
-  first_before-push : (xs : List ListItem) (x : ListItem) (n : List ℕ) (i : ℕ) → i ≤ length xs → first_before f (xs ++ x ∷ []) n i ≡ first_before f xs n i
-  first_before-push xs x n i within = ap (if_before i) (first_place-push f xs x n) ∙ by (first_place f xs n) (f.defined x)
+  first_before-push : (xs : List ListItem) (x : ListItem) (n : List ℕ) (i : ℕ) → i ≤ length xs
+      → first_before f (xs ++ x ∷ []) n i ≡ first_before f xs n i
+  first_before-push xs x n i within =
+      ap (if_before i) (first_place-push f xs x n) ∙ by (first_place f xs n) (f.defined x)
     where
       past : nat_lt (length xs) i ≡ false
       past = grind (arith, nat_tests, within)
@@ -23,13 +25,15 @@ module _ {P : Type 0} (f : Family P) where
       one d true = ap (λ b. cond b (Some (length xs, d)) None) past
       one d false = refl
 
-      by : (o : Option (Placed P)) (p : Option P) → if_before i (option_or o (own_place f (length xs) p n)) ≡ if_before i o
+      by : (o : Option (Placed P)) (p : Option P)
+          → if_before i (option_or o (own_place f (length xs) p n)) ≡ if_before i o
       by (Some d) p = refl
       by None None = refl
       by None (Some d) = one d (same n (f.key d))
 
   -- and so do more items
-  first_before-append : (xs ys : List ListItem) (n : List ℕ) (i : ℕ) → i ≤ length xs → first_before f (xs ++ ys) n i ≡ first_before f xs n i
+  first_before-append : (xs ys : List ListItem) (n : List ℕ) (i : ℕ) → i ≤ length xs
+      → first_before f (xs ++ ys) n i ≡ first_before f xs n i
   first_before-append xs [] n i within = ap (λ l. first_before f l n i) (append-nil xs)
   first_before-append xs (y ∷ ys) n i within =
       ap (λ l. first_before f l n i) (sym (append_assoc xs (y ∷ []) ys))
@@ -46,11 +50,13 @@ module _ {P : Type 0} (f : Family P) where
 
   -- a definition that stands after the first one of its key, with that one
   abbrev pub with_first : List ListItem → Option P → List (Dropped P)
-  with_first before o = option_map_or (λ p. option_map_or (λ d. (d, (length before, p)) ∷ []) (first_place f before (f.key p)) []) o []
+  with_first before o =
+      option_map_or (λ p. option_map_or (λ d. (d, (length before, p)) ∷ []) (first_place f before (f.key p)) []) o []
 
   -- by places they are as they come
   after_first-on : (which : ListItem → Option P) (before xs : List ListItem)
-      → after_first f (before ++ xs) (filter_map (placed_by which) (enumerate_from (length before) xs)) ≡ each_after (λ before x. with_first before (which x)) before xs
+      → after_first f (before ++ xs) (filter_map (placed_by which) (enumerate_from (length before) xs))
+      ≡ each_after (λ before x. with_first before (which x)) before xs
   after_first-on which before [] = refl
   after_first-on which before (x ∷ xs) =
       by (which x)
@@ -64,11 +70,15 @@ module _ {P : Type 0} (f : Family P) where
       rest : List (Placed P)
       rest = filter_map (placed_by which) (enumerate_from (length before + 1) xs)
 
-      own : (p : P) (o : Option (Placed P)) → cons_option (option_map (λ d. (d, (length before, p))) o) (after_first f whole rest) ≡ option_map_or (λ d. (d, (length before, p)) ∷ []) o [] ++ after_first f whole rest
+      own : (p : P) (o : Option (Placed P))
+          → cons_option (option_map (λ d. (d, (length before, p))) o) (after_first f whole rest)
+          ≡ option_map_or (λ d. (d, (length before, p)) ∷ []) o [] ++ after_first f whole rest
       own p None = refl
       own p (Some d) = refl
 
-      by : (o : Option P) → after_first f whole (cons_option (option_map (λ p. (length before, p)) o) rest) ≡ with_first before o ++ after_first f whole rest
+      by : (o : Option P)
+          → after_first f whole (cons_option (option_map (λ p. (length before, p)) o) rest)
+          ≡ with_first before o ++ after_first f whole rest
       by None = refl
       by (Some p) =
           ap (λ o. cons_option (option_map (λ d. (d, (length before, p))) o) (after_first f whole rest))
@@ -81,17 +91,22 @@ module _ {P Y : Type 0} (f : Family P) (test : Dropped P → Bool) (fault : Drop
   faults_after before o = map fault (filter test (with_first f before o))
 
   -- it is seen with that first one
-  pub faults_after-one : (before : List ListItem) (p : P) (o : Option (Placed P)) → first_place f before (f.key p) ≡ o
-      → faults_after before (Some p) ≡ option_map_or (λ d. map fault (filter test ((d, (length before, p)) ∷ []))) o []
-  faults_after-one before p o is = ap (λ o. map fault (filter test (option_map_or (λ d. (d, (length before, p)) ∷ []) o []))) is ∙ by o
+  pub faults_after-one : (before : List ListItem) (p : P) (o : Option (Placed P))
+      → first_place f before (f.key p) ≡ o
+      → faults_after before (Some p)
+      ≡ option_map_or (λ d. map fault (filter test ((d, (length before, p)) ∷ []))) o []
+  faults_after-one before p o is =
+      ap (λ o. map fault (filter test (option_map_or (λ d. (d, (length before, p)) ∷ []) o []))) is ∙ by o
     where
       by : (o : Option (Placed P))
-          → map fault (filter test (option_map_or (λ d. (d, (length before, p)) ∷ []) o [])) ≡ option_map_or (λ d. map fault (filter test ((d, (length before, p)) ∷ []))) o []
+          → map fault (filter test (option_map_or (λ d. (d, (length before, p)) ∷ []) o []))
+          ≡ option_map_or (λ d. map fault (filter test ((d, (length before, p)) ∷ []))) o []
       by None = refl
       by (Some d) = refl
 
   -- as they come they are those of the definitions at such places
-  pub dropped-on : (which : ListItem → Option P) (xs : List ListItem) → each_after (λ before x. faults_after before (which x)) [] xs
+  pub dropped-on : (which : ListItem → Option P) (xs : List ListItem)
+      → each_after (λ before x. faults_after before (which x)) [] xs
       ≡ map fault (filter test (after_first f xs (filter_map (placed_by which) (enumerate_from 0 xs))))
   dropped-on which xs = kept [] xs ∙ ap (λ l. map fault (filter test l)) (sym (after_first-on f which [] xs))
     where
@@ -99,7 +114,8 @@ module _ {P Y : Type 0} (f : Family P) (test : Dropped P → Bool) (fault : Drop
       at before x = with_first f before (which x)
 
       kept : (before xs : List ListItem)
-          → each_after (λ before x. faults_after before (which x)) before xs ≡ map fault (filter test (each_after at before xs))
+          → each_after (λ before x. faults_after before (which x)) before xs
+          ≡ map fault (filter test (each_after at before xs))
       kept before [] = refl
       kept before (x ∷ xs) =
           let here = at before x in

@@ -1,5 +1,5 @@
 -- A list is what it has of each thing that its elements are about, in turn, in another order.
-use Rattle.apollo_meaning.proofs.Prelude.{◌++◌, ◌||◌, ◌∙◌, ◌∷◌, ◌≡◌, AllByRecursion, Bool, IsEquivalence, List, [], arith, ap, each-weaken, false, filter, first_of_each, flat_map, flat_map-each, list_any, list_any-first_of_each, map, not, refl, subst, sym, true, subst}
+use Rattle.apollo_meaning.proofs.Prelude.{◌||◌, ◌∙◌, ◌∷◌, ◌≡◌, AllByRecursion, Bool, IsEquivalence, List, [], arith, ap, each-weaken, false, filter, first_of_each, flat_map, flat_map-each, list_any, list_any-first_of_each, map, not, refl, subst, sym, true, subst}
 use Rattle.apollo_rearrangement.proofs.Words.{IsPermutation, IsPermutation-append_right, IsPermutation-refl, IsPermutation-trans, IsTest, bool_cases, filter-wider}
 use Rattle.std.specs.List.{IsDistinct}
 use Rattle.std.proofs.lemmas.Bool.{or_right}
@@ -9,7 +9,8 @@ use Rattle.apollo_component.proofs.Tabled.{first_of_each-distinct}
 
 -- things that a test tells apart are the same in both directions, and as the same others
 equivalence : {K : Type 0} (same : K → K → Bool) → IsTest same → IsEquivalence same
-equivalence {K = K} same laws = record { refl = laws.itself; symm = symm; congr = λ x y z e. ap (λ k. same k z) (laws.is x y e) }
+equivalence {K =
+    K} same laws = record { refl = laws.itself; symm = symm; congr = λ x y z e. ap (λ k. same k z) (laws.is x y e) }
   where
     symm : (x y : K) → same x y ≡ same y x
     symm x y =
@@ -24,7 +25,8 @@ module _ {K X : Type 0} (same : K → K → Bool) (laws : IsTest same) (key : X 
   abbrev Among : List K → List X → Type 0
   Among ks = AllByRecursion (λ x. list_any (same (key x)) ks ≡ true)
 
-  grouped-among : (ks : List K) (xs : List X) → IsDistinct same ks → Among ks xs → IsPermutation xs (flat_map (λ k. filter (about k) xs) ks)
+  grouped-among : (ks : List K) (xs : List X) → IsDistinct same ks → Among ks xs
+      → IsPermutation xs (flat_map (λ k. filter (about k) xs) ks)
   unfolding IsDistinct
   grouped-among [] [] d a = IsPermutation-refl []
   grouped-among [] (x ∷ xs) d a = absurd (grind (arith, a.0))
@@ -44,7 +46,8 @@ module _ {K X : Type 0} (same : K → K → Bool) (laws : IsTest same) (key : X 
           each-weaken (λ x. (list_any (same (key x)) (k ∷ ks) ≡ true) × (other x ≡ true)) (λ x. list_any (same (key x)) ks ≡ true) past others
           (each-filter (λ x. list_any (same (key x)) (k ∷ ks) ≡ true) other xs a)
         where
-          past : (x : X) → (list_any (same (key x)) (k ∷ ks) ≡ true) × (other x ≡ true) → list_any (same (key x)) ks ≡ true
+          past : (x : X) → (list_any (same (key x)) (k ∷ ks) ≡ true) × (other x ≡ true)
+              → list_any (same (key x)) ks ≡ true
           past x both = grind (arith, both.0, both.1, (equivalence same laws).symm k (key x))
 
       stay : (j : K) → same k j ≡ false → filter (about j) others ≡ filter (about j) xs
@@ -58,7 +61,8 @@ module _ {K X : Type 0} (same : K → K → Bool) (laws : IsTest same) (key : X 
   )
 
   -- the elements, by what they are about
-  pub grouped-by : (xs : List X) → IsPermutation xs (flat_map (λ k. filter (about k) xs) (first_of_each same (map key xs)))
+  pub grouped-by : (xs : List X)
+      → IsPermutation xs (flat_map (λ k. filter (about k) xs) (first_of_each same (map key xs)))
   grouped-by xs =
       grouped-among (first_of_each same (map key xs)) xs (first_of_each-distinct same (map key xs))
       (each-weaken (λ x. list_any (same (key x)) (map key xs) ≡ true) (λ x. list_any (same (key x)) (first_of_each same (map key xs)) ≡ true)

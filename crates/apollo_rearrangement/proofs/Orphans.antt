@@ -1,22 +1,18 @@
 -- The faults of a list that are of extensions without a definition, of types and of the schema.
 use Rattle.graphql_nodes.specs.NameView.{NameView}
-use Rattle.apollo_meaning.proofs.Prelude.{◌&&◌, ◌++◌, ◌∙◌, ◌∷◌, ◌≡◌, Added, Bool, Defined, Definition, DirectiveDefinition, Fault, List, ListItem, NodeView, None, Option, Other, Placed, SchemaDefined, SchemaPart, Some, TypePart, [], added_items, adopted, adopted_by, ap, append-nil, arith, completed, cond, defined_part, defined_schema, directive_definitions, each_after, extended_names, extended_part, extended_schema, extension_places, extensions_of, false, filter, filter_map, filter_map-append, find, first, first_place, first_schema, flat_map, found_at, further_definition, further_schema, implied_schema, is_built_in, item_of, key_of, map, map-map, not, option_map, option_map_or, option_or, orphan, orphans_of, refl, roots_in, same, same-true, schema_extensions, schema_for, schema_orphan, schema_orphans, schemas, sym, true, types, with_adopted, ℕ, filter-append, length, Root, adopted_part, map-append, lookup, first_of_each}
-use Rattle.apollo_rearrangement.proofs.Words.{all-kept, cons_option, directive_part, faults_in, filter-map, has_text, implicit_roots, is_handed_in, lookup-keyed, redefinition, filter_map-numbered, filter_agree}
-use Rattle.std.specs.Prelude.{is_none, option_and_then}
+use Rattle.apollo_meaning.proofs.Prelude.{◌&&◌, ◌++◌, ◌∙◌, ◌∷◌, ◌≡◌, Bool, List, ListItem, None, Option, Other, Placed, SchemaDefined, SchemaPart, Some, TypePart, [], adopted, ap, append-nil, arith, completed, cond, defined_part, each_after, extended_names, extended_part, extended_schema, extension_places, extensions_of, false, filter, filter_map, first_place, first_schema, flat_map, found_at, implied_schema, key_of, map, map-map, option_map_or, option_or, orphan, orphans_of, refl, roots_in, same, same-true, schema_extensions, schema_for, schema_orphan, schema_orphans, schemas, sym, true, types, with_adopted, ℕ, Root, map-append, lookup, first_of_each}
+use Rattle.apollo_rearrangement.proofs.Words.{all-kept, faults_in, filter-map, implicit_roots, filter_map-numbered, filter_agree}
+use Rattle.std.specs.Prelude.{is_none}
 use Rattle.apollo_meaning.proofs.Completion.CompletionLemmas.{orphan_names-adopted}
 use Rattle.apollo_meaning.proofs.Items.ItemLemmas.{first_schema-push_definition}
-use Rattle.apollo_meaning.proofs.Order.PlaceLemmas.{first-forget, first-none, first-some, first_schema-none, first_schema-some}
+use Rattle.apollo_meaning.proofs.Order.PlaceLemmas.{first-none, first-some, first_schema-none, first_schema-some}
 use Rattle.apollo_meaning.specs.Completion.OrphanNames.{first_name}
-use Rattle.apollo_meaning.specs.Faults.TypeFaults.{built_in_redefinition}
 use Rattle.apollo_meaning.specs.Completion.ImpliedSchema.{schema_of_roots}
-use Rattle.apollo_meaning.specs.Items.ListItems.{ignorable_if}
 use Rattle.apollo_meaning.specs.Items.Named.{named}
-use Rattle.std.specs.Prelude.{option_and_then}
 use Rattle.graphql_ast.specs.declared.definition.Definition.TheVariants as ast
-use Rattle.apollo_rearrangement.specs.Reported.{Sort, Executable, FurtherSchema, FurtherDirective, FurtherType, OrphanOfType, OrphanOfSchema, same_sort}
-use Rattle.apollo_rearrangement.specs.Dropped.{Dropped, executable_fault, further_directive, further_directives, further_schemas, further_type, further_types, handed_in, is_passed_over, orphans_by_name, undefined_places}
-use Rattle.apollo_rearrangement.proofs.AfterFirst.{dropped-on, with_first}
-use Rattle.apollo_rearrangement.proofs.FoundSorts.{dropped-kept, dropped_at, found_at-dropped, reported-found, reported-parts, sort_at, subject_of}
+use Rattle.apollo_rearrangement.specs.Reported.{Sort, OrphanOfType, OrphanOfSchema, same_sort}
+use Rattle.apollo_rearrangement.specs.Dropped.{orphans_by_name, undefined_places}
+use Rattle.apollo_rearrangement.proofs.FoundSorts.{dropped_at, reported-parts, sort_at, subject_of}
 use Rattle.apollo_rearrangement.proofs.Subjects.{NoSubject}
 use Rattle.apollo_rearrangement.proofs.Sorts.{all-stay, filter-both, has_sort, made-of, none-stay}
 use Rattle.apollo_rearrangement.proofs.Dropped.{found-dropped}
@@ -26,7 +22,8 @@ use Rattle.apollo_rearrangement.proofs.Completed.{chosen-implied}
 nothing-after : {X Y : Type 0} (at : List X → X → List Y) → ((before : List X) (x : X) → at before x ≡ [])
     → (before xs : List X) → each_after at before xs ≡ []
 nothing-after at nothing before [] = refl
-nothing-after at nothing before (x ∷ xs) = rw (nothing before x) (nothing-after at nothing (before ++ x ∷ []) xs)
+nothing-after at nothing before (x ∷ xs) =
+    rw (nothing before x) (nothing-after at nothing (before ++ x ∷ []) xs)
 
 -- an orphan's sort is that of no item
 abbrev IsOfNoItem : Sort → Type 0
@@ -46,7 +43,8 @@ no-item_schema_orphaned x = refl
 nothing-found : (s : Sort) → subject_of s ≡ NoSubject → IsOfNoItem s → (before xs : List ListItem)
     → filter (has_sort s) (each_after found_at before xs) ≡ []
 nothing-found s plain apart before xs =
-    found-dropped s plain before xs ∙ nothing-after _ (λ before x. ap (λ b. cond b (dropped_at before x) []) (apart x)) before xs
+    found-dropped s plain before xs
+    ∙ nothing-after _ (λ before x. ap (λ b. cond b (dropped_at before x) []) (apart x)) before xs
 
 none-kept : {X : Type 0} (xs : List X) → filter (λ _. false) xs ≡ []
 none-kept [] = refl
@@ -77,7 +75,8 @@ module _ (xs : List ListItem) (n : List ℕ) where
       one false same = grind arith
 
   kept : (o : Option (Placed TypePart)) → first_place types xs n ≡ o
-      → filter own (undefined_places types xs) ≡ filter (λ e. cond (is_none o) (own e) false) (extension_places types xs)
+      → filter own (undefined_places types xs)
+      ≡ filter (λ e. cond (is_none o) (own e) false) (extension_places types xs)
   kept o is =
       let es = extension_places types xs in
       sym (filter-both undefined own es)
@@ -89,13 +88,16 @@ module _ (xs : List ListItem) (n : List ℕ) where
       of_first : Option TypePart → List TypePart
       of_first o = option_map_or (λ _. []) o (extensions_of xs n)
 
-      by : (o : Option (Placed TypePart)) → first_place types xs n ≡ o → orphans_of xs n ≡ bare (filter own (undefined_places types xs))
+      by : (o : Option (Placed TypePart)) → first_place types xs n ≡ o
+          → orphans_of xs n ≡ bare (filter own (undefined_places types xs))
       by None is =
           ap of_first (first-none xs n is)
           ∙ sym (ap bare (kept None is)
           ∙ sym (filter-map (λ e. same n (key_of e)) (λ (e : Placed TypePart). e.1) (extension_places types xs))
           ∙ ap (filter (λ e. same n (key_of e))) (filter_map-numbered extended_part 0 xs))
-      by (Some z) is = ap of_first (first-some xs n z is) ∙ sym (ap bare (kept (Some z) is ∙ none-kept (extension_places types xs)))
+      by (Some z) is =
+          ap of_first (first-some xs n z is)
+          ∙ sym (ap bare (kept (Some z) is ∙ none-kept (extension_places types xs)))
 
 -- what is made of each of them
 made-of_each : {K X Y Z : Type 0} (f : Y → Z) (g : X → Y) (h : K → List X) (ks : List K)
@@ -139,7 +141,8 @@ module _ (adopts : Bool) (xs : List ListItem) where
 
 -- the extensions of types that have no definition
 pub reported-orphans : (adopts : Bool) (xs : List ListItem)
-    → filter (has_sort OrphanOfType) (faults_in adopts xs) ≡ map (λ e. orphan e.1) (orphans_by_name (completed adopts xs))
+    → filter (has_sort OrphanOfType) (faults_in adopts xs)
+    ≡ map (λ e. orphan e.1) (orphans_by_name (completed adopts xs))
 reported-orphans adopts xs =
     orphans-reported adopts xs
     ∙ (λ i. map orphan (flat_map (orphans_in (defined i) (extended i)) (first_of_each same (map key_of (extended i)))))
@@ -150,7 +153,8 @@ reported-orphans adopts xs =
     ys = completed adopts xs
 
     orphans_in : List TypePart → List TypePart → List ℕ → List TypePart
-    orphans_in ds es n = option_map_or (λ _. []) (lookup (same n) (named ds)) (filter (λ p. same n (key_of p)) es)
+    orphans_in ds es n =
+        option_map_or (λ _. []) (lookup (same n) (named ds)) (filter (λ p. same n (key_of p)) es)
 
     defined : filter_map defined_part (with_adopted adopts xs) ≡ filter_map defined_part ys
     defined = sym (chosen-implied defined_part (λ s. refl) adopts (with_adopted adopts xs))
@@ -164,20 +168,23 @@ no-orphans xs =
     orphans-reported true xs
     ∙ ap (map orphan) (on (orphans_of (xs ++ adopted xs)) (extended_names (xs ++ adopted xs)) (orphan_names-adopted xs))
   where
-    on : (of_name : List ℕ → List TypePart) (ns : List (List ℕ)) → flat_map (λ n. first_name (of_name n)) ns ≡ [] → flat_map of_name ns ≡ []
+    on : (of_name : List ℕ → List TypePart) (ns : List (List ℕ))
+        → flat_map (λ n. first_name (of_name n)) ns ≡ [] → flat_map of_name ns ≡ []
     on of_name [] none = refl
     on of_name (n ∷ ns) none = by (of_name n) none (on of_name ns)
       where
         names : List NameView
         names = flat_map (λ n. first_name (of_name n)) ns
 
-        by : (es : List TypePart) → first_name es ++ names ≡ [] → (names ≡ [] → flat_map of_name ns ≡ []) → es ++ flat_map of_name ns ≡ []
+        by : (es : List TypePart) → first_name es ++ names ≡ [] → (names ≡ [] → flat_map of_name ns ≡ [])
+            → es ++ flat_map of_name ns ≡ []
         by [] none rest = rest none
         by (e ∷ es) none rest = absurd (grind (arith, none))
 
 -- the extensions of the schema where it has no definition
 pub reported-schema_orphans : (adopts : Bool) (xs : List ListItem)
-    → filter (has_sort OrphanOfSchema) (faults_in adopts xs) ≡ map (λ e. schema_orphan e.1) (undefined_places schemas (completed adopts xs))
+    → filter (has_sort OrphanOfSchema) (faults_in adopts xs)
+    ≡ map (λ e. schema_orphan e.1) (undefined_places schemas (completed adopts xs))
 reported-schema_orphans adopts xs =
     schema_orphans-reported adopts xs ∙ ap (map schema_orphan) (by (first_place schemas ys []) refl)
     ∙ map-map schema_orphan (λ (e : Placed SchemaPart). e.1) (undefined_places schemas ys)
@@ -194,11 +201,13 @@ reported-schema_orphans adopts xs =
     undefined_if : Option (Placed SchemaPart) → List SchemaPart
     undefined_if o = bare (filter (λ _. is_none o) es)
 
-    by : (o : Option (Placed SchemaPart)) → first_place schemas ys [] ≡ o → schema_orphans ys ≡ bare (undefined_places schemas ys)
+    by : (o : Option (Placed SchemaPart)) → first_place schemas ys [] ≡ o
+        → schema_orphans ys ≡ bare (undefined_places schemas ys)
     by None is =
         ap of_first (first_schema-none ys is)
         ∙ sym (ap undefined_if is ∙ ap bare (sym (all-kept es)) ∙ filter_map-numbered extended_schema 0 ys)
-    by (Some z) is = ap of_first (first_schema-some ys z is) ∙ sym (ap undefined_if is ∙ ap bare (none-kept es))
+    by (Some z) is =
+        ap of_first (first_schema-some ys z is) ∙ sym (ap undefined_if is ∙ ap bare (none-kept es))
 
 -- where they are adopted there are none
 pub no-schema_orphans : (xs : List ListItem) → filter (has_sort OrphanOfSchema) (faults_in true xs) ≡ []
@@ -213,7 +222,8 @@ no-schema_orphans xs =
     settled ys s is = ap (λ o. option_map_or (λ _. []) o (schema_extensions ys)) is
 
     new : (s : SchemaPart) → first_schema ys ≡ None → schema_orphans (ys ++ SchemaDefined s ∷ []) ≡ []
-    new s is = settled (ys ++ SchemaDefined s ∷ []) s (first_schema-push_definition ys s ∙ ap (λ o. option_or o (Some s)) is)
+    new s is =
+        settled (ys ++ SchemaDefined s ∷ []) s (first_schema-push_definition ys s ∙ ap (λ o. option_or o (Some s)) is)
 
     by : (o : Option SchemaPart) → first_schema ys ≡ o → (roots implicit : List Root)
         → schema_orphans (ys ++ option_map_or (λ _. []) o (schema_for true roots implicit)) ≡ []

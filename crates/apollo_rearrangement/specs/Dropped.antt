@@ -20,8 +20,10 @@ use Rattle.apollo_meaning.specs.declared.build_error.BuildError.TheVariants as e
 
 -- an operation or a fragment is dropped: at its node, with what it is
 abbrev pub executable_fault : Definition → Option Fault
-executable_fault (ast.OperationDefinition n) = Some (n.location, errors.ExecutableDefinition (definition_text (ast.OperationDefinition n)))
-executable_fault (ast.FragmentDefinition n) = Some (n.location, errors.ExecutableDefinition (definition_text (ast.FragmentDefinition n)))
+executable_fault (ast.OperationDefinition n) =
+    Some (n.location, errors.ExecutableDefinition (definition_text (ast.OperationDefinition n)))
+executable_fault (ast.FragmentDefinition n) =
+    Some (n.location, errors.ExecutableDefinition (definition_text (ast.FragmentDefinition n)))
 executable_fault d = None
 
 -- a definition that is dropped, and the first one of its key, which stands before it
@@ -57,7 +59,8 @@ further_directives xs = after_first handed_in xs (filter_map (placed_by directiv
 
 -- the fault of a further directive definition: at its name, with the location of the name of the first one
 abbrev pub further_directive : NodeView DirectiveDefinition → NodeView DirectiveDefinition → Fault
-further_directive d e = (e.value.name.location, errors.DirectiveDefinitionCollision d.value.name.location e.value.name)
+further_directive d e =
+    (e.value.name.location, errors.DirectiveDefinitionCollision d.value.name.location e.value.name)
 
 -- a further definition of a type is passed over where it may be ignored and the first one is built-in
 abbrev pub is_passed_over : Dropped TypePart → Bool
@@ -73,7 +76,8 @@ undefined_places f xs = filter (λ e. is_none (first_place f xs (f.key e.1))) (e
 
 -- those of types, by name in order of first extension
 abbrev pub orphans_by_name : List ListItem → List (Placed TypePart)
-orphans_by_name xs = flat_map (λ n. filter (λ e. same n (key_of e.1)) (undefined_places types xs)) (extended_names xs)
+orphans_by_name xs =
+    flat_map (λ n. filter (λ e. same n (key_of e.1)) (undefined_places types xs)) (extended_names xs)
 
 -- the extensions of a name that has a definition that are not of the kind of the first one, by place
 abbrev pub of_another_kind : List ListItem → List ℕ → List (Placed TypePart)

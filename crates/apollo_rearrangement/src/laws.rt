@@ -88,13 +88,15 @@ pub fn rearranged_faults_are_the_same()
 pub fn each_fault_is_of_one_sort()
     ensures own { (e : BuildError) → is_of_sort (sort_of e) e ≡ true }
     ensures alone { (s : Sort) (e : BuildError) → is_of_sort s e ≡ true → s ≡ sort_of e }
-    ensures together { (adopts : Bool) (xs : List Added) → IsPermutation (faults_of adopts xs) (flat_map (λ s. reported s adopts xs) (reported_sorts adopts xs)) }
+    ensures together { (adopts : Bool) (xs : List Added)
+        → IsPermutation (faults_of adopts xs) (flat_map (λ s. reported s adopts xs) (reported_sorts adopts xs)) }
 {}
 
 /// Those faults of a list that say that a definition is not of the type system are those of its operations and fragments: one
 /// for each, in order. GraphQL specification of October 2021, sections 2.2 and 3.
 pub fn reported_executables_are_the_operations_and_fragments()
-    ensures { (adopts : Bool) (xs : List Added) → reported Executable adopts xs ≡ filter_map (λ a. executable_fault a.1) xs }
+    ensures { (adopts : Bool) (xs : List Added)
+        → reported Executable adopts xs ≡ filter_map (λ a. executable_fault a.1) xs }
 {}
 
 /// Those faults of a list that say that something is defined a second time are those of the further definitions: one for each
@@ -102,18 +104,23 @@ pub fn reported_executables_are_the_operations_and_fragments()
 /// that was handed in, in order and in view of that first one. Only a further definition of a built-in type that may be ignored
 /// has none. GraphQL specification of October 2021, sections 3.3, 3.5 and 3.13.
 pub fn reported_collisions_are_the_further_definitions()
-    ensures schemas { (adopts : Bool) (xs : List Added) → reported FurtherSchema adopts xs ≡ map (λ p. further_schema p.0.1 p.1.1) (further_schemas (whole adopts xs)) }
-    ensures directives { (adopts : Bool) (xs : List Added) → reported FurtherDirective adopts xs ≡ map (λ p. further_directive p.0.1 p.1.1) (further_directives (whole adopts xs)) }
+    ensures schemas { (adopts : Bool) (xs : List Added)
+        → reported FurtherSchema adopts xs ≡ map (λ p. further_schema p.0.1 p.1.1) (further_schemas (whole adopts xs)) }
+    ensures directives { (adopts : Bool) (xs : List Added)
+        → reported FurtherDirective adopts xs ≡ map (λ p. further_directive p.0.1 p.1.1) (further_directives (whole adopts xs)) }
     ensures types { (adopts : Bool) (xs : List Added)
-        → reported FurtherType adopts xs ≡ map (λ p. further_type p.0.1 p.1.1) (filter (λ p. not (is_passed_over p)) (further_types (whole adopts xs))) }
+        → reported FurtherType adopts xs
+        ≡ map (λ p. further_type p.0.1 p.1.1) (filter (λ p. not (is_passed_over p)) (further_types (whole adopts xs))) }
 {}
 
 /// Those faults of a list that say that an extension has no definition are those of the extensions of names, and of the schema,
 /// that have none in the whole list: one for each, those of types by name in order of first extension. Where extensions are
 /// adopted there are none. GraphQL specification of October 2021, sections 3.3.2 and 3.4.3.
 pub fn reported_orphans_are_the_extensions_without_a_definition()
-    ensures types { (adopts : Bool) (xs : List Added) → reported OrphanOfType adopts xs ≡ map (λ e. orphan e.1) (orphans_by_name (whole adopts xs)) }
-    ensures schemas { (adopts : Bool) (xs : List Added) → reported OrphanOfSchema adopts xs ≡ map (λ e. schema_orphan e.1) (undefined_places schemas (whole adopts xs)) }
+    ensures types { (adopts : Bool) (xs : List Added)
+        → reported OrphanOfType adopts xs ≡ map (λ e. orphan e.1) (orphans_by_name (whole adopts xs)) }
+    ensures schemas { (adopts : Bool) (xs : List Added)
+        → reported OrphanOfSchema adopts xs ≡ map (λ e. schema_orphan e.1) (undefined_places schemas (whole adopts xs)) }
     ensures adopted_types { (xs : List Added) → reported OrphanOfType true xs ≡ [] }
     ensures adopted_schemas { (xs : List Added) → reported OrphanOfSchema true xs ≡ [] }
 {}
@@ -123,8 +130,10 @@ pub fn reported_orphans_are_the_extensions_without_a_definition()
 /// specification of October 2021, section 3.4.3.
 pub fn reported_mismatches_are_the_extensions_of_another_kind()
     ensures dropped { (adopts : Bool) (xs : List Added) (d : Placed TypePart) → first_place types (whole adopts xs) (key_of d.1) ≡ Some d
-        → reported (OtherKind (key_of d.1)) adopts xs ≡ map (λ e. kind_mismatch d.1 e.1) (of_another_kind (whole adopts xs) (key_of d.1)) }
-    ensures none { (adopts : Bool) (xs : List Added) (n : List ℕ) → first_place types (whole adopts xs) n ≡ None → reported (OtherKind n) adopts xs ≡ [] }
+        → reported (OtherKind (key_of d.1)) adopts xs
+        ≡ map (λ e. kind_mismatch d.1 e.1) (of_another_kind (whole adopts xs) (key_of d.1)) }
+    ensures none { (adopts : Bool) (xs : List Added) (n : List ℕ) → first_place types (whole adopts xs) n ≡ None
+        → reported (OtherKind n) adopts xs ≡ [] }
 {}
 
 /// Those faults of a list that say that a type of this name is given a component a second time are those of the components
@@ -134,7 +143,8 @@ pub fn reported_mismatches_are_the_extensions_of_another_kind()
 pub fn reported_collisions_are_the_dropped_components()
     ensures dropped { (adopts : Bool) (xs : List Added) (d : Placed TypePart) → first_place types (whole adopts xs) (key_of d.1) ≡ Some d
         → reported (RepeatedComponent (key_of d.1)) adopts xs ≡ found_of_type (whole adopts xs) d.1 }
-    ensures none { (adopts : Bool) (xs : List Added) (n : List ℕ) → first_place types (whole adopts xs) n ≡ None → reported (RepeatedComponent n) adopts xs ≡ [] }
+    ensures none { (adopts : Bool) (xs : List Added) (n : List ℕ) → first_place types (whole adopts xs) n ≡ None
+        → reported (RepeatedComponent n) adopts xs ≡ [] }
 {}
 
 /// Those faults of a list that say that the schema is given a root a second time are those of the roots that are dropped from
@@ -143,7 +153,8 @@ pub fn reported_collisions_are_the_dropped_components()
 pub fn reported_repeated_roots_are_the_dropped_roots()
     ensures dropped { (adopts : Bool) (xs : List Added) (s : Placed SchemaPart) → first_place schemas (whole adopts xs) [] ≡ Some s
         → reported RepeatedRoot adopts xs ≡ found_of_schema (whole adopts xs) s.1 }
-    ensures none { (adopts : Bool) (xs : List Added) → first_place schemas (whole adopts xs) [] ≡ None → reported RepeatedRoot adopts xs ≡ [] }
+    ensures none { (adopts : Bool) (xs : List Added)
+        → first_place schemas (whole adopts xs) [] ≡ None → reported RepeatedRoot adopts xs ≡ [] }
 {}
 
 /// The faults of the list `faulty_list` by their sorts, computed: the sort of each, in order; and those that are reported of a
