@@ -49,7 +49,7 @@ module _ {P : Type 0} (f : Family P) where
       by (Some d) e = let low = first_place-below f xs n d e in let here : nat_lt d.0 (length xs) ≡ true = grind (arith, nat_tests, low) in ap (λ b. cond b (Some d) None) here
 
   -- a definition that stands after the first one of its key, with that one
-  abbrev pub with_first : List ListItem → Option P → List (Dropped P)
+  abbrev with_first : List ListItem → Option P → List (Dropped P)
   with_first before o =
       option_map_or (λ p. option_map_or (λ d. (d, (length before, p)) ∷ []) (first_place f before (f.key p)) []) o []
 

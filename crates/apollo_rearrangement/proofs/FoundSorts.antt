@@ -81,7 +81,7 @@ begun-from d xs =
     (from (RepeatedComponent (key_of d)) (part_faults [] d) (body-of d.body d.name []))
     (joinings-from d (key_of d) [] (extensions_of xs (key_of d)) (extensions-named xs (key_of d)))
 
--- where an item itself is dropped: a further definition, and what is of no type and not of the schema
+-- the fault of an item that is itself dropped: of a further definition, and of what is of no type and not of the schema
 abbrev pub dropped_at : List ListItem → ListItem → List Fault
 dropped_at before (Defined d) = option_map_or (λ f. further_definition f d) (first before (key_of d)) []
 dropped_at before (SchemaDefined s) = option_map_or (λ f. further_schema f s ∷ []) (first_schema before) []
@@ -115,11 +115,11 @@ dropped-of before (Other (ast.FragmentDefinition n)) = (refl, tt)
 dropped-of before (Other d) = tt
 dropped-of before x = tt
 
--- where the item is of this sort
+-- the same, if the item is of this sort
 abbrev pub kept_at : Sort → List ListItem → ListItem → List Fault
 kept_at s before x = cond (same_sort s (sort_at x)) (dropped_at before x) []
 
--- so those of a sort are there
+-- it is what is of a sort there
 pub dropped-kept : (s : Sort) (before : List ListItem) (x : ListItem)
     → filter (has_sort s) (dropped_at before x) ≡ kept_at s before x
 dropped-kept s before x = by (same_sort s (sort_at x)) refl
@@ -173,7 +173,7 @@ found_at-is before x =
             Stays refl (from RepeatedRoot _ (roots-of (roots_in (s ∷ schema_extensions before)) e.roots)) refl
     by (Other d) falls = Falls falls refl
 
--- at an item of another subject nothing is found that is dropped from this one
+-- nothing that is dropped from a subject is found at an item of another one
 pub found_at-apart : (k : Subject) → same_subject k NoSubject ≡ false
     → (before : List ListItem) (x : ListItem) → same_subject k (subject x) ≡ false
     → filter (is_from k) (found_at before x) ≡ []
@@ -183,7 +183,7 @@ found_at-apart k none before x apart = by (found_at before x) (dropped_at before
     by fs gs (Stays is a e) = none-from k (subject x) fs apart a
     by fs gs (Falls a e) = none-from k NoSubject fs none a
 
--- of a sort that is about nothing is found where an item itself is dropped
+-- what is of a sort that is about nothing is found where an item itself is dropped
 pub found_at-dropped : (s : Sort) → subject_of s ≡ NoSubject → (before : List ListItem) (x : ListItem)
     → filter (has_sort s) (found_at before x) ≡ filter (has_sort s) (dropped_at before x)
 found_at-dropped s none before x =

@@ -1,4 +1,4 @@
--- The sorts of the faults that are found, and which faults of one sort another sort keeps.
+-- The sorts of the faults that are found, and what a sort keeps of faults of one sort.
 use Rattle.apollo_meaning.proofs.Prelude.{◌&&◌, ◌++◌, ◌∙◌, ◌∷◌, ◌≡◌, AllByRecursion, Bool, Entry, EnumBody, Fault, InputObjectBody, InterfaceBody, List, ListItem, NameView, None, ObjectBody, Option, Root, ScalarBody, SchemaPart, Some, TypeBody, TypePart, UnionBody, [], ap, arith, body_faults, collision, collision_at, collisions, cond, each_after, extended_part, extensions_of, false, field_entries, field_names, filter, filter_map, find, further_definition, interface_names, key_of, kind_of, map, name_entries, of_kind, option_map_or, part_faults, refl, roots_in, same, same-true, same_kind, same_text, schema_begun_faults, schema_faults, schema_joining_faults, subst, sym, true, ℕ}
 use Rattle.apollo_rearrangement.proofs.Words.{All-filter, all-kept, each-append, filter-each, filter-fails, filter_passes, input_field_entries, input_field_names, joined_faults, member_names, operation_text, recursion_from_All, redefinition, root_fault, root_faults, same_operation, value_entries, value_names, IsTest}
 use Rattle.graphql_nodes.specs.BuiltIn.{is_built_in}
@@ -106,7 +106,7 @@ further-of d e = by (is_built_in d.location) e.ignorable (same_kind kinds.Scalar
     by true false false = (refl, tt)
     by false i s = (refl, tt)
 
--- what passes two tests
+-- what passes two tests passes one after the other
 pub filter-both : {X : Type 0} (p q : X → Bool) (xs : List X)
     → filter (λ x. p x && q x) xs ≡ filter q (filter p xs)
 filter-both p q [] = refl

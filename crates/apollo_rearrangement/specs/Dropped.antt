@@ -26,7 +26,7 @@ executable_fault (ast.FragmentDefinition n) =
     Some (n.location, errors.ExecutableDefinition (definition_text (ast.FragmentDefinition n)))
 executable_fault d = None
 
--- a definition that is dropped, and the first one of its key, which stands before it
+-- the first definition of a key, and a further one, which stands after it and is dropped
 abbrev pub Dropped : Type 0 → Type 0
 Dropped P = Placed P × Placed P
 
