@@ -5,8 +5,8 @@ pub use Rattle.std.specs.List.Sorted.{IsPermutation}
 pub use Rattle.std.proofs.lemmas.List.Elements.{All-filter, filter_agree, filter_passes, recursion_from_All}
 pub use Rattle.std.proofs.lemmas.List.Folds.{flat_map-map}
 pub use Rattle.std.proofs.lemmas.List.Sorted.{IsPermutation-append, IsPermutation-append_comm, IsPermutation-append_left, IsPermutation-append_right, IsPermutation-keeps, IsPermutation-map, IsPermutation-refl, IsPermutation-sym, IsPermutation-trans}
-pub use Rattle.apollo_component.proofs.Lists.Each.{each-append, filter-each, filter-fails}
-pub use Rattle.apollo_component.proofs.Lists.Ends.{all-kept, filter-push_dropped, filter-push_kept}
+pub use Rattle.apollo_component.proofs.Lists.Each.{each-append, filter-each, filter-fails, filter-map}
+pub use Rattle.apollo_component.proofs.Lists.Ends.{all-kept, filter-push_dropped, filter-push_kept, filter_map-numbered}
 pub use Rattle.graphql_nodes.specs.OperationTexts.{default_type_text, operation_text}
 pub use Rattle.apollo_component.proofs.FirstOfEachLemmas.{first_of_each-map}
 pub use Rattle.apollo_meaning.specs.Completion.ImpliedSchema.{default_root, implicit_roots}

@@ -1,4 +1,6 @@
 pub mod Documents
+pub mod Dropped
 pub mod Equal
 pub mod Rearranged
 pub mod Reported
+pub mod ReportedRows

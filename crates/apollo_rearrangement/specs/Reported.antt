@@ -1,33 +1,67 @@
--- Which faults of a list say that a component, or a root, is given a second time: GraphQL specification of October 2021,
--- sections 3.4.3 and 3.6 to 3.10, and for roots section 3.3.1.
-use Rattle.std.specs.Prelude.{ℕ, Bool, true, false, List, filter}
+-- The faults of a list by their sorts: GraphQL specification of October 2021, sections 2.2, 3, 3.3, 3.4.3, 3.5 to 3.10 and 3.13.
+use Rattle.std.specs.Prelude.{ℕ, Bool, true, false, List, filter, map}
 use Rattle.graphql_nodes.specs.SameText.{same}
+use Rattle.apollo_component.specs.FirstOfEach.{first_of_each}
 use Rattle.apollo_meaning.specs.declared.build_error.BuildError.{BuildError}
 use Rattle.apollo_meaning.specs.declared.build_error.BuildError.TheVariants as errors
 use Rattle.apollo_meaning.specs.Faults.Collisions.{Fault}
 use Rattle.apollo_meaning.specs.Faults.ListFaults.{faults_of}
 use Rattle.apollo_meaning.specs.Items.ListItems.{Added}
 
--- a fault of a component that a part of a type of this name gives a second time
-abbrev pub is_collision_of : List ℕ → BuildError → Bool
-is_collision_of n (errors.DuplicateImplementsInterfaceInObject kept ty) = same n ty.text
-is_collision_of n (errors.DuplicateImplementsInterfaceInInterface kept ty) = same n ty.text
-is_collision_of n (errors.ObjectFieldNameCollision kept ty) = same n ty.text
-is_collision_of n (errors.InterfaceFieldNameCollision kept ty) = same n ty.text
-is_collision_of n (errors.EnumValueNameCollision kept ty) = same n ty.text
-is_collision_of n (errors.UnionMemberNameCollision kept ty) = same n ty.text
-is_collision_of n (errors.InputFieldNameCollision kept ty) = same n ty.text
-is_collision_of n _ = false
+-- what it is that is dropped: an operation or a fragment; a further definition of the schema, of a directive or of a type; an
+-- extension of a type or of the schema that has no definition; an extension of the type of this name that is of another kind; a
+-- component that is given a second time to the type of this name; a root that is given a second time
+pub data Sort : Type 0 where
+  Executable : Sort
+  FurtherSchema : Sort
+  FurtherDirective : Sort
+  FurtherType : Sort
+  OrphanOfType : Sort
+  OrphanOfSchema : Sort
+  OtherKind : List ℕ → Sort
+  RepeatedComponent : List ℕ → Sort
+  RepeatedRoot : Sort
 
--- the faults of this list that say that a type of this name is given a component a second time
-abbrev pub reported_collisions : Bool → List Added → List ℕ → List Fault
-reported_collisions adopts xs n = filter (λ f. is_collision_of n f.1) (faults_of adopts xs)
+-- the sort of an error
+abbrev pub sort_of : BuildError → Sort
+sort_of (errors.ExecutableDefinition describe) = Executable
+sort_of (errors.SchemaDefinitionCollision previous) = FurtherSchema
+sort_of (errors.DirectiveDefinitionCollision previous name) = FurtherDirective
+sort_of (errors.TypeDefinitionCollision previous name) = FurtherType
+sort_of errors.BuiltInScalarTypeRedefinition = FurtherType
+sort_of errors.OrphanSchemaExtension = OrphanOfSchema
+sort_of (errors.OrphanTypeExtension name) = OrphanOfType
+sort_of (errors.TypeExtensionKindMismatch name extension location definition) = OtherKind name.text
+sort_of (errors.DuplicateRootOperation previous operation) = RepeatedRoot
+sort_of (errors.DuplicateImplementsInterfaceInObject kept ty) = RepeatedComponent ty.text
+sort_of (errors.DuplicateImplementsInterfaceInInterface kept ty) = RepeatedComponent ty.text
+sort_of (errors.ObjectFieldNameCollision kept ty) = RepeatedComponent ty.text
+sort_of (errors.InterfaceFieldNameCollision kept ty) = RepeatedComponent ty.text
+sort_of (errors.EnumValueNameCollision kept ty) = RepeatedComponent ty.text
+sort_of (errors.UnionMemberNameCollision kept ty) = RepeatedComponent ty.text
+sort_of (errors.InputFieldNameCollision kept ty) = RepeatedComponent ty.text
 
--- a fault of a root that a part of the schema gives a second time
-abbrev pub is_repeated_root : BuildError → Bool
-is_repeated_root (errors.DuplicateRootOperation previous operation) = true
-is_repeated_root _ = false
+-- whether two sorts are one: names are told apart by their texts
+abbrev pub same_sort : Sort → Sort → Bool
+same_sort Executable Executable = true
+same_sort FurtherSchema FurtherSchema = true
+same_sort FurtherDirective FurtherDirective = true
+same_sort FurtherType FurtherType = true
+same_sort OrphanOfType OrphanOfType = true
+same_sort OrphanOfSchema OrphanOfSchema = true
+same_sort (OtherKind n) (OtherKind m) = same n m
+same_sort (RepeatedComponent n) (RepeatedComponent m) = same n m
+same_sort RepeatedRoot RepeatedRoot = true
+same_sort _ _ = false
 
--- the faults of this list that say that the schema is given a root a second time
-abbrev pub reported_repeated_roots : Bool → List Added → List Fault
-reported_repeated_roots adopts xs = filter (λ f. is_repeated_root f.1) (faults_of adopts xs)
+-- whether an error is of this sort
+abbrev pub is_of_sort : Sort → BuildError → Bool
+is_of_sort s e = same_sort s (sort_of e)
+
+-- the faults of a list that are of this sort, in order of discovery
+abbrev pub reported : Sort → Bool → List Added → List Fault
+reported s adopts xs = filter (λ f. is_of_sort s f.1) (faults_of adopts xs)
+
+-- the sorts that a list has faults of, in order of discovery
+abbrev pub reported_sorts : Bool → List Added → List Sort
+reported_sorts adopts xs = first_of_each same_sort (map (λ f. sort_of f.1) (faults_of adopts xs))
