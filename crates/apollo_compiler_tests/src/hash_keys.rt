@@ -20,8 +20,8 @@ const ADOPTING: CompileOptions = CompileOptions {
     ignore_builtin_redefinitions: true,
 };
 
-/// Definitions and extensions of each kind, some before their definitions and some without one, and one with more fields than a
-/// table first has room for; and behind them operations and fragments.
+/// Definitions of each kind, one with more fields than a table first has room for, and extensions before their definition, behind it,
+/// and without one. Behind the division operations and a fragment.
 const INPUT: &str =
     "ext object Query\nfield late Int\ndef object Query\nfield node Node\nimplements Node\ndef interface Node\nfield id ID!\nimplements Node\ndef union Hit\nmember Query\ndef enum Tone\nvalue LOW\next enum Tone\nvalue HIGH\ndef input Wide\nfield a Int\nfield b Int\nfield c Int\nfield d Int\nfield e Int\nfield f Int\nfield g Int\nfield h Int\nfield i Int\nfield j Int\ndef scalar Date\ndirective key\non OBJECT\next object Left\nfield over Int\next enum Gone\nvalue A\n===\noperation query One\nsel 0 field late\nsel 0 spread F\noperation query Two\nsel 0 field late\nfragment F Query\nsel 0 field node\nsel 1 field id\n";
 
@@ -69,7 +69,8 @@ fn a_schema_that_is_built_hashes_by_the_keys_handed_in(rt: HostRuntime) -> Resul
 #[test]
 fn all_that_is_compiled_hashes_by_the_keys_handed_in(rt: HostRuntime) -> Result<(), Fail> {
     let documents = read_divided(rt.alloc(), INPUT)?;
-    let (schema, executable) = (documents.schema.as_slice(), documents.executable.as_slice());
+    let schema = documents.schema.as_slice();
+    let executable = documents.executable.as_slice();
     assert_eq!(rt;
         compiled_parts(rt.alloc(), PLAIN, schema, executable),
         [true; 3]
