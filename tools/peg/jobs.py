@@ -58,6 +58,7 @@ def of_both(*words):
     checks = ["checked_sources", "checked_documents", "quoted_code", "worked", "checked_program"]
     return [
         command("tools/fuzz", "--hostile"),
+        command("tools/colliding_names", "--check"),
         command("tools/fuzz", "2000", "1"),
         command("tools/fuzz", "--peer", "100", "1"),
         command("tools/checked_examples", *words),

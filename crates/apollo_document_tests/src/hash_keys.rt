@@ -2,10 +2,10 @@
 
 use apollo_component::extension::ExtensionSource;
 use apollo_document::ExecutableDocumentBuilder;
-use apollo_executable::ExecutableDocument;
 use apollo_schema::schema_builder::SchemaBuilder;
 use graphql_nodes::collections::hash_keys::HashKeys;
 use std::alloc::Global;
+use telling::keys::is_document_keyed;
 
 /// Bytes that a system may have drawn.
 const DRAWN: [u8; 16] = [33, 7, 250, 3, 4, 95, 6, 7, 180, 9, 10, 11, 112, 13, 214, 15];
@@ -13,15 +13,9 @@ const DRAWN: [u8; 16] = [33, 7, 250, 3, 4, 95, 6, 7, 180, 9, 10, 11, 112, 13, 21
 /// Whether a builder builds, and each table of its document hashes by these keys.
 fn is_keyed(builder: ExecutableDocumentBuilder<'_>, keys: HashKeys) -> bool {
     match builder.build() {
-        Ok((document, _)) => are_keys_of(&document, keys),
+        Ok((document, _)) => is_document_keyed(&document, keys),
         Err(_) => false,
     }
-}
-
-fn are_keys_of(document: &ExecutableDocument, keys: HashKeys) -> bool {
-    document.operations.named.hash_keys() == keys
-        && document.fragments.hash_keys() == keys
-        && document.sources.hash_keys() == keys
 }
 
 /// Whether a document over a schema under these keys hashes by the second ones, which its builder is given if there are any.

@@ -4,16 +4,17 @@ use crate::asking::{Question, Written, ask_of};
 use apollo_component::extension::ExtensionSource;
 use apollo_schema::schema::Schema;
 use apollo_schema::schema_builder::SchemaBuilder;
-use apollo_types::extended_type::ExtendedType;
 use bench_notation::reading::read;
 use graphql_ast::document::Document;
 use graphql_nodes::collections::hash_keys::HashKeys;
 use std::alloc::{AllocError, Global};
 use std::test::Fail;
+use telling::keys::is_schema_keyed;
 
-/// Definitions and extensions of each kind, some before their definitions, and names that are there already.
+/// Definitions and extensions of each kind, some before their definitions, one with more fields than a table first has room for,
+/// and names that are there already.
 const INPUT: &str =
-    "ext object Query\nfield late Int\ndef object Query\nfield node Node\nfield all [Hit]\nimplements Gone\n---\ndef interface Node\nfield id ID!\ndef object User\nimplements Node\nfield id ID!\nfield id Int\nfield node Node\narg to Int\ndef union Hit\nmember User\nmember Query\ndef enum Tone\nvalue LOW\nvalue HIGH\next enum Tone\nvalue MID\nvalue LOW\ndef input Filter\nfield tone Tone\ndef scalar Date\n---\ndirective key\non OBJECT\next object User\n@ key\nfield since Date\next object Left\nfield over Int\next union Hit\nmember Left\n";
+    "ext object Query\nfield late Int\ndef object Query\nfield node Node\nfield all [Hit]\nimplements Gone\n---\ndef interface Node\nfield id ID!\ndef object User\nimplements Node\nfield id ID!\nfield id Int\nfield node Node\narg to Int\ndef union Hit\nmember User\nmember Query\ndef enum Tone\nvalue LOW\nvalue HIGH\next enum Tone\nvalue MID\nvalue LOW\ndef input Filter\nfield tone Tone\ndef scalar Date\ndef input Wide\nfield a Int\nfield b Int\nfield c Int\nfield d Int\nfield e Int\nfield f Int\nfield g Int\nfield h Int\nfield i Int\nfield j Int\n---\ndirective key\non OBJECT\next object User\n@ key\nfield since Date\next object Left\nfield over Int\next union Hit\nmember Left\n";
 
 /// Bytes that a system may have drawn.
 const DRAWN: [u8; 16] = [33, 7, 250, 3, 4, 95, 6, 7, 180, 9, 10, 11, 112, 13, 214, 15];
@@ -81,30 +82,6 @@ fn what_is_built_depends_on_no_keys(rt: HostRuntime) -> Result<(), Fail> {
     Ok(())
 }
 
-/// Whether the tables of the type hash by these keys.
-fn is_type_keyed(ty: &ExtendedType, keys: HashKeys) -> bool {
-    match ty {
-        ExtendedType::Scalar(_) => true,
-        ExtendedType::Object(node) => {
-            node.fields.hash_keys() == keys && node.implements_interfaces.hash_keys() == keys
-        }
-        ExtendedType::Interface(node) => {
-            node.fields.hash_keys() == keys && node.implements_interfaces.hash_keys() == keys
-        }
-        ExtendedType::Union(node) => node.members.hash_keys() == keys,
-        ExtendedType::Enum(node) => node.values.hash_keys() == keys,
-        ExtendedType::InputObject(node) => node.fields.hash_keys() == keys,
-    }
-}
-
-/// Whether each table of the schema hashes by these keys.
-fn is_keyed(schema: &Schema, keys: HashKeys) -> bool {
-    schema.sources.hash_keys() == keys
-        && schema.directive_definitions.hash_keys() == keys
-        && schema.types.hash_keys() == keys
-        && schema.types.values().all(|ty| is_type_keyed(ty, keys))
-}
-
 /// Whether each table of the schema, and of its map of implementers, hashes by these keys.
 #[derive(Drop)]
 struct Keyed {
@@ -118,7 +95,7 @@ impl Question for Keyed {
         let are_keyed = map.values().all(|found| found.objects.hash_keys() == keys
             && found.interfaces.hash_keys() == keys);
         let of_map = map.hash_keys() == keys && are_keyed;
-        let of_schema = is_keyed(schema, keys);
+        let of_schema = is_schema_keyed(schema, keys);
         write!(text, "{of_schema} {of_map}\n")
     }
 }

@@ -1,11 +1,16 @@
-//! Runs under keys that were drawn, beside the same under fixed ones.
+//! Runs under keys that were drawn, beside the same under fixed ones, and the keys of what is built for a run.
 
 use crate::running::ended;
+use apollo_compiler::{CompileOptions, Compiled};
+use gqltool_run::building::{build_input, compile_input};
+use gqltool_run::document_building::compile_documents;
+use gqltool_run::failure::Failure;
 use gqltool_run::running::run_with_keys;
 use gqltool_run::status::Status;
 use graphql_nodes::collections::hash_keys::HashKeys;
 use std::alloc::Global;
 use std::process::Abort;
+use telling::keys::{is_document_keyed, is_schema_keyed};
 
 /// Bytes that a system may have drawn.
 const DRAWN: [u8; 16] = [
@@ -55,4 +60,35 @@ fn documents_walks_and_leaf_faults_are_written_the_same_under_any_keys(rt: HostR
     expect_same(&rt, &["doc"], DIVIDED, Status::Faults);
     expect_same(&rt, &["walk"], DIVIDED, Status::Faults);
     expect_same(&rt, &["leaf"], DIVIDED, Status::Faults);
+}
+
+/// Whether the schema that an input builds hashes by the keys that the call is handed.
+fn is_built_keyed(alloc: Global, input: &str) -> bool {
+    let keys = HashKeys::from_bytes(DRAWN);
+    match build_input(alloc, keys, CompileOptions::none(), input) {
+        Ok((schema, _)) => is_schema_keyed(&schema, keys),
+        Err(_) => false,
+    }
+}
+
+/// Whether both schemas and the document of what was compiled hash by these keys.
+fn is_compiled_keyed(compiled: Result<Compiled, Failure>, keys: HashKeys) -> bool {
+    match compiled {
+        Ok(compiled) => {
+            is_schema_keyed(&compiled.schema, keys)
+                && is_schema_keyed(&compiled.rebuilt, keys)
+                && is_document_keyed(&compiled.document, keys)
+        }
+        Err(_) => false,
+    }
+}
+
+#[test]
+fn what_an_input_builds_hashes_by_the_keys_handed_in(rt: HostRuntime) {
+    let keys = HashKeys::from_bytes(DRAWN);
+    assert!(rt; is_built_keyed(rt.alloc(), SCHEMA));
+    let compiled = compile_input(rt.alloc(), keys, CompileOptions::none(), SCHEMA);
+    assert!(rt; is_compiled_keyed(compiled, keys));
+    let compiled = compile_documents(rt.alloc(), keys, DIVIDED);
+    assert!(rt; is_compiled_keyed(compiled, keys));
 }

@@ -1,5 +1,6 @@
 //! Values told as text, in full and in order: each name, text and number of a tree, each location and origin, and each fault. Two
-//! values that differ in any of these are told otherwise. None has a clause but that it is safe: tests compare the texts.
+//! values that differ in any of these are told otherwise. Hash keys are not told, but asked for. None has a clause but that it is safe:
+//! tests compare the texts.
 #![tactic(auto)]
 
 use std::alloc::AllocError;
@@ -15,6 +16,7 @@ macro_rules! tell {
 pub mod components;
 pub mod containers;
 pub mod faults;
+pub mod keys;
 pub mod schemas;
 pub mod syntax;
 pub mod typed;
