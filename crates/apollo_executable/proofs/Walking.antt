@@ -5,4 +5,5 @@ pub mod IntrospectionLemmas
 pub mod ItemLemmas
 pub mod NextLemmas
 pub mod PlainLemmas
+pub mod SpreadsInLemmas
 pub mod WalkLemmas

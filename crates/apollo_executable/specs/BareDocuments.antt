@@ -11,6 +11,7 @@ use Rattle.apollo_executable.specs.declared.operation.Fragment.{Fragment}
 use Rattle.apollo_executable.specs.declared.operation_map.OperationMap.{OperationMap}
 use Rattle.apollo_executable.specs.declared.document.ExecutableDocument.{ExecutableDocument}
 
+-- an operation without the locations in it
 abbrev pub bare_operation : Operation → Operation
 bare_operation o = record {
   operation_type = o.operation_type;
@@ -20,6 +21,7 @@ bare_operation o = record {
   selection_set = bare_selection_set o.selection_set;
 }
 
+-- a fragment without the locations in it
 abbrev pub bare_fragment : Fragment → Fragment
 bare_fragment f = record { name = bare_name f.name; directives = bare_directive_list f.directives; selection_set = bare_selection_set f.selection_set }
 
@@ -33,8 +35,10 @@ pub record BareDocument : Type 0 where
   pub operations : BareOperationMap
   pub fragments : List ℕ → Option (NodeView Fragment)
 
+-- the operations of a document without locations, the named ones under their names in any order
 abbrev pub bare_operation_map : OperationMap → BareOperationMap
 bare_operation_map m = record { anonymous = option_map (bare_node bare_operation) m.anonymous; named = entries_by_text (bare_node bare_operation) m.named }
 
+-- a document without locations and sources, its operations and fragments under their names in any order
 abbrev pub bare_document : ExecutableDocument → BareDocument
 bare_document d = record { operations = bare_operation_map d.operations; fragments = entries_by_text (bare_node bare_fragment) d.fragments }

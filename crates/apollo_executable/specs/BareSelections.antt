@@ -12,6 +12,7 @@ use Rattle.apollo_executable.specs.declared.selection.InlineFragment.{InlineFrag
 use Rattle.apollo_executable.specs.declared.selection.SelectionSet.{SelectionSet, roll-SelectionSet}
 use Rattle.apollo_executable.specs.declared.selection.FragmentSpread.{FragmentSpread}
 
+-- a spread without locations
 abbrev pub bare_fragment_spread : FragmentSpread → FragmentSpread
 bare_fragment_spread s = record { fragment_name = bare_name s.fragment_name; directives = bare_directive_list s.directives }
 
@@ -44,14 +45,18 @@ inline_step f = roll-InlineFragment (record {
 abbrev pub set_step : SelectionSet-F Selection Field InlineFragment SelectionSet → SelectionSet
 set_step s = roll-SelectionSet (record { ty = bare_name s.ty; selections = s.selections })
 
+-- a typed selection without the locations in it
 abbrev pub bare_selection : Selection → Selection
 bare_selection = fold-Selection Selection Field InlineFragment SelectionSet selection_step field_step inline_step set_step
 
+-- a typed field without the locations in it
 abbrev pub bare_field : Field → Field
 bare_field = fold-Field Selection Field InlineFragment SelectionSet selection_step field_step inline_step set_step
 
+-- a typed inline fragment without the locations in it
 abbrev pub bare_inline_fragment : InlineFragment → InlineFragment
 bare_inline_fragment = fold-InlineFragment Selection Field InlineFragment SelectionSet selection_step field_step inline_step set_step
 
+-- a typed set without the locations in it
 abbrev pub bare_selection_set : SelectionSet → SelectionSet
 bare_selection_set = fold-SelectionSet Selection Field InlineFragment SelectionSet selection_step field_step inline_step set_step

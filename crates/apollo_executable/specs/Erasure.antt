@@ -29,6 +29,7 @@ use Rattle.apollo_executable.specs.Operations.{all_operations}
 abbrev pub at_place : {A B : Type 0} → (A → B) → NodeView A → NodeView B
 at_place f n = record { value = f n.value; location = n.location }
 
+-- the untyped spread of a typed one
 abbrev pub erased_spread : FragmentSpread → ast_spread.FragmentSpread
 erased_spread s = record { fragment_name = s.fragment_name; directives = s.directives }
 
@@ -36,12 +37,15 @@ erased_spread s = record { fragment_name = s.fragment_name; directives = s.direc
 abbrev pub ES : Type 0
 ES = ast.Selection
 
+-- a typed field is erased to an untyped one
 abbrev pub EF : Type 0
 EF = ast_field.Field
 
+-- a typed inline fragment is erased to an untyped one
 abbrev pub EI : Type 0
 EI = ast_inline.InlineFragment
 
+-- a typed set is erased to a list of untyped selections
 abbrev pub EL : Type 0
 EL = List ast.Selection
 
@@ -73,18 +77,23 @@ inline_step f = ast_inline.roll-InlineFragment (record {
 abbrev pub set_step : SelectionSet-F ES EF EI EL → List ast.Selection
 set_step s = s.selections
 
+-- the untyped selection of a typed one
 abbrev pub erased : Selection → ast.Selection
 erased = fold-Selection ES EF EI EL selection_step field_step inline_step set_step
 
+-- the untyped field of a typed one
 abbrev pub erased_field : Field → ast_field.Field
 erased_field = fold-Field ES EF EI EL selection_step field_step inline_step set_step
 
+-- the untyped inline fragment of a typed one
 abbrev pub erased_inline_fragment : InlineFragment → ast_inline.InlineFragment
 erased_inline_fragment = fold-InlineFragment ES EF EI EL selection_step field_step inline_step set_step
 
+-- the untyped selections of a typed set
 abbrev pub erased_set : SelectionSet → List ast.Selection
 erased_set = fold-SelectionSet ES EF EI EL selection_step field_step inline_step set_step
 
+-- the untyped operation of a typed one
 abbrev pub erased_operation : Operation → OperationDefinition
 erased_operation o = record {
   operation_type = o.operation_type;
@@ -94,6 +103,7 @@ erased_operation o = record {
   selection_set = erased_set o.selection_set;
 }
 
+-- the untyped fragment of a typed one, whose condition is the type of its set
 abbrev pub erased_fragment : Fragment → FragmentDefinition
 erased_fragment f = record {
   name = f.name;

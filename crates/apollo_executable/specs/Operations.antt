@@ -9,6 +9,7 @@ use Rattle.apollo_executable.specs.Listed.{listed}
 use Rattle.apollo_executable.specs.declared.operation.Operation.{Operation}
 use Rattle.apollo_executable.specs.declared.operation_map.OperationMap.{OperationMap}
 
+-- no anonymous operation, and no named one
 abbrev pub no_operations : OperationMap
 no_operations = record { anonymous = None; named = [] }
 

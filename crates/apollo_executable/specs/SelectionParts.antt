@@ -24,6 +24,7 @@ response_key f = response_key_of f.alias f.name
 abbrev pub Opened : Type 0
 Opened = Selection-F Selection Field InlineFragment SelectionSet
 
+-- the directives of a selection of any kind
 abbrev pub opened_directives : Opened → DirectiveList
 opened_directives (Selection-F.Field n) = n.value.directives
 opened_directives (Selection-F.FragmentSpread n) = n.value.directives
@@ -33,6 +34,7 @@ opened_directives (Selection-F.InlineFragment n) = n.value.directives
 abbrev pub directives_of : Selection → DirectiveList
 directives_of s = opened_directives (out-Selection s)
 
+-- the field that a selection is, if it is one
 abbrev pub opened_field : Opened → Option (NodeView Field)
 opened_field (Selection-F.Field n) = Some n
 opened_field _ = None
@@ -41,6 +43,7 @@ opened_field _ = None
 abbrev pub as_field : Selection → Option (NodeView Field)
 as_field s = opened_field (out-Selection s)
 
+-- the spread that a selection is, if it is one
 abbrev pub opened_fragment_spread : Opened → Option (NodeView FragmentSpread)
 opened_fragment_spread (Selection-F.FragmentSpread n) = Some n
 opened_fragment_spread _ = None
@@ -49,6 +52,7 @@ opened_fragment_spread _ = None
 abbrev pub as_fragment_spread : Selection → Option (NodeView FragmentSpread)
 as_fragment_spread s = opened_fragment_spread (out-Selection s)
 
+-- the inline fragment that a selection is, if it is one
 abbrev pub opened_inline_fragment : Opened → Option (NodeView InlineFragment)
 opened_inline_fragment (Selection-F.InlineFragment n) = Some n
 opened_inline_fragment _ = None

@@ -12,6 +12,7 @@ use Rattle.apollo_executable.specs.declared.selection.SelectionSet.{SelectionSet
 abbrev pub operation_set : NodeView Operation → SelectionSet
 operation_set operation = operation.value.selection_set
 
+-- the selections of a fragment, with their type
 abbrev pub fragment_set : NodeView Fragment → SelectionSet
 fragment_set fragment = fragment.value.selection_set
 

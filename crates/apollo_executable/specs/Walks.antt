@@ -6,6 +6,7 @@ pub mod LeftByTurn
 pub mod NextItem
 pub mod Plain
 pub mod Seen
+pub mod SpreadsIn
 pub mod Step
 pub mod Taken
 pub mod WalkView

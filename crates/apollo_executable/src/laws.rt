@@ -11,6 +11,7 @@ ghost use Rattle.apollo_executable.specs.BareDocuments.{bare_operation, bare_fra
 
 pub mod calls_of_walks;
 pub mod fields_in;
+pub mod spreads_in;
 
 use crate::document::ExecutableDocument;
 use crate::new_field_error::NewFieldError;

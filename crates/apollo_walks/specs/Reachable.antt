@@ -23,14 +23,19 @@ pub data Reachable {F : Type 0} (fragments : Fragments F) (s : Selections F) : L
 module _ {F : Type 0} where
   -- a set of names that has those
   pub record IsClosed (fragments : Fragments F) (s : Selections F) (set : Names) : Type 0 where
+    -- it has the names of fragments that are spread at the start
     pub start : (n : List ℕ) (inner : Selections F) → Among n (spread_names s) → fragment_of fragments n ≡ Some inner → set n ≡ true
+    -- and with each fragment in it those that are spread in that
     pub further : (m n : List ℕ) (outer inner : Selections F) → set m ≡ true → fragment_of fragments m ≡ Some outer
         → Among n (spread_names outer) → fragment_of fragments n ≡ Some inner → set n ≡ true
 
   -- these are the names that s leads to, each once
   pub record AreReachable (fragments : Fragments F) (s : Selections F) (names : List (List ℕ)) : Type 0 where
+    -- no name stands there twice
     pub each_once : EachOnce names
+    -- each of them is reached
     pub sound : (n : List ℕ) → Among n names → Reachable fragments s n
+    -- and none that is reached is missing
     pub complete : (n : List ℕ) → Reachable fragments s n → Among n names
 
   -- what f gives of a fragment, or else none

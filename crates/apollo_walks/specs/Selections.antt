@@ -18,6 +18,7 @@ Fragments F = List (List ℕ × Selections F)
 abbrev pub Names : Type 0
 Names = List ℕ → Bool
 
+-- the empty set of names
 abbrev pub no_names : Names
 no_names = λ _. false
 

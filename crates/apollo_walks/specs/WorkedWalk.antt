@@ -14,5 +14,6 @@ worked_first = spread (codes "G") (field (codes "a") (field (codes "c") none non
 abbrev pub worked_second : Selections (List ℕ)
 worked_second = spread (codes "F") (inline (field (codes "b") none none) (spread (codes "Gone") none))
 
+-- both fragments, under their names
 abbrev pub worked_fragments : Fragments (List ℕ)
 worked_fragments = (codes "F", worked_first) ∷ (codes "G", worked_second) ∷ []

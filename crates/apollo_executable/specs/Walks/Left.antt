@@ -31,6 +31,7 @@ marked_names document flags = λ n. option_map_or (λ place. slice_index_or flag
 abbrev pub opened_names : ExecutableDocument → Names → List (List ℕ)
 opened_names document names = filter names (map (λ key. key.text) (keys_of document.fragments))
 
+-- the names of the fragments that a walk has opened
 abbrev pub names_opened : OpenLists → Names
 names_opened w = marked_names w.document.now w.opened.items
 

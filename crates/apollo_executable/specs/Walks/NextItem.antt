@@ -6,6 +6,7 @@ use Rattle.graphql_nodes.specs.NodeView.{NodeView}
 use Rattle.apollo_executable.specs.Walks.WalkView.{WalkView, IsWithinTurns, TakesAllTurns, AreReachedNames}
 use Rattle.apollo_executable.specs.declared.selection.Field.{Field}
 
+-- what a walk gives: a field, or the error that memory ran out
 abbrev pub Item : Type 0
 Item = Result (Bor (NodeView Field)) AllocError
 

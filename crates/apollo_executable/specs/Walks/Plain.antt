@@ -10,6 +10,7 @@ use Rattle.apollo_executable.specs.declared.selection.InlineFragment.{InlineFrag
 use Rattle.apollo_executable.specs.declared.selection.SelectionSet.{SelectionSet}
 use Rattle.apollo_executable.specs.declared.document.ExecutableDocument.{ExecutableDocument}
 
+-- selections as a walk sees them, with typed fields
 abbrev pub Plain : Type 0
 Plain = Selections (NodeView Field)
 
@@ -17,12 +18,15 @@ Plain = Selections (NodeView Field)
 abbrev pub PS : Type 0
 PS = Selection × (Plain → Plain)
 
+-- a field, and what a walk sees below it
 abbrev pub PF : Type 0
 PF = Field × Plain
 
+-- an inline fragment, and what a walk sees in it
 abbrev pub PI : Type 0
 PI = InlineFragment × Plain
 
+-- a set, and what a walk sees of its selections
 abbrev pub PL : Type 0
 PL = SelectionSet × Plain
 
@@ -34,6 +38,7 @@ node_of n = record { value = n.value.0; location = n.location }
 abbrev pub when_deep : Bool → Plain → Plain
 when_deep deep below = cond deep below none
 
+-- one selection before others, as a walk sees them
 abbrev pub put_before : Bool → Selection-F PS PF PI PL → Plain → Plain
 put_before deep (Selection-F.Field n) rest = field (node_of n) (when_deep deep n.value.1) rest
 put_before deep (Selection-F.FragmentSpread n) rest = spread n.value.fragment_name.text rest
@@ -44,6 +49,7 @@ abbrev pub in_order : List PS → Plain
 in_order [] = none
 in_order (s ∷ ss) = s.1 (in_order ss)
 
+-- what a walk sees of a selection, before others
 abbrev pub seen_selection : Bool → Selection → Plain → Plain
 seen_selection deep = para-Selection (Plain → Plain) Plain Plain Plain (put_before deep) (λ f. f.selection_set.1) (λ f. f.selection_set.1) (λ s. in_order s.selections)
 

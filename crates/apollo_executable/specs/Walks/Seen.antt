@@ -19,5 +19,6 @@ seen_of start lists refused = record {
   taken = turns_taken (whole_walk lists.deep lists.document.now start) (left_of lists) refused;
 }
 
+-- what a contract sees of a walk
 abbrev pub seen : Walk → WalkView
 seen w = seen_of w.start.now w.lists w.refused

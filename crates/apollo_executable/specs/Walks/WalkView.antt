@@ -10,6 +10,7 @@ use Rattle.apollo_executable.specs.declared.selection.Field.{Field}
 use Rattle.apollo_executable.specs.declared.selection.SelectionSet.{SelectionSet}
 use Rattle.apollo_executable.specs.declared.document.ExecutableDocument.{ExecutableDocument}
 
+-- what a contract sees of a walk over a set
 pub record WalkView : Type 0 where
   -- it goes below fields
   pub deep : Bool
@@ -24,6 +25,7 @@ pub record WalkView : Type 0 where
   -- the turns so far
   pub taken : ℕ
 
+-- such views can be told apart, as all that a reference refers to has to be
 abbrev pub walk_view_code : Coded ExecutableDocument → Coded SelectionSet → Coded (NodeView Field) → Coded WalkView
 walk_view_code document set field = code_by (Bool × (ExecutableDocument × (SelectionSet × (List (NodeView Field) × (List (List ℕ) × (Bool × ℕ))))))
     (coded× coded_bool (coded× document (coded× set (coded× (coded_list field) (coded× (coded_list (coded_list coded_ℕ)) (coded× coded_bool coded_ℕ))))))
