@@ -5,6 +5,7 @@ ghost use Rattle.std.specs.Prelude.{◌≡◌, ◌⊎◌, Bool, List, Option};
 ghost use Rattle.std.specs.Option.{option_copied};
 ghost use Rattle.apollo_document.specs.AddedDefinitions.{DocumentItem};
 ghost use Rattle.apollo_document.specs.BuilderStands.{StandsFor, HasFailed};
+ghost use Rattle.apollo_document.specs.declared.document_builder.ExecutableDocumentBuilder as builders;
 ghost use Rattle.apollo_document.specs.Documents.{IsDocumentOf};
 ghost use Rattle.apollo_document.specs.WrittenAgain.{AreOneButSources, IsBuiltAgain, ambiguous_again, faults_again};
 
@@ -26,6 +27,11 @@ pub fn document_again()
 {
     typed_sets();
 }
+
+/// A builder that stands for a list has not failed: no call on it was refused.
+pub fn a_builder_that_stands_for_a_list_has_not_failed()
+    ensures { (schema : Option Schema) (xs : List DocumentItem) (builder : builders.ExecutableDocumentBuilder) → StandsFor schema xs builder → ¬ HasFailed builder }
+{}
 
 /// Every builder stands for some list over its schema, or a call was refused.
 pub fn every_builder_stands_for_a_list_or_has_failed(builder: &ExecutableDocumentBuilder<'_>)
