@@ -7,6 +7,7 @@ ghost use Rattle.std.specs.Option.{option_copied};
 ghost use Rattle.apollo_executable.specs.Listed.{listed};
 ghost use Rattle.apollo_document.specs.AddedDefinitions.{DocumentItem};
 ghost use Rattle.apollo_document.specs.BuilderStands.{StandsFor, HasFailed};
+ghost use Rattle.apollo_document.specs.declared.document_builder.ExecutableDocumentBuilder as builders;
 ghost use Rattle.apollo_document.specs.Documents.{IsDocumentOf};
 ghost use Rattle.apollo_document.specs.KeptDefinitions.{is_rooted, kept_anonymous, kept_named};
 ghost use Rattle.apollo_document.specs.WrittenAgain.{AreOneButSources, IsBuiltAgain, ambiguous_again, faults_again};
@@ -43,6 +44,11 @@ pub fn every_list_means_a_document()
 pub fn kept_operations_are_rooted()
     ensures anonymous { (schema : Option Schema) (xs : List DocumentItem) → AllByRecursion (λ operation. is_rooted schema operation ≡ true) (listed (kept_anonymous schema xs)) }
     ensures named { (schema : Option Schema) (xs : List DocumentItem) → AllByRecursion (λ entry. is_rooted schema entry.1 ≡ true) (kept_named schema xs) }
+{}
+
+/// A builder that stands for a list has not failed: no call on it was refused.
+pub fn a_builder_that_stands_for_a_list_has_not_failed()
+    ensures { (schema : Option Schema) (xs : List DocumentItem) (builder : builders.ExecutableDocumentBuilder) → StandsFor schema xs builder → ¬ HasFailed builder }
 {}
 
 /// Every builder stands for some list over its schema, or a call was refused.
