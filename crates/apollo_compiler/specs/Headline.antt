@@ -1,6 +1,7 @@
 -- The words of the headline: GraphQL specification of October 2021, sections 2.2 to 2.8, 3, 3.4.3 and 6.3.2.
-use Rattle.std.specs.Prelude.{◌≡◌, ◌↔◌, ℕ, Bool, List, [], ◌++◌, map, Option, None, Some, IsSome, nat_eq, option_map}
-use Rattle.std.specs.List.{enumerate_from, filter_map}
+use Rattle.std.specs.Prelude.{◌≡◌, ◌↔◌, ℕ, Bool, true, List, [], ◌++◌, map, filter, not, Option, None, Some, IsSome, nat_eq, option_map}
+use Rattle.std.specs.List.{enumerate_from, filter_map, flat_map}
+use Rattle.std.specs.List.Sorted.{IsPermutation}
 use Rattle.graphql_nodes.specs.NameView.{NameView}
 use Rattle.graphql_nodes.specs.NodeView.{NodeView}
 use Rattle.graphql_nodes.specs.SameText.{by_text, same_text}
@@ -12,13 +13,18 @@ use Rattle.graphql_ast.specs.declared.operation.OperationDefinition.{OperationDe
 use Rattle.apollo_types.specs.declared.extended_type.ExtendedType.{ExtendedType}
 use Rattle.apollo_component.specs.FirstOfEach.{first_of_each}
 use Rattle.apollo_meaning.specs.Directives.{directive_definitions, directive_names, directive_of}
-use Rattle.apollo_meaning.specs.Faults.ListFaults.{faults_of}
-use Rattle.apollo_meaning.specs.Items.ListItems.{ListItem, defined_part}
+use Rattle.apollo_meaning.specs.Faults.ListFaults.{faults_of, found_of_schema, found_of_type}
+use Rattle.apollo_meaning.specs.Faults.RootFaults.{further_schema, schema_orphan}
+use Rattle.apollo_meaning.specs.Faults.TypeFaults.{kind_mismatch, orphan}
+use Rattle.apollo_meaning.specs.Items.ListItems.{Added, ListItem, defined_part}
 use Rattle.apollo_meaning.specs.Items.Named.{extensions_of, first, first_schema, of_kind, schema_extensions}
-use Rattle.apollo_meaning.specs.Items.Parts.{SchemaPart, TypePart, kind_of}
-use Rattle.apollo_meaning.specs.Order.Places.{folding_order}
+use Rattle.apollo_meaning.specs.Items.Parts.{SchemaPart, TypePart, key_of, kind_of}
+use Rattle.apollo_meaning.specs.Order.Places.{Placed, first_place, folding_order, schemas, types}
 use Rattle.apollo_meaning.specs.Schema.Definition.{no_schema, schema_from, schema_parts, schema_sourced}
+use Rattle.apollo_meaning.specs.Schema.Whole.{whole}
 use Rattle.apollo_meaning.specs.Types.Meaning.{parts, extensions_with_origin, type_from}
+use Rattle.apollo_rearrangement.specs.Dropped.{executable_fault, further_directive, further_directives, further_schemas, further_type, further_types, is_passed_over, of_another_kind, orphans_by_name, undefined_places}
+use Rattle.apollo_rearrangement.specs.Reported.{Executable, FurtherDirective, FurtherSchema, FurtherType, OrphanOfSchema, OrphanOfType, OtherKind, RepeatedComponent, RepeatedRoot, reported, reported_sorts}
 use Rattle.apollo_schema.specs.EqualSchemas.{AreEqualSchemas}
 use Rattle.apollo_schema.specs.SchemaWriteOut.{write_schema}
 use Rattle.apollo_schema.specs.declared.schema.Schema.{Schema}
@@ -68,6 +74,34 @@ pub record IsSchemaOf (start : ℕ) (items : List ListItem) (schema : Schema) : 
   pub extended : (s : SchemaPart) → first_schema items ≡ Some s → map (λ e. e.1) (schema_sourced start (folding_order items)) ≡ schema_extensions items
   -- without one it is empty
   pub without_definition : first_schema items ≡ None → schema.schema_definition ≡ no_schema
+
+-- the faults of a list: exactly one for each thing that is dropped, and none else, of each sort in its order
+pub record HasItsFaults (adopts : Bool) (xs : List Added) : Type 0 where
+  -- each fault is of one sort, and none is lost or reported twice
+  pub all_sorts : IsPermutation (faults_of adopts xs) (flat_map (λ s. reported s adopts xs) (reported_sorts adopts xs))
+  -- of operations and fragments
+  pub executables : reported Executable adopts xs ≡ filter_map (λ a. executable_fault a.1) xs
+  -- of further definitions of the schema, in view of the first one
+  pub further_schemas : reported FurtherSchema adopts xs ≡ map (λ p. further_schema p.0.1 p.1.1) (further_schemas (whole adopts xs))
+  -- of directive definitions behind one of their name that was handed in
+  pub further_directives : reported FurtherDirective adopts xs ≡ map (λ p. further_directive p.0.1 p.1.1) (further_directives (whole adopts xs))
+  -- of further definitions of types, but those of built-in types that may be ignored
+  pub further_types : reported FurtherType adopts xs ≡ map (λ p. further_type p.0.1 p.1.1) (filter (λ p. not (is_passed_over p)) (further_types (whole adopts xs)))
+  -- of extensions of names that have no definition
+  pub orphans : reported OrphanOfType adopts xs ≡ map (λ e. orphan e.1) (orphans_by_name (whole adopts xs))
+  -- of extensions of a schema that has no definition
+  pub schema_orphans : reported OrphanOfSchema adopts xs ≡ map (λ e. schema_orphan e.1) (undefined_places schemas (whole adopts xs))
+  -- of extensions of a name that are of another kind than its first definition
+  pub mismatches : (d : Placed TypePart) → first_place types (whole adopts xs) (key_of d.1) ≡ Some d
+      → reported (OtherKind (key_of d.1)) adopts xs ≡ map (λ e. kind_mismatch d.1 e.1) (of_another_kind (whole adopts xs) (key_of d.1))
+  -- of components of a type that have the name of an earlier one
+  pub components : (d : Placed TypePart) → first_place types (whole adopts xs) (key_of d.1) ≡ Some d
+      → reported (RepeatedComponent (key_of d.1)) adopts xs ≡ found_of_type (whole adopts xs) d.1
+  -- a name that has no definition has neither of these
+  pub undefined : (n : List ℕ) → first_place types (whole adopts xs) n ≡ None → (reported (OtherKind n) adopts xs ≡ []) × (reported (RepeatedComponent n) adopts xs ≡ [])
+  -- of roots of the schema that have the operation of an earlier one
+  pub roots : (s : Placed SchemaPart) → first_place schemas (whole adopts xs) [] ≡ Some s → reported RepeatedRoot adopts xs ≡ found_of_schema (whole adopts xs) s.1
+  pub no_roots : first_place schemas (whole adopts xs) [] ≡ None → reported RepeatedRoot adopts xs ≡ []
 
 -- a schema that the write-out of another means, with adoption, is equal to that one, has the same write-out, and nothing is at fault
 pub record IsRebuiltEqual (ignores : Bool) (schema rebuilt : Schema) : Type 0 where

@@ -18,7 +18,7 @@ ghost use Rattle.apollo_meaning.specs.Items.ListItems.{Added};
 ghost use Rattle.apollo_meaning.specs.Schema.Whole.{whole};
 ghost use Rattle.apollo_schema.specs.MeantSchema.{MeansSchema};
 ghost use Rattle.apollo_schema.specs.declared.schema.Schema.{Schema};
-ghost use Rattle.apollo_compiler.specs.Headline.{HasOneWalk, IsRebuiltEqual, IsSchemaOf, kept_definitions, kept_operations};
+ghost use Rattle.apollo_compiler.specs.Headline.{HasItsFaults, HasOneWalk, IsRebuiltEqual, IsSchemaOf, kept_definitions, kept_operations};
 ghost use Rattle.graphql_nodes.specs.Clones.{IsExact};
 ghost use Rattle.graphql_nodes.specs.Comparing.{ComparesBy};
 
@@ -80,6 +80,14 @@ use apollo_meaning::laws::{
     folded_extensions, folded_extensions_have_numbers_of_their_own, folded_schema_extensions,
     type_names_are_the_first_of_each_text,
 };
+use apollo_rearrangement::laws::{
+    each_fault_is_of_one_sort, reported_collisions_are_the_dropped_components,
+    reported_collisions_are_the_further_definitions,
+    reported_executables_are_the_operations_and_fragments,
+    reported_mismatches_are_the_extensions_of_another_kind,
+    reported_orphans_are_the_extensions_without_a_definition,
+    reported_repeated_roots_are_the_dropped_roots,
+};
 use apollo_schema::laws::every_list_means_a_schema;
 use apollo_walks::laws::{
     reachable_names_are_one_list, walks_have_one_order, walks_reach_each_field_once,
@@ -89,7 +97,7 @@ use graphql_nodes::node::Node;
 
 /// Every list of documents builds to the schema in which each name's type is its first definition with all its kind's
 /// extensions folded in, in order, wherever they stand, each under an identity of its own, and in which each name that is defined
-/// has a type, and no other (`means`, `schema`); the schema's write-out rebuilds with adoption, without fault, to an equal schema and
+/// has a type, and no other (`means`, `schema`), with exactly one fault for each thing that is dropped (`faults`); the schema's write-out rebuilds with adoption, without fault, to an equal schema and
 /// the same write-out (`rebuilds`); kept operations and fragments erase to exactly their typable selections (`keeps`); and a walk
 /// gives each field that is reached exactly as often as it stands there, in one order, within two turns for each selection in reach
 /// and one (`walks`, `begins`). GraphQL specification of October 2021, sections 2.2 to 2.8, 3, 3.4.3 and 6.3.2.
@@ -113,6 +121,7 @@ use graphql_nodes::node::Node;
 pub fn headline()
     ensures means { (start : ℕ) (adopts : Bool) (xs : List Added) → (schema : Schema) × MeansSchema start adopts xs schema }
     ensures schema { (start : ℕ) (adopts : Bool) (xs : List Added) (schema : Schema) → MeansSchema start adopts xs schema → IsSchemaOf start (whole adopts xs) schema }
+    ensures faults { (adopts : Bool) (xs : List Added) → HasItsFaults adopts xs }
     ensures rebuilds { (schema rebuilt : Schema) → IsMeantByList schema → (ignores : Bool) (start : ℕ) → MeansSchema start true (written_again ignores schema) rebuilt
         → IsRebuiltEqual ignores schema rebuilt }
     ensures typed { (schema : Option Schema) (xs : List DocumentItem) → (document : ExecutableDocument) × IsDocumentOf schema xs document }
@@ -124,6 +133,7 @@ pub fn headline()
         → (one : HasOneWalk deep document set) → walk.coming ≡ one.fields }
 {
     canonical();
+    each_fault_is_of_one_sort();
     every_list_means_a_schema();
     every_list_means_a_document();
     folded_extensions();
@@ -131,6 +141,12 @@ pub fn headline()
     folded_schema_extensions();
     kept_operations_are_rooted();
     reachable_names_are_one_list::<Node<Field>>();
+    reported_collisions_are_the_dropped_components();
+    reported_collisions_are_the_further_definitions();
+    reported_executables_are_the_operations_and_fragments();
+    reported_mismatches_are_the_extensions_of_another_kind();
+    reported_orphans_are_the_extensions_without_a_definition();
+    reported_repeated_roots_are_the_dropped_roots();
     type_names_are_the_first_of_each_text();
     walks_have_one_order::<Node<Field>>();
     walks_reach_each_field_once::<Node<Field>>();

@@ -18,6 +18,22 @@ returns-clause-schema c =
     let laws : ListLaws = record { folded = c.folded_extensions.ensures; schema_folded = c.folded_schema_extensions.ensures; numbers = c.folded_extensions_have_numbers_of_their_own.ensures.numbers; names = c.type_names_are_the_first_of_each_text.ensures } in
     is-schema laws
 
+pub returns-clause-faults : goal.returns-clause-faults
+returns-clause-faults c = λ adopts xs. record {
+  all_sorts = c.each_fault_is_of_one_sort.ensures.together adopts xs;
+  executables = c.reported_executables_are_the_operations_and_fragments.ensures adopts xs;
+  further_schemas = c.reported_collisions_are_the_further_definitions.ensures.schemas adopts xs;
+  further_directives = c.reported_collisions_are_the_further_definitions.ensures.directives adopts xs;
+  further_types = c.reported_collisions_are_the_further_definitions.ensures.types adopts xs;
+  orphans = c.reported_orphans_are_the_extensions_without_a_definition.ensures.types adopts xs;
+  schema_orphans = c.reported_orphans_are_the_extensions_without_a_definition.ensures.schemas adopts xs;
+  mismatches = c.reported_mismatches_are_the_extensions_of_another_kind.ensures.dropped adopts xs;
+  components = c.reported_collisions_are_the_dropped_components.ensures.dropped adopts xs;
+  undefined = λ n none. (c.reported_mismatches_are_the_extensions_of_another_kind.ensures.none adopts xs n none, c.reported_collisions_are_the_dropped_components.ensures.none adopts xs n none);
+  roots = c.reported_repeated_roots_are_the_dropped_roots.ensures.dropped adopts xs;
+  no_roots = c.reported_repeated_roots_are_the_dropped_roots.ensures.none adopts xs;
+}
+
 pub returns-clause-rebuilds : goal.returns-clause-rebuilds
 returns-clause-rebuilds c = λ schema rebuilt meant ignores start means. record {
   faultless = c.canonical.ensures.faults schema meant ignores;
