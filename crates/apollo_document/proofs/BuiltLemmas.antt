@@ -122,7 +122,7 @@ module _ (sets : ElaboratedSetsLaw) where
       (same, sets.typed s n.value.type_condition n.value.selection_set)
 
   -- the document of a list
-  pub document_of : Option Schema → List DocumentItem → ExecutableDocument
+  abbrev pub document_of : Option Schema → List DocumentItem → ExecutableDocument
   document_of s xs = record {
     sources = [];
     operations = record { anonymous = option_map (typed_operation s) (kept_anonymous s xs); named = entries_by (typed_operation s) (kept_named s xs) };
