@@ -1,5 +1,5 @@
 -- What the headline says of the schema that a list means.
-use Rattle.std.proofs.Common.{◌≡◌, ◌↔◌, ◌∙◌, ap, sym, ℕ, Bool, true, false, List, map, Option, None, Some, is_some, refl, option_map, unwrap_or, filter_map}
+use Rattle.std.proofs.Common.{◌≡◌, ◌∙◌, ap, sym, ℕ, Bool, true, false, List, map, Option, None, Some, is_some, refl, option_map, unwrap_or, filter_map}
 use Rattle.std.specs.List.{enumerate_from}
 use Rattle.std.specs.Prelude.{nat_eq}
 use Rattle.graphql_nodes.specs.SameText.{same_text}

@@ -1,9 +1,3 @@
-use Rattle.std.proofs.Common.{◌≡◌, true, [], ◌∷◌, Option, Some, None}
-use Rattle.std.specs.List.{AllByRecursion}
-use Rattle.graphql_nodes.specs.NodeView.{NodeView}
-use Rattle.graphql_ast.specs.declared.operation.OperationDefinition.{OperationDefinition}
-use Rattle.apollo_document.specs.KeptDefinitions.{is_rooted, kept_anonymous, kept_named}
-use Rattle.apollo_executable.specs.Listed.{listed}
 use Rattle.apollo_executable.specs.Walks.Plain.{fragments_of, plain}
 use Rattle.apollo_walks.specs.Selections.{no_names}
 use Rattle.apollo_compiler.proofs.HeadlineLemmas.{ListLaws, is-schema}
