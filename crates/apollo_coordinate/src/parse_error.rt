@@ -19,7 +19,7 @@ pub enum SchemaCoordinateParseError {
     /// location.
     #[error(transparent)]
     InvalidName(InvalidNameError),
-    /// Want of memory, which says of the text only that its format is not refused.
+    /// Memory ran out, which says of the text only that its format is not refused.
     #[error("out of memory")]
     Memory,
 }

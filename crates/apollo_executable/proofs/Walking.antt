@@ -1,9 +1,8 @@
 pub mod CallLemmas
-pub mod FieldsInLemmas
 pub mod FlagLemmas
 pub mod IntrospectionLemmas
 pub mod ItemLemmas
 pub mod NextLemmas
 pub mod PlainLemmas
-pub mod SpreadsInLemmas
+pub mod ReadingLemmas
 pub mod WalkLemmas

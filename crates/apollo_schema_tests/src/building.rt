@@ -166,6 +166,7 @@ fn push_copies(text: &mut String, schema: &Schema) -> Result<(), AllocError> {
 }
 
 /// Adds faults. A field that lends its text goes to a function, and to no method of another value.
+/// No clause: it serves tests.
 pub fn push_faults(text: &mut String, faults: &[Fault]) -> Result<(), AllocError> {
     tell_all(faults, text)
 }

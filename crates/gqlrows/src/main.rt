@@ -1,5 +1,5 @@
 //! `gqlrows`: runs of `gqltool`, read as rows from the files that the words name, or without a word from standard input, and which
-//! of them differ, written to standard output.
+//! of them differ, written to standard output. No function has a clause: it is a tool.
 #![tactic(auto)]
 
 mod report;

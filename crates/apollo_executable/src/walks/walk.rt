@@ -1,6 +1,6 @@
 //! A walk, whether below fields or not, with its turns counted.
 ghost use Rattle.std.specs.Prelude.{◌≡◌, ◌<◌, ◌≤◌, ◌-◌, ◌^◌, min, false, is_err, OnOk};
-ghost use Rattle.apollo_executable.specs.Walks.Left.{left_of, whole_walk};
+ghost use Rattle.apollo_executable.specs.Walks.Left.{IsTurn, left_of, whole_walk};
 ghost use Rattle.apollo_executable.specs.Walks.WalkView.{IsNewWalk, IsWithinTurns};
 ghost use Rattle.apollo_executable.specs.Walks.Taken.{turns_taken};
 
@@ -61,6 +61,10 @@ impl<'doc> Walk<'doc> {
     fn turn(&mut self) -> Result<Option<&'doc Node<Field>>, AllocError>
         requires going { self.old.lists.ended ≡ false }
         requires fine { self.old.refused ≡ false }
+        ensures start { self.new.start ≡ self.old.start }
+        ensures document { self.new.lists.document ≡ self.old.lists.document }
+        ensures deep { self.new.lists.deep ≡ self.old.lists.deep }
+        ensures turn { IsTurn self.old.lists result self.new.lists }
         ensures refused { self.new.refused ≡ is_err result }
         ensures step { IsStep (seen self.old) result (seen self.new) }
         ensures less { OnOk result ((left_of self.new.lists).turns < (left_of self.old.lists).turns) }

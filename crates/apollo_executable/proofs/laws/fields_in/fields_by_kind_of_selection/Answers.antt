@@ -1,5 +1,11 @@
-use Rattle.apollo_executable.proofs.Walking.FieldsInLemmas as fields
+use Rattle.apollo_executable.proofs.Walking.ReadingLemmas.{of_fields, none-read, field-read, spread-read, inline-read, joined-read}
 use Rattle.apollo_executable.proofs.laws.fields_in.fields_by_kind_of_selection.Goals as goal
 
 pub returns : goal.returns
-returns c = record { none = fields.none; field = fields.field; fragment_spread = fields.fragment_spread; inline_fragment = fields.inline_fragment; joined = fields.joined }
+returns c = record {
+  none = none-read of_fields;
+  field = field-read of_fields;
+  fragment_spread = spread-read of_fields;
+  inline_fragment = inline-read of_fields;
+  joined = joined-read of_fields;
+}
