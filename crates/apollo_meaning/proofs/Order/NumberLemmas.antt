@@ -1,6 +1,7 @@
 -- No two extensions that are folded have one number, nor one origin.
-use Rattle.apollo_meaning.proofs.Prelude.{◌≡◌, ◌∙◌, ℕ, ◌+◌, ◌<◌, false, refl, Option, None, Some, IfSome, List, [], ◌∷◌, map, filter, filter_map, keys_of, arith, AllByRecursion, TypePart, SchemaPart, key_of, Folding, OfType, OfSchema, same, extension_part}
+use Rattle.apollo_meaning.proofs.Prelude.{◌≡◌, ◌∙◌, ℕ, ◌+◌, ◌<◌, false, refl, Option, None, Some, List, [], ◌∷◌, map, filter, filter_map, keys_of, arith, AllByRecursion, key_of, Folding, OfType, OfSchema, same, extension_part}
 use Rattle.std.specs.List.{IsDistinct, cons_option, enumerate_from}
+use Rattle.std.specs.Option.{IfSome}
 use Rattle.std.specs.Prelude.{nat_eq}
 use Rattle.std.proofs.lemmas.Bool.{ne_eqb}
 use Rattle.std.proofs.lemmas.Map.Made.{IsDistinct-keys_filter}
@@ -27,21 +28,20 @@ numbered-distinct n (x ∷ xs) = (numbered-lacks n (n + 1) (omega arith) xs, num
 module _ {P : Type 0} (which : ℕ × Folding → Option (ℕ × P)) (numbered : (e : ℕ × Folding) → IfSome (which e) (λ f. f.0 ≡ e.0)) where
   some-lack : (n : ℕ) (es : List (ℕ × Folding)) → Lacks n es → Lacks n (filter_map which es)
   some-lack n [] lacks = tt
-  some-lack n (e ∷ es) lacks = at (which e) (numbered e)
+  some-lack n (e ∷ es) lacks = at (which e) (numbered e) (some-lack n es lacks.1)
     where
-      at : (found : Option (ℕ × P)) → IfSome found (λ f. f.0 ≡ e.0) → Lacks n (cons_option found (filter_map which es))
-      at None is = some-lack n es lacks.1
-      at (Some f) is = (rw is lacks.0, some-lack n es lacks.1)
+      at : (found : Option (ℕ × P)) → IfSome found (λ f. f.0 ≡ e.0) → Lacks n (filter_map which es) → Lacks n (cons_option found (filter_map which es))
+      at None is rest = rest
+      at (Some f) is rest = (rw is lacks.0, rest)
 
   some-distinct : (es : List (ℕ × Folding)) → IsDistinct nat_eq (keys_of es) → IsDistinct nat_eq (keys_of (filter_map which es))
   unfolding IsDistinct
   some-distinct [] apart = tt
-  some-distinct (e ∷ es) apart = at (which e) (numbered e)
+  some-distinct (e ∷ es) apart = at (which e) (numbered e) (some-distinct es apart.1)
     where
-      at : (found : Option (ℕ × P)) → IfSome found (λ f. f.0 ≡ e.0) → IsDistinct nat_eq (keys_of (cons_option found (filter_map which es)))
-      unfolding IsDistinct
-      at None is = some-distinct es apart.1
-      at (Some f) is = (rw is (some-lack e.0 es apart.0), some-distinct es apart.1)
+      at : (found : Option (ℕ × P)) → IfSome found (λ f. f.0 ≡ e.0) → IsDistinct nat_eq (keys_of (filter_map which es)) → IsDistinct nat_eq (keys_of (cons_option found (filter_map which es)))
+      at None is rest = rest
+      at (Some f) is rest = (rw is (some-lack e.0 es apart.0), rest)
 
 of_type-numbered : (e : ℕ × Folding) → IfSome (of_type e) (λ f. f.0 ≡ e.0)
 of_type-numbered (i, OfType p) = refl
