@@ -140,10 +140,10 @@ impl SchemaBuilder {
     /// Adds the definitions of a document, in order, and its sources: of two files of one number the later stays. The options
     /// and the first number stay, whatever the answer.
     ///
-    /// `Memory` is want of memory; `ExtensionIds` comes only where the extensions that are folded so far, this document's
-    /// included, pass the largest number; `Failed` comes exactly after a refusal, and changes nothing. A document without
-    /// definitions and sources meets `Failed` alone. With another error all that was added is dropped, sources too, and the
-    /// source of numbers stands where it stood before the call.
+    /// `Memory`: memory ran out. `ExtensionIds` comes only where the extensions that are folded so far, this document's
+    /// included, pass the largest number, and `Ok` only where they don't. `Failed` comes exactly after a refusal, and changes
+    /// nothing. A document without definitions and sources meets `Failed` alone. With another error all that was added is
+    /// dropped, sources too, and the source of numbers stands where it stood before the call.
     pub fn add_ast(&mut self, document: &Document) -> Result<(), BuilderError>
         ensures stands { OnOk result ((start : ℕ) (xs : List Added) → StandsFor start xs self.old → StandsFor start (xs ++ added (ignores self.old) document.now.definitions) self.new) }
         ensures settings { (adopts self.new ≡ adopts self.old) × (ignores self.new ≡ ignores self.old) }
@@ -154,6 +154,7 @@ impl SchemaBuilder {
         ensures failed { HasFailed self.old ↔ (result ≡ Err BuilderError.Failed) }
         ensures unchanged { HasFailed self.old → self.new ≡ self.old }
         ensures spent { result ≡ Err BuilderError.ExtensionIds → (start : ℕ) (xs : List Added) → StandsFor start xs self.old → SpendsIdsSoFar start (xs ++ added (ignores self.old) document.now.definitions) }
+        ensures unspent { OnOk result ((start : ℕ) (xs : List Added) → StandsFor start xs self.old → ¬ SpendsIdsSoFar start (xs ++ added (ignores self.old) document.now.definitions)) }
         ensures wants { OnErr result (document.now.definitions ≡ [] → document.now.sources ≡ [] → HasFailed self.old) }
     {
         let ignores = self.ignore_builtin_redefinitions;
@@ -165,6 +166,8 @@ impl SchemaBuilder {
             self.state = State::Failed(ExtensionSource::starting_at(before));
             return Err(error);
         }
+        // The next number is one, so the numbers so far sufficed.
+        let _is_a_number = tables.next_number();
         Ok(())
     }
 

@@ -1,4 +1,4 @@
-use Rattle.apollo_meaning.proofs.Prelude.{◌≡◌, ℕ, ◌+◌, ◌^◌, ◌≤◌, List, ◌++◌, length, sym, ap, subst, ◌∙◌, map-append, ∥∥₁_map, source_at, ListItem, Folding, added, added_item, added_items, folding_order, folded}
+use Rattle.apollo_meaning.proofs.Prelude.{◌≡◌, ℕ, ◌+◌, ◌^◌, ◌≤◌, List, ◌++◌, length, sym, ap, subst, ◌∙◌, map-append, ∥∥₁_map, next_number, source_at, arith, ListItem, Folding, added, added_item, added_items, folding_order, folded}
 use Rattle.apollo_folding.specs.declared.builder_error.BuilderError.{BuilderError}
 use Rattle.apollo_folding.specs.declared.builder_error.BuilderError.TheVariants.{ExtensionIds}
 use Rattle.apollo_folding.specs.Refusals.{RefusedAs}
@@ -8,8 +8,8 @@ use Rattle.apollo_schema.proofs.Ends.OutcomeLemmas.{past}
 use Rattle.apollo_meaning.proofs.Order.MomentLemmas.{folding_order-forget}
 use Rattle.apollo_schema.proofs.schema_builder.SchemaBuilder.add_ast.Goals as goal
 
-pub invariant_of-self-in_default-take_document : goal.invariant_of-self-in_default-take_document
-invariant_of-self-in_default-take_document c =
+pub invariant_of-self-2 : goal.invariant_of-self-2
+invariant_of-self-2 c =
     let first = c.args.self.now.first_number in
     let more = added c.args.self.now.ignore_builtin_redefinitions c.args.document.now.definitions in
     record {
@@ -51,3 +51,12 @@ returns-in-Err-clause-spent c = λ spent start xs was.
     let whole : folded (added_items xs ++ added_items more) ≡ folding_order (added_items (xs ++ more)) =
     ap folded (sym (map-append added_item xs more)) ∙ sym (folding_order-forget (added_items (xs ++ more))) in
     subst (λ (l : List Folding). 2 ^ 64 ≤ start + length l) whole full
+
+-- the source that is left has a number
+pub returns-clause-unspent : goal.returns-clause-unspent
+returns-clause-unspent c = λ start xs was spent.
+    let more = added c.args.self.now.ignore_builtin_redefinitions c.args.document.now.definitions in
+    let stands = (returns-clause-stands c start xs was).1 in
+    let left : next_number c.take_document.new.self.ids ≡ start + length (folding_order (added_items (xs ++ more))) =
+    ap next_number stands.next ∙ ap (λ (l : List Folding). start + length l) (sym (folding_order-forget (added_items (xs ++ more)))) in
+    omega (arith, c.next_number-is_a_number.type_inv, c.next_number-is_a_number.ensures, left, spent)
