@@ -1,0 +1,64 @@
+-- Pieces of a text, the first one and those behind it.
+use Rattle.std.proofs.Common.{◌≡◌, ◌+◌, ◌-◌, ◌<◌, ◌≤◌, ℕ, zero, suc, List, [], ◌∷◌, length, take, drop, cond, refl, sym, ap, subst, ◌∙◌, arith}
+use Rattle.std.proofs.lemmas.List.{take_all, drop_all, length-drop, drop-drop}
+use Rattle.std.specs.Prelude.{nat_eq}
+use Rattle.std.proofs.lemmas.Bool.{ne_eqb}
+use Rattle.graphql_tokens.specs.Pieces.{pieces}
+
+module _ (size : List ℕ → ℕ) where
+  -- what is still of the piece before is passed over
+  passed : (k : ℕ) (xs : List ℕ) → k ≤ length xs → pieces size k xs ≡ k + pieces size 0 (drop k xs)
+  passed zero xs within = omega arith
+  passed (suc k) [] within = absurd (omega (arith, within))
+  passed (suc k) (c ∷ cs) within = let more = passed k cs (omega (arith, within)) in omega (arith, more)
+
+  -- a piece, and those behind it
+  pub first_piece : (xs : List ℕ) → 0 < size xs → size xs ≤ length xs → pieces size 0 xs ≡ size xs + pieces size 0 (drop (size xs) xs)
+  first_piece [] some within = absurd (omega (arith, some, within))
+  first_piece (c ∷ cs) some within = by (size (c ∷ cs)) some within
+    where
+      by : (n : ℕ) → 0 < n → n ≤ length (c ∷ cs) → cond (nat_eq n 0) 0 (pieces size (n - 1) cs + 1) ≡ n + pieces size 0 (drop n (c ∷ cs))
+      by zero some within = absurd (omega (arith, some))
+      by (suc n) some within =
+          let here : cond (nat_eq (suc n) 0) 0 (pieces size (suc n - 1) cs + 1) ≡ pieces size n cs + 1 =
+          let one : suc n - 1 ≡ n = omega arith in
+          rw (ne_eqb (suc n) 0 (λ e. omega (arith, e))) (ap (λ (k : ℕ). pieces size k cs + 1) one) in
+          let more = passed n cs (omega (arith, within)) in omega (arith, here, more)
+
+  -- there is none
+  pub no_piece : (xs : List ℕ) → size xs ≡ 0 → pieces size 0 xs ≡ 0
+  no_piece [] none = refl
+  no_piece (c ∷ cs) none = rw none refl
+
+-- the rest of a text, as a slice of it is seen
+abbrev pub rest_at : ℕ → List ℕ → List ℕ
+rest_at at text = take (length text - at) (drop at text)
+
+pub rest-is : (at : ℕ) (text : List ℕ) → rest_at at text ≡ drop at text
+rest-is at text = take_all (length text - at) (drop at text) (let long = length-drop at text in omega (arith, long))
+
+pub length-rest_at : (at : ℕ) (text : List ℕ) → length (rest_at at text) ≡ length text - at
+length-rest_at at text = ap length (rest-is at text) ∙ length-drop at text
+
+module _ (size : List ℕ → ℕ) (text : List ℕ) (at : ℕ) (whole : at + pieces size 0 (drop at text) ≡ pieces size 0 text) where
+  -- behind a piece
+  pub behind_piece : (n : ℕ) → n ≡ size (rest_at at text) → 0 < n → n ≤ length (rest_at at text) → (at + n) + pieces size 0 (drop (at + n) text) ≡ pieces size 0 text
+  behind_piece n is some within =
+      let same : n ≡ size (drop at text) = is ∙ ap size (rest-is at text) in
+      let long : n ≤ length (drop at text) = subst (λ (r : List ℕ). n ≤ length r) (rest-is at text) within in
+      let step = first_piece size (drop at text) (subst (λ (k : ℕ). 0 < k) same some) (subst (λ (k : ℕ). k ≤ length (drop at text)) same long) in
+      let behind : drop (size (drop at text)) (drop at text) ≡ drop (at + n) text = drop-drop (size (drop at text)) at text ∙ ap (λ (k : ℕ). drop (at + k) text) (sym same) in
+      let more : pieces size 0 (drop (size (drop at text)) (drop at text)) ≡ pieces size 0 (drop (at + n) text) = ap (pieces size 0) behind in
+      omega (arith, step, same, more, whole)
+
+  -- where no piece stands
+  pub end_of_pieces : (n : ℕ) → n ≡ size (rest_at at text) → n ≡ 0 → at ≡ pieces size 0 text
+  end_of_pieces n is none =
+      let ends = no_piece size (drop at text) (sym (is ∙ ap size (rest-is at text)) ∙ none) in
+      omega (arith, ends, whole)
+
+  -- where the text ends
+  pub ends_with_text : length text ≤ at → at ≡ pieces size 0 text
+  ends_with_text over =
+      let ends : pieces size 0 (drop at text) ≡ 0 = ap (pieces size 0) (drop_all at text over) in
+      omega (arith, ends, whole)
