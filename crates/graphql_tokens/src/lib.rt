@@ -2,6 +2,7 @@
 #![tactic(auto)]
 
 mod ignored;
+pub mod laws;
 mod lexemes;
 pub mod lexing;
 mod numbers;

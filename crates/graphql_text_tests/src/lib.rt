@@ -1,0 +1,5 @@
+//! Tests of GraphQL texts: their tokens.
+#![tactic(auto)]
+
+#[cfg(test)]
+mod tokens;

@@ -1,0 +1,24 @@
+//! Laws of tokens and of errors.
+ghost use Rattle.graphql_nodes.specs.Clones.{IsExact};
+ghost use Rattle.graphql_nodes.specs.Comparing.{ComparesBy};
+
+use crate::token::{Token, TokenError, TokenErrorKind, TokenKind};
+use crate::tokens_error::TokensError;
+
+/// Tokens are equal exactly where they are one, and so are their kinds, and errors.
+pub fn equality_of_tokens_and_errors()
+    ensures kind { ComparesBy ⟦<TokenKind as PartialEq>⟧.eq (λ kind. kind) }
+    ensures token { ComparesBy ⟦<Token as PartialEq>⟧.eq (λ token. token) }
+    ensures error_kind { ComparesBy ⟦<TokenErrorKind as PartialEq>⟧.eq (λ kind. kind) }
+    ensures token_error { ComparesBy ⟦<TokenError as PartialEq>⟧.eq (λ error. error) }
+    ensures tokens_error { ComparesBy ⟦<TokensError as PartialEq>⟧.eq (λ error. error) }
+{}
+
+/// Each clone of a token is the original, and so is each clone of its kind, and of an error.
+pub fn clones_are_exact()
+    ensures kind { IsExact ⟦<TokenKind as Clone>⟧.is_clone }
+    ensures token { IsExact ⟦<Token as Clone>⟧.is_clone }
+    ensures error_kind { IsExact ⟦<TokenErrorKind as Clone>⟧.is_clone }
+    ensures token_error { IsExact ⟦<TokenError as Clone>⟧.is_clone }
+    ensures tokens_error { IsExact ⟦<TokensError as Clone>⟧.is_clone }
+{}
