@@ -1,51 +1,16 @@
 //! Schemas that differ in one thing each, and whether they are equal: the order of directives and of arguments counts, that of
 //! types, fields and other members doesn't, and neither do locations and origins.
 
-use crate::asking::{Question, expect};
-use crate::building::{PLAIN, is_built_of};
+use crate::building::{ADOPTING, is_built_of, schema_of};
 use apollo_schema::schema::Schema;
-use bench_notation::reading::read;
-use graphql_ast::document::Document;
-use std::alloc::{AllocError, Global};
-use std::process::Abort;
+use std::alloc::Global;
 use std::test::Fail;
 
-/// Whether the schema is equal to the one that these documents build.
-#[derive(Drop)]
-struct Comparison<'a> {
-    documents: &'a [Document],
-}
-
-impl<'a> Question for Comparison<'a> {
-    fn ask(&self, alloc: Global, text: &mut String, schema: &Schema) -> Result<(), AllocError> {
-        let is_equal = is_built_of(alloc, PLAIN, schema, self.documents)?;
-        text.push_str(if is_equal { "equal" } else { "unequal" })
-    }
-}
-
-/// Expects this of the schema that one text builds, compared with that of another.
-fn expect_from(
-    rt: &(impl Abort + AllocGlobal),
-    input: &str,
-    other: &str,
-    expected: &str,
-) -> Result<(), Fail> {
-    let documents = read(rt.alloc(), other)?;
-    let question = Comparison {
-        documents: documents.as_slice(),
-    };
-    expect(rt, &question, input, expected)
-}
-
-/// Expects this of the schemas that two texts build, whichever comes first. Each text builds a schema without faults.
-fn expect_pair(
-    rt: &(impl Abort + AllocGlobal),
-    one: &str,
-    other: &str,
-    expected: &str,
-) -> Result<(), Fail> {
-    expect_from(rt, one, other, expected)?;
-    expect_from(rt, other, one, expected)
+/// Whether the schemas that two texts build are equal, whichever comes first.
+fn are_equal(alloc: Global, one: &str, other: &str) -> Result<[bool; 2], Fail> {
+    let one = schema_of(alloc, one)?;
+    let other = schema_of(alloc, other)?;
+    Ok([one == other, other == one])
 }
 
 #[test]
@@ -79,7 +44,8 @@ fn schemas_that_differ_in_one_value_are_unequal(rt: HostRuntime) -> Result<(), F
         ("def object A\nfield a Int", "def interface A\nfield a Int"),
         ("directive d\non OBJECT", "directive d\non SCHEMA"),
     ] {
-        expect_pair(&rt, one, other, "unequal")?;
+        let are_equal = are_equal(rt.alloc(), one, other)?;
+        assert_eq!(rt; are_equal, [false, false], "of {one:?} and {other:?}");
     }
     Ok(())
 }
@@ -128,7 +94,16 @@ fn schemas_that_differ_in_order_origin_or_location_are_equal(rt: HostRuntime) ->
             "def scalar S\n---\ndef scalar T",
         ),
     ] {
-        expect_pair(&rt, one, other, "equal")?;
+        let are_equal = are_equal(rt.alloc(), one, other)?;
+        assert_eq!(rt; are_equal, [true, true], "of {one:?} and {other:?}");
     }
+    Ok(())
+}
+
+#[test]
+fn a_new_schema_is_built_of_no_documents(rt: HostRuntime) -> Result<(), Fail> {
+    let schema = Schema::new(rt.alloc())?;
+    let is_built = is_built_of(rt.alloc(), &ADOPTING, &schema, &[])?;
+    assert!(rt; is_built);
     Ok(())
 }
