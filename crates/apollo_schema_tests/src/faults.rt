@@ -50,7 +50,7 @@ const NEARLY_SPENT: Settings = Settings {
     adopts: false,
 };
 
-/// Seven numbers are given.
+/// The first number is 7.
 const FROM_SEVEN: Settings = Settings {
     first_number: 7,
     adopts: false,

@@ -44,6 +44,17 @@ fn are_equal(first: &Built, second: &Built) -> bool {
     }
 }
 
+#[test]
+fn what_is_built_depends_on_no_keys(rt: HostRuntime) -> Result<(), Fail> {
+    let of_fixed = built(rt.alloc(), HashKeys::FIXED)?;
+    let of_drawn = built(rt.alloc(), HashKeys::from_bytes(DRAWN))?;
+    assert!(rt; are_equal(&of_fixed, &of_drawn));
+    let fixed = told(rt.alloc(), &of_fixed)?;
+    let drawn = told(rt.alloc(), &of_drawn)?;
+    assert_eq!(rt; fixed.as_str(), drawn.as_str());
+    Ok(())
+}
+
 /// Whether each table of the schema, and of its map of implementers, hashes by these keys.
 fn is_keyed(alloc: Global, built: &Built, keys: HashKeys) -> Result<bool, AllocError> {
     let Some(schema) = schema_in(built) else {
@@ -56,16 +67,10 @@ fn is_keyed(alloc: Global, built: &Built, keys: HashKeys) -> Result<bool, AllocE
 }
 
 #[test]
-fn keys_reach_each_table_and_what_is_built_depends_on_none(rt: HostRuntime) -> Result<(), Fail> {
-    let alloc = rt.alloc();
-    let of_fixed = built(alloc, HashKeys::FIXED)?;
-    let of_drawn = built(alloc, HashKeys::from_bytes(DRAWN))?;
-    assert!(rt; are_equal(&of_fixed, &of_drawn));
-    assert_eq!(rt;
-        told(alloc, &of_fixed)?.as_str(),
-        told(alloc, &of_drawn)?.as_str()
-    );
-    let is_keyed = is_keyed(alloc, &of_drawn, HashKeys::from_bytes(DRAWN))?;
+fn keys_reach_each_table(rt: HostRuntime) -> Result<(), Fail> {
+    let keys = HashKeys::from_bytes(DRAWN);
+    let built = built(rt.alloc(), keys)?;
+    let is_keyed = is_keyed(rt.alloc(), &built, keys)?;
     assert!(rt; is_keyed);
     Ok(())
 }
