@@ -10,7 +10,6 @@ use likeness::{are_alike, is_copied, is_printed};
 use std::alloc::{AllocError, Global};
 use std::fmt::Display;
 use std::hash::Hash;
-use std::test::Fail;
 
 /// Whether a coordinate is made that prints so, is copied, and is equal to another that is made so.
 fn is_right<T: Display + Clone + PartialEq + Hash + Drop>(
@@ -93,8 +92,8 @@ fn push_refusal(text: &mut String, error: &SchemaCoordinateParseError) -> Result
     write!(text, "{error}, {copy}\n")
 }
 
-/// Adds the refusals of a text that is no name: of a coordinate, of a name, and of the part that the latter has.
-fn push_refused(alloc: Global, text: &mut String, input: &str) -> Result<(), AllocError> {
+/// Adds each refusal: those of a text that is no name, as a coordinate, as a name, and as the part that the latter has; and others.
+fn push_refusals(alloc: Global, text: &mut String, input: &str) -> Result<(), AllocError> {
     if let Err(error) = TypeCoordinate::from_str(alloc, input) {
         push_refusal(text, &error)?;
     }
@@ -104,20 +103,16 @@ fn push_refused(alloc: Global, text: &mut String, input: &str) -> Result<(), All
     if let Err(NameError::Invalid(error)) = Name::new(alloc, input) {
         push_refusal(text, &error.into())?;
     }
-    Ok(())
+    push_refusal(text, &SchemaCoordinateParseError::InvalidFormat)?;
+    push_refusal(text, &SchemaCoordinateParseError::Memory)
 }
 
 #[test]
-fn refusals_have_texts_and_copies_and_those_of_names_are_of_coordinates(
-    rt: HostRuntime,
-) -> Result<(), Fail> {
+fn refusals_have_texts_and_copies_and_those_of_names_are_of_coordinates(rt: HostRuntime) {
     let mut text = String::new(rt.alloc());
-    push_refused(rt.alloc(), &mut text, "9")?;
-    push_refusal(&mut text, &SchemaCoordinateParseError::InvalidFormat)?;
-    push_refusal(&mut text, &SchemaCoordinateParseError::Memory)?;
+    push_refusals(rt.alloc(), &mut text, "9").expect(&rt, "memory");
     assert_eq!(rt;
         text.as_str(),
         "`9` is not a valid GraphQL name, `9` is not a valid GraphQL name\n`9` is not a valid GraphQL name, `9` is not a valid GraphQL name\n`9` is not a valid GraphQL name, `9` is not a valid GraphQL name\ninvalid schema coordinate, invalid schema coordinate\nout of memory, out of memory\n"
     );
-    Ok(())
 }

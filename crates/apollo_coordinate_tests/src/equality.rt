@@ -3,9 +3,7 @@
 use crate::schemas::built;
 use apollo_coordinate::coordinates::SchemaCoordinate;
 use apollo_schema::schema::Schema;
-use std::alloc::Global;
 use std::process::Abort;
-use std::test::Fail;
 
 /// Each form that a coordinate can have points to something here.
 const FIRST: &str =
@@ -31,45 +29,41 @@ fn comparison<T: PartialEq + Drop, E: Drop>(
 }
 
 /// How what a coordinate points to compares; nothing where the lookup of an attribute compares otherwise.
-fn compared(
-    alloc: Global,
-    first: &Schema,
-    second: &Schema,
-    input: &str,
-) -> Result<&'static str, Fail> {
-    let coordinate = SchemaCoordinate::from_str(alloc, input)?;
+fn compared(coordinate: &SchemaCoordinate, first: &Schema, second: &Schema) -> &'static str {
     let found = comparison(coordinate.lookup(first), coordinate.lookup(second));
-    if let SchemaCoordinate::TypeAttribute(attribute) = &coordinate {
+    if let SchemaCoordinate::TypeAttribute(attribute) = coordinate {
         if comparison(attribute.lookup(first), attribute.lookup(second)) != found {
-            return Ok("otherwise as an attribute");
+            return "otherwise as an attribute";
         }
     }
-    Ok(found)
+    found
 }
 
 /// Expects coordinates of each form to compare so in the schemas of two texts, but that of the enum value as the same.
-fn expect_compared(
-    rt: &(impl Abort + AllocGlobal),
-    second: &str,
-    expected: &str,
-) -> Result<(), Fail> {
-    let first = built(rt.alloc(), FIRST)?;
-    let second = built(rt.alloc(), second)?;
-    for input in ["Query", "Query.f", "Query.f(a:)", "I.f", "@d", "@d(a:)"] {
+fn expect_compared(rt: &(impl Abort + AllocGlobal), second: &str, expected: &str) {
+    let first = built(rt, FIRST);
+    let second = built(rt, second);
+    for (input, expected) in [
+        ("Query", expected),
+        ("Query.f", expected),
+        ("Query.f(a:)", expected),
+        ("I.f", expected),
+        ("E.f", "same"),
+        ("@d", expected),
+        ("@d(a:)", expected),
+    ] {
+        let read = SchemaCoordinate::from_str(rt.alloc(), input);
+        let coordinate = read.expect(rt, "a coordinate");
         assert_eq!(rt;
-            compared(rt.alloc(), &first, &second, input)?,
+            compared(&coordinate, &first, &second),
             expected,
             "of {input}"
         );
     }
-    assert_eq!(rt; compared(rt.alloc(), &first, &second, "E.f")?, "same");
-    Ok(())
 }
 
 #[test]
-fn locations_and_origins_are_left_out_and_other_values_are_unequal(
-    rt: HostRuntime,
-) -> Result<(), Fail> {
-    expect_compared(&rt, SECOND, "same")?;
-    expect_compared(&rt, OTHER, "other")
+fn locations_and_origins_are_left_out_and_other_values_are_unequal(rt: HostRuntime) {
+    expect_compared(&rt, SECOND, "same");
+    expect_compared(&rt, OTHER, "other");
 }

@@ -4,9 +4,8 @@ use crate::schemas::built;
 use apollo_coordinate::coordinates::SchemaCoordinate;
 use apollo_coordinate::lookup_answers::{SchemaCoordinateLookup, SchemaLookupError};
 use apollo_schema::schema::Schema;
-use std::alloc::Global;
+use std::alloc::{AllocError, Global};
 use std::process::Abort;
-use std::test::Fail;
 
 /// A type of each kind that has attributes or could have meta-fields.
 const INPUT: &str =
@@ -56,27 +55,27 @@ fn found(answer: SchemaCoordinateLookup<'_>) -> &'static str {
 }
 
 /// What this call answers, or the text of its error.
-fn answer(alloc: Global, lookup: &Lookup, input: &str, schema: &Schema) -> Result<String, Fail> {
-    let coordinate = SchemaCoordinate::from_str(alloc, input)?;
-    let said = match look_up(lookup, &coordinate, schema) {
+fn answer(
+    alloc: Global,
+    lookup: &Lookup,
+    coordinate: &SchemaCoordinate,
+    schema: &Schema,
+) -> Result<String, AllocError> {
+    match look_up(lookup, coordinate, schema) {
         Ok(answer) => found(answer).to_string(alloc),
         Err(error) => error.to_string(alloc),
-    };
-    Ok(said?)
+    }
 }
 
 /// Expects these answers of the schema that a text builds.
-fn expect(
-    rt: &(impl Abort + AllocGlobal),
-    schema: &str,
-    rows: &[(Lookup, &str, &str)],
-) -> Result<(), Fail> {
-    let schema = built(rt.alloc(), schema)?;
+fn expect(rt: &(impl Abort + AllocGlobal), schema: &str, rows: &[(Lookup, &str, &str)]) {
+    let schema = built(rt, schema);
     for (lookup, input, expected) in rows {
-        let answer = answer(rt.alloc(), lookup, *input, &schema)?;
+        let read = SchemaCoordinate::from_str(rt.alloc(), *input);
+        let coordinate = read.expect(rt, "a coordinate");
+        let answer = answer(rt.alloc(), lookup, &coordinate, &schema).expect(rt, "memory");
         assert_eq!(rt; answer.as_str(), *expected, "of {input}");
     }
-    Ok(())
 }
 
 const FOUND: [(Lookup, &str, &str); 12] = [
@@ -95,8 +94,8 @@ const FOUND: [(Lookup, &str, &str); 12] = [
 ];
 
 #[test]
-fn coordinates_of_each_form_are_found(rt: HostRuntime) -> Result<(), Fail> {
-    expect(&rt, INPUT, &FOUND)
+fn coordinates_of_each_form_are_found(rt: HostRuntime) {
+    expect(&rt, INPUT, &FOUND);
 }
 
 const MISSING: [(Lookup, &str, &str); 13] = [
@@ -152,8 +151,8 @@ const MISSING: [(Lookup, &str, &str); 13] = [
 ];
 
 #[test]
-fn what_is_missing_is_named(rt: HostRuntime) -> Result<(), Fail> {
-    expect(&rt, INPUT, &MISSING)
+fn what_is_missing_is_named(rt: HostRuntime) {
+    expect(&rt, INPUT, &MISSING);
 }
 
 const OF_ONE_SORT: [(Lookup, &str, &str); 14] = [
@@ -190,8 +189,8 @@ const OF_ONE_SORT: [(Lookup, &str, &str); 14] = [
 ];
 
 #[test]
-fn attributes_of_one_sort_are_found(rt: HostRuntime) -> Result<(), Fail> {
-    expect(&rt, INPUT, &OF_ONE_SORT)
+fn attributes_of_one_sort_are_found(rt: HostRuntime) {
+    expect(&rt, INPUT, &OF_ONE_SORT);
 }
 
 const OF_THE_ENUM_ROOT: [(Lookup, &str, &str); 6] = [
@@ -212,6 +211,6 @@ const OF_THE_ENUM_ROOT: [(Lookup, &str, &str); 6] = [
 ];
 
 #[test]
-fn a_value_is_found_before_a_meta_field(rt: HostRuntime) -> Result<(), Fail> {
-    expect(&rt, ENUM_ROOT, &OF_THE_ENUM_ROOT)
+fn a_value_is_found_before_a_meta_field(rt: HostRuntime) {
+    expect(&rt, ENUM_ROOT, &OF_THE_ENUM_ROOT);
 }

@@ -8,7 +8,6 @@ use apollo_coordinate::parse_error::SchemaCoordinateParseError;
 use std::alloc::{AllocError, Global};
 use std::fmt::Display;
 use std::process::Abort;
-use std::test::Fail;
 
 /// How an input is read.
 enum Form {
@@ -46,12 +45,11 @@ fn answer(alloc: Global, form: &Form, input: &str) -> Result<String, AllocError>
 }
 
 /// Expects inputs to be read so.
-fn expect(rt: &(impl Abort + AllocGlobal), rows: &[(Form, &str, &str)]) -> Result<(), Fail> {
+fn expect(rt: &(impl Abort + AllocGlobal), rows: &[(Form, &str, &str)]) {
     for (form, input, expected) in rows {
-        let answer = answer(rt.alloc(), form, *input)?;
+        let answer = answer(rt.alloc(), form, *input).expect(rt, "memory");
         assert_eq!(rt; answer.as_str(), *expected, "of {input:?}");
     }
-    Ok(())
 }
 
 const READ: [(Form, &str, &str); 11] = [
@@ -69,8 +67,8 @@ const READ: [(Form, &str, &str); 11] = [
 ];
 
 #[test]
-fn coordinates_are_printed_as_they_are_read(rt: HostRuntime) -> Result<(), Fail> {
-    expect(&rt, &READ)
+fn coordinates_are_printed_as_they_are_read(rt: HostRuntime) {
+    expect(&rt, &READ);
 }
 
 const OF_ONE_FORM: [(Form, &str, &str); 20] = [
@@ -125,8 +123,8 @@ const OF_ONE_FORM: [(Form, &str, &str); 20] = [
 ];
 
 #[test]
-fn the_first_refusal_in_the_order_of_reading_is_answered(rt: HostRuntime) -> Result<(), Fail> {
-    expect(&rt, &OF_ONE_FORM)
+fn the_first_refusal_in_the_order_of_reading_is_answered(rt: HostRuntime) {
+    expect(&rt, &OF_ONE_FORM);
 }
 
 const OF_NO_FORM: [(Form, &str, &str); 7] = [
@@ -148,6 +146,6 @@ const OF_NO_FORM: [(Form, &str, &str); 7] = [
 ];
 
 #[test]
-fn a_text_of_no_form_is_refused_whole(rt: HostRuntime) -> Result<(), Fail> {
-    expect(&rt, &OF_NO_FORM)
+fn a_text_of_no_form_is_refused_whole(rt: HostRuntime) {
+    expect(&rt, &OF_NO_FORM);
 }

@@ -2,20 +2,14 @@
 
 use apollo_schema::schema::Schema;
 use bench_notation::reading::read;
-use graphql_ast::document::Document;
-use std::alloc::Global;
-use std::test::Fail;
+use std::process::Abort;
 
-/// The schema that a document builds, which has no fault.
-fn built_of(alloc: Global, document: &Document) -> Result<Schema, Fail> {
-    let mut builder = Schema::builder(alloc)?;
-    builder.add_ast(document)?;
-    Ok(builder.build()?)
-}
-
-/// The schema of the first document that a text says.
+/// The schema of the one document that a text says. It has no fault.
 /// No clause: it serves tests.
-pub fn built(alloc: Global, input: &str) -> Result<Schema, Fail> {
-    let documents = read(alloc, input)?;
-    built_of(alloc, documents.first().ok_or("no document")?)
+pub fn built(rt: &(impl Abort + AllocGlobal), input: &str) -> Schema {
+    let documents = read(rt.alloc(), input).expect(rt, "documents");
+    let document = documents.first().expect(rt, "a document");
+    let mut builder = Schema::builder(rt.alloc()).expect(rt, "memory");
+    builder.add_ast(document).expect(rt, "memory");
+    builder.build().expect(rt, "a schema")
 }
