@@ -14,7 +14,6 @@ use likeness::{is_copied, is_made};
 use std::alloc::{AllocError, Global};
 use std::process::Abort;
 use std::slice;
-use std::test::Fail;
 use telling::Tell;
 use telling::schemas::push_own;
 
@@ -101,9 +100,10 @@ pub fn is_built_of(
 
 /// The schema that a text builds, which has no fault.
 /// No clause: it serves tests.
-pub fn schema_of(alloc: Global, input: &str) -> Result<Schema, Fail> {
-    let documents = read(alloc, input)?;
-    Ok(built_of(alloc, &PLAIN, documents.as_slice())??)
+pub fn schema_of(rt: &(impl Abort + AllocGlobal), input: &str) -> Schema {
+    let documents = read(rt.alloc(), input).expect(rt, "documents");
+    let built = built_of(rt.alloc(), &PLAIN, documents.as_slice()).expect(rt, "memory");
+    built.expect(rt, "a schema")
 }
 
 /// Adds what a schema has besides the built-in definitions, and its roots: as its definition has them, and as lookups answer.
@@ -255,14 +255,8 @@ pub fn told(
 
 /// Expects this to be told of the documents that a text says.
 /// No clause: it serves tests.
-pub fn expect(
-    rt: &(impl Abort + AllocGlobal),
-    settings: &Settings,
-    input: &str,
-    account: &str,
-) -> Result<(), Fail> {
-    let documents = read(rt.alloc(), input)?;
-    let text = told(rt.alloc(), settings, documents.as_slice())?;
+pub fn expect(rt: &(impl Abort + AllocGlobal), settings: &Settings, input: &str, account: &str) {
+    let documents = read(rt.alloc(), input).expect(rt, "documents");
+    let text = told(rt.alloc(), settings, documents.as_slice()).expect(rt, "memory");
     assert_eq!(rt; text.as_str(), account, "of {input:?}");
-    Ok(())
 }

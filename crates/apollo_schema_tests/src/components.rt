@@ -10,7 +10,6 @@ use graphql_nodes::source::{FileId, SourceSpan};
 use likeness::{are_alike, is_printed};
 use std::alloc::{AllocError, Global};
 use std::hash::Hash;
-use std::test::Fail;
 use telling::Tell;
 
 const PLACE: SourceSpan = SourceSpan {
@@ -19,40 +18,28 @@ const PLACE: SourceSpan = SourceSpan {
     end: 31,
 };
 
-/// Adds the first identity of a source, at the location, a node beside it, and the second, of a node without a location; and
-/// whether these differ, and the first is alike with one of its number at no location.
-fn push_drawn(alloc: Global, text: &mut String) -> Result<(), Fail> {
+#[test]
+fn numbers_are_drawn_in_order(rt: HostRuntime) {
     let mut source = ExtensionSource::new();
-    let first = source.draw(Some(PLACE))?;
-    first.tell(text)?;
-    first.same_location(alloc, FileId(3))?.tell(text)?;
-    let second = ExtensionId::new(&mut source, &Node::new(alloc, FileId(3))?)?;
-    second.tell(text)?;
-    let again = ExtensionSource::new().draw(None)?;
-    let (differ, are_alike) = (first != second, are_alike(&first, &again));
-    Ok(write!(text, "{differ}, {are_alike}")?)
+    let first = source.draw(Some(PLACE)).expect(&rt, "a number");
+    let node = Node::new(rt.alloc(), 7_u8).expect(&rt, "memory");
+    let second = ExtensionId::new(&mut source, &node).expect(&rt, "a number");
+    let again = ExtensionSource::new().draw(None).expect(&rt, "a number");
+    let beside = first.same_location(rt.alloc(), 'a').expect(&rt, "memory");
+    assert!(rt; (first.number(), second.number()) == (0, 1));
+    assert!(rt; (first.location(), second.location()) == (Some(PLACE), None));
+    assert!(rt; first != second && are_alike(&first, &again));
+    assert!(rt; (*beside, beside.location()) == ('a', Some(PLACE)));
 }
 
 #[test]
-fn numbers_are_drawn_in_order(rt: HostRuntime) -> Result<(), Fail> {
-    let mut text = String::new(rt.alloc());
-    push_drawn(rt.alloc(), &mut text)?;
-    assert_eq!(rt;
-        text.as_str(),
-        "extension 0 of 5:20-31 5:20-31 file 3 extension 1 of - true, true"
-    );
-    Ok(())
-}
-
-#[test]
-fn the_last_number_is_never_drawn(rt: HostRuntime) -> Result<(), Fail> {
+fn the_last_number_is_never_drawn(rt: HostRuntime) {
     let mut source = ExtensionSource::starting_at(u64::MAX - 1);
-    let last = source.draw(None)?;
-    assert_eq!(rt; last.number(), u64::MAX - 1);
+    let last = source.draw(None).expect(&rt, "a number");
+    assert!(rt; last.number() == u64::MAX - 1);
     assert!(rt; source.draw(None) == Err(IdsSpent));
     assert!(rt; source.draw(Some(PLACE)) == Err(IdsSpent));
     assert!(rt; is_printed(rt.alloc(), &IdsSpent, "extension identities spent"));
-    Ok(())
 }
 
 /// Adds two values, of which the second is of an extension, a copy of this one, and whether the first is alike.
@@ -90,28 +77,28 @@ fn push_names(alloc: Global, text: &mut String, origin: ComponentOrigin) -> Resu
 }
 
 #[test]
-fn components_and_copies_keep_origins_and_places_which_equality_leaves_out(
-    rt: HostRuntime,
-) -> Result<(), Fail> {
-    let id = ExtensionSource::starting_at(4).draw(Some(PLACE))?;
+fn components_and_copies_keep_origins_and_places_which_equality_leaves_out(rt: HostRuntime) {
+    let id = ExtensionSource::starting_at(4)
+        .draw(Some(PLACE))
+        .expect(&rt, "a number");
     let origin = ComponentOrigin::Extension(id);
     let mut text = String::new(rt.alloc());
-    push_components(rt.alloc(), &mut text, origin)?;
-    push_names(rt.alloc(), &mut text, origin)?;
+    push_components(rt.alloc(), &mut text, origin).expect(&rt, "memory");
+    push_names(rt.alloc(), &mut text, origin).expect(&rt, "memory");
     assert_eq!(rt;
         text.as_str(),
         "definition - file 3 \nextension 4 of 5:20-31 5:20-31 file 3 \nextension 4 of 5:20-31 5:20-31 file 3 \nalike: true\ndefinition 5:20-31 file 3 \nextension 4 of 5:20-31 5:20-31 file 3 \nextension 4 of 5:20-31 5:20-31 file 3 \nalike: true\nNode\ndefinition Node 5:20-31 \nextension 4 of 5:20-31 Node 5:20-31 \nextension 4 of 5:20-31 Node 5:20-31 \nalike: true\ndefinition Node 5:20-31 \nextension 4 of 5:20-31 Node 5:20-31 \nextension 4 of 5:20-31 Node 5:20-31 \nalike: true\n"
     );
-    Ok(())
 }
 
 #[test]
-fn origins_of_extensions_have_identities(rt: HostRuntime) -> Result<(), Fail> {
-    let id = ExtensionSource::starting_at(4).draw(Some(PLACE))?;
+fn origins_of_extensions_have_identities(rt: HostRuntime) {
+    let id = ExtensionSource::starting_at(4)
+        .draw(Some(PLACE))
+        .expect(&rt, "a number");
     assert!(rt; ComponentOrigin::Extension(id).extension_id() == Some(&id));
     assert!(rt; ComponentOrigin::Extension(id) != ComponentOrigin::Definition);
     assert!(rt; ComponentOrigin::Definition.extension_id().is_none());
-    Ok(())
 }
 
 #[test]

@@ -7,7 +7,6 @@ use graphql_nodes::name::Name;
 use graphql_nodes::node::Node;
 use graphql_nodes::source::{FileId, SourceSpan};
 use std::alloc::{AllocError, Global};
-use std::test::Fail;
 use telling::Tell;
 
 /// The directive of this name, at the location that begins there.
@@ -75,15 +74,14 @@ fn push_written(alloc: Global, text: &mut String) -> Result<(), AllocError> {
 }
 
 #[test]
-fn directives_are_looked_up_by_name_walked_and_written(rt: HostRuntime) -> Result<(), Fail> {
+fn directives_are_looked_up_by_name_walked_and_written(rt: HostRuntime) {
     let mut text = String::new(rt.alloc());
-    push_all(rt.alloc(), &mut text, "a")?;
-    push_all(rt.alloc(), &mut text, "c")?;
-    push_walked(rt.alloc(), &mut text)?;
-    push_written(rt.alloc(), &mut text)?;
+    push_all(rt.alloc(), &mut text, "a").expect(&rt, "memory");
+    push_all(rt.alloc(), &mut text, "c").expect(&rt, "memory");
+    push_walked(rt.alloc(), &mut text).expect(&rt, "memory");
+    push_written(rt.alloc(), &mut text).expect(&rt, "memory");
     assert_eq!(rt;
         text.as_str(),
         "a: true\ndefinition 5:1 @ a - \ndefinition 5:1 @ a - \ndefinition 5:3 @ a - \nnothing\nnothing\nc: false\nnothing\nnothing\nnothing\nnothing\nnothing\ndefinition 5:1 @ a - \ndefinition 5:2 @ b - \ndefinition 5:3 @ a - \n1: definition 5:9 @ c - \n"
     );
-    Ok(())
 }

@@ -3,18 +3,18 @@
 
 use crate::building::{ADOPTING, is_built_of, schema_of};
 use apollo_schema::schema::Schema;
-use std::alloc::Global;
-use std::test::Fail;
+use std::process::Abort;
 
-/// Whether the schemas that two texts build are equal, whichever comes first.
-fn are_equal(alloc: Global, one: &str, other: &str) -> Result<[bool; 2], Fail> {
-    let one = schema_of(alloc, one)?;
-    let other = schema_of(alloc, other)?;
-    Ok([one == other, other == one])
+/// Expects the schemas that two texts build to be equal, or else unequal, whichever comes first.
+fn expect(rt: &(impl Abort + AllocGlobal), one: &str, other: &str, are_equal: bool) {
+    let first = schema_of(rt, one);
+    let second = schema_of(rt, other);
+    assert!(rt; (first == second) == are_equal, "{one:?} and {other:?}");
+    assert!(rt; (second == first) == are_equal, "{other:?} and {one:?}");
 }
 
 #[test]
-fn schemas_that_differ_in_one_value_are_unequal(rt: HostRuntime) -> Result<(), Fail> {
+fn schemas_that_differ_in_one_value_are_unequal(rt: HostRuntime) {
     // A directive of a type, of a field and of the schema; the order of directives; the type, the order of arguments and
     // the name of a field; a root and its name; a member; a type and its kind; a location of a directive definition.
     for (one, other) in [
@@ -44,14 +44,12 @@ fn schemas_that_differ_in_one_value_are_unequal(rt: HostRuntime) -> Result<(), F
         ("def object A\nfield a Int", "def interface A\nfield a Int"),
         ("directive d\non OBJECT", "directive d\non SCHEMA"),
     ] {
-        let are_equal = are_equal(rt.alloc(), one, other)?;
-        assert_eq!(rt; are_equal, [false, false], "of {one:?} and {other:?}");
+        expect(&rt, one, other, false);
     }
-    Ok(())
 }
 
 #[test]
-fn schemas_that_differ_in_order_origin_or_location_are_equal(rt: HostRuntime) -> Result<(), Fail> {
+fn schemas_that_differ_in_order_origin_or_location_are_equal(rt: HostRuntime) {
     // The order of types, of directive definitions, of fields, of interfaces, of members and of values; the origin of a
     // field, of a directive and of a root, each on its own line; locations alone, and documents.
     for (one, other) in [
@@ -94,16 +92,12 @@ fn schemas_that_differ_in_order_origin_or_location_are_equal(rt: HostRuntime) ->
             "def scalar S\n---\ndef scalar T",
         ),
     ] {
-        let are_equal = are_equal(rt.alloc(), one, other)?;
-        assert_eq!(rt; are_equal, [true, true], "of {one:?} and {other:?}");
+        expect(&rt, one, other, true);
     }
-    Ok(())
 }
 
 #[test]
-fn a_new_schema_is_built_of_no_documents(rt: HostRuntime) -> Result<(), Fail> {
-    let schema = Schema::new(rt.alloc())?;
-    let is_built = is_built_of(rt.alloc(), &ADOPTING, &schema, &[])?;
-    assert!(rt; is_built);
-    Ok(())
+fn a_new_schema_is_built_of_no_documents(rt: HostRuntime) {
+    let schema = Schema::new(rt.alloc()).expect(&rt, "memory");
+    assert!(rt; is_built_of(rt.alloc(), &ADOPTING, &schema, &[]) == Ok(true));
 }

@@ -7,7 +7,7 @@ use apollo_schema::schema_builder::SchemaBuilder;
 use bench_notation::reading::read;
 use graphql_nodes::collections::hash_keys::HashKeys;
 use std::alloc::{AllocError, Global};
-use std::test::Fail;
+use std::process::Abort;
 use telling::keys::is_schema_keyed;
 
 /// Definitions and extensions of each kind, some before their definitions, one with more fields than a table first has room for,
@@ -19,19 +19,13 @@ const INPUT: &str =
 const DRAWN: [u8; 16] = [33, 7, 250, 3, 4, 95, 6, 7, 180, 9, 10, 11, 112, 13, 214, 15];
 
 /// What the input builds under these keys.
-fn built(alloc: Global, keys: HashKeys) -> Result<Built, Fail> {
-    let documents = read(alloc, INPUT)?;
-    let builder = SchemaBuilder::with_keys(alloc, ExtensionSource::new(), keys)?;
-    let mut builder = builder.adopt_orphan_extensions().clone()?;
+fn built(rt: &(impl Abort + AllocGlobal), keys: HashKeys) -> Built {
+    let documents = read(rt.alloc(), INPUT).expect(rt, "documents");
+    let builder = SchemaBuilder::with_keys(rt.alloc(), ExtensionSource::new(), keys);
+    let adopting = builder.expect(rt, "memory").adopt_orphan_extensions();
+    let mut builder = adopting.clone().expect(rt, "memory");
     add_all(&mut builder, documents.as_slice());
-    Ok(builder.build())
-}
-
-/// What is told of the schema and of its faults.
-fn told(alloc: Global, built: &Built) -> Result<String, AllocError> {
-    let mut text = String::new(alloc);
-    push_built(alloc, &mut text, built)?;
-    Ok(text)
+    builder.build()
 }
 
 /// Whether there are schemas, with faults, and these are equal, whichever comes first.
@@ -45,14 +39,15 @@ fn are_equal(first: &Built, second: &Built) -> bool {
 }
 
 #[test]
-fn what_is_built_depends_on_no_keys(rt: HostRuntime) -> Result<(), Fail> {
-    let of_fixed = built(rt.alloc(), HashKeys::FIXED)?;
-    let of_drawn = built(rt.alloc(), HashKeys::from_bytes(DRAWN))?;
-    assert!(rt; are_equal(&of_fixed, &of_drawn));
-    let fixed = told(rt.alloc(), &of_fixed)?;
-    let drawn = told(rt.alloc(), &of_drawn)?;
-    assert_eq!(rt; fixed.as_str(), drawn.as_str());
-    Ok(())
+fn what_is_built_depends_on_no_keys(rt: HostRuntime) {
+    let fixed = built(&rt, HashKeys::FIXED);
+    let drawn = built(&rt, HashKeys::from_bytes(DRAWN));
+    assert!(rt; are_equal(&fixed, &drawn));
+    let mut of_fixed = String::new(rt.alloc());
+    push_built(rt.alloc(), &mut of_fixed, &fixed).expect(&rt, "memory");
+    let mut of_drawn = String::new(rt.alloc());
+    push_built(rt.alloc(), &mut of_drawn, &drawn).expect(&rt, "memory");
+    assert_eq!(rt; of_fixed.as_str(), of_drawn.as_str());
 }
 
 /// Whether each table of the schema, and of its map of implementers, hashes by these keys.
@@ -67,10 +62,8 @@ fn is_keyed(alloc: Global, built: &Built, keys: HashKeys) -> Result<bool, AllocE
 }
 
 #[test]
-fn keys_reach_each_table(rt: HostRuntime) -> Result<(), Fail> {
+fn keys_reach_each_table(rt: HostRuntime) {
     let keys = HashKeys::from_bytes(DRAWN);
-    let built = built(rt.alloc(), keys)?;
-    let is_keyed = is_keyed(rt.alloc(), &built, keys)?;
-    assert!(rt; is_keyed);
-    Ok(())
+    let built = built(&rt, keys);
+    assert!(rt; is_keyed(rt.alloc(), &built, keys) == Ok(true));
 }

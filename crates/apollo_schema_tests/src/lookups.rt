@@ -9,7 +9,6 @@ use graphql_nodes::name::Name;
 use likeness::is_copied;
 use std::alloc::{AllocError, Global};
 use std::process::Abort;
-use std::test::Fail;
 use telling::Tell;
 
 /// An interface that an interface implements, which an object implements; and a union with a member that isn't defined.
@@ -33,15 +32,14 @@ fn push_subtypes(alloc: Global, text: &mut String, schema: &Schema) -> Result<()
 }
 
 #[test]
-fn nothing_is_a_subtype_through_something_else(rt: HostRuntime) -> Result<(), Fail> {
-    let schema = schema_of(rt.alloc(), CHAIN)?;
+fn nothing_is_a_subtype_through_something_else(rt: HostRuntime) {
+    let schema = schema_of(&rt, CHAIN);
     let mut text = String::new(rt.alloc());
-    push_subtypes(rt.alloc(), &mut text, &schema)?;
+    push_subtypes(rt.alloc(), &mut text, &schema).expect(&rt, "memory");
     assert_eq!(rt;
         text.as_str(),
         "Bar of Foo\nObj of Bar\nObj of U\nGone of U\n"
     );
-    Ok(())
 }
 
 /// Adds which types implement which interfaces.
@@ -63,17 +61,17 @@ const WIDE: &str =
     "def interface Wide\nimplements I\nfield a Int\ndef object B\nimplements J\nimplements I\nfield a Int\ndef object A\nimplements I\nfield a Int\n";
 
 #[test]
-fn implementers_declare_the_interface_themselves(rt: HostRuntime) -> Result<(), Fail> {
+fn implementers_declare_the_interface_themselves(rt: HostRuntime) {
     let mut text = String::new(rt.alloc());
     for input in [CHAIN, WIDE] {
-        let schema = schema_of(rt.alloc(), input)?;
-        push_map(&mut text, &schema.implementers_map(rt.alloc())?)?;
+        let schema = schema_of(&rt, input);
+        let map = schema.implementers_map(rt.alloc()).expect(&rt, "memory");
+        push_map(&mut text, &map).expect(&rt, "memory");
     }
     assert_eq!(rt;
         text.as_str(),
         "Foo has 0 objects: Bar\nBar has 1 objects: Obj\ncopied equal: true\nI has 2 objects: B A Wide\nJ has 1 objects: B\ncopied equal: true\n"
     );
-    Ok(())
 }
 
 /// Whether a field is found alike in a type by its name and in the type at hand.
@@ -118,16 +116,15 @@ fn expect_fields(
     input: &str,
     names: &[(&str, &str)],
     expected: &str,
-) -> Result<(), Fail> {
-    let schema = schema_of(rt.alloc(), input)?;
+) {
+    let schema = schema_of(rt, input);
     let mut text = String::new(rt.alloc());
     for (ty, field) in names {
-        let ty = Name::new_unchecked(rt.alloc(), *ty)?;
-        let field = Name::new_unchecked(rt.alloc(), *field)?;
-        push_lookup(&mut text, &schema, &ty, &field)?;
+        let ty = Name::new_unchecked(rt.alloc(), *ty).expect(rt, "memory");
+        let field = Name::new_unchecked(rt.alloc(), *field).expect(rt, "memory");
+        push_lookup(&mut text, &schema, &ty, &field).expect(rt, "memory");
     }
     assert_eq!(rt; text.as_str(), expected, "of {input:?}");
-    Ok(())
 }
 
 /// Users, and types of all other kinds.
@@ -135,7 +132,7 @@ pub const USERS: &str =
     "def object Query\nfield me User\ndef object User\nfield name String\ndef interface Node\nfield id ID\ndef union Pet\nmember User\ndef scalar Date\ndef enum Size\nvalue BIG\ndef input Filter\nfield size Size\n";
 
 #[test]
-fn fields_are_those_of_types_and_meta_fields(rt: HostRuntime) -> Result<(), Fail> {
+fn fields_are_those_of_types_and_meta_fields(rt: HostRuntime) {
     let names = [
         ("Query", "me"),
         ("Query", "__schema"),
@@ -156,7 +153,7 @@ fn fields_are_those_of_types_and_meta_fields(rt: HostRuntime) -> Result<(), Fail
         USERS,
         &names,
         "Query me: definition 1:2 me 1:2 User 1:2 \nQuery __schema: definition - __schema - __Schema - ! \nQuery __type: definition - __type - ( - name - - String - ! ) __Type - \nUser __typename: definition - __typename - String - ! \nUser __schema: no such field under User, which is User\nUser me: no such field under User, which is User\nNode id: definition 1:6 id 1:6 ID 1:6 \nNode __typename: definition - __typename - String - ! \nPet __typename: definition - __typename - String - ! \nPet name: no such field under Pet, which is Pet\nDate __typename: no such field under Date, which is Date\nFilter size: no such field under Filter, which is Filter\nGone __typename: no such type\n",
-    )
+    );
 }
 
 /// A query for an identity and a user, and the users' identities.
@@ -164,7 +161,7 @@ const IDENTITIES: &str =
     "def object Query\nfield id ID\nfield user User\ndef object User\nfield id ID\n";
 
 #[test]
-fn the_schema_field_is_that_of_the_root_of_queries_alone(rt: HostRuntime) -> Result<(), Fail> {
+fn the_schema_field_is_that_of_the_root_of_queries_alone(rt: HostRuntime) {
     let names = [
         ("Query", "__schema"),
         ("User", "__typename"),
@@ -177,13 +174,11 @@ fn the_schema_field_is_that_of_the_root_of_queries_alone(rt: HostRuntime) -> Res
         IDENTITIES,
         &names,
         "Query __schema: definition - __schema - __Schema - ! \nUser __typename: definition - __typename - String - ! \nUser __schema: no such field under User, which is User\nID __typename: no such field under ID, which is ID\nGone id: no such type\n",
-    )
+    );
 }
 
 #[test]
-fn a_declared_field_comes_first_and_any_root_of_queries_has_meta_fields(
-    rt: HostRuntime,
-) -> Result<(), Fail> {
+fn a_declared_field_comes_first_and_any_root_of_queries_has_meta_fields(rt: HostRuntime) {
     let names = [
         ("Odd", "__typename"),
         ("Odd", "__schema"),
@@ -195,5 +190,5 @@ fn a_declared_field_comes_first_and_any_root_of_queries_has_meta_fields(
         "schema\nroot query Root\ndef scalar Root\ndef object Odd\nfield __typename Int\n",
         &names,
         "Odd __typename: definition 1:5 __typename 1:5 Int 1:5 \nOdd __schema: no such field under Odd, which is Odd\nRoot __schema: definition - __schema - __Schema - ! \nRoot __typename: no such field under Root, which is Root\n",
-    )
+    );
 }

@@ -9,7 +9,6 @@ use likeness::push_copy;
 use std::alloc::{AllocError, Global};
 use std::process::Abort;
 use std::slice;
-use std::test::Fail;
 use telling::Tell;
 
 /// Adds what is at fault in a document, and whether the other one builds an equal schema.
@@ -49,16 +48,15 @@ fn expect(
     input: &str,
     order: &[usize],
     account: &str,
-) -> Result<(), Fail> {
-    let documents = read(rt.alloc(), input)?;
-    let mut text = String::new(rt.alloc());
-    for document in documents.iter() {
-        let other = in_order(rt.alloc(), document, order)?;
-        push_pair(rt.alloc(), &mut text, settings, document, &other)?;
-        push_pair(rt.alloc(), &mut text, settings, &other, document)?;
-    }
+) {
+    let alloc = rt.alloc();
+    let documents = read(alloc, input).expect(rt, "documents");
+    let document = documents.first().expect(rt, "a document");
+    let other = in_order(alloc, document, order).expect(rt, "memory");
+    let mut text = String::new(alloc);
+    push_pair(alloc, &mut text, settings, document, &other).expect(rt, "memory");
+    push_pair(alloc, &mut text, settings, &other, document).expect(rt, "memory");
     assert_eq!(rt; text.as_str(), account, "of {input:?}");
-    Ok(())
 }
 
 /// Extensions of the schema and of two types, and no definition.
@@ -104,49 +102,46 @@ const REARRANGED: [(&Settings, &str, &[usize], &str); 5] = [
 ];
 
 #[test]
-fn what_changes_places_builds_an_equal_schema_with_the_same_faults(
-    rt: HostRuntime,
-) -> Result<(), Fail> {
+fn what_changes_places_builds_an_equal_schema_with_the_same_faults(rt: HostRuntime) {
     for (settings, input, order, account) in REARRANGED {
-        expect(&rt, settings, input, order, account)?;
+        expect(&rt, settings, input, order, account);
     }
-    Ok(())
 }
 
 #[test]
-fn extensions_of_one_name_and_two_kinds_do_not_change_places(rt: HostRuntime) -> Result<(), Fail> {
+fn extensions_of_one_name_and_two_kinds_do_not_change_places(rt: HostRuntime) {
     let input = "ext object A\nfield a Int\next interface A\nfield b Int";
     let account =
         "1:3 adding an interface type extension, but `A` is an object type; 1:1 1:3 \nequal: false\n1:1 adding an object type extension, but `A` is an interface type; 1:3 1:1 \nequal: false\n";
-    expect(&rt, &ADOPTING, input, &[1, 0], account)
+    expect(&rt, &ADOPTING, input, &[1, 0], account);
 }
 
 #[test]
-fn an_early_extension_and_its_definition_change_places(rt: HostRuntime) -> Result<(), Fail> {
+fn an_early_extension_and_its_definition_change_places(rt: HostRuntime) {
     let input = "ext object T\nfield a Int\ndef object T\nfield a String";
     let account =
         "1:2 duplicate definitions for the `a` field of object type `T`; 1:4 1:1 \nequal: true\n1:2 duplicate definitions for the `a` field of object type `T`; 1:4 1:1 \nequal: true\n";
-    expect(&rt, &PLAIN, input, &[1, 0], account)?;
+    expect(&rt, &PLAIN, input, &[1, 0], account);
     let input = "ext enum T\nvalue A\ndef object T\nfield x Int";
     let account =
         "1:1 adding an enum type extension, but `T` is an object type; 1:3 1:1 \nequal: true\n1:1 adding an enum type extension, but `T` is an object type; 1:3 1:1 \nequal: true\n";
-    expect(&rt, &PLAIN, input, &[1, 0], account)
+    expect(&rt, &PLAIN, input, &[1, 0], account);
 }
 
 #[test]
-fn early_schema_extensions_go_last_under_adoption(rt: HostRuntime) -> Result<(), Fail> {
+fn early_schema_extensions_go_last_under_adoption(rt: HostRuntime) {
     let input =
         "ext-schema\nroot query Query\next-schema\nroot subscription S\nschema\nroot mutation Mutation\nroot query AnotherQuery\ndef object Query\ndef object Mutation\ndef object S\ndef object AnotherQuery";
     let account =
         "1:2 duplicate definitions for the `query` root operation type; 1:7 \nequal: true\n1:2 duplicate definitions for the `query` root operation type; 1:7 \nequal: true\n";
-    expect(&rt, &ADOPTING, input, &[2, 3, 4, 5, 6, 0, 1], account)
+    expect(&rt, &ADOPTING, input, &[2, 3, 4, 5, 6, 0, 1], account);
 }
 
 #[test]
-fn a_type_with_six_faults_is_defined_first(rt: HostRuntime) -> Result<(), Fail> {
+fn a_type_with_six_faults_is_defined_first(rt: HostRuntime) {
     let input =
         "ext object T\nimplements I\nfield a Int\next enum T\nvalue X\ndef object T\nimplements I\nimplements I\nfield a String\nfield a Int\ndef interface T\next object T\nfield a ID\next union U\nmember T";
-    expect(&rt, &PLAIN, input, &[2, 0, 1, 3, 4, 5], SIX_FAULTS)
+    expect(&rt, &PLAIN, input, &[2, 0, 1, 3, 4, 5], SIX_FAULTS);
 }
 
 /// The faults of a type that an extension comes before, and of an extension of no type; and so for the type's definition first.
@@ -158,22 +153,20 @@ const WITH_A_DIRECTIVE: &str =
     "ext-schema\n@ d\nroot query A\next-schema\nroot query B\next interface B\nfield x Int\next object A\nfield y Int";
 
 #[test]
-fn extensions_with_a_directive_go_behind_those_of_types(rt: HostRuntime) -> Result<(), Fail> {
+fn extensions_with_a_directive_go_behind_those_of_types(rt: HostRuntime) {
     let account =
         "1:5 duplicate definitions for the `query` root operation type; 1:3 \nequal: true\n1:5 duplicate definitions for the `query` root operation type; 1:3 \nequal: true\n";
-    expect(&rt, &ADOPTING, WITH_A_DIRECTIVE, &[2, 3, 0, 1], account)?;
+    expect(&rt, &ADOPTING, WITH_A_DIRECTIVE, &[2, 3, 0, 1], account);
     let account =
         "1:6 type extension for undefined type `B`; 1:6 \n1:8 type extension for undefined type `A`; 1:8 \n1:1 schema extension without a schema definition\n1:4 schema extension without a schema definition\nequal: true\n1:6 type extension for undefined type `B`; 1:6 \n1:8 type extension for undefined type `A`; 1:8 \n1:1 schema extension without a schema definition\n1:4 schema extension without a schema definition\nequal: true\n";
-    expect(&rt, &PLAIN, WITH_A_DIRECTIVE, &[2, 3, 0, 1], account)
+    expect(&rt, &PLAIN, WITH_A_DIRECTIVE, &[2, 3, 0, 1], account);
 }
 
 #[test]
-fn adopted_extensions_of_two_kinds_with_directives_do_not_change_places(
-    rt: HostRuntime,
-) -> Result<(), Fail> {
+fn adopted_extensions_of_two_kinds_with_directives_do_not_change_places(rt: HostRuntime) {
     let input =
         "ext object T\n@ dir\next interface T\n@ dir\ndirective dir\nrepeatable\non SCHEMA\non OBJECT";
     let account =
         "1:3 adding an interface type extension, but `T` is an object type; 1:1 1:3 \nequal: false\n1:1 adding an object type extension, but `T` is an interface type; 1:3 1:1 \nequal: false\n";
-    expect(&rt, &ADOPTING, input, &[1, 0, 2], account)
+    expect(&rt, &ADOPTING, input, &[1, 0, 2], account);
 }

@@ -10,7 +10,6 @@ use graphql_nodes::name::Name;
 use likeness::{both, is_made};
 use std::alloc::{AllocError, Global};
 use std::process::Abort;
-use std::test::Fail;
 use telling::Tell;
 
 /// Adds the roots of a schema's definition, where its components come from, and its extensions.
@@ -53,40 +52,35 @@ fn made_of(alloc: Global, schema: &Schema) -> Result<Schema, AllocError> {
 }
 
 /// Expects this to be told of the origins in the schema of a text. Copies of its parts make an equal schema.
-fn expect_origins(
-    rt: &(impl Abort + AllocGlobal),
-    input: &str,
-    expected: &str,
-) -> Result<(), Fail> {
-    let schema = schema_of(rt.alloc(), input)?;
+fn expect_origins(rt: &(impl Abort + AllocGlobal), input: &str, expected: &str) {
+    let schema = schema_of(rt, input);
     let mut text = String::new(rt.alloc());
-    push_definition(rt.alloc(), &mut text, &schema.schema_definition)?;
+    push_definition(rt.alloc(), &mut text, &schema.schema_definition).expect(rt, "memory");
     for ty in schema.types.values() {
         if !ty.is_built_in() {
-            push_origins(rt.alloc(), &mut text, ty)?;
+            push_origins(rt.alloc(), &mut text, ty).expect(rt, "memory");
         }
     }
     assert_eq!(rt; text.as_str(), expected, "of {input:?}");
     assert!(rt; is_made(made_of(rt.alloc(), &schema), &schema));
-    Ok(())
 }
 
 #[test]
-fn roots_come_in_the_order_of_operation_types(rt: HostRuntime) -> Result<(), Fail> {
+fn roots_come_in_the_order_of_operation_types(rt: HostRuntime) {
     let input =
         "ext-schema\nroot subscription S\nschema\n@ d\nroot mutation M\next-schema\n@ e\nroot query Q\n";
     let expected =
         "query is Q\nmutation is M\nsubscription is S\nschema: definition extension 1 of 1:6 extension 1 of 1:6 definition extension 0 of 1:1 \nextensions: extension 1 of 1:6 extension 0 of 1:1 \n";
-    expect_origins(&rt, input, expected)
+    expect_origins(&rt, input, expected);
 }
 
 #[test]
-fn origins_go_by_directives_then_names_then_fields(rt: HostRuntime) -> Result<(), Fail> {
+fn origins_go_by_directives_then_names_then_fields(rt: HostRuntime) {
     let input =
         "ext object Query\nfield withArg String\nfield@ deprecated\narg arg Boolean\ndef object Query\nfield int Int\next object Query\nimplements Inter\ndef interface Inter\nfield string String\next object Query\n@ customDirective\next object Query\nfield string String\ndirective customDirective\non OBJECT";
     let expected =
         "query is Query\nschema: definition \nextensions: \nQuery: extension 2 of 1:11 extension 1 of 1:7 definition extension 0 of 1:1 extension 3 of 1:13 \nextensions: extension 2 of 1:11 extension 1 of 1:7 extension 0 of 1:1 extension 3 of 1:13 \nInter: definition \nextensions: \n";
-    expect_origins(&rt, input, expected)
+    expect_origins(&rt, input, expected);
 }
 
 /// A type of each kind, with what it may hold in its definition and in an extension.
@@ -94,10 +88,10 @@ const KINDS: &str =
     "def scalar S\n@ d\ndef object O\nimplements I\nfield f Int\ndef interface I\nfield f Int\ndef union U\nmember O\ndef enum E\nvalue A\ndef input N\nfield f Int\next scalar S\n@ d\next object O\nfield g Int\next interface I\nimplements J\next union U\nmember S\next enum E\nvalue B\next input N\nfield g Int";
 
 #[test]
-fn types_of_each_kind_have_origins(rt: HostRuntime) -> Result<(), Fail> {
+fn types_of_each_kind_have_origins(rt: HostRuntime) {
     let expected =
         "schema: \nextensions: \nS: definition extension 0 of 1:14 \nextensions: extension 0 of 1:14 \nO: definition definition extension 1 of 1:16 \nextensions: extension 1 of 1:16 \nI: extension 2 of 1:18 definition \nextensions: extension 2 of 1:18 \nU: definition extension 3 of 1:20 \nextensions: extension 3 of 1:20 \nE: definition extension 4 of 1:22 \nextensions: extension 4 of 1:22 \nN: definition extension 5 of 1:24 \nextensions: extension 5 of 1:24 \n";
-    expect_origins(&rt, KINDS, expected)
+    expect_origins(&rt, KINDS, expected);
 }
 
 /// Adds the words of what holds.
@@ -175,20 +169,19 @@ fn push_types(alloc: Global, text: &mut String, schema: &Schema) -> Result<(), A
             push_kinds(alloc, text, ty)?;
         }
     }
-    push_found(alloc, text, schema, &Name::new_unchecked(alloc, "Gone")?)
+    push_found(alloc, text, schema, &Name::new_unchecked(alloc, "Gone")?)?;
+    text.push_str("\n")
 }
 
 #[test]
-fn each_type_is_of_its_kind_alone(rt: HostRuntime) -> Result<(), Fail> {
+fn each_type_is_of_its_kind_alone(rt: HostRuntime) {
     let mut text = String::new(rt.alloc());
     for input in [KINDS, USERS] {
-        let schema = schema_of(rt.alloc(), input)?;
-        push_types(rt.alloc(), &mut text, &schema)?;
-        text.push_str("\n")?;
+        let schema = schema_of(&rt, input);
+        push_types(rt.alloc(), &mut text, &schema).expect(&rt, "memory");
     }
     assert_eq!(rt;
         text.as_str(),
         "S: scalar input output, is scalar leaf input output with directives made again at no location\nO: object output, is object output made again at no location\nI: interface output, is interface output made again at no location\nU: union output, is union output made again at no location\nE: enum input output, is enum leaf input output made again at no location\nN: input object input, is input object input made again at no location\nGone:\nQuery: object output, is object output made again at no location\nUser: object output, is object output made again at no location\nNode: interface output, is interface output made again at no location\nPet: union output, is union output made again at no location\nDate: scalar input output, is scalar leaf input output made again at no location\nSize: enum input output, is enum leaf input output made again at no location\nFilter: input object input, is input object input made again at no location\nGone:\n"
     );
-    Ok(())
 }
