@@ -17,46 +17,44 @@ const SECOND: &str =
 const OTHER: &str =
     "def object Query\nfield f Int\narg a ID\ndef input I\nfield f ID\ndef enum E\nvalue f\ndirective d\narg a ID\non QUERY\n";
 
-/// How what was found in two schemas compares.
-fn comparison<T: PartialEq + Drop, E: Drop>(
+/// Whether what was found in two schemas is equal, if it was found in both.
+fn are_equal<T: PartialEq + Drop, E: Drop>(
     first: Result<T, E>,
     second: Result<T, E>,
-) -> &'static str {
+) -> Option<bool> {
     match (first, second) {
-        (Ok(first), Ok(second)) => if first == second { "same" } else { "other" },
-        _ => "missing",
+        (Ok(first), Ok(second)) => Some(first == second),
+        _ => None,
     }
 }
 
-/// How what a coordinate points to compares; nothing where the lookup of an attribute compares otherwise.
-fn compared(coordinate: &SchemaCoordinate, first: &Schema, second: &Schema) -> &'static str {
-    let found = comparison(coordinate.lookup(first), coordinate.lookup(second));
-    if let SchemaCoordinate::TypeAttribute(attribute) = coordinate {
-        if comparison(attribute.lookup(first), attribute.lookup(second)) != found {
-            return "otherwise as an attribute";
-        }
+/// Whether what a coordinate points to in two schemas is equal; none where the lookup of an attribute answers otherwise.
+fn are_same(coordinate: &SchemaCoordinate, first: &Schema, second: &Schema) -> Option<bool> {
+    let same = are_equal(coordinate.lookup(first), coordinate.lookup(second));
+    match coordinate {
+        SchemaCoordinate::TypeAttribute(attribute)
+            if are_equal(attribute.lookup(first), attribute.lookup(second)) != same => { None }
+        _ => same,
     }
-    found
 }
 
-/// Expects coordinates of each form to compare so in the schemas of two texts, but that of the enum value as the same.
-fn expect_compared(rt: &(impl Abort + AllocGlobal), second: &str, expected: &str) {
+/// Expects what coordinates of each form point to in the schemas of two texts to be equal, or else unequal but for the enum value.
+fn expect(rt: &(impl Abort + AllocGlobal), second: &str, are_equal: bool) {
     let first = built(rt, FIRST);
     let second = built(rt, second);
     for (input, expected) in [
-        ("Query", expected),
-        ("Query.f", expected),
-        ("Query.f(a:)", expected),
-        ("I.f", expected),
-        ("E.f", "same"),
-        ("@d", expected),
-        ("@d(a:)", expected),
+        ("Query", are_equal),
+        ("Query.f", are_equal),
+        ("Query.f(a:)", are_equal),
+        ("I.f", are_equal),
+        ("E.f", true),
+        ("@d", are_equal),
+        ("@d(a:)", are_equal),
     ] {
         let read = SchemaCoordinate::from_str(rt.alloc(), input);
         let coordinate = read.expect(rt, "a coordinate");
-        assert_eq!(rt;
-            compared(&coordinate, &first, &second),
-            expected,
+        assert!(rt;
+            are_same(&coordinate, &first, &second) == Some(expected),
             "of {input}"
         );
     }
@@ -64,6 +62,6 @@ fn expect_compared(rt: &(impl Abort + AllocGlobal), second: &str, expected: &str
 
 #[test]
 fn locations_and_origins_are_left_out_and_other_values_are_unequal(rt: HostRuntime) {
-    expect_compared(&rt, SECOND, "same");
-    expect_compared(&rt, OTHER, "other");
+    expect(&rt, SECOND, true);
+    expect(&rt, OTHER, false);
 }

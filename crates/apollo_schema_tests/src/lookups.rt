@@ -74,7 +74,7 @@ fn implementers_declare_the_interface_themselves(rt: HostRuntime) {
     );
 }
 
-/// Whether a field is found alike in a type by its name and in the type at hand.
+/// Whether a field is found alike by the name of its type and in the type itself.
 fn is_found_alike(schema: &Schema, ty: &Name, field: &Name) -> bool {
     let Some(known) = schema.types.get(ty) else {
         return true;
@@ -83,7 +83,7 @@ fn is_found_alike(schema: &Schema, ty: &Name, field: &Name) -> bool {
         schema.field_of(ty, known, field),
         schema.type_field(ty, field),
     ) {
-        (Some(at_hand), Ok(found)) => at_hand == found,
+        (Some(known), Ok(found)) => known == found,
         (None, Err(_)) => true,
         _ => false,
     }
@@ -98,7 +98,7 @@ fn push_lookup(
 ) -> Result<(), AllocError> {
     write!(text, "{ty} {field}: ")?;
     if !is_found_alike(schema, ty, field) {
-        text.push_str("otherwise at hand: ")?;
+        text.push_str("otherwise in the type itself: ")?;
     }
     match schema.type_field(ty, field) {
         Ok(found) => found.tell(text),
