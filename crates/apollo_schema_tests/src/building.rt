@@ -106,7 +106,8 @@ pub fn schema_of(rt: &(impl Abort + AllocGlobal), input: &str) -> Schema {
     built.expect(rt, "a schema")
 }
 
-/// Adds what a schema has besides the built-in definitions, and its roots: as its definition has them, and as lookups answer.
+/// Adds what a schema has besides the built-in definitions, and its roots: as its definition has them,
+/// and as lookups answer.
 fn push_schema(text: &mut String, schema: &Schema) -> Result<(), AllocError> {
     push_own(text, schema)?;
     for operation_type in [
@@ -160,7 +161,8 @@ fn push_copies(alloc: Global, text: &mut String, schema: &Schema) -> Result<(), 
     write!(text, "copied equal: {types}, {definition}, {whole}\n")
 }
 
-/// Adds the faults that a copy of what was found has, and whether copies of these and of the schema are equal.
+/// Adds the faults that a copy of what was found has, and whether copies of these and of the schema are
+/// equal.
 fn push_found(text: &mut String, found: &WithErrors<Schema>) -> Result<(), AllocError> {
     let copy = found.clone()?;
     copy.errors.tell(text)?;

@@ -42,7 +42,8 @@ fn the_last_number_is_never_drawn(rt: HostRuntime) {
     assert!(rt; is_printed(rt.alloc(), &IdsSpent, "extension identities spent"));
 }
 
-/// Adds two values, of which the second is of an extension, a copy of this one, and whether the first is alike.
+/// Adds two values, of which the second is of an extension, a copy of this one, and whether the first is
+/// alike.
 fn push_both<T: Tell + Clone + PartialEq + Hash + Drop>(
     text: &mut String,
     defined: &T,
@@ -67,7 +68,7 @@ fn push_components(
     push_both(text, &Component::from(node), &extended)
 }
 
-/// Adds components of a name that has a location: made of a borrowed name, with this origin, and of an own one.
+/// Adds components of a name that has a location: of a borrowed name, with this origin, and of an own one.
 fn push_names(alloc: Global, text: &mut String, origin: ComponentOrigin) -> Result<(), AllocError> {
     let name = Name::new_unchecked(alloc, "Node")?.with_location(PLACE);
     let extended = ComponentName::with_origin(name.clone()?, origin);

@@ -60,7 +60,7 @@ fn push_walked(alloc: Global, text: &mut String) -> Result<(), AllocError> {
     Ok(())
 }
 
-/// Adds the first directive, with the length, of a list to each of which `@c` at 9 is written, and of which the last two are cut off.
+/// Writes `@c` at 9 to each directive, cuts the last two off, and adds the length and what is left.
 fn push_written(alloc: Global, text: &mut String) -> Result<(), AllocError> {
     let mut list = list(alloc)?;
     let c = node(alloc, "c", 9)?;
