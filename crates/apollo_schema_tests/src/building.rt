@@ -1,9 +1,7 @@
 //! What documents build, as text.
 
-use crate::accounts::push_schema;
 use apollo_component::extension::ExtensionSource;
 use apollo_folding::builder_error::BuilderError;
-use apollo_meaning::build_error::Fault;
 use apollo_schema::build_failure::{BuildFailure, WithErrors};
 use apollo_schema::schema::Schema;
 use apollo_schema::schema_builder::SchemaBuilder;
@@ -11,15 +9,15 @@ use apollo_types::extended_type::ExtendedType;
 use bench_notation::printing::print;
 use bench_notation::reading::read;
 use graphql_ast::document::Document;
-use likeness::is_copied;
+use graphql_nodes::operation_type::OperationType;
+use likeness::{is_copied, is_made};
 use std::alloc::{AllocError, Global};
 use std::process::Abort;
 use std::slice;
-use std::test::Fail;
-use telling::containers::tell_all;
+use telling::Tell;
+use telling::schemas::push_own;
 
 /// How documents are built.
-#[derive(Clone, Copy)]
 pub struct Settings {
     /// The number of the first extension.
     pub first_number: u64,
@@ -36,21 +34,12 @@ pub const ADOPTING: Settings = Settings {
     adopts: true,
 };
 
-/// What looks at what a build answers, and at the number that its source gives next.
-pub trait View {
-    fn view(&mut self, built: &Result<Schema, BuildFailure>, next: u64) -> Result<(), AllocError>;
-}
-
-/// Shows a view what a builder builds.
-/// No clause: it serves tests.
-pub fn show<V: View>(view: &mut V, builder: SchemaBuilder) -> Result<(), AllocError> {
-    let (built, source) = builder.build_with_source();
-    view.view(&built, source.next_number())
-}
+/// What a builder builds: a schema, or else why there is none, or none without faults.
+pub type Built = Result<Schema, BuildFailure>;
 
 /// The schema that was built, whatever is at fault.
 /// No clause: it serves tests.
-pub fn schema_in(built: &Result<Schema, BuildFailure>) -> Option<&Schema> {
+pub fn schema_in(built: &Built) -> Option<&Schema> {
     match built {
         Ok(schema) => Some(schema),
         Err(BuildFailure::Faults(found)) => Some(&found.partial),
@@ -58,21 +47,14 @@ pub fn schema_in(built: &Result<Schema, BuildFailure>) -> Option<&Schema> {
     }
 }
 
-/// Whether this schema is built.
-#[derive(Drop)]
-struct Comparison<'a> {
-    schema: &'a Schema,
-    is_equal: bool,
-}
-
-impl<'a> View for Comparison<'a> {
-    fn view(&mut self, built: &Result<Schema, BuildFailure>, _next: u64) -> Result<(), AllocError> {
-        self.is_equal = match schema_in(built) {
-            Some(schema) => *schema == *self.schema,
-            None => false,
-        };
-        Ok(())
+/// A builder with these settings.
+/// No clause: it serves tests.
+pub fn begun(alloc: Global, settings: &Settings) -> Result<SchemaBuilder, AllocError> {
+    let source = ExtensionSource::starting_at(settings.first_number);
+    if settings.adopts {
+        return Ok(SchemaBuilder::with_source(alloc, source)?.adopt_orphan_extensions());
     }
+    SchemaBuilder::with_source(alloc, source)
 }
 
 /// What `add_ast` answers. Its contract stays here, so that no loop carries it along.
@@ -89,147 +71,137 @@ pub fn add_all(builder: &mut SchemaBuilder, documents: &[Document]) {
     }
 }
 
+/// What documents build with these settings.
+/// No clause: it serves tests.
+pub fn built_of(
+    alloc: Global,
+    settings: &Settings,
+    documents: &[Document],
+) -> Result<Built, AllocError> {
+    let mut builder = begun(alloc, settings)?;
+    add_all(&mut builder, documents);
+    Ok(builder.build())
+}
+
 /// Whether documents build this schema with these settings.
 /// No clause: it serves tests.
 pub fn is_built_of(
     alloc: Global,
-    settings: Settings,
+    settings: &Settings,
     schema: &Schema,
     documents: &[Document],
 ) -> Result<bool, AllocError> {
-    let mut builder = begun(alloc, settings)?;
-    add_all(&mut builder, documents);
-    let mut comparison = Comparison {
-        schema,
-        is_equal: false,
-    };
-    show(&mut comparison, builder)?;
-    Ok(comparison.is_equal)
+    let built = built_of(alloc, settings, documents)?;
+    Ok(match schema_in(&built) {
+        Some(other) => *other == *schema,
+        None => false,
+    })
+}
+
+/// The schema that a text builds, which has no fault.
+/// No clause: it serves tests.
+pub fn schema_of(rt: &(impl Abort + AllocGlobal), input: &str) -> Schema {
+    let documents = read(rt.alloc(), input).expect(rt, "documents");
+    let built = built_of(rt.alloc(), &PLAIN, documents.as_slice()).expect(rt, "memory");
+    built.expect(rt, "a schema")
+}
+
+/// Adds what a schema has besides the built-in definitions, and its roots: as its definition has them,
+/// and as lookups answer.
+fn push_schema(text: &mut String, schema: &Schema) -> Result<(), AllocError> {
+    push_own(text, schema)?;
+    for operation_type in [
+        OperationType::Query,
+        OperationType::Mutation,
+        OperationType::Subscription,
+    ] {
+        if let Some(root) = schema.schema_definition.root_operation(operation_type) {
+            root.tell(text)?;
+        }
+        if let Some(root) = schema.root_operation(operation_type) {
+            let is_object = schema.get_object(root).is_some();
+            write!(
+                text,
+                "{operation_type} is {root}, an object type: {is_object}\n"
+            )?;
+        }
+    }
+    Ok(())
 }
 
 /// Adds the write-out of a schema, and whether it builds the same schema.
-fn push_written(
-    alloc: Global,
-    text: &mut String,
-    schema: &Schema,
-    written: &Document,
-) -> Result<(), AllocError> {
-    let printed = print(alloc, written.definitions.as_slice())?;
-    text.push_str(printed.as_str())?;
-    let is_rebuilt = is_built_of(alloc, ADOPTING, schema, slice::from_ref(written))?;
+fn push_write_out(alloc: Global, text: &mut String, schema: &Schema) -> Result<(), AllocError> {
+    let written = Document::from_definitions(alloc, schema.to_ast(alloc)?);
+    text.push_str(print(alloc, written.definitions.as_slice())?.as_str())?;
+    let is_rebuilt = is_built_of(alloc, &ADOPTING, schema, slice::from_ref(&written))?;
     write!(text, "rebuilt equal: {is_rebuilt}\n")
 }
 
-fn push_write_out(alloc: Global, text: &mut String, schema: &Schema) -> Result<(), AllocError> {
-    let written = Document::from_definitions(alloc, schema.to_ast(alloc)?);
-    push_written(alloc, text, schema, &written)
-}
-
-/// Whether a copy of the type itself, not of its node alone, is equal to it.
-fn is_type_copied(ty: &ExtendedType) -> bool {
+/// A type made of a copy of this one's value, in a node of its own. A copy of the type shares its node.
+/// No clause: it serves tests.
+pub fn made_again(alloc: Global, ty: &ExtendedType) -> Result<ExtendedType, AllocError> {
     match ty {
-        ExtendedType::Scalar(node) => is_copied(&**node),
-        ExtendedType::Object(node) => is_copied(&**node),
-        ExtendedType::Interface(node) => is_copied(&**node),
-        ExtendedType::Union(node) => is_copied(&**node),
-        ExtendedType::Enum(node) => is_copied(&**node),
-        ExtendedType::InputObject(node) => is_copied(&**node),
+        ExtendedType::Scalar(node) => ExtendedType::of_scalar(alloc, (**node).clone()?),
+        ExtendedType::Object(node) => ExtendedType::of_object(alloc, (**node).clone()?),
+        ExtendedType::Interface(node) => ExtendedType::of_interface(alloc, (**node).clone()?),
+        ExtendedType::Union(node) => ExtendedType::of_union(alloc, (**node).clone()?),
+        ExtendedType::Enum(node) => ExtendedType::of_enum(alloc, (**node).clone()?),
+        ExtendedType::InputObject(node) => ExtendedType::of_input_object(alloc, (**node).clone()?),
     }
 }
 
-/// Whether copies of types, and of the types themselves, are equal to them.
-fn are_types_copied(schema: &Schema) -> bool {
+/// Adds whether copies of a schema and of its parts are equal to them: of its types, and of what these hold.
+fn push_copies(alloc: Global, text: &mut String, schema: &Schema) -> Result<(), AllocError> {
+    let mut types = true;
     for ty in schema.types.values() {
-        if !is_copied(ty) || !is_type_copied(ty) {
-            return false;
-        }
+        types = types && is_copied(ty) && is_made(made_again(alloc, ty), ty);
     }
-    true
-}
-
-/// Whether copies of faults are equal to them.
-fn are_faults_copied(faults: &[Fault]) -> bool {
-    for (_, error) in faults {
-        if !is_copied(error) {
-            return false;
-        }
-    }
-    true
-}
-
-/// Adds whether copies of a schema and of its parts are equal to them.
-fn push_copies(text: &mut String, schema: &Schema) -> Result<(), AllocError> {
-    let types = are_types_copied(schema);
     let definition = is_copied(&*schema.schema_definition);
     let whole = is_copied(schema);
     write!(text, "copied equal: {types}, {definition}, {whole}\n")
 }
 
-/// Adds faults. A field that lends its text goes to a function, and to no method of another value.
+/// Adds the faults that a copy of what was found has, and whether copies of these and of the schema are
+/// equal.
+fn push_found(text: &mut String, found: &WithErrors<Schema>) -> Result<(), AllocError> {
+    let copy = found.clone()?;
+    copy.errors.tell(text)?;
+    let faults = is_copied(&copy.errors);
+    let schema = copy.partial == found.partial;
+    write!(
+        text,
+        "faults copied equal: {faults}\npartial schema copied equal: {schema}\n"
+    )
+}
+
+/// Adds all that is said of what is built.
 /// No clause: it serves tests.
-pub fn push_faults(text: &mut String, faults: &[Fault]) -> Result<(), AllocError> {
-    tell_all(faults, text)
+pub fn push_built(alloc: Global, text: &mut String, built: &Built) -> Result<(), AllocError> {
+    match built {
+        Ok(_) => {}
+        Err(BuildFailure::Faults(found)) => push_found(text, found)?,
+        Err(BuildFailure::Failed) => text.push_str("failed\n")?,
+        Err(BuildFailure::ExtensionIds) => text.push_str("no number is left\n")?,
+        Err(BuildFailure::Memory) => text.push_str("not built\n")?,
+    }
+    if let Some(schema) = schema_in(built) {
+        push_schema(text, schema)?;
+        push_write_out(alloc, text, schema)?;
+        push_copies(alloc, text, schema)?;
+    }
+    Ok(())
 }
 
-/// Adds all that is said of a schema.
-fn push_whole(alloc: Global, text: &mut String, schema: &Schema) -> Result<(), AllocError> {
-    push_schema(text, schema)?;
-    push_write_out(alloc, text, schema)?;
-    push_copies(text, schema)
-}
-
-/// A view that adds what is said of a build.
-#[derive(Drop)]
-struct Account<'a> {
+/// Adds all that is said of what a builder builds, and the number that its source gives next.
+fn push_account(
     alloc: Global,
-    text: &'a mut String,
-}
-
-impl<'a> Account<'a> {
-    fn push_faults(&mut self, faults: &[Fault]) -> Result<(), AllocError> {
-        push_faults(self.text, faults)?;
-        let are_copied = are_faults_copied(faults);
-        write!(self.text, "faults copied equal: {are_copied}\n")
-    }
-
-    /// Adds the faults that a copy of what was found has, and whether its schema is equal.
-    fn push_found(&mut self, found: &WithErrors<Schema>) -> Result<(), AllocError> {
-        let copy = found.clone()?;
-        let is_equal = copy.partial == found.partial;
-        self.push_faults(copy.errors.as_slice())?;
-        write!(self.text, "partial schema copied equal: {is_equal}\n")
-    }
-
-    fn push_failure(&mut self, failure: &BuildFailure) -> Result<(), AllocError> {
-        match failure {
-            BuildFailure::Faults(found) => self.push_found(found),
-            BuildFailure::Failed => self.text.push_str("failed\n"),
-            BuildFailure::ExtensionIds => self.text.push_str("no number is left\n"),
-            BuildFailure::Memory => self.text.push_str("not built\n"),
-        }
-    }
-}
-
-impl<'a> View for Account<'a> {
-    fn view(&mut self, built: &Result<Schema, BuildFailure>, next: u64) -> Result<(), AllocError> {
-        if let Err(failure) = built {
-            self.push_failure(failure)?;
-        }
-        if let Some(schema) = schema_in(built) {
-            push_whole(self.alloc, self.text, schema)?;
-        }
-        write!(self.text, "{next} is next\n")
-    }
-}
-
-/// A builder with these settings.
-/// No clause: it serves tests.
-pub fn begun(alloc: Global, settings: Settings) -> Result<SchemaBuilder, AllocError> {
-    let source = ExtensionSource::starting_at(settings.first_number);
-    if settings.adopts {
-        return Ok(SchemaBuilder::with_source(alloc, source)?.adopt_orphan_extensions());
-    }
-    SchemaBuilder::with_source(alloc, source)
+    text: &mut String,
+    builder: SchemaBuilder,
+) -> Result<(), AllocError> {
+    let (built, source) = builder.build_with_source();
+    push_built(alloc, text, &built)?;
+    let next = source.next_number();
+    write!(text, "{next} is next\n")
 }
 
 /// Adds documents to the builder, and to the text each refusal and then the names that are not defined.
@@ -254,20 +226,15 @@ fn tell(
     alloc: Global,
     text: &mut String,
     of_copy: &mut String,
-    settings: Settings,
+    settings: &Settings,
     documents: &[Document],
 ) -> Result<(), AllocError> {
     let mut builder = begun(alloc, settings)?;
     let added = push_adding(text, &mut builder, documents);
     let copy: Result<SchemaBuilder, AllocError> = builder.clone();
-    let told = show(&mut Account { alloc, text }, builder);
+    let told = push_account(alloc, text, builder);
     match copy {
-        Ok(copy) => {
-            let text = of_copy;
-            show(&mut Account { alloc, text }, copy)
-                .and(told)
-                .and(added)
-        }
+        Ok(copy) => push_account(alloc, of_copy, copy).and(told).and(added),
         Err(error) => Err(error),
     }
 }
@@ -276,7 +243,7 @@ fn tell(
 /// No clause: it serves tests.
 pub fn told(
     alloc: Global,
-    settings: Settings,
+    settings: &Settings,
     documents: &[Document],
 ) -> Result<String, AllocError> {
     let mut text = String::new(alloc);
@@ -288,21 +255,10 @@ pub fn told(
     Ok(text)
 }
 
-/// What is told of the documents that a text says.
-fn told_of(alloc: Global, settings: Settings, input: &str) -> Result<String, Fail> {
-    let documents = read(alloc, input)?;
-    Ok(told(alloc, settings, documents.as_slice())?)
-}
-
 /// Expects this to be told of the documents that a text says.
 /// No clause: it serves tests.
-pub fn expect(
-    rt: &(impl Abort + AllocGlobal),
-    settings: Settings,
-    input: &str,
-    account: &str,
-) -> Result<(), Fail> {
-    let text = told_of(rt.alloc(), settings, input)?;
+pub fn expect(rt: &(impl Abort + AllocGlobal), settings: &Settings, input: &str, account: &str) {
+    let documents = read(rt.alloc(), input).expect(rt, "documents");
+    let text = told(rt.alloc(), settings, documents.as_slice()).expect(rt, "memory");
     assert_eq!(rt; text.as_str(), account, "of {input:?}");
-    Ok(())
 }

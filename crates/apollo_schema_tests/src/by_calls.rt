@@ -1,6 +1,6 @@
-//! A document made by calls, with the names of callers, and what is written out of its schema.
+//! A document made by calls, with the names of callers, and what its schema is and is written out as.
 
-use crate::asking::{Written, ask_documents};
+use crate::building::{PLAIN, told};
 use graphql_ast::{Document, FieldDefinition, Name, Node, ObjectTypeDefinition, Type};
 use std::alloc::Global;
 use std::slice;
@@ -24,26 +24,15 @@ fn query(alloc: Global) -> Result<Node<ObjectTypeDefinition>, Fail> {
     Ok(Node::new(alloc, query)?)
 }
 
-/// A document of that type alone.
-fn document(alloc: Global) -> Result<Document, Fail> {
-    let definitions = vec![in alloc; query(alloc)?.into()]?;
-    Ok(Document::from_definitions(alloc, definitions))
-}
-
-/// What the schema of that document is written out as.
-fn written(alloc: Global) -> Result<String, Fail> {
-    let document = document(alloc)?;
-    let mut text = String::new(alloc);
-    ask_documents(alloc, &Written, &mut text, slice::from_ref(&document))?;
-    Ok(text)
-}
-
 #[test]
 fn a_document_made_by_calls_is_built_and_written_out(rt: HostRuntime) -> Result<(), Fail> {
-    let text = written(rt.alloc())?;
+    let alloc = rt.alloc();
+    let definitions = vec![in alloc; query(alloc)?.into()]?;
+    let document = Document::from_definitions(alloc, definitions);
+    let text = told(alloc, &PLAIN, slice::from_ref(&document))?;
     assert_eq!(rt;
         text.as_str(),
-        "def object Query\nfield title String\nfield pages [Int!]\n"
+        "- schema \nquery definition Query - \nQuery - - object Query - \ntitle - definition - title - String - \npages - definition - pages - [ Int - ! ] \ndefinition Query - \nquery is Query, an object type: true\ndef object Query\nfield title String\nfield pages [Int!]\nrebuilt equal: true\ncopied equal: true, true, true\n0 is next\n"
     );
     Ok(())
 }

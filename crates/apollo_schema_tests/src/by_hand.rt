@@ -11,9 +11,7 @@ use graphql_nodes::name::Name;
 use graphql_nodes::node::Node;
 use graphql_nodes::node_str::NodeStr;
 use graphql_nodes::source::{FileId, SourceFile, SourceSpan};
-use likeness::both;
 use std::alloc::{AllocError, Global};
-use std::test::Fail;
 
 const PLACE: SourceSpan = SourceSpan {
     file: FileId(2),
@@ -34,35 +32,24 @@ fn query(alloc: Global) -> Result<Definition, AllocError> {
     Ok(Definition::ObjectTypeDefinition(node))
 }
 
-/// A source file of this path.
-fn file(alloc: Global, path: &str) -> Result<Shared<SourceFile>, AllocError> {
-    Shared::new(alloc, SourceFile::new(alloc, path, "type Query")?)
-}
-
 /// A document of a file of this path, with the definition of `Query`.
 fn document(alloc: Global, path: &str) -> Result<Document, AllocError> {
-    let (file, query) = both(file(alloc, path), query(alloc))?;
+    let file = SourceFile::new(alloc, path, "type Query")?;
     let mut document = Document::new(alloc);
-    document.sources.insert(PLACE.file, file)?;
-    document.definitions.push(query)?;
+    document
+        .sources
+        .insert(PLACE.file, Shared::new(alloc, file)?)?;
+    document.definitions.push(query(alloc)?)?;
     Ok(document)
 }
 
-/// What is told of two documents, whose files are of one number.
-fn told_of_both(alloc: Global) -> Result<String, AllocError> {
-    let (first, second) = both(
-        document(alloc, "first.graphql"),
-        document(alloc, "second.graphql"),
-    )?;
-    told(alloc, PLAIN, &[first, second])
-}
-
 #[test]
-fn the_last_file_of_a_number_stays(rt: HostRuntime) -> Result<(), Fail> {
-    let text = told_of_both(rt.alloc())?;
+fn the_last_file_of_a_number_stays(rt: HostRuntime) {
+    let first = document(rt.alloc(), "first.graphql").expect(&rt, "memory");
+    let second = document(rt.alloc(), "second.graphql").expect(&rt, "memory");
+    let text = told(rt.alloc(), &PLAIN, &[first, second]).expect(&rt, "memory");
     assert_eq!(rt;
         text.as_str(),
         "- the type `Query` is defined multiple times in the schema; - - \nfaults copied equal: true\npartial schema copied equal: true\nfile 2 \"second.graphql\" \"type Query\"\n- schema \nquery definition Query - \nQuery - 2:8-90 object \"Where queries begin.\" - Query - \ndefinition Query - \nquery is Query, an object type: true\ndef object Query\nrebuilt equal: true\ncopied equal: true, true, true\n0 is next\n"
     );
-    Ok(())
 }

@@ -7,131 +7,81 @@ use graphql_nodes::name::Name;
 use graphql_nodes::node::Node;
 use graphql_nodes::source::{FileId, SourceSpan};
 use std::alloc::{AllocError, Global};
+use telling::Tell;
 
-/// The location that begins there.
-fn location(start: usize) -> SourceSpan {
-    SourceSpan {
+/// The directive of this name, at the location that begins there.
+fn node(alloc: Global, name: &str, start: usize) -> Result<Node<Directive>, AllocError> {
+    let location = SourceSpan {
         file: FileId(5),
         start,
         end: start,
-    }
-}
-
-/// The name, without a location.
-fn name(alloc: Global, text: &str) -> Result<Name, AllocError> {
-    Name::new_unchecked(alloc, text)
-}
-
-/// The directive of this name, at this location.
-fn directive(alloc: Global, text: &str, start: usize) -> Result<Component<Directive>, AllocError> {
-    let directive = Directive::new(alloc, name(alloc, text)?);
-    let node = Node::new_opt_location(alloc, directive, Some(location(start)))?;
-    Ok(Component::from(node))
-}
-
-/// Puts the directive of this name at this location last.
-fn add(
-    alloc: Global,
-    list: &mut DirectiveList,
-    text: &str,
-    start: usize,
-) -> Result<(), AllocError> {
-    list.push(directive(alloc, text, start)?)
+    };
+    let directive = Directive::new(alloc, Name::new_unchecked(alloc, name)?);
+    Node::new_opt_location(alloc, directive, Some(location))
 }
 
 /// The directives `@a @b @a`, at 1, 2 and 3.
 fn list(alloc: Global) -> Result<DirectiveList, AllocError> {
     let mut list = DirectiveList::new(alloc);
-    add(alloc, &mut list, "a", 1)?;
-    add(alloc, &mut list, "b", 2)?;
-    add(alloc, &mut list, "a", 3)?;
+    for (name, start) in [("a", 1), ("b", 2), ("a", 3)] {
+        list.push(Component::from(node(alloc, name, start)?))?;
+    }
     Ok(list)
 }
 
-/// Where the directive begins.
-fn start_of(directive: &Component<Directive>) -> Option<usize> {
-    directive.location().map(|location| location.start)
+/// Adds the directive, if it is found.
+fn push_found(text: &mut String, found: Option<&Component<Directive>>) -> Result<(), AllocError> {
+    match found {
+        Some(directive) => directive.tell(text),
+        None => text.push_str("nothing\n"),
+    }
 }
 
-/// Whether `@a` is found at 1, and there are no others of the name than that and the one at 3.
-fn is_a_found(list: &DirectiveList, a: &Name) -> bool {
-    let mut all = list.get_all(a);
-    let found = (
-        all.next().and_then(start_of),
-        all.next().and_then(start_of),
-        all.next().is_none(),
-        all.next().is_none(),
-    );
-    list.has(a)
-        && list.get(a).and_then(start_of) == Some(1)
-        && found == (Some(1), Some(3), true, true)
-}
-
-/// Whether there is nothing of the name.
-fn is_nothing_found(list: &DirectiveList, name: &Name) -> bool {
-    !list.has(name) && list.get(name).is_none() && list.get_all(name).next().is_none()
-}
-
-/// Whether the directives are looked up by name.
-fn are_looked_up(alloc: Global) -> Result<bool, AllocError> {
+/// Adds whether there are directives of this name, the first, and what four calls give of all of them.
+fn push_all(alloc: Global, text: &mut String, name: &str) -> Result<(), AllocError> {
     let list = list(alloc)?;
-    let a = name(alloc, "a")?;
-    let c = name(alloc, "c")?;
-    Ok(is_a_found(&list, &a) && is_nothing_found(&list, &c))
-}
-
-#[test]
-fn directives_are_looked_up_by_name(rt: HostRuntime) {
-    assert!(rt; are_looked_up(rt.alloc()) == Ok(true));
-}
-
-/// Whether the directives are those of `@a @b @a`.
-fn are_three(list: &DirectiveList) -> bool {
-    let mut walk = list.into_iter().map(start_of);
-    let starts = (walk.next(), walk.next(), walk.next(), walk.next());
-    starts == (Some(Some(1)), Some(Some(2)), Some(Some(3)), None)
-}
-
-/// The same directives, by value and from an iterator.
-fn collected(alloc: Global) -> Result<DirectiveList, AllocError> {
-    let list = list(alloc)?;
-    DirectiveList::try_from_iter(alloc, list)
-}
-
-/// Whether lists are walked and made again.
-fn are_walked(alloc: Global) -> Result<bool, AllocError> {
-    let collected = collected(alloc)?;
-    Ok(are_three(&collected))
-}
-
-#[test]
-fn directives_are_walked(rt: HostRuntime) {
-    assert!(rt; are_walked(rt.alloc()) == Ok(true));
-}
-
-/// Writes the node to each component.
-fn write_each(list: &mut DirectiveList, node: &Node<Directive>) -> Result<(), AllocError> {
-    for directive in list {
-        **directive = node.clone()?;
+    let name = Name::new_unchecked(alloc, name)?;
+    let is_there = list.has(&name);
+    write!(text, "{name}: {is_there}\n")?;
+    push_found(text, list.get(&name))?;
+    let mut all = list.get_all(&name);
+    for _call in 0..4 {
+        push_found(text, all.next())?;
     }
     Ok(())
 }
 
-/// Whether `@b` at 2 is written to each component, and the last two are then cut off.
-fn is_written(alloc: Global, list: &mut DirectiveList) -> Result<bool, AllocError> {
-    let b = directive(alloc, "b", 2)?;
-    write_each(list, &b)?;
-    list.truncate(1);
-    Ok(list.len() == 1 && list.first() == Some(&b))
+/// Adds each directive of a list that is made again, by value.
+fn push_walked(alloc: Global, text: &mut String) -> Result<(), AllocError> {
+    let list = DirectiveList::try_from_iter(alloc, list(alloc)?)?;
+    for directive in &list {
+        directive.tell(text)?;
+    }
+    Ok(())
 }
 
-/// Whether a list is written to.
-fn are_written(alloc: Global) -> Result<bool, AllocError> {
+/// Writes `@c` at 9 to each directive, cuts the last two off, and adds the length and what is left.
+fn push_written(alloc: Global, text: &mut String) -> Result<(), AllocError> {
     let mut list = list(alloc)?;
-    is_written(alloc, &mut list)
+    let c = node(alloc, "c", 9)?;
+    for directive in &mut list {
+        **directive = c.clone()?;
+    }
+    list.truncate(1);
+    let length = list.len();
+    write!(text, "{length}: ")?;
+    list.tell(text)
 }
 
 #[test]
-fn directives_are_written(rt: HostRuntime) {
-    assert!(rt; are_written(rt.alloc()) == Ok(true));
+fn directives_are_looked_up_by_name_walked_and_written(rt: HostRuntime) {
+    let mut text = String::new(rt.alloc());
+    push_all(rt.alloc(), &mut text, "a").expect(&rt, "memory");
+    push_all(rt.alloc(), &mut text, "c").expect(&rt, "memory");
+    push_walked(rt.alloc(), &mut text).expect(&rt, "memory");
+    push_written(rt.alloc(), &mut text).expect(&rt, "memory");
+    assert_eq!(rt;
+        text.as_str(),
+        "a: true\ndefinition 5:1 @ a - \ndefinition 5:1 @ a - \ndefinition 5:3 @ a - \nnothing\nnothing\nc: false\nnothing\nnothing\nnothing\nnothing\nnothing\ndefinition 5:1 @ a - \ndefinition 5:2 @ b - \ndefinition 5:3 @ a - \n1: definition 5:9 @ c - \n"
+    );
 }

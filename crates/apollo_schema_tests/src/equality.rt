@@ -1,55 +1,20 @@
 //! Schemas that differ in one thing each, and whether they are equal: the order of directives and of arguments counts, that of
 //! types, fields and other members doesn't, and neither do locations and origins.
 
-use crate::asking::{Question, expect};
-use crate::building::{PLAIN, is_built_of};
+use crate::building::{ADOPTING, is_built_of, schema_of};
 use apollo_schema::schema::Schema;
-use bench_notation::reading::read;
-use graphql_ast::document::Document;
-use std::alloc::{AllocError, Global};
 use std::process::Abort;
-use std::test::Fail;
 
-/// Whether the schema is equal to the one that these documents build.
-#[derive(Drop)]
-struct Comparison<'a> {
-    documents: &'a [Document],
-}
-
-impl<'a> Question for Comparison<'a> {
-    fn ask(&self, alloc: Global, text: &mut String, schema: &Schema) -> Result<(), AllocError> {
-        let is_equal = is_built_of(alloc, PLAIN, schema, self.documents)?;
-        text.push_str(if is_equal { "equal" } else { "unequal" })
-    }
-}
-
-/// Expects this of the schema that one text builds, compared with that of another.
-fn expect_from(
-    rt: &(impl Abort + AllocGlobal),
-    input: &str,
-    other: &str,
-    expected: &str,
-) -> Result<(), Fail> {
-    let documents = read(rt.alloc(), other)?;
-    let question = Comparison {
-        documents: documents.as_slice(),
-    };
-    expect(rt, &question, input, expected)
-}
-
-/// Expects this of the schemas that two texts build, whichever comes first. Each text builds a schema without faults.
-fn expect_pair(
-    rt: &(impl Abort + AllocGlobal),
-    one: &str,
-    other: &str,
-    expected: &str,
-) -> Result<(), Fail> {
-    expect_from(rt, one, other, expected)?;
-    expect_from(rt, other, one, expected)
+/// Expects the schemas that two texts build to be equal, or else unequal, whichever comes first.
+fn expect(rt: &(impl Abort + AllocGlobal), one: &str, other: &str, are_equal: bool) {
+    let first = schema_of(rt, one);
+    let second = schema_of(rt, other);
+    assert!(rt; (first == second) == are_equal, "{one:?} and {other:?}");
+    assert!(rt; (second == first) == are_equal, "{other:?} and {one:?}");
 }
 
 #[test]
-fn schemas_that_differ_in_one_value_are_unequal(rt: HostRuntime) -> Result<(), Fail> {
+fn schemas_that_differ_in_one_value_are_unequal(rt: HostRuntime) {
     // A directive of a type, of a field and of the schema; the order of directives; the type, the order of arguments and
     // the name of a field; a root and its name; a member; a type and its kind; a location of a directive definition.
     for (one, other) in [
@@ -79,13 +44,12 @@ fn schemas_that_differ_in_one_value_are_unequal(rt: HostRuntime) -> Result<(), F
         ("def object A\nfield a Int", "def interface A\nfield a Int"),
         ("directive d\non OBJECT", "directive d\non SCHEMA"),
     ] {
-        expect_pair(&rt, one, other, "unequal")?;
+        expect(&rt, one, other, false);
     }
-    Ok(())
 }
 
 #[test]
-fn schemas_that_differ_in_order_origin_or_location_are_equal(rt: HostRuntime) -> Result<(), Fail> {
+fn schemas_that_differ_in_order_origin_or_location_are_equal(rt: HostRuntime) {
     // The order of types, of directive definitions, of fields, of interfaces, of members and of values; the origin of a
     // field, of a directive and of a root, each on its own line; locations alone, and documents.
     for (one, other) in [
@@ -128,7 +92,12 @@ fn schemas_that_differ_in_order_origin_or_location_are_equal(rt: HostRuntime) ->
             "def scalar S\n---\ndef scalar T",
         ),
     ] {
-        expect_pair(&rt, one, other, "equal")?;
+        expect(&rt, one, other, true);
     }
-    Ok(())
+}
+
+#[test]
+fn a_new_schema_is_built_of_no_documents(rt: HostRuntime) {
+    let schema = Schema::new(rt.alloc()).expect(&rt, "memory");
+    assert!(rt; is_built_of(rt.alloc(), &ADOPTING, &schema, &[]) == Ok(true));
 }

@@ -1,14 +1,13 @@
 //! Builders whose tables hash by different keys.
 
-use crate::asking::{Question, Written, ask_of};
+use crate::building::{Built, add_all, push_built, schema_in};
 use apollo_component::extension::ExtensionSource;
-use apollo_schema::schema::Schema;
+use apollo_schema::build_failure::BuildFailure;
 use apollo_schema::schema_builder::SchemaBuilder;
 use bench_notation::reading::read;
-use graphql_ast::document::Document;
 use graphql_nodes::collections::hash_keys::HashKeys;
 use std::alloc::{AllocError, Global};
-use std::test::Fail;
+use std::process::Abort;
 use telling::keys::is_schema_keyed;
 
 /// Definitions and extensions of each kind, some before their definitions, one with more fields than a table first has room for,
@@ -19,104 +18,52 @@ const INPUT: &str =
 /// Bytes that a system may have drawn.
 const DRAWN: [u8; 16] = [33, 7, 250, 3, 4, 95, 6, 7, 180, 9, 10, 11, 112, 13, 214, 15];
 
-/// Adds the answer of the schema that documents build under these keys.
-fn ask_under<Q: Question>(
-    alloc: Global,
-    question: &Q,
-    text: &mut String,
-    keys: HashKeys,
-    documents: &[Document],
-) -> Result<(), AllocError> {
-    let builder = SchemaBuilder::with_keys(alloc, ExtensionSource::new(), keys)?;
-    let builder = builder.adopt_orphan_extensions().clone()?;
-    ask_of(alloc, question, text, builder, documents)
+/// What the input builds under these keys.
+fn built(rt: &(impl Abort + AllocGlobal), keys: HashKeys) -> Built {
+    let documents = read(rt.alloc(), INPUT).expect(rt, "documents");
+    let builder = SchemaBuilder::with_keys(rt.alloc(), ExtensionSource::new(), keys);
+    let adopting = builder.expect(rt, "memory").adopt_orphan_extensions();
+    let mut builder = adopting.clone().expect(rt, "memory");
+    add_all(&mut builder, documents.as_slice());
+    builder.build()
 }
 
-/// Whether the schema is equal to another one, whichever comes first.
-#[derive(Drop)]
-struct Equal<'a> {
-    other: &'a Schema,
-}
-
-impl<'a> Question for Equal<'a> {
-    fn ask(&self, _alloc: Global, text: &mut String, schema: &Schema) -> Result<(), AllocError> {
-        let is_equal = *schema == *self.other && *self.other == *schema;
-        write!(text, "equal: {is_equal}\n")
+/// Whether there are schemas, with faults, and these are equal, whichever comes first.
+fn are_equal(first: &Built, second: &Built) -> bool {
+    match (first, second) {
+        (Err(BuildFailure::Faults(first)), Err(BuildFailure::Faults(second))) => {
+            first.partial == second.partial && second.partial == first.partial
+        }
+        _ => false,
     }
-}
-
-/// What the schema is written out as, and whether documents build an equal one under these keys.
-#[derive(Drop)]
-struct SameUnder<'a> {
-    documents: &'a [Document],
-    keys: HashKeys,
-}
-
-impl<'a> Question for SameUnder<'a> {
-    fn ask(&self, alloc: Global, text: &mut String, schema: &Schema) -> Result<(), AllocError> {
-        Written.ask(alloc, text, schema)?;
-        let equal = Equal { other: schema };
-        ask_under(alloc, &equal, text, self.keys, self.documents)
-    }
-}
-
-/// What is told of the input under one of the keys, with whether it builds the same under the other.
-fn told(alloc: Global, keys: HashKeys, others: HashKeys) -> Result<String, Fail> {
-    let documents = read(alloc, INPUT)?;
-    let question = SameUnder {
-        documents: documents.as_slice(),
-        keys: others,
-    };
-    let mut text = String::new(alloc);
-    ask_under(alloc, &question, &mut text, keys, documents.as_slice())?;
-    Ok(text)
 }
 
 #[test]
-fn what_is_built_depends_on_no_keys(rt: HostRuntime) -> Result<(), Fail> {
-    let drawn = HashKeys::from_bytes(DRAWN);
-    let of_fixed = told(rt.alloc(), HashKeys::FIXED, drawn)?;
-    let of_drawn = told(rt.alloc(), drawn, HashKeys::FIXED)?;
+fn what_is_built_depends_on_no_keys(rt: HostRuntime) {
+    let fixed = built(&rt, HashKeys::FIXED);
+    let drawn = built(&rt, HashKeys::from_bytes(DRAWN));
+    assert!(rt; are_equal(&fixed, &drawn));
+    let mut of_fixed = String::new(rt.alloc());
+    push_built(rt.alloc(), &mut of_fixed, &fixed).expect(&rt, "memory");
+    let mut of_drawn = String::new(rt.alloc());
+    push_built(rt.alloc(), &mut of_drawn, &drawn).expect(&rt, "memory");
     assert_eq!(rt; of_fixed.as_str(), of_drawn.as_str());
-    assert!(rt; of_fixed.as_str().ends_with("with faults\nequal: true\n"));
-    Ok(())
 }
 
 /// Whether each table of the schema, and of its map of implementers, hashes by these keys.
-#[derive(Drop)]
-struct Keyed {
-    keys: HashKeys,
-}
-
-impl Question for Keyed {
-    fn ask(&self, alloc: Global, text: &mut String, schema: &Schema) -> Result<(), AllocError> {
-        let keys = self.keys;
-        let map = schema.implementers_map(alloc)?;
-        let are_keyed = map.values().all(|found| found.objects.hash_keys() == keys
-            && found.interfaces.hash_keys() == keys);
-        let of_map = map.hash_keys() == keys && are_keyed;
-        let of_schema = is_schema_keyed(schema, keys);
-        write!(text, "{of_schema} {of_map}\n")
-    }
-}
-
-/// What is told of the tables of the input under these keys.
-fn told_of_tables(alloc: Global, keys: HashKeys) -> Result<String, Fail> {
-    let documents = read(alloc, INPUT)?;
-    let mut text = String::new(alloc);
-    ask_under(
-        alloc,
-        &Keyed { keys },
-        &mut text,
-        keys,
-        documents.as_slice(),
-    )?;
-    Ok(text)
+fn is_keyed(alloc: Global, built: &Built, keys: HashKeys) -> Result<bool, AllocError> {
+    let Some(schema) = schema_in(built) else {
+        return Ok(false);
+    };
+    let map = schema.implementers_map(alloc)?;
+    let are_keyed = map.values().all(|found| found.objects.hash_keys() == keys
+        && found.interfaces.hash_keys() == keys);
+    Ok(is_schema_keyed(schema, keys) && map.hash_keys() == keys && are_keyed)
 }
 
 #[test]
-fn keys_reach_each_table(rt: HostRuntime) -> Result<(), Fail> {
-    let text = told_of_tables(rt.alloc(), HashKeys::from_bytes(DRAWN))?;
-    assert_eq!(rt; text.as_str(), "with faults\ntrue true\n");
-    Ok(())
+fn keys_reach_each_table(rt: HostRuntime) {
+    let keys = HashKeys::from_bytes(DRAWN);
+    let built = built(&rt, keys);
+    assert!(rt; is_keyed(rt.alloc(), &built, keys) == Ok(true));
 }

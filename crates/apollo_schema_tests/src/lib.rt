@@ -1,11 +1,7 @@
-//! Tests of components, of schemas and their builder, and of coordinates, of what the proofs don't show: that calls succeed
-//! with memory, and the texts of faults. Most compare a text that tells all that is looked at.
+//! Tests of components, and of schemas and their builder, of what the proofs don't show: that calls succeed with memory, and the
+//! texts of faults. Most compare a text that tells all that is looked at.
 #![tactic(auto)]
 
-#[cfg(test)]
-mod accounts;
-#[cfg(test)]
-mod asking;
 #[cfg(test)]
 mod building;
 #[cfg(test)]
@@ -14,8 +10,6 @@ mod by_calls;
 mod by_hand;
 #[cfg(test)]
 mod components;
-#[cfg(test)]
-mod coordinates;
 #[cfg(test)]
 mod directives;
 #[cfg(test)]
@@ -28,10 +22,6 @@ mod faults;
 mod hash_keys;
 #[cfg(test)]
 mod lookups;
-#[cfg(test)]
-mod no_documents;
-#[cfg(test)]
-mod parts;
 #[cfg(test)]
 mod rearranging;
 #[cfg(test)]

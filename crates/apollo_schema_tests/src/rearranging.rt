@@ -1,59 +1,33 @@
 //! Documents whose definitions change places: their schemas are equal and their faults the same, or, where extensions of one
 //! name change places, they are not.
 
-use crate::building::{
-    ADOPTING, PLAIN, Settings, View, add_all, begun, is_built_of, push_faults, schema_in, show,
-};
+use crate::building::{ADOPTING, PLAIN, Settings, built_of, is_built_of, schema_in};
 use apollo_schema::build_failure::BuildFailure;
-use apollo_schema::schema::Schema;
 use bench_notation::reading::read;
 use graphql_ast::document::Document;
 use likeness::push_copy;
 use std::alloc::{AllocError, Global};
 use std::process::Abort;
 use std::slice;
-use std::test::Fail;
-
-/// A view that adds the faults of a build, and whether another document builds an equal schema.
-#[derive(Drop)]
-struct Pair<'a> {
-    alloc: Global,
-    settings: Settings,
-    other: &'a Document,
-    text: &'a mut String,
-}
-
-impl<'a> View for Pair<'a> {
-    fn view(&mut self, built: &Result<Schema, BuildFailure>, _next: u64) -> Result<(), AllocError> {
-        if let Err(BuildFailure::Faults(found)) = built {
-            push_faults(self.text, found.errors.as_slice())?;
-        }
-        let other = slice::from_ref(self.other);
-        let is_equal = match schema_in(built) {
-            Some(schema) => is_built_of(self.alloc, self.settings, schema, other)?,
-            None => false,
-        };
-        write!(self.text, "equal: {is_equal}\n")
-    }
-}
+use telling::Tell;
 
 /// Adds what is at fault in a document, and whether the other one builds an equal schema.
 fn push_pair(
     alloc: Global,
     text: &mut String,
-    settings: Settings,
+    settings: &Settings,
     document: &Document,
     other: &Document,
 ) -> Result<(), AllocError> {
-    let mut builder = begun(alloc, settings)?;
-    add_all(&mut builder, slice::from_ref(document));
-    let mut pair = Pair {
-        alloc,
-        settings,
-        other,
-        text,
+    let built = built_of(alloc, settings, slice::from_ref(document))?;
+    if let Err(BuildFailure::Faults(found)) = &built {
+        found.errors.tell(text)?;
+    }
+    let is_equal = match schema_in(&built) {
+        Some(schema) => is_built_of(alloc, settings, schema, slice::from_ref(other))?,
+        None => false,
     };
-    show(&mut pair, builder)
+    write!(text, "equal: {is_equal}\n")
 }
 
 /// The definitions of a document in another order, each at its own place.
@@ -67,104 +41,107 @@ fn in_order(alloc: Global, document: &Document, order: &[usize]) -> Result<Docum
     Ok(other)
 }
 
-/// What is told of a document that a text says, and of its definitions in another order.
-fn told(alloc: Global, settings: Settings, input: &str, order: &[usize]) -> Result<String, Fail> {
-    let documents = read(alloc, input)?;
-    let mut text = String::new(alloc);
-    for document in documents.iter() {
-        let other = in_order(alloc, document, order)?;
-        push_pair(alloc, &mut text, settings, document, &other)?;
-        push_pair(alloc, &mut text, settings, &other, document)?;
-    }
-    Ok(text)
-}
-
 /// Expects this to be told of a document that a text says, and of its definitions in another order.
-fn expect_told(
+fn expect(
     rt: &(impl Abort + AllocGlobal),
-    settings: Settings,
+    settings: &Settings,
     input: &str,
     order: &[usize],
     account: &str,
-) -> Result<(), Fail> {
-    let text = told(rt.alloc(), settings, input, order)?;
+) {
+    let alloc = rt.alloc();
+    let documents = read(alloc, input).expect(rt, "documents");
+    let document = documents.first().expect(rt, "a document");
+    let other = in_order(alloc, document, order).expect(rt, "memory");
+    let mut text = String::new(alloc);
+    push_pair(alloc, &mut text, settings, document, &other).expect(rt, "memory");
+    push_pair(alloc, &mut text, settings, &other, document).expect(rt, "memory");
     assert_eq!(rt; text.as_str(), account, "of {input:?}");
-    Ok(())
-}
-
-#[test]
-fn two_definitions_change_places(rt: HostRuntime) -> Result<(), Fail> {
-    let input = "def object A\nfield a Int\nfield a Int\ndef object B\nfield b Int\nfield b Int";
-    let account =
-        "1:3 duplicate definitions for the `a` field of object type `A`; 1:2 1:1 \n1:6 duplicate definitions for the `b` field of object type `B`; 1:5 1:4 \nequal: true\n1:6 duplicate definitions for the `b` field of object type `B`; 1:5 1:4 \n1:3 duplicate definitions for the `a` field of object type `A`; 1:2 1:1 \nequal: true\n";
-    expect_told(&rt, PLAIN, input, &[1, 0], account)
-}
-
-#[test]
-fn an_extension_goes_behind_its_definition(rt: HostRuntime) -> Result<(), Fail> {
-    let input = "ext object Q\nfield a Int\ndef object Q\nfield a Int\nfield b Int";
-    let account =
-        "1:2 duplicate definitions for the `a` field of object type `Q`; 1:4 1:1 \nequal: true\n1:2 duplicate definitions for the `a` field of object type `Q`; 1:4 1:1 \nequal: true\n";
-    expect_told(&rt, PLAIN, input, &[1, 0], account)
-}
-
-#[test]
-fn schema_extensions_go_last(rt: HostRuntime) -> Result<(), Fail> {
-    let input =
-        "ext-schema\nroot query A\nschema\nroot query Q\ndef object Q\nfield a Int\next-schema\nroot mutation M\nroot query B";
-    let account =
-        "1:2 duplicate definitions for the `query` root operation type; 1:4 \n1:9 duplicate definitions for the `query` root operation type; 1:4 \nequal: true\n1:2 duplicate definitions for the `query` root operation type; 1:4 \n1:9 duplicate definitions for the `query` root operation type; 1:4 \nequal: true\n";
-    expect_told(&rt, PLAIN, input, &[1, 2, 0, 3], account)
 }
 
 /// Extensions of the schema and of two types, and no definition.
 const EXTENSIONS_ALONE: &str =
     "ext-schema\nroot query A\next object A\nfield a Int\next-schema\nroot query B\next object B\nfield b Int\nfield b Int";
 
+/// Documents, with the order of their definitions in the other one.
+const REARRANGED: [(&Settings, &str, &[usize], &str); 5] = [
+    // Two definitions.
+    (
+        &PLAIN,
+        "def object A\nfield a Int\nfield a Int\ndef object B\nfield b Int\nfield b Int",
+        &[1, 0],
+        "1:3 duplicate definitions for the `a` field of object type `A`; 1:2 1:1 \n1:6 duplicate definitions for the `b` field of object type `B`; 1:5 1:4 \nequal: true\n1:6 duplicate definitions for the `b` field of object type `B`; 1:5 1:4 \n1:3 duplicate definitions for the `a` field of object type `A`; 1:2 1:1 \nequal: true\n",
+    ),
+    // An extension goes behind its definition.
+    (
+        &PLAIN,
+        "ext object Q\nfield a Int\ndef object Q\nfield a Int\nfield b Int",
+        &[1, 0],
+        "1:2 duplicate definitions for the `a` field of object type `Q`; 1:4 1:1 \nequal: true\n1:2 duplicate definitions for the `a` field of object type `Q`; 1:4 1:1 \nequal: true\n",
+    ),
+    // Schema extensions go last.
+    (
+        &PLAIN,
+        "ext-schema\nroot query A\nschema\nroot query Q\ndef object Q\nfield a Int\next-schema\nroot mutation M\nroot query B",
+        &[1, 2, 0, 3],
+        "1:2 duplicate definitions for the `query` root operation type; 1:4 \n1:9 duplicate definitions for the `query` root operation type; 1:4 \nequal: true\n1:2 duplicate definitions for the `query` root operation type; 1:4 \n1:9 duplicate definitions for the `query` root operation type; 1:4 \nequal: true\n",
+    ),
+    // Type extensions go before schema extensions, adopted ones and others.
+    (
+        &ADOPTING,
+        EXTENSIONS_ALONE,
+        &[3, 1, 0, 2],
+        "1:9 duplicate definitions for the `b` field of object type `B`; 1:8 1:7 \n1:6 duplicate definitions for the `query` root operation type; 1:2 \nequal: true\n1:9 duplicate definitions for the `b` field of object type `B`; 1:8 1:7 \n1:6 duplicate definitions for the `query` root operation type; 1:2 \nequal: true\n",
+    ),
+    (
+        &PLAIN,
+        EXTENSIONS_ALONE,
+        &[3, 1, 0, 2],
+        "1:3 type extension for undefined type `A`; 1:3 \n1:7 type extension for undefined type `B`; 1:7 \n1:1 schema extension without a schema definition\n1:5 schema extension without a schema definition\nequal: true\n1:7 type extension for undefined type `B`; 1:7 \n1:3 type extension for undefined type `A`; 1:3 \n1:1 schema extension without a schema definition\n1:5 schema extension without a schema definition\nequal: true\n",
+    ),
+];
+
 #[test]
-fn type_extensions_go_before_schema_extensions(rt: HostRuntime) -> Result<(), Fail> {
-    let account =
-        "1:9 duplicate definitions for the `b` field of object type `B`; 1:8 1:7 \n1:6 duplicate definitions for the `query` root operation type; 1:2 \nequal: true\n1:9 duplicate definitions for the `b` field of object type `B`; 1:8 1:7 \n1:6 duplicate definitions for the `query` root operation type; 1:2 \nequal: true\n";
-    expect_told(&rt, ADOPTING, EXTENSIONS_ALONE, &[3, 1, 0, 2], account)?;
-    let account =
-        "1:3 type extension for undefined type `A`; 1:3 \n1:7 type extension for undefined type `B`; 1:7 \n1:1 schema extension without a schema definition\n1:5 schema extension without a schema definition\nequal: true\n1:7 type extension for undefined type `B`; 1:7 \n1:3 type extension for undefined type `A`; 1:3 \n1:1 schema extension without a schema definition\n1:5 schema extension without a schema definition\nequal: true\n";
-    expect_told(&rt, PLAIN, EXTENSIONS_ALONE, &[3, 1, 0, 2], account)
+fn what_changes_places_builds_an_equal_schema_with_the_same_faults(rt: HostRuntime) {
+    for (settings, input, order, account) in REARRANGED {
+        expect(&rt, settings, input, order, account);
+    }
 }
 
 #[test]
-fn extensions_of_one_name_and_two_kinds_do_not_change_places(rt: HostRuntime) -> Result<(), Fail> {
+fn extensions_of_one_name_and_two_kinds_do_not_change_places(rt: HostRuntime) {
     let input = "ext object A\nfield a Int\next interface A\nfield b Int";
     let account =
         "1:3 adding an interface type extension, but `A` is an object type; 1:1 1:3 \nequal: false\n1:1 adding an object type extension, but `A` is an interface type; 1:3 1:1 \nequal: false\n";
-    expect_told(&rt, ADOPTING, input, &[1, 0], account)
+    expect(&rt, &ADOPTING, input, &[1, 0], account);
 }
 
 #[test]
-fn an_early_extension_and_its_definition_change_places(rt: HostRuntime) -> Result<(), Fail> {
+fn an_early_extension_and_its_definition_change_places(rt: HostRuntime) {
     let input = "ext object T\nfield a Int\ndef object T\nfield a String";
     let account =
         "1:2 duplicate definitions for the `a` field of object type `T`; 1:4 1:1 \nequal: true\n1:2 duplicate definitions for the `a` field of object type `T`; 1:4 1:1 \nequal: true\n";
-    expect_told(&rt, PLAIN, input, &[1, 0], account)?;
+    expect(&rt, &PLAIN, input, &[1, 0], account);
     let input = "ext enum T\nvalue A\ndef object T\nfield x Int";
     let account =
         "1:1 adding an enum type extension, but `T` is an object type; 1:3 1:1 \nequal: true\n1:1 adding an enum type extension, but `T` is an object type; 1:3 1:1 \nequal: true\n";
-    expect_told(&rt, PLAIN, input, &[1, 0], account)
+    expect(&rt, &PLAIN, input, &[1, 0], account);
 }
 
 #[test]
-fn early_schema_extensions_go_last_under_adoption(rt: HostRuntime) -> Result<(), Fail> {
+fn early_schema_extensions_go_last_under_adoption(rt: HostRuntime) {
     let input =
         "ext-schema\nroot query Query\next-schema\nroot subscription S\nschema\nroot mutation Mutation\nroot query AnotherQuery\ndef object Query\ndef object Mutation\ndef object S\ndef object AnotherQuery";
     let account =
         "1:2 duplicate definitions for the `query` root operation type; 1:7 \nequal: true\n1:2 duplicate definitions for the `query` root operation type; 1:7 \nequal: true\n";
-    expect_told(&rt, ADOPTING, input, &[2, 3, 4, 5, 6, 0, 1], account)
+    expect(&rt, &ADOPTING, input, &[2, 3, 4, 5, 6, 0, 1], account);
 }
 
 #[test]
-fn a_type_with_six_faults_is_defined_first(rt: HostRuntime) -> Result<(), Fail> {
+fn a_type_with_six_faults_is_defined_first(rt: HostRuntime) {
     let input =
         "ext object T\nimplements I\nfield a Int\next enum T\nvalue X\ndef object T\nimplements I\nimplements I\nfield a String\nfield a Int\ndef interface T\next object T\nfield a ID\next union U\nmember T";
-    expect_told(&rt, PLAIN, input, &[2, 0, 1, 3, 4, 5], SIX_FAULTS)
+    expect(&rt, &PLAIN, input, &[2, 0, 1, 3, 4, 5], SIX_FAULTS);
 }
 
 /// The faults of a type that an extension comes before, and of an extension of no type; and so for the type's definition first.
@@ -176,22 +153,20 @@ const WITH_A_DIRECTIVE: &str =
     "ext-schema\n@ d\nroot query A\next-schema\nroot query B\next interface B\nfield x Int\next object A\nfield y Int";
 
 #[test]
-fn extensions_with_a_directive_go_behind_those_of_types(rt: HostRuntime) -> Result<(), Fail> {
+fn extensions_with_a_directive_go_behind_those_of_types(rt: HostRuntime) {
     let account =
         "1:5 duplicate definitions for the `query` root operation type; 1:3 \nequal: true\n1:5 duplicate definitions for the `query` root operation type; 1:3 \nequal: true\n";
-    expect_told(&rt, ADOPTING, WITH_A_DIRECTIVE, &[2, 3, 0, 1], account)?;
+    expect(&rt, &ADOPTING, WITH_A_DIRECTIVE, &[2, 3, 0, 1], account);
     let account =
         "1:6 type extension for undefined type `B`; 1:6 \n1:8 type extension for undefined type `A`; 1:8 \n1:1 schema extension without a schema definition\n1:4 schema extension without a schema definition\nequal: true\n1:6 type extension for undefined type `B`; 1:6 \n1:8 type extension for undefined type `A`; 1:8 \n1:1 schema extension without a schema definition\n1:4 schema extension without a schema definition\nequal: true\n";
-    expect_told(&rt, PLAIN, WITH_A_DIRECTIVE, &[2, 3, 0, 1], account)
+    expect(&rt, &PLAIN, WITH_A_DIRECTIVE, &[2, 3, 0, 1], account);
 }
 
 #[test]
-fn adopted_extensions_of_two_kinds_with_directives_do_not_change_places(
-    rt: HostRuntime,
-) -> Result<(), Fail> {
+fn adopted_extensions_of_two_kinds_with_directives_do_not_change_places(rt: HostRuntime) {
     let input =
         "ext object T\n@ dir\next interface T\n@ dir\ndirective dir\nrepeatable\non SCHEMA\non OBJECT";
     let account =
         "1:3 adding an interface type extension, but `T` is an object type; 1:1 1:3 \nequal: false\n1:1 adding an object type extension, but `T` is an interface type; 1:3 1:1 \nequal: false\n";
-    expect_told(&rt, ADOPTING, input, &[1, 0, 2], account)
+    expect(&rt, &ADOPTING, input, &[1, 0, 2], account);
 }

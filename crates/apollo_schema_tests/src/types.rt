@@ -1,66 +1,86 @@
-//! The origins of components, and types by their kinds.
+//! The origins of components, types by their kinds, and schemas that are made of parts.
 
-use crate::asking::{Question, expect};
-use apollo_component::extension::{ComponentOrigin, ExtensionId};
+use crate::building::{made_again, schema_of};
+use crate::lookups::USERS;
 use apollo_schema::schema::Schema;
 use apollo_types::extended_type::ExtendedType;
+use apollo_types::schema_definition::SchemaDefinition;
+use graphql_ast::type_reference::Type;
 use graphql_nodes::name::Name;
+use likeness::{both, is_made};
 use std::alloc::{AllocError, Global};
-use std::test::Fail;
+use std::process::Abort;
+use telling::Tell;
 
-fn push_identity(text: &mut String, id: &ExtensionId) -> Result<(), AllocError> {
-    let line = id.location().map_or(0, |span| span.start);
-    write!(text, " {line}")
-}
-
-fn push_origin(text: &mut String, origin: &ComponentOrigin) -> Result<(), AllocError> {
-    match origin {
-        ComponentOrigin::Definition => text.push_str(" definition"),
-        ComponentOrigin::Extension(id) => push_identity(text, id),
+/// Adds the roots of a schema's definition, where its components come from, and its extensions.
+fn push_definition(
+    alloc: Global,
+    text: &mut String,
+    definition: &SchemaDefinition,
+) -> Result<(), AllocError> {
+    for (operation_type, root) in definition.iter_root_operations() {
+        let name = &root.name;
+        write!(text, "{operation_type} is {name}\n")?;
     }
+    text.push_str("schema: ")?;
+    for origin in definition.iter_origins() {
+        origin.tell(text)?;
+    }
+    text.push_str("\nextensions: ")?;
+    definition.extensions(alloc)?.tell(text)?;
+    text.push_str("\n")
 }
 
-fn push_origins(text: &mut String, ty: &ExtendedType) -> Result<(), AllocError> {
+/// Adds where the components of a type come from, and its extensions.
+fn push_origins(alloc: Global, text: &mut String, ty: &ExtendedType) -> Result<(), AllocError> {
     let name = ty.name();
-    write!(text, "{name}:")?;
+    write!(text, "{name}: ")?;
     for origin in ty.iter_origins() {
-        push_origin(text, origin)?;
+        origin.tell(text)?;
     }
+    text.push_str("\nextensions: ")?;
+    ty.extensions(alloc)?.tell(text)?;
     text.push_str("\n")
 }
 
-fn push_identities(alloc: Global, text: &mut String, ty: &ExtendedType) -> Result<(), AllocError> {
-    let ids = ty.extensions(alloc)?;
-    text.push_str("extensions:")?;
-    for id in ids.as_slice() {
-        push_identity(text, id)?;
-    }
-    text.push_str("\n")
+/// A schema of copies of these parts.
+fn made_of(alloc: Global, schema: &Schema) -> Result<Schema, AllocError> {
+    let first = both(schema.sources.clone(), schema.schema_definition.clone());
+    let second = both(schema.directive_definitions.clone(), schema.types.clone());
+    let ((sources, definition), (directives, types)) = both(first, second)?;
+    Schema::from_parts(alloc, sources, definition, directives, types)
 }
 
-/// Where the components of each type come from, by the lines of extensions, and its extensions.
-#[derive(Drop)]
-struct Origins;
-
-impl Question for Origins {
-    fn ask(&self, alloc: Global, text: &mut String, schema: &Schema) -> Result<(), AllocError> {
-        for ty in schema.types.values() {
-            if !ty.is_built_in() {
-                push_origins(text, ty)?;
-                push_identities(alloc, text, ty)?;
-            }
+/// Expects this to be told of the origins in the schema of a text. Copies of its parts make an equal schema.
+fn expect_origins(rt: &(impl Abort + AllocGlobal), input: &str, expected: &str) {
+    let schema = schema_of(rt, input);
+    let mut text = String::new(rt.alloc());
+    push_definition(rt.alloc(), &mut text, &schema.schema_definition).expect(rt, "memory");
+    for ty in schema.types.values() {
+        if !ty.is_built_in() {
+            push_origins(rt.alloc(), &mut text, ty).expect(rt, "memory");
         }
-        Ok(())
     }
+    assert_eq!(rt; text.as_str(), expected, "of {input:?}");
+    assert!(rt; is_made(made_of(rt.alloc(), &schema), &schema));
 }
 
 #[test]
-fn origins_go_by_directives_then_names_then_fields(rt: HostRuntime) -> Result<(), Fail> {
+fn roots_come_in_the_order_of_operation_types(rt: HostRuntime) {
+    let input =
+        "ext-schema\nroot subscription S\nschema\n@ d\nroot mutation M\next-schema\n@ e\nroot query Q\n";
+    let expected =
+        "query is Q\nmutation is M\nsubscription is S\nschema: definition extension 1 of 1:6 extension 1 of 1:6 definition extension 0 of 1:1 \nextensions: extension 1 of 1:6 extension 0 of 1:1 \n";
+    expect_origins(&rt, input, expected);
+}
+
+#[test]
+fn origins_go_by_directives_then_names_then_fields(rt: HostRuntime) {
     let input =
         "ext object Query\nfield withArg String\nfield@ deprecated\narg arg Boolean\ndef object Query\nfield int Int\next object Query\nimplements Inter\ndef interface Inter\nfield string String\next object Query\n@ customDirective\next object Query\nfield string String\ndirective customDirective\non OBJECT";
     let expected =
-        "Query: 11 7 definition 1 13\nextensions: 11 7 1 13\nInter: definition\nextensions:\n";
-    expect(&rt, &Origins, input, expected)
+        "query is Query\nschema: definition \nextensions: \nQuery: extension 2 of 1:11 extension 1 of 1:7 definition extension 0 of 1:1 extension 3 of 1:13 \nextensions: extension 2 of 1:11 extension 1 of 1:7 extension 0 of 1:1 extension 3 of 1:13 \nInter: definition \nextensions: \n";
+    expect_origins(&rt, input, expected);
 }
 
 /// A type of each kind, with what it may hold in its definition and in an extension.
@@ -68,92 +88,100 @@ const KINDS: &str =
     "def scalar S\n@ d\ndef object O\nimplements I\nfield f Int\ndef interface I\nfield f Int\ndef union U\nmember O\ndef enum E\nvalue A\ndef input N\nfield f Int\next scalar S\n@ d\next object O\nfield g Int\next interface I\nimplements J\next union U\nmember S\next enum E\nvalue B\next input N\nfield g Int";
 
 #[test]
-fn types_of_each_kind_have_origins(rt: HostRuntime) -> Result<(), Fail> {
+fn types_of_each_kind_have_origins(rt: HostRuntime) {
     let expected =
-        "S: definition 14\nextensions: 14\nO: definition definition 16\nextensions: 16\nI: 18 definition\nextensions: 18\nU: definition 20\nextensions: 20\nE: definition 22\nextensions: 22\nN: definition 24\nextensions: 24\n";
-    expect(&rt, &Origins, KINDS, expected)
+        "schema: \nextensions: \nS: definition extension 0 of 1:14 \nextensions: extension 0 of 1:14 \nO: definition definition extension 1 of 1:16 \nextensions: extension 1 of 1:16 \nI: extension 2 of 1:18 definition \nextensions: extension 2 of 1:18 \nU: definition extension 3 of 1:20 \nextensions: extension 3 of 1:20 \nE: definition extension 4 of 1:22 \nextensions: extension 4 of 1:22 \nN: definition extension 5 of 1:24 \nextensions: extension 5 of 1:24 \n";
+    expect_origins(&rt, KINDS, expected);
 }
 
-fn push_if(text: &mut String, word: &str, holds: bool) -> Result<(), AllocError> {
-    if holds {
-        text.push_str(" ")?;
-        text.push_str(word)?;
+/// Adds the words of what holds.
+fn push_words(text: &mut String, words: &[(&str, bool)]) -> Result<(), AllocError> {
+    for (word, holds) in words {
+        if *holds {
+            write!(text, " {word}")?;
+        }
     }
     Ok(())
 }
 
-fn push_kinds(text: &mut String, ty: &ExtendedType) -> Result<(), AllocError> {
-    push_if(text, "scalar", ty.is_scalar() && ty.as_scalar().is_some())?;
-    push_if(text, "object", ty.is_object() && ty.as_object().is_some())?;
-    push_if(
+/// Adds as what a name is found, and as what a list of it can be used.
+fn push_found(
+    alloc: Global,
+    text: &mut String,
+    schema: &Schema,
+    name: &Name,
+) -> Result<(), AllocError> {
+    let list = Type::named(name.clone()?).list(alloc)?;
+    write!(text, "{name}:")?;
+    push_words(
         text,
-        "interface",
-        ty.is_interface() && ty.as_interface().is_some(),
-    )?;
-    push_if(text, "union", ty.is_union() && ty.as_union().is_some())?;
-    push_if(text, "enum", ty.is_enum() && ty.as_enum().is_some())?;
-    push_if(
-        text,
-        "input object",
-        ty.is_input_object() && ty.as_input_object().is_some(),
+        &[
+            ("scalar", schema.get_scalar(name).is_some()),
+            ("object", schema.get_object(name).is_some()),
+            ("interface", schema.get_interface(name).is_some()),
+            ("union", schema.get_union(name).is_some()),
+            ("enum", schema.get_enum(name).is_some()),
+            ("input object", schema.get_input_object(name).is_some()),
+            ("input", schema.is_input_type(&list)),
+            ("output", schema.is_output_type(&list)),
+        ],
     )
 }
 
-fn push_uses(text: &mut String, ty: &ExtendedType) -> Result<(), AllocError> {
-    push_if(text, "leaf", ty.is_leaf())?;
-    push_if(text, "input", ty.is_input_type())?;
-    push_if(text, "output", ty.is_output_type())?;
-    push_if(text, "described", ty.description().is_some())?;
-    push_if(text, "with directives", !ty.directives().is_empty())
-}
-
-/// A type made of a copy of this one's value, in a node of its own.
-fn made_again(alloc: Global, ty: &ExtendedType) -> Result<ExtendedType, AllocError> {
-    match ty {
-        ExtendedType::Scalar(node) => ExtendedType::of_scalar(alloc, (**node).clone()?),
-        ExtendedType::Object(node) => ExtendedType::of_object(alloc, (**node).clone()?),
-        ExtendedType::Interface(node) => ExtendedType::of_interface(alloc, (**node).clone()?),
-        ExtendedType::Union(node) => ExtendedType::of_union(alloc, (**node).clone()?),
-        ExtendedType::Enum(node) => ExtendedType::of_enum(alloc, (**node).clone()?),
-        ExtendedType::InputObject(node) => ExtendedType::of_input_object(alloc, (**node).clone()?),
-    }
-}
-
-fn push_made(alloc: Global, text: &mut String, ty: &ExtendedType) -> Result<(), AllocError> {
+/// Adds what a type is by itself.
+fn push_kinds(alloc: Global, text: &mut String, ty: &ExtendedType) -> Result<(), AllocError> {
     let made = made_again(alloc, ty)?;
-    push_if(
+    text.push_str(", is")?;
+    push_words(
         text,
-        "made again at no location",
-        made == *ty && made.location().is_none(),
-    )
+        &[
+            ("scalar", ty.is_scalar() && ty.as_scalar().is_some()),
+            ("object", ty.is_object() && ty.as_object().is_some()),
+            (
+                "interface",
+                ty.is_interface() && ty.as_interface().is_some(),
+            ),
+            ("union", ty.is_union() && ty.as_union().is_some()),
+            ("enum", ty.is_enum() && ty.as_enum().is_some()),
+            (
+                "input object",
+                ty.is_input_object() && ty.as_input_object().is_some(),
+            ),
+            ("leaf", ty.is_leaf()),
+            ("input", ty.is_input_type()),
+            ("output", ty.is_output_type()),
+            ("described", ty.description().is_some()),
+            ("with directives", !ty.directives().is_empty()),
+            (
+                "made again at no location",
+                made == *ty && made.location().is_none(),
+            ),
+        ],
+    )?;
+    text.push_str("\n")
 }
 
-/// What each type is.
-#[derive(Drop)]
-struct Kinds;
-
-fn push_name(text: &mut String, name: &Name) -> Result<(), AllocError> {
-    write!(text, "{name}:")
-}
-
-impl Question for Kinds {
-    fn ask(&self, alloc: Global, text: &mut String, schema: &Schema) -> Result<(), AllocError> {
-        for ty in schema.types.values() {
-            if !ty.is_built_in() {
-                push_name(text, ty.name())?;
-                push_kinds(text, ty)?;
-                push_uses(text, ty)?;
-                push_made(alloc, text, ty)?;
-                text.push_str("\n")?;
-            }
+/// Adds what each type is, and the name of none.
+fn push_types(alloc: Global, text: &mut String, schema: &Schema) -> Result<(), AllocError> {
+    for ty in schema.types.values() {
+        if !ty.is_built_in() {
+            push_found(alloc, text, schema, ty.name())?;
+            push_kinds(alloc, text, ty)?;
         }
-        Ok(())
     }
+    push_found(alloc, text, schema, &Name::new_unchecked(alloc, "Gone")?)?;
+    text.push_str("\n")
 }
 
 #[test]
-fn types_are_told_by_their_kinds(rt: HostRuntime) -> Result<(), Fail> {
-    let expected =
-        "S: scalar leaf input output with directives made again at no location\nO: object output made again at no location\nI: interface output made again at no location\nU: union output made again at no location\nE: enum leaf input output made again at no location\nN: input object input made again at no location\n";
-    expect(&rt, &Kinds, KINDS, expected)
+fn each_type_is_of_its_kind_alone(rt: HostRuntime) {
+    let mut text = String::new(rt.alloc());
+    for input in [KINDS, USERS] {
+        let schema = schema_of(&rt, input);
+        push_types(rt.alloc(), &mut text, &schema).expect(&rt, "memory");
+    }
+    assert_eq!(rt;
+        text.as_str(),
+        "S: scalar input output, is scalar leaf input output with directives made again at no location\nO: object output, is object output made again at no location\nI: interface output, is interface output made again at no location\nU: union output, is union output made again at no location\nE: enum input output, is enum leaf input output made again at no location\nN: input object input, is input object input made again at no location\nGone:\nQuery: object output, is object output made again at no location\nUser: object output, is object output made again at no location\nNode: interface output, is interface output made again at no location\nPet: union output, is union output made again at no location\nDate: scalar input output, is scalar leaf input output made again at no location\nSize: enum input output, is enum leaf input output made again at no location\nFilter: input object input, is input object input made again at no location\nGone:\n"
+    );
 }

@@ -1,6 +1,13 @@
 //! Tests of coordinates, of what no clause says: that calls succeed with memory, and the printed texts.
+#![tactic(auto)]
 
+#[cfg(test)]
 mod conversions;
+#[cfg(test)]
 mod equality;
+#[cfg(test)]
 mod lookups;
+#[cfg(test)]
 mod reading;
+#[cfg(test)]
+mod schemas;
