@@ -1,12 +1,12 @@
 //! Schemas, types and their definition as syntax, the identities of their extensions, and the map of implementers.
 
 use crate::builders::schema_of;
-use crate::inputs::{Input, SCHEMAS};
-use crate::stop::{Told, tell_line, tell_made};
+use crate::inputs::Input;
 use apollo_component::extension::ExtensionId;
 use apollo_schema::schema::Schema;
 use apollo_types::extended_type::ExtendedType;
 use bench_notation::reading::read;
+use gqlrefusals_values::stop::{Told, tell_line, tell_made};
 use graphql_ast::definition::Definition;
 use graphql_nodes::collections::key_set::KeySet;
 use std::alloc::{AllocError, Global};
@@ -117,16 +117,9 @@ fn ask_schema(alloc: Global, text: &mut String, schema: &Schema, question: OfSch
     }
 }
 
-fn ask(alloc: Global, text: &mut String, input: Input, question: OfSchema) -> Told {
+/// Asks something of the schema of an input.
+pub fn ask(alloc: Global, text: &mut String, input: Input, question: OfSchema) -> Told {
     let documents = read(alloc, input.text)?;
     let schema = schema_of(alloc, input.adopts, documents.as_slice())?;
     ask_schema(alloc, text, &schema, question)
-}
-
-/// Asks something over each input.
-pub fn ask_all(alloc: Global, text: &mut String, question: OfSchema) -> Told {
-    for input in SCHEMAS {
-        ask(alloc, text, input, question)?;
-    }
-    Ok(())
 }
