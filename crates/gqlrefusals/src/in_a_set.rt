@@ -1,10 +1,7 @@
 //! Selections of a set's type, which are made over a schema.
 
-use crate::builders::schema_of;
-use crate::inputs::Input;
 use apollo_executable::{NewFieldError, SelectionSet};
 use apollo_schema::schema::Schema;
-use bench_notation::reading::read;
 use gqlrefusals_values::parts::{empty_set, name};
 use gqlrefusals_values::stop::{Stop, Told, tell_line};
 use std::alloc::Global;
@@ -26,15 +23,11 @@ fn new_field(
 
 /// The calls that make selections of a set's type: `SelectionSet::new_field`, and `SelectionSet::new_inline_fragment` with a
 /// condition and without one.
-pub fn ask(alloc: Global, text: &mut String, input: Input) -> Told {
-    let documents = read(alloc, input.text)?;
-    let schema = schema_of(alloc, input.adopts, documents.as_slice())?;
+pub fn made_in_a_set(alloc: Global, text: &mut String, schema: &Schema) -> Told {
     let set = empty_set(alloc)?;
-    new_field(alloc, text, &set, &schema, "user")?;
-    new_field(alloc, text, &set, &schema, "gone")?;
-    tell_line(
-        text,
-        set.new_inline_fragment(alloc, Some(name(alloc, "User")?)),
-    )?;
+    new_field(alloc, text, &set, schema, "user")?;
+    new_field(alloc, text, &set, schema, "gone")?;
+    let condition = name(alloc, "User")?;
+    tell_line(text, set.new_inline_fragment(alloc, Some(condition)))?;
     tell_line(text, set.new_inline_fragment(alloc, None))
 }

@@ -1,11 +1,11 @@
 //! The scenarios: one for each call, or for calls of one sort, that can want memory.
 
 use crate::builders::{self, OfBuilder};
+use crate::compiling;
 use crate::documents::{self, OfBuilt, OfDocuments};
 use crate::inputs::{DOCUMENTS, Input, NONE, SCHEMAS, SERVED, SPENT};
 use crate::schemas::{self, OfSchema, OfType};
 use crate::sets::OfSet;
-use crate::{compiling, in_a_set};
 use apollo_schema::schema::Schema;
 use gqlrefusals_values::containers::{Changed, tell_changes};
 use gqlrefusals_values::coordinates::{self, Form};
@@ -99,7 +99,7 @@ pub const SCENARIOS: [(&str, Scenario); 56] = [
     ),
     (
         "type-write-to",
-        Scenario::Schemas(OfSchema::WrittenTogether),
+        Scenario::Schemas(OfSchema::Types(OfType::WrittenTogether)),
     ),
     (
         "kind-extensions",
@@ -194,7 +194,7 @@ impl Scenario {
                 documents::ask(alloc, text, input, question)
             }
             Scenario::Selections => making::selections_made(alloc, text),
-            Scenario::InSet => in_a_set::ask(alloc, text, input),
+            Scenario::InSet => schemas::ask(alloc, text, input, OfSchema::InSet),
             Scenario::FromOne => making::from_one(alloc, text),
             Scenario::Coordinates(form) => coordinates::read_all(alloc, text, form),
             Scenario::CutCoordinates => coordinates::cut(alloc, text),

@@ -38,7 +38,7 @@ fn tell_changed<T: Tell>(text: &mut String, before: &str, value: &T) -> Result<(
 
 /// Changes a value, of which there is a copy: the copy is as it was. After want of memory so is the value, and it can be changed
 /// then.
-fn change<T: Tell + PartialEq, C: Change<T>>(
+fn make_change<T: Tell + PartialEq, C: Change<T>>(
     alloc: Global,
     text: &mut String,
     before: &mut Before,
@@ -71,5 +71,5 @@ pub fn try_change<T: Tell + Clone + PartialEq + Drop, C: Change<T>>(
     let mut value = value;
     let copy = value.clone()?;
     let mut before = remembered(alloc, &value)?;
-    change(alloc, text, &mut before, &mut value, &copy, call)
+    make_change(alloc, text, &mut before, &mut value, &copy, call)
 }
