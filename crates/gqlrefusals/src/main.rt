@@ -36,11 +36,11 @@ fn push_scenario(alloc: Global, text: &mut String, name: &str, scenario: Scenari
 /// Tells the scenario of this name, or for `--all` each one behind its name. Answers whether there is any.
 fn tell_named(alloc: Global, text: &mut String, word: &str) -> Result<bool, Stop> {
     let mut is_known = false;
-    for (name, scenario) in SCENARIOS {
+    for (name, scenario) in &SCENARIOS {
         if word == "--all" {
-            push_scenario(alloc, text, name, scenario)?;
+            push_scenario(alloc, text, *name, *scenario)?;
             is_known = true;
-        } else if word == name {
+        } else if word == *name {
             scenario.tell(alloc, text)?;
             is_known = true;
         }

@@ -57,7 +57,7 @@ pub enum Scenario {
 }
 
 /// All scenarios, with their names.
-pub const SCENARIOS: [(&str, Scenario); 56] = [
+pub static SCENARIOS: [(&str, Scenario); 56] = [
     ("name-new", Scenario::Names),
     ("same-location", Scenario::SameLocation),
     ("meta-fields", Scenario::MetaFields),

@@ -212,21 +212,21 @@ impl Change<OperationMap> for Subscribe {
 type Row<C> = (&'static [&'static str], C);
 
 /// As many as nothing, one, and four, where a list grows.
-const GROWING: [Row<Add>; 3] = [
+static GROWING: [Row<Add>; 3] = [
     (&[], Add("a")),
     (&["a"], Add("a")),
     (&["a", "bb", "ccc", "dddd"], Add("a")),
 ];
 
 /// The same with a new name.
-const NEW: [Row<Add>; 3] = [
+static NEW: [Row<Add>; 3] = [
     (&[], Add("e")),
     (&["a"], Add("e")),
     (&["a", "bb", "ccc", "dddd"], Add("e")),
 ];
 
 /// Operations: new ones, those that are there already, and anonymous ones.
-const OPERATIONS: [Row<Add>; 6] = [
+static OPERATIONS: [Row<Add>; 6] = [
     (&[], Add("A")),
     (&["-", "A"], Add("B")),
     (&["A", "B", "C", "D"], Add("E")),
@@ -239,23 +239,23 @@ const OPERATIONS: [Row<Add>; 6] = [
 const THREE: AddAll = AddAll(&["a", "bb", "ccc"]);
 
 /// Two, to which three are added.
-const TO_TWO: [Row<AddAll>; 1] = [(&["a", "bb"], THREE)];
+static TO_TWO: [Row<AddAll>; 1] = [(&["a", "bb"], THREE)];
 
 /// One, to which three are added.
-const TO_ONE: [Row<AddAll>; 1] = [(&["a"], THREE)];
+static TO_ONE: [Row<AddAll>; 1] = [(&["a"], THREE)];
 
 /// More things than a list takes in one step.
 const NINE: AddAll = AddAll(&["A", "B", "C", "D", "E", "F", "G", "H", "I"]);
 
 /// As many as nothing, one, and four, to which nine are added.
-const EXTENDED: [Row<AddAll>; 3] = [
+static EXTENDED: [Row<AddAll>; 3] = [
     (&[], NINE),
     (&["a"], NINE),
     (&["a", "bb", "ccc", "dddd"], NINE),
 ];
 
 /// Maps, and what is requested.
-const REQUESTS: [Row<Subscribe>; 3] = [
+static REQUESTS: [Row<Subscribe>; 3] = [
     (&["-"], Subscribe("-")),
     (&["A"], Subscribe("-")),
     (&["-", "A", "B"], Subscribe("B")),

@@ -25,19 +25,22 @@ fn tell_name(alloc: Global, text: &mut String, input: &str) -> Told {
     Ok(text.push_str("\n")?)
 }
 
+/// Names, and texts that are none.
+static NAMES: [&str; 7] = [
+    "T",
+    "_a9",
+    "aNameThatIsRatherLong",
+    "",
+    "9",
+    "a b",
+    "\u{2192}",
+];
+
 /// `Name::new`.
 /// No clause: it serves tests.
 pub fn names(alloc: Global, text: &mut String) -> Told {
-    for input in [
-        "T",
-        "_a9",
-        "aNameThatIsRatherLong",
-        "",
-        "9",
-        "a b",
-        "\u{2192}",
-    ] {
-        tell_name(alloc, text, input)?;
+    for input in &NAMES {
+        tell_name(alloc, text, *input)?;
     }
     Ok(())
 }
