@@ -1,8 +1,8 @@
 //! Documents that are compiled in one call: `compile`.
 
-use crate::inputs::Input;
 use apollo_compiler::{CompileError, CompileOptions, Compiled, Document, compile};
 use bench_notation::reading::{read, read_divided};
+use gqlrefusals_schemas::inputs::Input;
 use gqlrefusals_values::stop::{Stop, Told};
 use std::alloc::{AllocError, Global};
 use telling::Tell;

@@ -1,7 +1,5 @@
 //! The builder of typed documents, field sets, the parts of typed documents as syntax, and leaf faults.
 
-use crate::builders::schema_of;
-use crate::inputs::Input;
 use crate::sets::{OfSet, ask_set};
 use apollo_document::ExecutableDocumentBuilder;
 use apollo_elaboration::build_error::Faults;
@@ -10,6 +8,8 @@ use apollo_executable::ExecutableDocument;
 use apollo_folding::builder_error::BuilderError;
 use apollo_schema::schema::Schema;
 use bench_notation::reading::read_divided;
+use gqlrefusals_schemas::builders::schema_of;
+use gqlrefusals_schemas::inputs::Input;
 use gqlrefusals_values::stop::{Stop, Told, expect, tell_line, tell_made};
 use graphql_ast::definition::Definition;
 use graphql_ast::document::Document;

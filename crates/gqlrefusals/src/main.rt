@@ -3,13 +3,9 @@
 //! compared, with ample memory and with each request refused in turn.
 #![tactic(auto)]
 
-mod builders;
 mod compiling;
 mod documents;
-mod in_a_set;
-mod inputs;
 mod scenario;
-mod schemas;
 mod sets;
 
 use crate::scenario::{SCENARIOS, Scenario};

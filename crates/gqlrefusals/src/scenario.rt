@@ -1,12 +1,12 @@
 //! The scenarios: one for each call, or for calls of one sort, that can want memory.
 
-use crate::builders::{self, OfBuilder};
 use crate::compiling;
 use crate::documents::{self, OfBuilt, OfDocuments};
-use crate::inputs::{DOCUMENTS, Input, NONE, SCHEMAS, SERVED, SPENT};
-use crate::schemas::{self, OfSchema, OfType};
 use crate::sets::OfSet;
 use apollo_schema::schema::Schema;
+use gqlrefusals_schemas::builders::{self, OfBuilder};
+use gqlrefusals_schemas::inputs::{DOCUMENTS, Input, NONE, SCHEMAS, SERVED, SPENT};
+use gqlrefusals_schemas::schemas::{self, OfSchema, OfType};
 use gqlrefusals_values::containers::{Changed, tell_changes};
 use gqlrefusals_values::coordinates::{self, Form};
 use gqlrefusals_values::making;

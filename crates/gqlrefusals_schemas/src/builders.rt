@@ -159,6 +159,7 @@ fn tell_end(text: &mut String, builder: SchemaBuilder, first: u64, question: OfB
 }
 
 /// Asks something of a builder that has taken the documents of an input.
+/// No clause: it serves tests.
 pub fn ask(alloc: Global, text: &mut String, input: Input, question: OfBuilder) -> Told {
     let documents = read(alloc, input.text)?;
     let first = match question {
@@ -170,6 +171,7 @@ pub fn ask(alloc: Global, text: &mut String, input: Input, question: OfBuilder) 
 }
 
 /// `SchemaBuilder::new`: its orphan names, and what is built of no document.
+/// No clause: it serves tests.
 pub fn new(alloc: Global, text: &mut String) -> Told {
     let builder = SchemaBuilder::new(alloc)?;
     push_orphans(text, &builder)?;
@@ -177,6 +179,7 @@ pub fn new(alloc: Global, text: &mut String) -> Told {
 }
 
 /// The schema of documents, whatever is at fault.
+/// No clause: it serves tests.
 pub fn schema_of(alloc: Global, adopts: bool, documents: &[Document]) -> Result<Schema, Stop> {
     let mut orphans = String::new(alloc);
     match taken(alloc, &mut orphans, adopts, None, documents)?.build() {
