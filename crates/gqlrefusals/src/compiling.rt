@@ -1,9 +1,9 @@
 //! Documents that are compiled in one call: `compile`.
 
-use crate::inputs::{DOCUMENTS, Input, SCHEMAS};
-use crate::stop::{Stop, Told};
 use apollo_compiler::{CompileError, CompileOptions, Compiled, Document, compile};
 use bench_notation::reading::{read, read_divided};
+use gqlrefusals_schemas::inputs::Input;
+use gqlrefusals_values::stop::{Stop, Told};
 use std::alloc::{AllocError, Global};
 use telling::Tell;
 
@@ -43,29 +43,15 @@ fn tell_compiled(
     }
 }
 
-fn tell_schema(alloc: Global, text: &mut String, input: Input) -> Told {
+/// Documents of the type system.
+pub fn tell_schemas(alloc: Global, text: &mut String, input: Input) -> Told {
     let documents = read(alloc, input.text)?;
     tell_compiled(alloc, text, input.adopts, documents.as_slice(), &[])
 }
 
-fn tell_both(alloc: Global, text: &mut String, input: Input) -> Told {
+/// Documents of both sorts.
+pub fn tell_documents(alloc: Global, text: &mut String, input: Input) -> Told {
     let documents = read_divided(alloc, input.text)?;
     let (schema, executable) = (documents.schema.as_slice(), documents.executable.as_slice());
     tell_compiled(alloc, text, input.adopts, schema, executable)
-}
-
-/// Documents of the type system.
-pub fn tell_schemas(alloc: Global, text: &mut String) -> Told {
-    for input in SCHEMAS {
-        tell_schema(alloc, text, input)?;
-    }
-    Ok(())
-}
-
-/// Documents of both sorts.
-pub fn tell_documents(alloc: Global, text: &mut String) -> Told {
-    for input in DOCUMENTS {
-        tell_both(alloc, text, input)?;
-    }
-    Ok(())
 }

@@ -1,9 +1,6 @@
 //! The builder of typed documents, field sets, the parts of typed documents as syntax, and leaf faults.
 
-use crate::builders::schema_of;
-use crate::inputs::{DOCUMENTS, Input};
 use crate::sets::{OfSet, ask_set};
-use crate::stop::{Stop, Told, expect, tell_line, tell_made};
 use apollo_document::ExecutableDocumentBuilder;
 use apollo_elaboration::build_error::Faults;
 use apollo_elaboration::field_set::FieldSet;
@@ -11,6 +8,9 @@ use apollo_executable::ExecutableDocument;
 use apollo_folding::builder_error::BuilderError;
 use apollo_schema::schema::Schema;
 use bench_notation::reading::read_divided;
+use gqlrefusals_schemas::builders::schema_of;
+use gqlrefusals_schemas::inputs::Input;
+use gqlrefusals_values::stop::{Stop, Told, expect, tell_line, tell_made};
 use graphql_ast::definition::Definition;
 use graphql_ast::document::Document;
 use graphql_ast::selection::Selection;
@@ -49,20 +49,20 @@ pub enum OfBuilt {
     Sets(OfSet),
 }
 
-/// What a refusal of `add_ast_document` comes to: from then on the builder answers `Failed`.
-fn refused(
-    builder: ExecutableDocumentBuilder<'_>,
-    document: &Document,
-    error: BuilderError,
-) -> Stop {
-    let mut builder = builder;
-    if builder.add_ast_document(document, true) != Err(BuilderError::Failed) {
-        return Stop::Wrong("a builder goes on after a refusal");
+/// Has a builder take these documents. Answers whether memory was refused to it: from then on it answers `Failed`.
+fn take_all(
+    builder: &mut ExecutableDocumentBuilder<'_>,
+    documents: &[Document],
+) -> Result<bool, Stop> {
+    for document in documents {
+        if let Err(error) = builder.add_ast_document(document, true) {
+            expect(error == BuilderError::Memory, "a builder was refused")?;
+            let is_failed = builder.add_ast_document(document, true) == Err(BuilderError::Failed);
+            expect(is_failed, "a builder goes on after a refusal")?;
+            return Ok(true);
+        }
     }
-    match builder.build() {
-        Err(BuilderError::Failed) => Stop::from(error),
-        _ => Stop::Wrong("a builder is built after a refusal"),
-    }
+    Ok(false)
 }
 
 /// What documents build.
@@ -72,12 +72,12 @@ fn built(
     documents: &[Document],
 ) -> Result<(ExecutableDocument, Faults), Stop> {
     let mut builder = ExecutableDocumentBuilder::new(alloc, schema);
-    for document in documents {
-        if let Err(error) = builder.add_ast_document(document, true) {
-            return Err(refused(builder, document, error));
-        }
+    let is_refused = take_all(&mut builder, documents)?;
+    match builder.build() {
+        Err(BuilderError::Failed) if is_refused => Err(Stop::Memory),
+        _ if is_refused => Err(Stop::Wrong("a builder is built after a refusal")),
+        built => Ok(built?),
     }
-    Ok(builder.build()?)
 }
 
 fn tell_built(
@@ -228,22 +228,10 @@ fn ask_documents(
     }
 }
 
-fn ask(alloc: Global, text: &mut String, input: Input, question: OfDocuments) -> Told {
+/// Asks something of the documents of an input.
+pub fn ask(alloc: Global, text: &mut String, input: Input, question: OfDocuments) -> Told {
     let documents = read_divided(alloc, input.text)?;
     let schema = schema_of(alloc, input.adopts, documents.schema.as_slice())?;
-    ask_documents(
-        alloc,
-        text,
-        &schema,
-        documents.executable.as_slice(),
-        question,
-    )
-}
-
-/// Asks something over each input.
-pub fn ask_all(alloc: Global, text: &mut String, question: OfDocuments) -> Told {
-    for input in DOCUMENTS {
-        ask(alloc, text, input, question)?;
-    }
-    Ok(())
+    let executable = documents.executable.as_slice();
+    ask_documents(alloc, text, &schema, executable, question)
 }

@@ -3,22 +3,13 @@
 //! compared, with ample memory and with each request refused in turn.
 #![tactic(auto)]
 
-mod builders;
-mod changing;
 mod compiling;
-mod containers;
-mod coordinates;
 mod documents;
-mod inputs;
-mod making;
-mod parts;
 mod scenario;
-mod schemas;
 mod sets;
-mod stop;
 
 use crate::scenario::{SCENARIOS, Scenario};
-use crate::stop::{Stop, Told};
+use gqlrefusals_values::stop::{Stop, Told};
 use gqltool_run::arguments::words;
 use gqltool_run::status::Status;
 use std::alloc::Global;
@@ -26,16 +17,6 @@ use std::io::{self, Write};
 use std::process::ExitCode;
 
 const USAGE: &str = "usage: gqlrefusals SCENARIO | --all";
-
-/// The scenario of this name.
-fn scenario_of(name: &str) -> Option<Scenario> {
-    for (known, scenario) in SCENARIOS {
-        if known == name {
-            return Some(scenario);
-        }
-    }
-    None
-}
 
 /// Adds a scenario: a line `* NAME`, and then its answer, whose lines stand behind `> `.
 fn push_scenario(alloc: Global, text: &mut String, name: &str, scenario: Scenario) -> Told {
@@ -48,22 +29,25 @@ fn push_scenario(alloc: Global, text: &mut String, name: &str, scenario: Scenari
     Ok(())
 }
 
-fn push_all(alloc: Global, text: &mut String) -> Told {
-    for (name, scenario) in SCENARIOS {
-        push_scenario(alloc, text, name, scenario)?;
+/// Tells the scenario of this name, or for `--all` each one behind its name. Answers whether there is any.
+fn tell_named(alloc: Global, text: &mut String, word: &str) -> Result<bool, Stop> {
+    let mut is_known = false;
+    for (name, scenario) in &SCENARIOS {
+        if word == "--all" {
+            push_scenario(alloc, text, *name, *scenario)?;
+            is_known = true;
+        } else if word == *name {
+            scenario.tell(alloc, text)?;
+            is_known = true;
+        }
     }
-    Ok(())
+    Ok(is_known)
 }
 
-/// Tells the scenario whose name is the word, or all with `--all`, or answers none where the words are none of these.
-fn told(alloc: Global, words: &[String], text: &mut String) -> Option<Told> {
+fn told(alloc: Global, words: &[String], text: &mut String) -> Result<bool, Stop> {
     match words {
-        [word] if word.as_str() == "--all" => Some(push_all(alloc, text)),
-        [word] => match scenario_of(word.as_str()) {
-            Some(scenario) => Some(scenario.tell(alloc, text)),
-            None => None,
-        },
-        _ => None,
+        [word] => tell_named(alloc, text, word.as_str()),
+        _ => Ok(false),
     }
 }
 
@@ -75,18 +59,18 @@ fn write_out(rt: &HostRuntime, text: &str) -> io::Result<()> {
 
 /// Writes what was told, or says why nothing was. `Done` is the answer where memory was ample; `Exhausted` where a request was
 /// refused and all stands that is promised after that; `Faults` where something else came.
-fn ended(rt: &HostRuntime, told: Option<Told>, text: &str) -> Status {
+fn ended(rt: &HostRuntime, told: Result<bool, Stop>, text: &str) -> Status {
     match told {
-        Some(Ok(())) if write_out(rt, text).is_ok() => Status::Done,
-        Some(Ok(())) => Status::NotWritten,
-        Some(Err(Stop::Memory)) => Status::Exhausted,
-        Some(Err(Stop::Wrong(why))) => {
-            let _ = rt.eprintln(why);
-            Status::Faults
-        }
-        None => {
+        Ok(true) if write_out(rt, text).is_ok() => Status::Done,
+        Ok(true) => Status::NotWritten,
+        Ok(false) => {
             let _ = rt.eprintln(USAGE);
             Status::Refused
+        }
+        Err(Stop::Memory) => Status::Exhausted,
+        Err(Stop::Wrong(why)) => {
+            let _ = rt.eprintln(why);
+            Status::Faults
         }
     }
 }

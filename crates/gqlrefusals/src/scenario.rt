@@ -1,14 +1,16 @@
 //! The scenarios: one for each call, or for calls of one sort, that can want memory.
 
-use crate::builders::{self, OfBuilder};
-use crate::containers::{Changed, tell_changes};
-use crate::coordinates::{self, Form};
+use crate::compiling;
 use crate::documents::{self, OfBuilt, OfDocuments};
-use crate::schemas::{self, OfSchema, OfType};
 use crate::sets::OfSet;
-use crate::stop::{Told, tell_made};
-use crate::{compiling, making};
 use apollo_schema::schema::Schema;
+use gqlrefusals_schemas::builders::{self, OfBuilder};
+use gqlrefusals_schemas::inputs::{DOCUMENTS, Input, NONE, SCHEMAS, SERVED, SPENT};
+use gqlrefusals_schemas::schemas::{self, OfSchema, OfType};
+use gqlrefusals_values::containers::{Changed, tell_changes};
+use gqlrefusals_values::coordinates::{self, Form};
+use gqlrefusals_values::making;
+use gqlrefusals_values::stop::{Told, tell_made};
 use std::alloc::Global;
 
 /// What a scenario asks, and of what.
@@ -55,7 +57,7 @@ pub enum Scenario {
 }
 
 /// All scenarios, with their names.
-pub const SCENARIOS: [(&str, Scenario); 56] = [
+pub static SCENARIOS: [(&str, Scenario); 56] = [
     ("name-new", Scenario::Names),
     ("same-location", Scenario::SameLocation),
     ("meta-fields", Scenario::MetaFields),
@@ -70,7 +72,7 @@ pub const SCENARIOS: [(&str, Scenario); 56] = [
     ("build", Scenario::Builder(OfBuilder::Build)),
     (
         "build-with-source",
-        Scenario::Builder(OfBuilder::WithSource(40)),
+        Scenario::Builder(OfBuilder::WithSource),
     ),
     ("builder-clone", Scenario::Builder(OfBuilder::Copied)),
     ("spent-sources", Scenario::SpentSources),
@@ -97,7 +99,7 @@ pub const SCENARIOS: [(&str, Scenario); 56] = [
     ),
     (
         "type-write-to",
-        Scenario::Schemas(OfSchema::WrittenTogether),
+        Scenario::Schemas(OfSchema::Types(OfType::WrittenTogether)),
     ),
     (
         "kind-extensions",
@@ -157,9 +159,22 @@ pub const SCENARIOS: [(&str, Scenario); 56] = [
 ];
 
 impl Scenario {
-    /// Makes the scenario's calls, and tells their answers in full. `Memory` comes where a request was refused and all
-    /// stands that is promised then, and `Wrong` where something else comes than what is promised.
-    pub fn tell(self, alloc: Global, text: &mut String) -> Told {
+    /// What the scenario goes over.
+    fn inputs(self) -> &'static [Input] {
+        match self {
+            Scenario::Builder(_) | Scenario::Schemas(_) | Scenario::CompileSchemas => &SCHEMAS,
+            Scenario::SpentSources => &SPENT,
+            Scenario::InSet => &SERVED,
+            Scenario::Documents(_)
+            | Scenario::Built(_)
+            | Scenario::Sets(_)
+            | Scenario::CompileBoth => &DOCUMENTS,
+            _ => &NONE,
+        }
+    }
+
+    /// Makes the scenario's calls over an input.
+    fn ask(self, alloc: Global, text: &mut String, input: Input) -> Told {
         match self {
             Scenario::Names => making::names(alloc, text),
             Scenario::SameLocation => making::same_location(alloc, text),
@@ -167,24 +182,33 @@ impl Scenario {
             Scenario::NewSchema => tell_made(text, Schema::new(alloc)),
             Scenario::NewBuilder => builders::new(alloc, text),
             Scenario::Changes(changed) => tell_changes(alloc, text, changed),
-            Scenario::Builder(question) => builders::ask_all(alloc, text, question),
-            Scenario::SpentSources => builders::ask_spent(alloc, text),
-            Scenario::Schemas(question) => schemas::ask_all(alloc, text, question),
-            Scenario::Documents(question) => documents::ask_all(alloc, text, question),
+            Scenario::Builder(question) => builders::ask(alloc, text, input, question),
+            Scenario::SpentSources => builders::ask(alloc, text, input, OfBuilder::WithSource),
+            Scenario::Schemas(question) => schemas::ask(alloc, text, input, question),
+            Scenario::Documents(question) => documents::ask(alloc, text, input, question),
             Scenario::Built(question) => {
-                documents::ask_all(alloc, text, OfDocuments::Built(question))
+                documents::ask(alloc, text, input, OfDocuments::Built(question))
             }
             Scenario::Sets(question) => {
                 let question = OfDocuments::Built(OfBuilt::Sets(question));
-                documents::ask_all(alloc, text, question)
+                documents::ask(alloc, text, input, question)
             }
             Scenario::Selections => making::selections_made(alloc, text),
-            Scenario::InSet => making::made_in_a_set(alloc, text),
+            Scenario::InSet => schemas::ask(alloc, text, input, OfSchema::InSet),
             Scenario::FromOne => making::from_one(alloc, text),
             Scenario::Coordinates(form) => coordinates::read_all(alloc, text, form),
             Scenario::CutCoordinates => coordinates::cut(alloc, text),
-            Scenario::CompileSchemas => compiling::tell_schemas(alloc, text),
-            Scenario::CompileBoth => compiling::tell_documents(alloc, text),
+            Scenario::CompileSchemas => compiling::tell_schemas(alloc, text, input),
+            Scenario::CompileBoth => compiling::tell_documents(alloc, text, input),
         }
+    }
+
+    /// Makes the scenario's calls, and tells their answers in full. `Memory` comes where a request was refused and all
+    /// stands that is promised then, and `Wrong` where something else comes than what is promised.
+    pub fn tell(self, alloc: Global, text: &mut String) -> Told {
+        for input in self.inputs() {
+            self.ask(alloc, text, *input)?;
+        }
+        Ok(())
     }
 }

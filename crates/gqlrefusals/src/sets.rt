@@ -1,7 +1,7 @@
 //! Sets of selections as syntax, and walks over them, item by item and whole.
 
-use crate::stop::{Stop, Told, expect, tell_line};
 use apollo_executable::{ExecutableDocument, Field, FieldWalk, Selection, SelectionSet};
+use gqlrefusals_values::stop::{Stop, Told, expect, tell_line};
 use graphql_nodes::node::Node;
 use std::alloc::{AllocError, Global};
 use telling::walks::{End, push_fields, push_walk};
@@ -40,6 +40,16 @@ fn tell_selections(alloc: Global, text: &mut String, set: &SelectionSet) -> Told
     Ok(())
 }
 
+/// Fields that were collected, as text.
+fn collected(
+    alloc: Global,
+    fields: Result<Vec<&Node<Field>>, AllocError>,
+) -> Result<String, AllocError> {
+    let mut text = String::new(alloc);
+    push_fields(&mut text, fields?.as_slice())?;
+    Ok(text)
+}
+
 /// Tells fields that were collected.
 fn tell_fields(text: &mut String, fields: Result<Vec<&Node<Field>>, AllocError>) -> Told {
     push_fields(text, fields?.as_slice())?;
@@ -61,22 +71,27 @@ fn tell_ended(text: &mut String, end: End, whole: &str, given: &str) -> Told {
     }
 }
 
-/// Tells the fields of a walk, beside those that were collected. However it ended, it gives nothing more, now and later.
+/// Tells the fields of a walk, beside those of the whole. However it ended, it gives nothing more, now and later.
+fn tell_turns(alloc: Global, text: &mut String, whole: &str, walk: &mut FieldWalk<'_>) -> Told {
+    let mut given = String::new(alloc);
+    let end = push_walk(&mut given, walk)?;
+    let is_over = walk.next().is_none() && walk.next().is_none();
+    expect(is_over, "a walk goes on")?;
+    tell_ended(text, end, whole, given.as_str())?;
+    let turns = walk.turns();
+    Ok(write!(text, "in {turns}\n")?)
+}
+
+/// Tells the fields of a walk, beside those that were collected.
 fn tell_walk(
     alloc: Global,
     text: &mut String,
     whole: Result<Vec<&Node<Field>>, AllocError>,
     walk: FieldWalk<'_>,
 ) -> Told {
-    let (mut wanted, mut given) = (String::new(alloc), String::new(alloc));
-    push_fields(&mut wanted, whole?.as_slice())?;
     let mut walk = walk;
-    let end = push_walk(&mut given, &mut walk)?;
-    let is_over = walk.next().is_none() && walk.next().is_none();
-    expect(is_over, "a walk goes on")?;
-    tell_ended(text, end, wanted.as_str(), given.as_str())?;
-    let turns = walk.turns();
-    Ok(write!(text, "in {turns}\n")?)
+    let whole = collected(alloc, whole)?;
+    tell_turns(alloc, text, whole.as_str(), &mut walk)
 }
 
 /// Asks something of a set of a document.

@@ -4,7 +4,7 @@ use crate::changing::{Change, try_change};
 use crate::parts::{
     are_same, definition, directive, empty_set, name, operation, operation_name, spread,
 };
-use crate::stop::{Stop, Told, expect};
+use crate::stop::{Stop, Told, expect, handed_back};
 use apollo_component::component::Component;
 use apollo_component::directive_list::DirectiveList;
 use apollo_executable::{OperationMap, RequestError, SelectionSet};
@@ -48,10 +48,7 @@ impl Container for KeySet<Name> {
     fn add(&mut self, alloc: Global, text: &str) -> Told {
         match self.insert(name(alloc, text)?) {
             Ok(_) => Ok(()),
-            Err(refused) => {
-                expect(refused.value.as_str() == text, "another key is handed back")?;
-                Err(Stop::Memory)
-            }
+            Err(refused) => Err(handed_back(refused.value.as_str() == text)),
         }
     }
 }
@@ -67,8 +64,7 @@ impl Container for Table<Name, Name> {
             Ok(_) => Ok(()),
             Err(refused) => {
                 let (key, put) = (refused.value.0.as_str(), refused.value.1.as_str());
-                expect(key == text && put == "v", "another entry is handed back")?;
-                Err(Stop::Memory)
+                Err(handed_back(key == text && put == "v"))
             }
         }
     }
@@ -121,10 +117,7 @@ impl Container for OperationMap {
                 old.is_some() == (self.len() == count),
                 "another one stood there",
             ),
-            Err(refused) => {
-                expect(are_same(&refused, &copy), "another one is handed back")?;
-                Err(Stop::Memory)
-            }
+            Err(refused) => Err(handed_back(are_same(&refused, &copy))),
         }
     }
 }
@@ -148,46 +141,6 @@ impl<T: Container> Change<T> for Add {
     }
 }
 
-/// What a container has, and what is added.
-type Row = (&'static [&'static str], &'static str);
-
-/// As many as nothing, one, and four, where a list grows.
-const GROWING: [Row; 3] = [
-    (&[], "a"),
-    (&["a"], "a"),
-    (&["a", "bb", "ccc", "dddd"], "a"),
-];
-
-/// The same with a new name.
-const NEW: [Row; 3] = [
-    (&[], "e"),
-    (&["a"], "e"),
-    (&["a", "bb", "ccc", "dddd"], "e"),
-];
-
-/// Operations: new ones, those that are there already, and anonymous ones.
-const OPERATIONS: [Row; 6] = [
-    (&[], "A"),
-    (&["-", "A"], "B"),
-    (&["A", "B", "C", "D"], "E"),
-    (&["A", "B"], "A"),
-    (&["A"], "-"),
-    (&["-"], "-"),
-];
-
-/// Adds each row's thing to a container that has the others.
-fn add_each<T: Container + Tell + Clone + PartialEq + Drop>(
-    alloc: Global,
-    text: &mut String,
-    rows: &[Row],
-) -> Told {
-    for (texts, added) in rows {
-        let value: T = filled(alloc, *texts)?;
-        try_change(alloc, text, value, &Add(*added))?;
-    }
-    Ok(())
-}
-
 /// Takes over all things of another one, which is empty then, or as it was where memory is refused.
 #[derive(Clone, Copy)]
 struct AddAll(&'static [&'static str]);
@@ -198,10 +151,7 @@ impl Change<Items<Name>> for AddAll {
         let copy = other.clone()?;
         match value.append(&mut other) {
             Ok(()) => expect(other.is_empty(), "the other list is not empty"),
-            Err(_) => {
-                expect(other == copy, "the other list was changed")?;
-                Err(Stop::Memory)
-            }
+            Err(_) => Err(handed_back(other == copy)),
         }
     }
 }
@@ -212,10 +162,7 @@ impl Change<Table<Name, Name>> for AddAll {
         let copy = other.clone()?;
         match value.append(&mut other) {
             Ok(()) => expect(other.is_empty(), "the other table is not empty"),
-            Err(_) => {
-                expect(other == copy, "the other table was changed")?;
-                Err(Stop::Memory)
-            }
+            Err(_) => Err(handed_back(other == copy)),
         }
     }
 }
@@ -228,24 +175,6 @@ impl Change<SelectionSet> for AddAll {
         }
         Ok(value.extend(selections)?)
     }
-}
-
-/// Appends three things to two, or to one.
-fn append(alloc: Global, text: &mut String) -> Told {
-    let items: Items<Name> = filled(alloc, &["a", "bb"])?;
-    try_change(alloc, text, items, &AddAll(&["a", "bb", "ccc"]))?;
-    let table: Table<Name, Name> = filled(alloc, &["a"])?;
-    try_change(alloc, text, table, &AddAll(&["a", "bb", "ccc"]))
-}
-
-/// Adds more selections than a list takes in one step.
-fn extend(alloc: Global, text: &mut String) -> Told {
-    for (texts, _) in GROWING {
-        let set: SelectionSet = filled(alloc, texts)?;
-        let more = AddAll(&["A", "B", "C", "D", "E", "F", "G", "H", "I"]);
-        try_change(alloc, text, set, &more)?;
-    }
-    Ok(())
 }
 
 /// Gives a field another name.
@@ -279,13 +208,68 @@ impl Change<OperationMap> for Subscribe {
     }
 }
 
-/// Maps, and what is requested.
-const REQUESTS: [Row; 3] = [(&["-"], "-"), (&["A"], "-"), (&["-", "A", "B"], "B")];
+/// What a container has, and how it is changed.
+type Row<C> = (&'static [&'static str], C);
 
-fn request_each(alloc: Global, text: &mut String) -> Told {
-    for (texts, request) in REQUESTS {
-        let map: OperationMap = filled(alloc, texts)?;
-        try_change(alloc, text, map, &Subscribe(request))?;
+/// As many as nothing, one, and four, where a list grows.
+static GROWING: [Row<Add>; 3] = [
+    (&[], Add("a")),
+    (&["a"], Add("a")),
+    (&["a", "bb", "ccc", "dddd"], Add("a")),
+];
+
+/// The same with a new name.
+static NEW: [Row<Add>; 3] = [
+    (&[], Add("e")),
+    (&["a"], Add("e")),
+    (&["a", "bb", "ccc", "dddd"], Add("e")),
+];
+
+/// Operations: new ones, those that are there already, and anonymous ones.
+static OPERATIONS: [Row<Add>; 6] = [
+    (&[], Add("A")),
+    (&["-", "A"], Add("B")),
+    (&["A", "B", "C", "D"], Add("E")),
+    (&["A", "B"], Add("A")),
+    (&["A"], Add("-")),
+    (&["-"], Add("-")),
+];
+
+/// Three things.
+const THREE: AddAll = AddAll(&["a", "bb", "ccc"]);
+
+/// Two, to which three are added.
+static TO_TWO: [Row<AddAll>; 1] = [(&["a", "bb"], THREE)];
+
+/// One, to which three are added.
+static TO_ONE: [Row<AddAll>; 1] = [(&["a"], THREE)];
+
+/// More things than a list takes in one step.
+const NINE: AddAll = AddAll(&["A", "B", "C", "D", "E", "F", "G", "H", "I"]);
+
+/// As many as nothing, one, and four, to which nine are added.
+static EXTENDED: [Row<AddAll>; 3] = [
+    (&[], NINE),
+    (&["a"], NINE),
+    (&["a", "bb", "ccc", "dddd"], NINE),
+];
+
+/// Maps, and what is requested.
+static REQUESTS: [Row<Subscribe>; 3] = [
+    (&["-"], Subscribe("-")),
+    (&["A"], Subscribe("-")),
+    (&["-", "A", "B"], Subscribe("B")),
+];
+
+/// Changes a container of each row.
+fn change_each<T: Container + Tell + Clone + PartialEq + Drop, C: Change<T>>(
+    alloc: Global,
+    text: &mut String,
+    rows: &[Row<C>],
+) -> Told {
+    for (texts, change) in rows {
+        let value: T = filled(alloc, *texts)?;
+        try_change(alloc, text, value, change)?;
     }
     Ok(())
 }
@@ -318,18 +302,22 @@ pub enum Changed {
 }
 
 /// Changes values of this sort.
+/// No clause: it serves tests.
 pub fn tell_changes(alloc: Global, text: &mut String, changed: Changed) -> Told {
     match changed {
         Changed::Node => try_change(alloc, text, definition(alloc)?, &Rename),
-        Changed::Items => add_each::<Items<Name>>(alloc, text, &GROWING),
-        Changed::Set => add_each::<KeySet<Name>>(alloc, text, &NEW),
-        Changed::Table => add_each::<Table<Name, Name>>(alloc, text, &NEW),
-        Changed::Appended => append(alloc, text),
-        Changed::Selections => add_each::<SelectionSet>(alloc, text, &GROWING),
-        Changed::Extended => extend(alloc, text),
-        Changed::Components => add_each::<DirectiveList>(alloc, text, &GROWING),
-        Changed::Directives => add_each::<NodeList>(alloc, text, &GROWING),
-        Changed::Operations => add_each::<OperationMap>(alloc, text, &OPERATIONS),
-        Changed::Requested => request_each(alloc, text),
+        Changed::Items => change_each::<Items<Name>, Add>(alloc, text, &GROWING),
+        Changed::Set => change_each::<KeySet<Name>, Add>(alloc, text, &NEW),
+        Changed::Table => change_each::<Table<Name, Name>, Add>(alloc, text, &NEW),
+        Changed::Appended => {
+            change_each::<Items<Name>, AddAll>(alloc, text, &TO_TWO)?;
+            change_each::<Table<Name, Name>, AddAll>(alloc, text, &TO_ONE)
+        }
+        Changed::Selections => change_each::<SelectionSet, Add>(alloc, text, &GROWING),
+        Changed::Extended => change_each::<SelectionSet, AddAll>(alloc, text, &EXTENDED),
+        Changed::Components => change_each::<DirectiveList, Add>(alloc, text, &GROWING),
+        Changed::Directives => change_each::<NodeList, Add>(alloc, text, &GROWING),
+        Changed::Operations => change_each::<OperationMap, Add>(alloc, text, &OPERATIONS),
+        Changed::Requested => change_each::<OperationMap, Subscribe>(alloc, text, &REQUESTS),
     }
 }

@@ -1,15 +1,15 @@
 //! The builder of schemas.
 
-use crate::inputs::{Input, SCHEMAS, SPENT};
-use crate::stop::{Stop, Told, expect};
+use crate::inputs::Input;
 use apollo_component::extension::ExtensionSource;
 use apollo_folding::builder_error::BuilderError;
 use apollo_schema::build_failure::{BuildFailure, WithErrors};
 use apollo_schema::schema::Schema;
 use apollo_schema::schema_builder::SchemaBuilder;
 use bench_notation::reading::read;
+use gqlrefusals_values::stop::{Stop, Told, expect};
 use graphql_ast::document::Document;
-use std::alloc::Global;
+use std::alloc::{AllocError, Global};
 use telling::Tell;
 
 /// What is asked of a builder.
@@ -19,19 +19,17 @@ pub enum OfBuilder {
     AddAst,
     /// `SchemaBuilder::build`.
     Build,
-    /// `SchemaBuilder::with_source` and `SchemaBuilder::build_with_source`, from this number on.
-    WithSource(u64),
+    /// `SchemaBuilder::with_source` and `SchemaBuilder::build_with_source`, from the input's number on.
+    WithSource,
     /// `clone` of a builder, which builds the same.
     Copied,
 }
 
-/// A builder that has taken nothing.
-fn begun(alloc: Global, adopts: bool, question: OfBuilder) -> Result<SchemaBuilder, Stop> {
-    let builder = match question {
-        OfBuilder::WithSource(first) => {
-            SchemaBuilder::with_source(alloc, ExtensionSource::starting_at(first))?
-        }
-        _ => SchemaBuilder::new(alloc)?,
+/// A builder that has taken nothing, over a source that starts at this number, or over one of its own.
+fn begun(alloc: Global, adopts: bool, first: Option<u64>) -> Result<SchemaBuilder, AllocError> {
+    let builder = match first {
+        Some(first) => SchemaBuilder::with_source(alloc, ExtensionSource::starting_at(first))?,
+        None => SchemaBuilder::new(alloc)?,
     };
     if adopts {
         return Ok(builder.adopt_orphan_extensions());
@@ -39,19 +37,20 @@ fn begun(alloc: Global, adopts: bool, question: OfBuilder) -> Result<SchemaBuild
     Ok(builder)
 }
 
-/// What a refusal of memory comes to: from then on the builder answers `Failed`, and has no orphan names.
-fn refused(builder: SchemaBuilder, document: &Document) -> Stop {
-    let mut builder = builder;
-    if builder.iter_orphan_extension_types().next().is_some() {
-        return Stop::Wrong("orphan names after a refusal");
-    }
-    if builder.add_ast(document) != Err(BuilderError::Failed) {
-        return Stop::Wrong("a builder goes on after a refusal");
-    }
+/// A builder that has failed is built to that alone. What was refused is memory.
+fn failed(builder: SchemaBuilder) -> Stop {
     match builder.build() {
         Err(BuildFailure::Failed) => Stop::Memory,
         _ => Stop::Wrong("a builder is built after a refusal"),
     }
+}
+
+/// Expects what a refusal of memory comes to: from then on the builder answers `Failed`, and has no orphan names.
+fn expect_failed(builder: &mut SchemaBuilder, document: &Document) -> Told {
+    let has_names = builder.iter_orphan_extension_types().next().is_some();
+    expect(!has_names, "orphan names after a refusal")?;
+    let is_failed = builder.add_ast(document) == Err(BuilderError::Failed);
+    expect(is_failed, "a builder goes on after a refusal")
 }
 
 /// Adds the names that are extended and not defined so far.
@@ -74,19 +73,37 @@ fn push_refused(
     Ok(write!(text, "{error}, and failed from then on: {is_failed}\n")?)
 }
 
-/// A builder that takes these documents, and tells its orphan names after each, or why it is refused.
-fn taking(
+/// Has a builder take these documents, and tells its orphan names after each, or why one is refused. Answers whether memory was
+/// refused to the builder, which has failed then.
+fn take_all(
     text: &mut String,
-    builder: SchemaBuilder,
+    builder: &mut SchemaBuilder,
     documents: &[Document],
-) -> Result<SchemaBuilder, Stop> {
-    let mut builder = builder;
+) -> Result<bool, Stop> {
     for document in documents {
         match builder.add_ast(document) {
-            Ok(()) => push_orphans(text, &builder)?,
-            Err(BuilderError::Memory) => return Err(refused(builder, document)),
-            Err(error) => push_refused(text, &mut builder, document, error)?,
+            Ok(()) => push_orphans(text, builder)?,
+            Err(BuilderError::Memory) => {
+                expect_failed(builder, document)?;
+                return Ok(true);
+            }
+            Err(error) => push_refused(text, builder, document, error)?,
         }
+    }
+    Ok(false)
+}
+
+/// A builder that has taken these documents.
+fn taken(
+    alloc: Global,
+    text: &mut String,
+    adopts: bool,
+    first: Option<u64>,
+    documents: &[Document],
+) -> Result<SchemaBuilder, Stop> {
+    let mut builder = begun(alloc, adopts, first)?;
+    if take_all(text, &mut builder, documents)? {
+        return Err(failed(builder));
     }
     Ok(builder)
 }
@@ -110,10 +127,11 @@ fn tell_built(text: &mut String, built: Result<Schema, BuildFailure>) -> Told {
     }
 }
 
-/// Adds the number that a source gives next, if it has one.
-fn push_drawn(text: &mut String, source: ExtensionSource) -> Told {
+/// Adds the number that a source gives next, if it has one, which is at least the first.
+fn push_drawn(text: &mut String, source: ExtensionSource, first: u64) -> Told {
     let mut source = source;
     let next = source.next_number();
+    expect(next >= first, "a source goes back")?;
     let is_drawn = match source.draw(None) {
         Ok(id) => id.number() == next,
         Err(_) => false,
@@ -121,63 +139,50 @@ fn push_drawn(text: &mut String, source: ExtensionSource) -> Told {
     Ok(write!(text, "next number {next}, drawn: {is_drawn}\n")?)
 }
 
-/// Tells what a builder builds, and the number that its source gives next, which is at least the first.
+/// Tells what a builder builds, and the number that its source gives next.
 fn tell_with_source(text: &mut String, builder: SchemaBuilder, first: u64) -> Told {
     let (built, source) = builder.build_with_source();
-    expect(source.next_number() >= first, "a source goes back")?;
     tell_built(text, built)?;
-    push_drawn(text, source)
+    push_drawn(text, source, first)
 }
 
 /// Tells what is asked of a builder that has taken documents.
-fn tell_end(text: &mut String, builder: SchemaBuilder, question: OfBuilder) -> Told {
+fn tell_end(text: &mut String, builder: SchemaBuilder, first: u64, question: OfBuilder) -> Told {
     match question {
-        OfBuilder::AddAst => tell_with_source(text, builder, 0),
+        OfBuilder::AddAst | OfBuilder::WithSource => tell_with_source(text, builder, first),
         OfBuilder::Build => tell_built(text, builder.build()),
-        OfBuilder::WithSource(first) => tell_with_source(text, builder, first),
         OfBuilder::Copied => {
-            tell_with_source(text, builder.clone()?, 0)?;
-            tell_with_source(text, builder, 0)
+            tell_with_source(text, builder.clone()?, first)?;
+            tell_with_source(text, builder, first)
         }
     }
 }
 
-fn ask(alloc: Global, text: &mut String, input: Input, question: OfBuilder) -> Told {
+/// Asks something of a builder that has taken the documents of an input.
+/// No clause: it serves tests.
+pub fn ask(alloc: Global, text: &mut String, input: Input, question: OfBuilder) -> Told {
     let documents = read(alloc, input.text)?;
-    let builder = begun(alloc, input.adopts, question)?;
-    let builder = taking(text, builder, documents.as_slice())?;
-    tell_end(text, builder, question)
+    let first = match question {
+        OfBuilder::WithSource => Some(input.first),
+        _ => None,
+    };
+    let builder = taken(alloc, text, input.adopts, first, documents.as_slice())?;
+    tell_end(text, builder, first.unwrap_or(0), question)
 }
 
 /// `SchemaBuilder::new`: its orphan names, and what is built of no document.
+/// No clause: it serves tests.
 pub fn new(alloc: Global, text: &mut String) -> Told {
     let builder = SchemaBuilder::new(alloc)?;
     push_orphans(text, &builder)?;
     tell_built(text, builder.build())
 }
 
-/// Asks something of a builder for each input.
-pub fn ask_all(alloc: Global, text: &mut String, question: OfBuilder) -> Told {
-    for input in SCHEMAS {
-        ask(alloc, text, input, question)?;
-    }
-    Ok(())
-}
-
-/// Builders over sources that are spent.
-pub fn ask_spent(alloc: Global, text: &mut String) -> Told {
-    for (first, adopts, said) in SPENT {
-        let input = Input { text: said, adopts };
-        ask(alloc, text, input, OfBuilder::WithSource(first))?;
-    }
-    Ok(())
-}
-
 /// The schema of documents, whatever is at fault.
+/// No clause: it serves tests.
 pub fn schema_of(alloc: Global, adopts: bool, documents: &[Document]) -> Result<Schema, Stop> {
     let mut orphans = String::new(alloc);
-    let builder = begun(alloc, adopts, OfBuilder::AddAst)?;
-    match taking(&mut orphans, builder, documents)?.build() {
+    match taken(alloc, &mut orphans, adopts, None, documents)?.build() {
         Ok(schema) => Ok(schema),
         Err(BuildFailure::Faults(found)) => Ok(found.partial),
         Err(BuildFailure::Memory) => Err(Stop::Memory),

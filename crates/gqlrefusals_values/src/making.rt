@@ -1,17 +1,12 @@
-//! Names, nodes, fields, selections, schemas and maps that are made.
+//! Names, nodes, fields, selections and maps that are made.
 
-use crate::builders::schema_of;
-use crate::inputs::SERVED;
-use crate::parts::{are_same, definition, directive, empty_set, name, node, operation, spread};
-use crate::stop::{Stop, Told, expect, tell_line};
+use crate::parts::{are_same, definition, directive, name, node, operation, spread};
+use crate::stop::{Stop, Told, expect, handed_back, tell_line};
 use apollo_component::extension::{ExtensionId, ExtensionSource};
 use apollo_executable::{
-    Argument, Directive, Field, FragmentSpread, InlineFragment, NewFieldError, OperationMap,
-    Selection, SelectionSet, Value,
+    Argument, Directive, Field, FragmentSpread, InlineFragment, OperationMap, Selection, Value,
 };
 use apollo_schema::meta_fields::MetaFields;
-use apollo_schema::schema::Schema;
-use bench_notation::reading::read;
 use graphql_nodes::name::{Name, NameError};
 use graphql_nodes::node::Node;
 use std::alloc::{AllocError, Global};
@@ -30,23 +25,28 @@ fn tell_name(alloc: Global, text: &mut String, input: &str) -> Told {
     Ok(text.push_str("\n")?)
 }
 
+/// Names, and texts that are none.
+static NAMES: [&str; 7] = [
+    "T",
+    "_a9",
+    "aNameThatIsRatherLong",
+    "",
+    "9",
+    "a b",
+    "\u{2192}",
+];
+
 /// `Name::new`.
+/// No clause: it serves tests.
 pub fn names(alloc: Global, text: &mut String) -> Told {
-    for input in [
-        "T",
-        "_a9",
-        "aNameThatIsRatherLong",
-        "",
-        "9",
-        "a b",
-        "\u{2192}",
-    ] {
-        tell_name(alloc, text, input)?;
+    for input in &NAMES {
+        tell_name(alloc, text, *input)?;
     }
     Ok(())
 }
 
 /// `Node::same_location` and `ExtensionId::same_location`.
+/// No clause: it serves tests.
 pub fn same_location(alloc: Global, text: &mut String) -> Told {
     let node = node(alloc, name(alloc, "a")?, 12)?;
     tell_line(text, node.same_location(alloc, name(alloc, "bb")?))?;
@@ -57,6 +57,7 @@ pub fn same_location(alloc: Global, text: &mut String) -> Told {
 }
 
 /// `MetaFields::new`.
+/// No clause: it serves tests.
 pub fn meta_fields(alloc: Global, text: &mut String) -> Told {
     let fields = MetaFields::new(alloc)?;
     fields.typename().tell(text)?;
@@ -117,6 +118,7 @@ fn spread_with_directives(alloc: Global) -> Result<FragmentSpread, AllocError> {
 
 /// The calls that make selections without a schema: `Selection::of_field`, `Selection::of_inline_fragment`,
 /// `Selection::of_fragment_spread`.
+/// No clause: it serves tests.
 pub fn selections_made(alloc: Global, text: &mut String) -> Told {
     tell_line(text, Selection::of_field(alloc, filled_field(alloc)?))?;
     tell_line(text, Selection::of_inline_fragment(alloc, inline(alloc)?))?;
@@ -126,49 +128,17 @@ pub fn selections_made(alloc: Global, text: &mut String) -> Told {
     )
 }
 
-/// `SelectionSet::new_field` of this name.
-fn new_field(
-    alloc: Global,
-    text: &mut String,
-    set: &SelectionSet,
-    schema: &Schema,
-    field: &str,
-) -> Told {
-    match set.new_field(alloc, schema, name(alloc, field)?) {
-        Ok(field) => tell_line(text, Ok(field)),
-        Err(NewFieldError::Memory) => Err(Stop::Memory),
-        Err(NewFieldError::Lookup(_)) => Ok(write!(text, "no field {field}\n")?),
-    }
-}
-
-/// The calls that make selections of a set's type: `SelectionSet::new_field`, and `SelectionSet::new_inline_fragment` with a
-/// condition and without one.
-pub fn made_in_a_set(alloc: Global, text: &mut String) -> Told {
-    let documents = read(alloc, SERVED)?;
-    let schema = schema_of(alloc, false, documents.as_slice())?;
-    let set = empty_set(alloc)?;
-    new_field(alloc, text, &set, &schema, "user")?;
-    new_field(alloc, text, &set, &schema, "gone")?;
-    tell_line(
-        text,
-        set.new_inline_fragment(alloc, Some(name(alloc, "User")?)),
-    )?;
-    tell_line(text, set.new_inline_fragment(alloc, None))
-}
-
 /// `OperationMap::from_one`, of an operation of this name.
 fn tell_one(alloc: Global, text: &mut String, name: &str) -> Told {
     let copy = operation(alloc, name)?;
     match OperationMap::from_one(alloc, operation(alloc, name)?) {
         Ok(map) => Ok(map.tell(text)?),
-        Err(refused) => {
-            expect(are_same(&refused, &copy), "another one is handed back")?;
-            Err(Stop::Memory)
-        }
+        Err(refused) => Err(handed_back(are_same(&refused, &copy))),
     }
 }
 
 /// `OperationMap::from_one`, of a named operation and of an anonymous one.
+/// No clause: it serves tests.
 pub fn from_one(alloc: Global, text: &mut String) -> Told {
     tell_one(alloc, text, "A")?;
     tell_one(alloc, text, "-")

@@ -1,10 +1,13 @@
 //! The inputs of the scenarios, in the bench notation.
 
-/// Documents of a schema, and behind `===` executable ones, and whether what is extended only is adopted.
+/// Documents of a schema, and behind `===` executable ones.
 #[derive(Clone, Copy)]
 pub struct Input {
     pub text: &'static str,
+    /// Whether what is extended only is adopted.
     pub adopts: bool,
+    /// The number that a source starts at, where one is handed to the builder.
+    pub first: u64,
 }
 
 /// Extensions wherever they stand, and a directive definition, which comes first.
@@ -28,6 +31,7 @@ directive customDirective
 on OBJECT
 ",
     adopts: false,
+    first: 40,
 };
 
 /// A root in an extension that is dropped where the definition names it.
@@ -46,6 +50,7 @@ def object S
 def object AnotherQuery
 ",
     adopts: true,
+    first: 40,
 };
 
 /// Each kind, with extensions, directives and faults, in three documents.
@@ -104,10 +109,11 @@ ext-schema
 root mutation Mutation
 ",
     adopts: false,
+    first: 40,
 };
 
 /// The inputs that calls on schemas are made over.
-pub const SCHEMAS: [Input; 3] = [EXTENDED, ROOTED, KINDS];
+pub static SCHEMAS: [Input; 3] = [EXTENDED, ROOTED, KINDS];
 
 /// Selections that are not typable.
 const UNTYPABLE: Input = Input {
@@ -128,6 +134,7 @@ sel 1 field a
 sel 0 spread F
 ",
     adopts: false,
+    first: 40,
 };
 
 /// A fragment that spreads itself, and a walk that starts in it.
@@ -147,6 +154,7 @@ sel 0 spread F
 sel 0 field c
 ",
     adopts: false,
+    first: 40,
 };
 
 /// Operations and fragments in several documents, with each sort of selection, and names that are there already.
@@ -187,37 +195,61 @@ fragment G Gone
 def scalar S
 ",
     adopts: false,
+    first: 40,
 };
 
 /// The inputs that calls on executable documents are made over.
-pub const DOCUMENTS: [Input; 3] = [UNTYPABLE, CYCLIC, SELECTED];
+pub static DOCUMENTS: [Input; 3] = [UNTYPABLE, CYCLIC, SELECTED];
 
 /// The schema that selections are made over.
-pub const SERVED: &str = "def object Query\nfield user User\ndef object User\nfield id ID\n";
+pub static SERVED: [Input; 1] = [Input {
+    text: "def object Query\nfield user User\ndef object User\nfield id ID\n",
+    adopts: false,
+    first: 0,
+}];
 
-/// Lists over a source that starts at this number, so that it is spent, or nearly, and whether they are adopted.
-pub const SPENT: [(u64, bool, &str); 7] = [
-    (
-        u64::MAX - 1,
-        false,
-        "def object T\next object T\nfield a Int\n",
-    ),
-    (
-        u64::MAX - 1,
-        false,
-        "def object T\next object T\nfield a Int\next object T\nfield b Int\n",
-    ),
-    (u64::MAX, false, "ext object T\n"),
-    (u64::MAX, true, "ext object T\n"),
-    (
-        u64::MAX,
-        false,
-        "ext enum T\nvalue A\ndef object T\nfield x Int\n",
-    ),
-    (
-        u64::MAX,
-        false,
-        "directive d\non SCALAR\next scalar String\n@ d\n",
-    ),
-    (u64::MAX, false, "def object Query\next-schema\n@ d\n"),
+/// What a scenario goes over that has no document.
+pub static NONE: [Input; 1] = [Input {
+    text: "",
+    adopts: false,
+    first: 0,
+}];
+
+/// Lists over a source that is spent, or nearly.
+pub static SPENT: [Input; 7] = [
+    Input {
+        text: "def object T\next object T\nfield a Int\n",
+        adopts: false,
+        first: u64::MAX - 1,
+    },
+    Input {
+        text: "def object T\next object T\nfield a Int\next object T\nfield b Int\n",
+        adopts: false,
+        first: u64::MAX - 1,
+    },
+    Input {
+        text: "ext object T\n",
+        adopts: false,
+        first: u64::MAX,
+    },
+    Input {
+        text: "ext object T\n",
+        adopts: true,
+        first: u64::MAX,
+    },
+    Input {
+        text: "ext enum T\nvalue A\ndef object T\nfield x Int\n",
+        adopts: false,
+        first: u64::MAX,
+    },
+    Input {
+        text: "directive d\non SCALAR\next scalar String\n@ d\n",
+        adopts: false,
+        first: u64::MAX,
+    },
+    Input {
+        text: "def object Query\next-schema\n@ d\n",
+        adopts: false,
+        first: u64::MAX,
+    },
 ];

@@ -1,12 +1,13 @@
 //! Schemas, types and their definition as syntax, the identities of their extensions, and the map of implementers.
 
 use crate::builders::schema_of;
-use crate::inputs::{Input, SCHEMAS};
-use crate::stop::{Told, tell_line, tell_made};
+use crate::in_a_set::made_in_a_set;
+use crate::inputs::Input;
 use apollo_component::extension::ExtensionId;
 use apollo_schema::schema::Schema;
 use apollo_types::extended_type::ExtendedType;
 use bench_notation::reading::read;
+use gqlrefusals_values::stop::{Told, tell_line, tell_made};
 use graphql_ast::definition::Definition;
 use graphql_nodes::collections::key_set::KeySet;
 use std::alloc::{AllocError, Global};
@@ -21,12 +22,12 @@ pub enum OfSchema {
     DefinitionWritten,
     /// `SchemaDefinition::extensions`.
     DefinitionExtended,
-    /// `ExtendedType::write_to`, of all types that aren't built in, one after the other.
-    WrittenTogether,
     /// `Schema::implementers_map`.
     Implementers,
     /// Something of each type.
     Types(OfType),
+    /// The calls that make selections of a set's type.
+    InSet,
 }
 
 /// What is asked of each type, of its write-out if it isn't built in.
@@ -34,6 +35,8 @@ pub enum OfSchema {
 pub enum OfType {
     /// `ExtendedType::to_ast`.
     Written,
+    /// `ExtendedType::write_to`, one after the other.
+    WrittenTogether,
     /// `ExtendedType::extensions`.
     Extended,
     /// `ScalarType::to_ast`, `ObjectType::to_ast`, `InterfaceType::to_ast`, `UnionType::to_ast`, `EnumType::to_ast` and
@@ -45,13 +48,14 @@ pub enum OfType {
 }
 
 fn written(alloc: Global, ty: &ExtendedType) -> Result<Vec<Definition>, AllocError> {
+    let location = ty.location();
     match ty {
-        ExtendedType::Scalar(node) => node.to_ast(alloc, node.location()),
-        ExtendedType::Object(node) => node.to_ast(alloc, node.location()),
-        ExtendedType::Interface(node) => node.to_ast(alloc, node.location()),
-        ExtendedType::Union(node) => node.to_ast(alloc, node.location()),
-        ExtendedType::Enum(node) => node.to_ast(alloc, node.location()),
-        ExtendedType::InputObject(node) => node.to_ast(alloc, node.location()),
+        ExtendedType::Scalar(node) => node.to_ast(alloc, location),
+        ExtendedType::Object(node) => node.to_ast(alloc, location),
+        ExtendedType::Interface(node) => node.to_ast(alloc, location),
+        ExtendedType::Union(node) => node.to_ast(alloc, location),
+        ExtendedType::Enum(node) => node.to_ast(alloc, location),
+        ExtendedType::InputObject(node) => node.to_ast(alloc, location),
     }
 }
 
@@ -75,31 +79,30 @@ fn tell_extensions(
     tell_line(text, ids)
 }
 
-fn ask_type(alloc: Global, text: &mut String, ty: &ExtendedType, question: OfType) -> Told {
+/// Asks something of a type. What is to be written behind what others are goes there, and is told at the end.
+fn ask_type(
+    alloc: Global,
+    text: &mut String,
+    together: &mut Vec<Definition>,
+    ty: &ExtendedType,
+    question: OfType,
+) -> Told {
     match question {
         OfType::Extended => tell_extensions(text, ty, ty.extensions(alloc)),
         OfType::KindExtended => tell_extensions(text, ty, extended(alloc, ty)),
         _ if ty.is_built_in() => Ok(()),
         OfType::Written => tell_made(text, ty.to_ast(alloc)),
+        OfType::WrittenTogether => Ok(ty.write_to(alloc, together)?),
         OfType::KindWritten => tell_made(text, written(alloc, ty)),
     }
 }
 
 fn ask_types(alloc: Global, text: &mut String, schema: &Schema, question: OfType) -> Told {
+    let mut together = Vec::new(alloc);
     for ty in schema.types.values() {
-        ask_type(alloc, text, ty, question)?;
+        ask_type(alloc, text, &mut together, ty, question)?;
     }
-    Ok(())
-}
-
-fn written_together(alloc: Global, schema: &Schema) -> Result<Vec<Definition>, AllocError> {
-    let mut written = Vec::new(alloc);
-    for ty in schema.types.values() {
-        if !ty.is_built_in() {
-            ty.write_to(alloc, &mut written)?;
-        }
-    }
-    Ok(written)
+    Ok(together.tell(text)?)
 }
 
 fn ask_schema(alloc: Global, text: &mut String, schema: &Schema, question: OfSchema) -> Told {
@@ -111,22 +114,16 @@ fn ask_schema(alloc: Global, text: &mut String, schema: &Schema, question: OfSch
             tell_made(text, definition.to_ast(alloc, location, &schema.types))
         }
         OfSchema::DefinitionExtended => tell_line(text, definition.extensions(alloc)),
-        OfSchema::WrittenTogether => tell_made(text, written_together(alloc, schema)),
         OfSchema::Implementers => tell_made(text, schema.implementers_map(alloc)),
         OfSchema::Types(question) => ask_types(alloc, text, schema, question),
+        OfSchema::InSet => made_in_a_set(alloc, text, schema),
     }
 }
 
-fn ask(alloc: Global, text: &mut String, input: Input, question: OfSchema) -> Told {
+/// Asks something of the schema of an input.
+/// No clause: it serves tests.
+pub fn ask(alloc: Global, text: &mut String, input: Input, question: OfSchema) -> Told {
     let documents = read(alloc, input.text)?;
     let schema = schema_of(alloc, input.adopts, documents.as_slice())?;
     ask_schema(alloc, text, &schema, question)
-}
-
-/// Asks something over each input.
-pub fn ask_all(alloc: Global, text: &mut String, question: OfSchema) -> Told {
-    for input in SCHEMAS {
-        ask(alloc, text, input, question)?;
-    }
-    Ok(())
 }

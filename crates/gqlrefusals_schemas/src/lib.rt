@@ -1,0 +1,9 @@
+//! Calls on schemas and their builder that can want memory, over inputs in the bench notation. Each tells its answer in full, or,
+//! where a request for memory was refused, looks at what is promised after that. No function has a clause: `gqlrefusals` writes
+//! the answers out, and they are compared.
+#![tactic(auto)]
+
+pub mod builders;
+mod in_a_set;
+pub mod inputs;
+pub mod schemas;
