@@ -1,6 +1,12 @@
-//! Tests of the program `gqltool`, of what rows can't say.
+//! Tests of the program `gqltool`, of what rows can't say, and of the tools `gqlrows` and `gqlbench`.
 #![tactic(auto)]
 
+#[cfg(test)]
+mod bench_ends;
+#[cfg(test)]
+mod bench_reports;
+#[cfg(test)]
+mod bench_running;
 #[cfg(test)]
 mod failures;
 #[cfg(test)]
@@ -9,6 +15,8 @@ mod hash_keys;
 mod interruptions;
 #[cfg(test)]
 mod long_walks;
+#[cfg(test)]
+mod rows;
 #[cfg(test)]
 mod running;
 #[cfg(test)]

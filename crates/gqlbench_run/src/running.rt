@@ -1,10 +1,11 @@
 //! The run of the program.
 
-use crate::command::read_command;
+use crate::bench::Bench;
+use crate::command::{Command, read_command};
 use crate::failure::Failure;
 use crate::memory::{ProcessStatus, peak_memory};
+use crate::phases::time;
 use crate::report::{Value, report_text};
-use crate::stopwatch::Bench;
 use gqltool_run::failure::Failure as InputFailure;
 use gqltool_run::input::Input;
 use gqltool_run::running::write_out;
@@ -62,21 +63,26 @@ fn report<S: Clock + RandomSource + ProcessStatus, R: Read, E: Write>(
     errors: &mut E,
 ) -> Result<String, Failure> {
     let command = read_command(words).ok_or(Failure::Usage)?;
-    let keys = if command.random_keys {
-        HashKeys::drawn(system).map_err(|_| Failure::Randomness)?
-    } else {
-        HashKeys::FIXED
-    };
+    let keys = keys_of(&command, system)?;
     let bench = Bench {
         alloc,
-        clock: system,
         keys,
         command,
     };
     let input = reader.read_all(alloc).map_err(InputFailure::from)?;
-    let mut items = bench.time(input.as_str(), errors)?;
+    let ready = bench.read(input.as_str())?;
+    let mut items = time(&bench, system, &ready, errors)?;
     if let Some(kilobytes) = peak_memory(alloc, system) {
         items.push((" kB\n", "memory_kb", Value::Memory(kilobytes)))?;
     }
     Ok(report_text(alloc, command.json, items.as_slice())?)
+}
+
+/// The keys by which the tables of a run hash.
+fn keys_of<S: RandomSource>(command: &Command, system: &S) -> Result<HashKeys, Failure> {
+    if command.random_keys {
+        HashKeys::drawn(system).map_err(|_| Failure::Randomness)
+    } else {
+        Ok(HashKeys::FIXED)
+    }
 }

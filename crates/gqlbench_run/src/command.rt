@@ -23,32 +23,18 @@ pub enum Work {
 /// The names of phases, in the order in which they are printed.
 pub type Phases = &'static [&'static str];
 
-/// The word that has each work timed, and the phases of that.
-const WORKS: [(&str, Work, Phases); 6] = [
-    (
-        "schema",
-        Work::Schema,
-        &["schema-build", "to_ast", "rebuild+eq", "drop"],
-    ),
-    ("lookups", Work::Lookups, &["type_field", "is_subtype"]),
-    ("doc", Work::Documents, &["doc-build", "doc-to_ast", "drop"]),
-    ("walk", Work::Walks, &["root-walks", "all-walks"]),
-    ("leaf", Work::LeafFaults, &["leaf_faults"]),
-    (
-        "compile",
-        Work::Compilation,
-        &[
-            "compile",
-            "all-phases",
-            "schema-build",
-            "to_ast",
-            "rebuild",
-            "rebuild-to_ast",
-            "doc-build",
-            "doc-to_ast",
-            "drop",
-        ],
-    ),
+const SCHEMA: [&str; 4] = ["schema-build", "to_ast", "rebuild+eq", "drop"];
+
+const COMPILATION: [&str; 9] = [
+    "compile",
+    "all-phases",
+    "schema-build",
+    "to_ast",
+    "rebuild",
+    "rebuild-to_ast",
+    "doc-build",
+    "doc-to_ast",
+    "drop",
 ];
 
 /// What the words after the program's name say.
@@ -83,13 +69,17 @@ pub fn read_command(words: &[&str]) -> Option<Command> {
     })
 }
 
+/// The work that a word has timed, and the phases of that.
 fn read_work(word: &str) -> Option<(Work, Phases)> {
-    for (known, work, phases) in WORKS {
-        if known == word {
-            return Some((work, phases));
-        }
+    match word {
+        "schema" => Some((Work::Schema, &SCHEMA)),
+        "lookups" => Some((Work::Lookups, &["type_field", "is_subtype"])),
+        "doc" => Some((Work::Documents, &["doc-build", "doc-to_ast", "drop"])),
+        "walk" => Some((Work::Walks, &["root-walks", "all-walks"])),
+        "leaf" => Some((Work::LeafFaults, &["leaf_faults"])),
+        "compile" => Some((Work::Compilation, &COMPILATION)),
+        _ => None,
     }
-    None
 }
 
 /// Whether this word comes first, and the words behind it.
