@@ -3,11 +3,9 @@
 
 use crate::command::{Command, Work};
 use crate::failure::Failure;
-use crate::questions::{Questions, questions_on};
+use crate::questions::{Question, field_questions, subtype_questions};
 use apollo_compiler::building::build_schema;
 use apollo_compiler::compile_options::CompileOptions;
-use apollo_compiler::compiled::Compiled;
-use apollo_compiler::compiling::compile_with_keys;
 use apollo_compiler::document_building::build_executable_document;
 use apollo_document::Faults as DocumentFaults;
 use apollo_executable::document::ExecutableDocument;
@@ -31,6 +29,9 @@ pub type Built = (Schema, SchemaFaults);
 
 /// A typed document and its faults.
 pub type Typed = (ExecutableDocument, DocumentFaults);
+
+/// What is asked of fields, and of subtypes.
+pub type Questions = (Vec<Question>, Vec<Question>);
 
 /// What a work begins with. It is read and built once.
 #[derive(Drop)]
@@ -72,10 +73,12 @@ impl Bench {
         Ok(read_divided(self.alloc, input).map_err(InputFailure::from)?)
     }
 
+    /// A schema, and all that is asked of it.
     fn read_questions(&self, input: &str) -> Result<(Schema, Questions), Failure> {
         let (schema, _faults) = self.build(self.read_whole(input)?.as_slice())?;
-        let questions = questions_on(self.alloc, &schema)?;
-        Ok((schema, questions))
+        let fields = field_questions(self.alloc, &schema)?;
+        let subtypes = subtype_questions(self.alloc, &schema)?;
+        Ok((schema, (fields, subtypes)))
     }
 
     /// Documents that a line divides, and the schema of those before it.
@@ -107,12 +110,5 @@ impl Bench {
     /// The typed document of documents over a schema.
     pub fn type_over(&self, schema: &Schema, documents: &[Document]) -> Result<Typed, Failure> {
         Ok(build_executable_document(self.alloc, schema, documents, true)?)
-    }
-
-    /// What documents are compiled to, under the options of the command.
-    pub fn compile(&self, documents: &DividedDocuments) -> Result<Compiled, Failure> {
-        let (schema, executable) = (documents.schema.as_slice(), documents.executable.as_slice());
-        let (alloc, options) = (self.alloc, self.command.options);
-        Ok(compile_with_keys(alloc, self.keys, options, schema, executable, true)?)
     }
 }

@@ -20,28 +20,15 @@ pub enum Work {
     Compilation,
 }
 
-/// The names of phases, in the order in which they are printed.
-pub type Phases = &'static [&'static str];
-
-const SCHEMA: [&str; 4] = ["schema-build", "to_ast", "rebuild+eq", "drop"];
-
-const COMPILATION: [&str; 9] = [
-    "compile",
-    "all-phases",
-    "schema-build",
-    "to_ast",
-    "rebuild",
-    "rebuild-to_ast",
-    "doc-build",
-    "doc-to_ast",
-    "drop",
-];
+const COMPILATION: &str =
+    "compile all-phases schema-build to_ast rebuild rebuild-to_ast doc-build doc-to_ast drop";
 
 /// What the words after the program's name say.
 #[derive(Clone, Copy)]
 pub struct Command {
     pub work: Work,
-    pub phases: Phases,
+    /// The names of its phases, with a blank between two, in the order in which they are printed.
+    pub phases: &'static str,
     /// `--json`: a JSON object a line, in place of a line for those who read it.
     pub json: bool,
     /// `--random-keys`: tables hash by keys that are drawn for this run.
@@ -69,15 +56,15 @@ pub fn read_command(words: &[&str]) -> Option<Command> {
     })
 }
 
-/// The work that a word has timed, and the phases of that.
-fn read_work(word: &str) -> Option<(Work, Phases)> {
+/// The work that a word has timed, and its phases.
+fn read_work(word: &str) -> Option<(Work, &'static str)> {
     match word {
-        "schema" => Some((Work::Schema, &SCHEMA)),
-        "lookups" => Some((Work::Lookups, &["type_field", "is_subtype"])),
-        "doc" => Some((Work::Documents, &["doc-build", "doc-to_ast", "drop"])),
-        "walk" => Some((Work::Walks, &["root-walks", "all-walks"])),
-        "leaf" => Some((Work::LeafFaults, &["leaf_faults"])),
-        "compile" => Some((Work::Compilation, &COMPILATION)),
+        "schema" => Some((Work::Schema, "schema-build to_ast rebuild+eq drop")),
+        "lookups" => Some((Work::Lookups, "type_field is_subtype")),
+        "doc" => Some((Work::Documents, "doc-build doc-to_ast drop")),
+        "walk" => Some((Work::Walks, "root-walks all-walks")),
+        "leaf" => Some((Work::LeafFaults, "leaf_faults")),
+        "compile" => Some((Work::Compilation, COMPILATION)),
         _ => None,
     }
 }

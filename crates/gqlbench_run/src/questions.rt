@@ -27,18 +27,8 @@ fn declared_interfaces(ty: &ExtendedType) -> &[ComponentName] {
     }
 }
 
-/// What is asked of fields, and of subtypes.
-pub type Questions = (Vec<Question>, Vec<Question>);
-
-/// All that is asked of a schema.
-pub fn questions_on(alloc: Global, schema: &Schema) -> Result<Questions, AllocError> {
-    let fields = field_questions(alloc, schema)?;
-    let subtypes = subtype_questions(alloc, schema)?;
-    Ok((fields, subtypes))
-}
-
 /// Each field of each type, by the names of both.
-fn field_questions(alloc: Global, schema: &Schema) -> Result<Vec<Question>, AllocError> {
+pub fn field_questions(alloc: Global, schema: &Schema) -> Result<Vec<Question>, AllocError> {
     let mut questions = Vec::new(alloc);
     for (name, ty) in schema.types.iter() {
         let Some(fields) = declared_fields(ty) else {
@@ -52,7 +42,7 @@ fn field_questions(alloc: Global, schema: &Schema) -> Result<Vec<Question>, Allo
 }
 
 /// Each interface of each type, and the type of each of its fields, with the type's own name.
-fn subtype_questions(alloc: Global, schema: &Schema) -> Result<Vec<Question>, AllocError> {
+pub fn subtype_questions(alloc: Global, schema: &Schema) -> Result<Vec<Question>, AllocError> {
     let mut questions = Vec::new(alloc);
     for (name, ty) in schema.types.iter() {
         for interface in declared_interfaces(ty) {

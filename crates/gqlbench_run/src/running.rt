@@ -1,7 +1,7 @@
 //! The run of the program.
 
 use crate::bench::Bench;
-use crate::command::{Command, read_command};
+use crate::command::read_command;
 use crate::failure::Failure;
 use crate::memory::{ProcessStatus, peak_memory};
 use crate::phases::time;
@@ -63,7 +63,11 @@ fn report<S: Clock + RandomSource + ProcessStatus, R: Read, E: Write>(
     errors: &mut E,
 ) -> Result<String, Failure> {
     let command = read_command(words).ok_or(Failure::Usage)?;
-    let keys = keys_of(&command, system)?;
+    let keys = if command.random_keys {
+        HashKeys::drawn(system).map_err(|_| Failure::Randomness)?
+    } else {
+        HashKeys::FIXED
+    };
     let bench = Bench {
         alloc,
         keys,
@@ -76,13 +80,4 @@ fn report<S: Clock + RandomSource + ProcessStatus, R: Read, E: Write>(
         items.push((" kB\n", "memory_kb", Value::Memory(kilobytes)))?;
     }
     Ok(report_text(alloc, command.json, items.as_slice())?)
-}
-
-/// The keys by which the tables of a run hash.
-fn keys_of<S: RandomSource>(command: &Command, system: &S) -> Result<HashKeys, Failure> {
-    if command.random_keys {
-        HashKeys::drawn(system).map_err(|_| Failure::Randomness)
-    } else {
-        Ok(HashKeys::FIXED)
-    }
 }

@@ -10,6 +10,9 @@ use std::time::{Clock, Instant};
 /// How many seconds go by between two words of how far a run is.
 const SECONDS_BETWEEN: u64 = 2;
 
+/// The name of a phase.
+pub type Phase = &'static str;
+
 /// Takes the times of phases.
 #[derive(Drop)]
 pub struct Stopwatch<'a, C: Clock> {
@@ -17,7 +20,7 @@ pub struct Stopwatch<'a, C: Clock> {
     clock: &'a C,
     told: Instant,
     /// A phase and how many nanoseconds it took, in the order of time.
-    times: Vec<(&'static str, u64)>,
+    times: Vec<(Phase, u64)>,
 }
 
 impl<'a, C: Clock> Stopwatch<'a, C> {
@@ -35,21 +38,11 @@ impl<'a, C: Clock> Stopwatch<'a, C> {
         Ok(Instant::now(self.clock)?)
     }
 
-    /// Notes that a phase took from that moment to now.
-    pub fn took(&mut self, phase: &'static str, began: Instant) -> Result<(), Failure> {
+    /// Notes that a phase took from that moment to now, and hands back what it made.
+    pub fn took<T: Drop>(&mut self, phase: Phase, began: Instant, made: T) -> Result<T, Failure> {
         let nanoseconds = began.elapsed(self.clock)?.as_nanos();
         let nanoseconds = u64::try_from(nanoseconds).unwrap_or(u64::MAX);
-        Ok(self.times.push((phase, nanoseconds))?)
-    }
-
-    /// The same of what made this, which is handed back.
-    pub fn made<T: Drop>(
-        &mut self,
-        phase: &'static str,
-        began: Instant,
-        made: T,
-    ) -> Result<T, Failure> {
-        self.took(phase, began)?;
+        self.times.push((phase, nanoseconds))?;
         Ok(made)
     }
 
@@ -57,7 +50,7 @@ impl<'a, C: Clock> Stopwatch<'a, C> {
     pub fn time_drop<T: Drop>(&mut self, made: T) -> Result<(), Failure> {
         let began = self.now()?;
         drop(made);
-        self.took("drop", began)
+        self.took("drop", began, ())
     }
 
     /// Says how many repetitions are done, where two seconds went by since the last word. That it cannot be
@@ -73,12 +66,12 @@ impl<'a, C: Clock> Stopwatch<'a, C> {
 
     /// Adds what the times of each phase come to.
     pub fn push_times(&self, items: &mut Vec<Item>) -> Result<(), AllocError> {
-        for phase in self.bench.command.phases {
-            let of_phase = self.times.iter().filter(|time| time.0 == *phase);
+        for phase in self.bench.command.phases.split(' ') {
+            let of_phase = self.times.iter().filter(|time| time.0 == phase);
             let mut times: Vec<u64> = of_phase.map(|time| time.1).collect(self.bench.alloc)?;
             if let Some((least, median, mean)) = summary(times.as_mut_slice()) {
                 items.extend_from_slice(&[
-                    (" min ", "phase", Value::Phase(*phase)),
+                    (" min ", "phase", Value::Phase(phase)),
                     (" median ", "least", Value::Time(least)),
                     (" mean ", "median", Value::Time(median)),
                     (" ns\n", "mean", Value::Time(mean)),

@@ -2,11 +2,7 @@
 #![tactic(auto)]
 
 #[cfg(test)]
-mod bench_ends;
-#[cfg(test)]
-mod bench_reports;
-#[cfg(test)]
-mod bench_running;
+mod bench;
 #[cfg(test)]
 mod failures;
 #[cfg(test)]
