@@ -66,9 +66,11 @@ impl<'a, C: Clock> Stopwatch<'a, C> {
 
     /// Adds what the times of each phase come to.
     pub fn push_times(&self, items: &mut Vec<Item>) -> Result<(), AllocError> {
-        for phase in self.bench.command.phases.split(' ') {
+        let bench = self.bench;
+        let (alloc, phases) = (bench.alloc, bench.command.phases);
+        for phase in phases.split(' ') {
             let of_phase = self.times.iter().filter(|time| time.0 == phase);
-            let mut times: Vec<u64> = of_phase.map(|time| time.1).collect(self.bench.alloc)?;
+            let mut times: Vec<u64> = of_phase.map(|time| time.1).collect(alloc)?;
             if let Some((least, median, mean)) = summary(times.as_mut_slice()) {
                 items.extend_from_slice(&[
                     (" min ", "phase", Value::Phase(phase)),
