@@ -173,9 +173,7 @@ impl<C: Clock> Stopwatch<'_, C> {
     /// The whole call, and beside it each phase of it, with all that these give kept.
     fn time_compile(&mut self, documents: &DividedDocuments) -> Counted {
         let counts = self.time_one_call(documents)?;
-        let began = self.now()?;
-        let made = self.time_phases(documents)?;
-        let _made = self.took("all-phases", began, made)?;
+        self.time_phases(documents)?;
         Ok(counts)
     }
 
@@ -194,13 +192,14 @@ impl<C: Clock> Stopwatch<'_, C> {
         Ok(counts.to_vec(alloc)?)
     }
 
-    fn time_phases(&mut self, documents: &DividedDocuments) -> Result<Phases, Failure> {
+    fn time_phases(&mut self, documents: &DividedDocuments) -> Result<(), Failure> {
+        let began = self.now()?;
         let built = self.schema_build(documents.schema.as_slice())?;
         let written = self.to_ast(&built.0)?;
-        let again = self.rebuild(&written)?;
+        let _again = self.rebuild(&written)?;
         let typed = self.doc_build(&built.0, documents)?;
-        let erased = self.doc_to_ast(&typed.0)?;
-        Ok((built, written, again, (typed, erased)))
+        let _erased = self.doc_to_ast(&typed.0)?;
+        self.took("all-phases", began, ())
     }
 
     /// The schema of a write-out, and its own write-out.
@@ -214,9 +213,6 @@ impl<C: Clock> Stopwatch<'_, C> {
         Ok((again, written))
     }
 }
-
-/// What the phases of a compilation make.
-type Phases = (Built, Document, (Built, Vec<Definition>), (Typed, Document));
 
 fn counts_of(made: &Compiled) -> [Item; 6] {
     let [operations, fragments] = sizes(&made.document);
