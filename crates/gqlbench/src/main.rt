@@ -1,19 +1,7 @@
-//! `gqlbench`: the times of work on the schema and the documents that standard input says, written to
-//! standard output. No function has a clause: it is a tool, and its tests compare whole reports.
+//! `gqlbench`: the times of work on the schema and the documents that standard input says, written to standard output.
 #![tactic(auto)]
 
-mod command;
-mod failure;
-mod memory;
-mod phases;
-mod questions;
-mod report;
-mod running;
-mod stopwatch;
-#[cfg(test)]
-mod tests;
-
-use crate::running::run;
+use gqlbench_run::running::run;
 use gqltool_run::arguments::words;
 use gqltool_run::status::Status;
 use std::io;

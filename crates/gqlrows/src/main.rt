@@ -1,15 +1,8 @@
 //! `gqlrows`: runs of `gqltool`, read as rows from the files that the words name, or without a word from standard input, and which
-//! of them differ, written to standard output. No function has a clause: it is a tool.
+//! of them differ, written to standard output.
 #![tactic(auto)]
 
-mod report;
-mod row;
-mod running;
-mod stop;
-#[cfg(test)]
-mod tests;
-
-use crate::running::run_rows;
+use gqlrows_run::running::run_rows;
 use gqltool_run::arguments::words;
 use gqltool_run::status::Status;
 use std::process::ExitCode;

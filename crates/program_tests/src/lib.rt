@@ -1,6 +1,8 @@
-//! Tests of the program `gqltool`, of what rows can't say.
+//! Tests of the program `gqltool`, of what rows can't say, and of the tools `gqlrows` and `gqlbench`.
 #![tactic(auto)]
 
+#[cfg(test)]
+mod bench;
 #[cfg(test)]
 mod failures;
 #[cfg(test)]
@@ -9,6 +11,8 @@ mod hash_keys;
 mod interruptions;
 #[cfg(test)]
 mod long_walks;
+#[cfg(test)]
+mod rows;
 #[cfg(test)]
 mod running;
 #[cfg(test)]

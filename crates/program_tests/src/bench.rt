@@ -1,12 +1,13 @@
-//! Runs over systems whose answers are known.
+//! Runs of `gqlbench` over systems whose answers are known.
 
-use crate::memory::ProcessStatus;
-use crate::running::run;
-use crate::stopwatch::summary;
+use crate::streams::FailingWriter;
+use gqlbench_run::memory::ProcessStatus;
+use gqlbench_run::running::run;
+use gqlbench_run::stopwatch::summary;
 use gqltool_run::status::Status;
 use std::alloc::Global;
 use std::cell::Cell;
-use std::io::{self, Error, ErrorKind, Write};
+use std::io::{self, Error, ErrorKind};
 use std::process::Abort;
 use std::random::RandomSource;
 use std::test::Fail;
@@ -115,17 +116,10 @@ sel 0 field q
 sel 0 field zz
 ";
 
-/// Words up to the place of `--random-keys`, those behind it, an input, and the report.
-type Report = (
-    &'static [&'static str],
-    &'static [&'static str],
-    &'static str,
-    &'static str,
-);
-
-const REPORTS: [Report; 7] = [
+/// The word of a work, the options of a build and a number, an input, and the report, as lines and as objects.
+const REPORTS: [(&str, &[&str], &str, &str, &str); 7] = [
     (
-        &["schema"],
+        "schema",
         &["3"],
         INPUT,
         "\
@@ -135,9 +129,16 @@ to_ast         min            7 median            7 mean            7 ns
 rebuild+eq     min            7 median            7 mean            7 ns
 drop           min            7 median            7 mean            7 ns
 ",
+        "\
+{\"types\":15,\"definitions_out\":2,\"faults\":1,\"equal_when_rebuilt\":true}
+{\"phase\":\"schema-build\",\"least\":7,\"median\":7,\"mean\":7}
+{\"phase\":\"to_ast\",\"least\":7,\"median\":7,\"mean\":7}
+{\"phase\":\"rebuild+eq\",\"least\":7,\"median\":7,\"mean\":7}
+{\"phase\":\"drop\",\"least\":7,\"median\":7,\"mean\":7}
+",
     ),
     (
-        &["schema"],
+        "schema",
         &["--adopt", "+1"],
         INPUT,
         "\
@@ -147,9 +148,16 @@ to_ast         min            7 median            7 mean            7 ns
 rebuild+eq     min            7 median            7 mean            7 ns
 drop           min            7 median            7 mean            7 ns
 ",
+        "\
+{\"types\":16,\"definitions_out\":4,\"faults\":0,\"equal_when_rebuilt\":true}
+{\"phase\":\"schema-build\",\"least\":7,\"median\":7,\"mean\":7}
+{\"phase\":\"to_ast\",\"least\":7,\"median\":7,\"mean\":7}
+{\"phase\":\"rebuild+eq\",\"least\":7,\"median\":7,\"mean\":7}
+{\"phase\":\"drop\",\"least\":7,\"median\":7,\"mean\":7}
+",
     ),
     (
-        &["lookups"],
+        "lookups",
         &["--ignore-builtin", "2"],
         INPUT,
         "\
@@ -157,9 +165,14 @@ drop           min            7 median            7 mean            7 ns
 type_field     min            7 median            7 mean            7 ns
 is_subtype     min            7 median            7 mean            7 ns
 ",
+        "\
+{\"type_field_calls\":38,\"type_field_found\":38,\"is_subtype_calls\":39,\"is_subtype_true\":2}
+{\"phase\":\"type_field\",\"least\":7,\"median\":7,\"mean\":7}
+{\"phase\":\"is_subtype\",\"least\":7,\"median\":7,\"mean\":7}
+",
     ),
     (
-        &["doc"],
+        "doc",
         &["2"],
         DIVIDED,
         "\
@@ -168,9 +181,15 @@ doc-build      min            7 median            7 mean            7 ns
 doc-to_ast     min            7 median            7 mean            7 ns
 drop           min            7 median            7 mean            7 ns
 ",
+        "\
+{\"operations\":1,\"fragments\":2,\"faults\":3}
+{\"phase\":\"doc-build\",\"least\":7,\"median\":7,\"mean\":7}
+{\"phase\":\"doc-to_ast\",\"least\":7,\"median\":7,\"mean\":7}
+{\"phase\":\"drop\",\"least\":7,\"median\":7,\"mean\":7}
+",
     ),
     (
-        &["walk"],
+        "walk",
         &["--adopt", "3"],
         DIVIDED,
         "\
@@ -178,18 +197,27 @@ drop           min            7 median            7 mean            7 ns
 root-walks     min            7 median            7 mean            7 ns
 all-walks      min            7 median            7 mean            7 ns
 ",
+        "\
+{\"operations\":1,\"fragments\":2,\"root_fields\":4,\"all_fields\":8}
+{\"phase\":\"root-walks\",\"least\":7,\"median\":7,\"mean\":7}
+{\"phase\":\"all-walks\",\"least\":7,\"median\":7,\"mean\":7}
+",
     ),
     (
-        &["leaf"],
+        "leaf",
         &["--ignore-builtin", "2"],
         DIVIDED,
         "\
 1 operations, 2 fragments, 1 leaf faults
 leaf_faults    min            7 median            7 mean            7 ns
 ",
+        "\
+{\"operations\":1,\"fragments\":2,\"leaf_faults\":1}
+{\"phase\":\"leaf_faults\",\"least\":7,\"median\":7,\"mean\":7}
+",
     ),
     (
-        &["compile"],
+        "compile",
         &["--adopt", "2"],
         DIVIDED,
         "\
@@ -204,66 +232,6 @@ doc-build      min            7 median            7 mean            7 ns
 doc-to_ast     min            7 median            7 mean            7 ns
 drop           min            7 median            7 mean            7 ns
 ",
-    ),
-];
-
-const REPORTS_IN_JSON: [Report; 6] = [
-    (
-        &["schema", "--json"],
-        &["3"],
-        INPUT,
-        "\
-{\"types\":15,\"definitions_out\":2,\"faults\":1,\"equal_when_rebuilt\":true}
-{\"phase\":\"schema-build\",\"least\":7,\"median\":7,\"mean\":7}
-{\"phase\":\"to_ast\",\"least\":7,\"median\":7,\"mean\":7}
-{\"phase\":\"rebuild+eq\",\"least\":7,\"median\":7,\"mean\":7}
-{\"phase\":\"drop\",\"least\":7,\"median\":7,\"mean\":7}
-",
-    ),
-    (
-        &["lookups", "--json"],
-        &["--ignore-builtin", "2"],
-        INPUT,
-        "\
-{\"type_field_calls\":38,\"type_field_found\":38,\"is_subtype_calls\":39,\"is_subtype_true\":2}
-{\"phase\":\"type_field\",\"least\":7,\"median\":7,\"mean\":7}
-{\"phase\":\"is_subtype\",\"least\":7,\"median\":7,\"mean\":7}
-",
-    ),
-    (
-        &["doc", "--json"],
-        &["2"],
-        DIVIDED,
-        "\
-{\"operations\":1,\"fragments\":2,\"faults\":3}
-{\"phase\":\"doc-build\",\"least\":7,\"median\":7,\"mean\":7}
-{\"phase\":\"doc-to_ast\",\"least\":7,\"median\":7,\"mean\":7}
-{\"phase\":\"drop\",\"least\":7,\"median\":7,\"mean\":7}
-",
-    ),
-    (
-        &["walk", "--json"],
-        &["--adopt", "3"],
-        DIVIDED,
-        "\
-{\"operations\":1,\"fragments\":2,\"root_fields\":4,\"all_fields\":8}
-{\"phase\":\"root-walks\",\"least\":7,\"median\":7,\"mean\":7}
-{\"phase\":\"all-walks\",\"least\":7,\"median\":7,\"mean\":7}
-",
-    ),
-    (
-        &["leaf", "--json"],
-        &["2"],
-        DIVIDED,
-        "\
-{\"operations\":1,\"fragments\":2,\"leaf_faults\":1}
-{\"phase\":\"leaf_faults\",\"least\":7,\"median\":7,\"mean\":7}
-",
-    ),
-    (
-        &["compile", "--json"],
-        &["--adopt", "2"],
-        DIVIDED,
         "\
 {\"types\":14,\"definitions_out\":1,\"schema_faults\":0,\"operations\":1,\"fragments\":2,\"document_faults\":3}
 {\"phase\":\"compile\",\"least\":7,\"median\":7,\"mean\":7}
@@ -279,27 +247,33 @@ const REPORTS_IN_JSON: [Report; 6] = [
     ),
 ];
 
-/// Expects these reports, over a system that gives no random bytes, and with `--random-keys` over one that
-/// does.
-fn expect_reports(rt: &(impl Abort + AllocGlobal), reports: &[Report]) -> Result<(), Fail> {
-    for (before, behind, input, output) in reports {
-        let mut words = Vec::new(rt.alloc());
-        words.extend_from_slice(*before)?;
-        words.extend_from_slice(*behind)?;
-        let outcome = (Status::Done, *output, "");
-        let fixed = system_of(Some(7), None, None);
-        expect(rt, &fixed, words.as_slice(), *input, outcome);
-        words.insert(before.len(), "--random-keys")?;
-        let drawn = system_of(Some(7), Some(0x5a), None);
-        expect(rt, &drawn, words.as_slice(), *input, outcome);
-    }
+/// Expects a run on these words to write this, over a system that gives no random bytes, and with
+/// `--random-keys` between them over one that does.
+fn expect_report(
+    rt: &(impl Abort + AllocGlobal),
+    before: &[&str],
+    behind: &[&str],
+    input: &str,
+    output: &str,
+) -> Result<(), Fail> {
+    let outcome = (Status::Done, output, "");
+    let mut words = before.to_vec(rt.alloc())?;
+    words.extend_from_slice(behind)?;
+    let fixed = system_of(Some(7), None, None);
+    expect(rt, &fixed, words.as_slice(), input, outcome);
+    words.insert(before.len(), "--random-keys")?;
+    let drawn = system_of(Some(7), Some(0x5a), None);
+    expect(rt, &drawn, words.as_slice(), input, outcome);
     Ok(())
 }
 
 #[test]
 fn reports(rt: HostRuntime) -> Result<(), Fail> {
-    expect_reports(&rt, &REPORTS)?;
-    expect_reports(&rt, &REPORTS_IN_JSON)
+    for (work, behind, input, lines, objects) in REPORTS {
+        expect_report(&rt, &[work], behind, input, lines)?;
+        expect_report(&rt, &[work, "--json"], behind, input, objects)?;
+    }
+    Ok(())
 }
 
 /// Expects runs on these words, over a system that tells nothing, to end without a report.
@@ -366,12 +340,6 @@ fn keys_that_cannot_be_drawn(rt: HostRuntime) {
     }
 }
 
-const LOOKUPS: &str = "\
-35 calls of type_field, 35 found, 35 calls of is_subtype, 0 true
-type_field     min   3000000000 median   3000000000 mean   3000000000 ns
-is_subtype     min   3000000000 median   3000000000 mean   3000000000 ns
-";
-
 const LOOKUPS_WITH_MEMORY: &str = "\
 35 calls of type_field, 35 found, 35 calls of is_subtype, 0 true
 type_field     min   3000000000 median   3000000000 mean   3000000000 ns
@@ -408,6 +376,7 @@ fn long_runs_and_memory_that_the_system_tells(rt: HostRuntime) {
 
 #[test]
 fn long_runs_and_statuses_that_tell_no_memory(rt: HostRuntime) {
+    let lines = LOOKUPS_WITH_MEMORY.trim_end_matches("memory 5120 kB\n");
     for status in [
         "",
         "Name:\tVmHWM: 5120 kB\n",
@@ -416,34 +385,23 @@ fn long_runs_and_statuses_that_tell_no_memory(rt: HostRuntime) {
         "Name:\tgqlbench\nVmHWM:\t    x5120 kB\n",
         "Name:\tgqlbench\nVmHWM:\t 18446744073709551616 kB\n",
     ] {
-        expect_long(&rt, &["lookups", "2"], status, LOOKUPS);
-    }
-}
-
-/// A writer that takes nothing.
-#[derive(Drop)]
-struct FullWriter;
-
-impl Write for FullWriter {
-    fn write(&mut self, _buf: &[u8]) -> io::Result<usize> {
-        Err(Error::from(ErrorKind::BrokenPipe))
-    }
-
-    fn flush(&mut self) -> io::Result<()> {
-        Ok(())
+        expect_long(&rt, &["lookups", "2"], status, lines);
     }
 }
 
 #[test]
 fn writers_that_take_nothing(rt: HostRuntime) {
-    let mut reader = INPUT.as_bytes();
+    let mut output = FailingWriter {
+        room: 0,
+        fails_at_flush: false,
+    };
     let mut errors = Vec::new(rt.alloc());
     let status = run(
         rt.alloc(),
         &system_of(Some(7), None, None),
         &["schema", "1"],
-        &mut reader,
-        &mut FullWriter,
+        &mut INPUT.as_bytes(),
+        &mut output,
         &mut errors,
     );
     assert_eq!(rt; status, Status::NotWritten);

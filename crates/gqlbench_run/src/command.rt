@@ -20,42 +20,15 @@ pub enum Work {
     Compilation,
 }
 
-/// The names of phases, in the order in which they are printed.
-pub type Phases = &'static [&'static str];
-
-/// The word that has each work timed, and the phases of that.
-const WORKS: [(&str, Work, Phases); 6] = [
-    (
-        "schema",
-        Work::Schema,
-        &["schema-build", "to_ast", "rebuild+eq", "drop"],
-    ),
-    ("lookups", Work::Lookups, &["type_field", "is_subtype"]),
-    ("doc", Work::Documents, &["doc-build", "doc-to_ast", "drop"]),
-    ("walk", Work::Walks, &["root-walks", "all-walks"]),
-    ("leaf", Work::LeafFaults, &["leaf_faults"]),
-    (
-        "compile",
-        Work::Compilation,
-        &[
-            "compile",
-            "all-phases",
-            "schema-build",
-            "to_ast",
-            "rebuild",
-            "rebuild-to_ast",
-            "doc-build",
-            "doc-to_ast",
-            "drop",
-        ],
-    ),
-];
+const COMPILATION: &str =
+    "compile all-phases schema-build to_ast rebuild rebuild-to_ast doc-build doc-to_ast drop";
 
 /// What the words after the program's name say.
 #[derive(Clone, Copy)]
 pub struct Command {
     pub work: Work,
-    pub phases: Phases,
+    /// The names of its phases, with a blank between two, in the order in which they are printed.
+    pub phases: &'static str,
     /// `--json`: a JSON object a line, in place of a line for those who read it.
     pub json: bool,
     /// `--random-keys`: tables hash by keys that are drawn for this run.
@@ -83,13 +56,17 @@ pub fn read_command(words: &[&str]) -> Option<Command> {
     })
 }
 
-fn read_work(word: &str) -> Option<(Work, Phases)> {
-    for (known, work, phases) in WORKS {
-        if known == word {
-            return Some((work, phases));
-        }
+/// The work that a word has timed, and its phases.
+fn read_work(word: &str) -> Option<(Work, &'static str)> {
+    match word {
+        "schema" => Some((Work::Schema, "schema-build to_ast rebuild+eq drop")),
+        "lookups" => Some((Work::Lookups, "type_field is_subtype")),
+        "doc" => Some((Work::Documents, "doc-build doc-to_ast drop")),
+        "walk" => Some((Work::Walks, "root-walks all-walks")),
+        "leaf" => Some((Work::LeafFaults, "leaf_faults")),
+        "compile" => Some((Work::Compilation, COMPILATION)),
+        _ => None,
     }
-    None
 }
 
 /// Whether this word comes first, and the words behind it.

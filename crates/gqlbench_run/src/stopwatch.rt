@@ -1,96 +1,86 @@
 //! The times of phases, as they are taken.
 
-use crate::command::Command;
+use crate::bench::Bench;
 use crate::failure::Failure;
 use crate::report::{Item, Value};
-use graphql_nodes::collections::hash_keys::HashKeys;
-use std::alloc::Global;
+use std::alloc::AllocError;
 use std::io::Write;
 use std::time::{Clock, Instant};
 
 /// How many seconds go by between two words of how far a run is.
 const SECONDS_BETWEEN: u64 = 2;
 
-/// What work is done with.
-#[derive(Drop)]
-pub struct Bench<'a, C: Clock> {
-    pub alloc: Global,
-    pub clock: &'a C,
-    pub keys: HashKeys,
-    pub command: Command,
-}
+/// The name of a phase.
+pub type Phase = &'static str;
 
-/// Takes the times of phases, and says on `errors` how far a long run is.
+/// Takes the times of phases.
 #[derive(Drop)]
-pub struct Stopwatch<'a, C: Clock, E: Write> {
-    bench: &'a Bench<'a, C>,
-    errors: &'a mut E,
+pub struct Stopwatch<'a, C: Clock> {
+    pub bench: &'a Bench,
+    clock: &'a C,
     told: Instant,
     /// A phase and how many nanoseconds it took, in the order of time.
-    times: Vec<(&'static str, u64)>,
+    times: Vec<(Phase, u64)>,
 }
 
-impl<'a, C: Clock, E: Write> Stopwatch<'a, C, E> {
-    pub fn start(
-        bench: &'a Bench<'a, C>,
-        errors: &'a mut E,
-    ) -> Result<Stopwatch<'a, C, E>, Failure> {
+impl<'a, C: Clock> Stopwatch<'a, C> {
+    pub fn start(bench: &'a Bench, clock: &'a C) -> Result<Stopwatch<'a, C>, Failure> {
         Ok(Stopwatch {
             bench,
-            errors,
-            told: Instant::now(bench.clock)?,
+            clock,
+            told: Instant::now(clock)?,
             times: Vec::new(bench.alloc),
         })
     }
 
     /// The moment at which a phase begins.
     pub fn now(&self) -> Result<Instant, Failure> {
-        Ok(Instant::now(self.bench.clock)?)
+        Ok(Instant::now(self.clock)?)
     }
 
-    /// Notes that a phase took from that moment to now.
-    pub fn took(&mut self, phase: &'static str, began: Instant) -> Result<(), Failure> {
-        let nanoseconds = began.elapsed(self.bench.clock)?.as_nanos();
+    /// Notes that a phase took from that moment to now, and hands back what it made.
+    pub fn took<T: Drop>(&mut self, phase: Phase, began: Instant, made: T) -> Result<T, Failure> {
+        let nanoseconds = began.elapsed(self.clock)?.as_nanos();
         let nanoseconds = u64::try_from(nanoseconds).unwrap_or(u64::MAX);
-        Ok(self.times.push((phase, nanoseconds))?)
+        self.times.push((phase, nanoseconds))?;
+        Ok(made)
     }
 
     /// Frees what was made, in a phase of its own.
     pub fn time_drop<T: Drop>(&mut self, made: T) -> Result<(), Failure> {
         let began = self.now()?;
         drop(made);
-        self.took("drop", began)
+        self.took("drop", began, ())
     }
 
     /// Says how many repetitions are done, where two seconds went by since the last word. That it cannot be
     /// said there changes nothing.
-    pub fn tell(&mut self, done: usize) -> Result<(), Failure> {
-        if self.told.elapsed(self.bench.clock)?.as_secs() >= SECONDS_BETWEEN {
+    pub fn tell<E: Write>(&mut self, done: usize, errors: &mut E) -> Result<(), Failure> {
+        if self.told.elapsed(self.clock)?.as_secs() >= SECONDS_BETWEEN {
             let all = self.bench.command.repeat;
-            let _ = writeln!(self.errors, "{done} of {all} repetitions");
+            let _ = writeln!(errors, "{done} of {all} repetitions");
             self.told = self.now()?;
         }
         Ok(())
     }
 
-    /// These counts, and what the times of each phase come to.
-    pub fn report(&self, counts: &[Item]) -> Result<Vec<Item>, Failure> {
+    /// Adds what the times of each phase come to.
+    pub fn push_times(&self, items: &mut Vec<Item>) -> Result<(), AllocError> {
         let bench = self.bench;
         let (alloc, phases) = (bench.alloc, bench.command.phases);
-        let mut items = counts.to_vec(alloc)?;
-        for phase in phases {
-            let of_phase = self.times.iter().filter(|time| time.0 == *phase);
+        for phase in phases.split(' ') {
+            let of_phase = self.times.iter().filter(|time| time.0 == phase);
             let mut times: Vec<u64> = of_phase.map(|time| time.1).collect(alloc)?;
             if let Some((least, median, mean)) = summary(times.as_mut_slice()) {
                 items.extend_from_slice(&[
-                    (" min ", "phase", Value::Phase(*phase)),
+                    (" min ", "phase", Value::Phase(phase)),
                     (" median ", "least", Value::Time(least)),
                     (" mean ", "median", Value::Time(median)),
                     (" ns\n", "mean", Value::Time(mean)),
                 ])?;
             }
         }
-        Ok(items)
+        Ok(())
     }
 }
 

@@ -1,10 +1,11 @@
 //! The run of the program.
 
+use crate::bench::Bench;
 use crate::command::read_command;
 use crate::failure::Failure;
 use crate::memory::{ProcessStatus, peak_memory};
+use crate::phases::time;
 use crate::report::{Value, report_text};
-use crate::stopwatch::Bench;
 use gqltool_run::failure::Failure as InputFailure;
 use gqltool_run::input::Input;
 use gqltool_run::running::write_out;
@@ -69,12 +70,12 @@ fn report<S: Clock + RandomSource + ProcessStatus, R: Read, E: Write>(
     };
     let bench = Bench {
         alloc,
-        clock: system,
         keys,
         command,
     };
     let input = reader.read_all(alloc).map_err(InputFailure::from)?;
-    let mut items = bench.time(input.as_str(), errors)?;
+    let ready = bench.read(input.as_str())?;
+    let mut items = time(&bench, system, &ready, errors)?;
     if let Some(kilobytes) = peak_memory(alloc, system) {
         items.push((" kB\n", "memory_kb", Value::Memory(kilobytes)))?;
     }

@@ -1,25 +1,16 @@
-//! Rows that are refused, the report on rows that differ, and files and streams that fail.
+//! Runs of `gqlrows`: rows that are refused, the report on rows that differ, and files and streams that fail.
 
-use crate::row::read_rows;
-use crate::running::run_rows;
+use crate::streams::FailingReader;
+use gqlrows_run::row::read_rows;
+use gqlrows_run::running::run_rows;
 use gqltool_run::status::Status;
-use std::io::{self, BufWriter, Error, ErrorKind, Read, Write};
+use std::io::{BufWriter, ErrorKind, Read, Write};
 use std::process::Abort;
 use std::rt::Files;
 use std::test::Fail;
 
 /// A text of one row, which is as it says.
 const ROW: &str = "* nothing\n$ schema\n";
-
-/// A reader that fails so.
-#[derive(Drop)]
-struct FailingReader(ErrorKind);
-
-impl Read for FailingReader {
-    fn read(&mut self, _buf: &mut [u8]) -> io::Result<usize> {
-        Err(Error::from(self.0))
-    }
-}
 
 /// Expects a run over these files or this reader to end so, to write this and to say this.
 fn expect<R: Read + Drop>(
@@ -49,7 +40,10 @@ fn rows_that_cannot_be_read(rt: HostRuntime) -> Result<(), Fail> {
             ),
             (ErrorKind::OutOfMemory, Status::Exhausted, "out of memory\n"),
         ] {
-            let reader = text.as_bytes().chain(FailingReader(kind));
+            let reader = FailingReader {
+                bytes: text.as_bytes(),
+                kind,
+            };
             expect(&rt, &[], reader, status, "", said);
         }
     }

@@ -1,0 +1,12 @@
+//! The whole run of the program `gqlbench`: [`run`](running::run). No function has a clause: it is a tool.
+#![tactic(auto)]
+
+mod bench;
+mod command;
+mod failure;
+pub mod memory;
+mod phases;
+mod questions;
+mod report;
+pub mod running;
+pub mod stopwatch;

@@ -1,0 +1,260 @@
+//! The phases of each work. A repetition answers what it counts, and the first one is not timed, so that all others find
+//! the memory of an earlier one.
+
+use crate::bench::{Bench, Built, Questions, Ready, Typed};
+use crate::failure::Failure;
+use crate::questions::{count_fields, count_subtypes};
+use crate::report::Item;
+use crate::report::Value::{Count, Equality};
+use crate::stopwatch::Stopwatch;
+use apollo_compiler::compiled::Compiled;
+use apollo_compiler::compiling::compile_with_keys;
+use apollo_executable::document::ExecutableDocument;
+use apollo_executable::selection::SelectionSet;
+use apollo_schema::schema::Schema;
+use bench_notation::reading::DividedDocuments;
+use graphql_ast::definition::Definition;
+use graphql_ast::document::Document;
+use graphql_nodes::collections::items::Items;
+use leafcheck::checking::leaf_faults;
+use std::alloc::{AllocError, Global};
+use std::io::Write;
+use std::time::Clock;
+
+/// What is counted, and timed.
+pub type Counted = Result<Vec<Item>, Failure>;
+
+/// Does the work of the command as often as it says.
+pub fn time<C: Clock>(bench: &Bench, clock: &C, ready: &Ready, errors: &mut impl Write) -> Counted {
+    let mut items = Stopwatch::start(bench, clock)?.repeat(ready)?;
+    let mut watch = Stopwatch::start(bench, clock)?;
+    for done in 0..bench.command.repeat {
+        items = watch.repeat(ready)?;
+        watch.tell(done + 1, errors)?;
+    }
+    watch.push_times(&mut items)?;
+    Ok(items)
+}
+
+impl<C: Clock> Stopwatch<'_, C> {
+    fn repeat(&mut self, ready: &Ready) -> Counted {
+        match ready {
+            Ready::Schema(documents) => self.time_schema(documents.as_slice()),
+            Ready::Lookups((schema, questions)) => self.time_lookups(schema, questions),
+            Ready::Documents((documents, schema)) => self.time_documents(schema, documents),
+            Ready::Walks((_, document)) => self.time_walks(document),
+            Ready::LeafFaults((schema, document)) => self.time_leaf_faults(schema, document),
+            Ready::Compilation(documents) => self.time_compile(documents),
+        }
+    }
+
+    fn time_schema(&mut self, documents: &[Document]) -> Counted {
+        let built = self.schema_build(documents)?;
+        let written = self.to_ast(&built.0)?;
+        let is_equal = self.rebuild_and_compare(&built.0, &written)?;
+        let (types, faults) = (built.0.types.len(), built.1.as_slice().len());
+        let definitions = Count(written.definitions.len());
+        self.time_drop((built, written))?;
+        let counts = [
+            (" types, ", "types", Count(types)),
+            (" definitions out, ", "definitions_out", definitions),
+            (" faults, ", "faults", Count(faults)),
+            (" when rebuilt\n", "equal_when_rebuilt", Equality(is_equal)),
+        ];
+        Ok(counts.to_vec(self.bench.alloc)?)
+    }
+
+    fn schema_build(&mut self, documents: &[Document]) -> Result<Built, Failure> {
+        let began = self.now()?;
+        let built = self.bench.build(documents)?;
+        self.took("schema-build", began, built)
+    }
+
+    fn to_ast(&mut self, schema: &Schema) -> Result<Document, Failure> {
+        let began = self.now()?;
+        let definitions = schema.to_ast(self.bench.alloc)?;
+        let definitions = self.took("to_ast", began, definitions)?;
+        let mut document = Document::new(self.bench.alloc);
+        document.definitions = Items::from_vec(definitions);
+        Ok(document)
+    }
+
+    /// Whether the schema of its write-out equals a schema.
+    fn rebuild_and_compare(
+        &mut self,
+        schema: &Schema,
+        written: &Document,
+    ) -> Result<bool, Failure> {
+        let began = self.now()?;
+        let again = self.bench.rebuild(written)?;
+        let is_equal = again.0 == *schema;
+        self.took("rebuild+eq", began, is_equal)
+    }
+
+    fn time_lookups(&mut self, schema: &Schema, questions: &Questions) -> Counted {
+        let (fields, subtypes) = (questions.0.as_slice(), questions.1.as_slice());
+        let began = self.now()?;
+        let found = count_fields(schema, fields);
+        let found = Count(self.took("type_field", began, found)?);
+        let began = self.now()?;
+        let are = count_subtypes(schema, subtypes);
+        let are = Count(self.took("is_subtype", began, are)?);
+        let (fields, subtypes) = (Count(fields.len()), Count(subtypes.len()));
+        let counts = [
+            (" calls of type_field, ", "type_field_calls", fields),
+            (" found, ", "type_field_found", found),
+            (" calls of is_subtype, ", "is_subtype_calls", subtypes),
+            (" true\n", "is_subtype_true", are),
+        ];
+        Ok(counts.to_vec(self.bench.alloc)?)
+    }
+
+    fn time_documents(&mut self, schema: &Schema, documents: &DividedDocuments) -> Counted {
+        let typed = self.doc_build(schema, documents)?;
+        let written = self.doc_to_ast(&typed.0)?;
+        let [operations, fragments] = sizes(&typed.0);
+        let faults = (" faults\n", "faults", Count(typed.1.as_slice().len()));
+        self.time_drop((typed, written))?;
+        Ok([operations, fragments, faults].to_vec(self.bench.alloc)?)
+    }
+
+    fn doc_build(
+        &mut self,
+        schema: &Schema,
+        documents: &DividedDocuments,
+    ) -> Result<Typed, Failure> {
+        let began = self.now()?;
+        let typed = self
+            .bench
+            .type_over(schema, documents.executable.as_slice())?;
+        self.took("doc-build", began, typed)
+    }
+
+    fn doc_to_ast(&mut self, document: &ExecutableDocument) -> Result<Document, Failure> {
+        let began = self.now()?;
+        let written = document.to_ast(self.bench.alloc)?;
+        self.took("doc-to_ast", began, written)
+    }
+
+    fn time_walks(&mut self, document: &ExecutableDocument) -> Counted {
+        let began = self.now()?;
+        let root = self.count_walked(document, false)?;
+        let root = Count(self.took("root-walks", began, root)?);
+        let began = self.now()?;
+        let all = self.count_walked(document, true)?;
+        let all = Count(self.took("all-walks", began, all)?);
+        let root = (" root fields, ", "root_fields", root);
+        let all = (" fields in all\n", "all_fields", all);
+        let [operations, fragments] = sizes(document);
+        Ok([operations, fragments, root, all].to_vec(self.bench.alloc)?)
+    }
+
+    /// How many fields walks over all operations and fragments give: over all fields, or over root fields alone.
+    fn count_walked(&self, document: &ExecutableDocument, deep: bool) -> Result<usize, AllocError> {
+        let (alloc, mut count) = (self.bench.alloc, 0);
+        for operation in document.operations.iter() {
+            count = count_on(alloc, document, &operation.selection_set, deep, count)?;
+        }
+        for fragment in document.fragments.values() {
+            count = count_on(alloc, document, &fragment.selection_set, deep, count)?;
+        }
+        Ok(count)
+    }
+
+    fn time_leaf_faults(&mut self, schema: &Schema, document: &ExecutableDocument) -> Counted {
+        let began = self.now()?;
+        let faults = leaf_faults(self.bench.alloc, schema, document)?;
+        let faults = Count(self.took("leaf_faults", began, faults)?.len());
+        let [operations, fragments] = sizes(document);
+        let faults = (" leaf faults\n", "leaf_faults", faults);
+        Ok([operations, fragments, faults].to_vec(self.bench.alloc)?)
+    }
+
+    /// The whole call, and beside it each phase of it, with all that these give kept.
+    fn time_compile(&mut self, documents: &DividedDocuments) -> Counted {
+        let counts = self.time_one_call(documents)?;
+        self.time_phases(documents)?;
+        Ok(counts)
+    }
+
+    fn time_one_call(&mut self, documents: &DividedDocuments) -> Counted {
+        let (schema, executable) = (documents.schema.as_slice(), documents.executable.as_slice());
+        let (alloc, keys, options) = (
+            self.bench.alloc,
+            self.bench.keys,
+            self.bench.command.options,
+        );
+        let began = self.now()?;
+        let made = compile_with_keys(alloc, keys, options, schema, executable, true)?;
+        let made = self.took("compile", began, made)?;
+        let counts = counts_of(&made);
+        self.time_drop(made)?;
+        Ok(counts.to_vec(alloc)?)
+    }
+
+    fn time_phases(&mut self, documents: &DividedDocuments) -> Result<(), Failure> {
+        let began = self.now()?;
+        let built = self.schema_build(documents.schema.as_slice())?;
+        let written = self.to_ast(&built.0)?;
+        let _again = self.rebuild(&written)?;
+        let typed = self.doc_build(&built.0, documents)?;
+        let _erased = self.doc_to_ast(&typed.0)?;
+        self.took("all-phases", began, ())
+    }
+
+    /// The schema of a write-out, and its own write-out.
+    fn rebuild(&mut self, written: &Document) -> Result<(Built, Vec<Definition>), Failure> {
+        let began = self.now()?;
+        let again = self.bench.rebuild(written)?;
+        let again = self.took("rebuild", began, again)?;
+        let began = self.now()?;
+        let written = again.0.to_ast(self.bench.alloc)?;
+        let written = self.took("rebuild-to_ast", began, written)?;
+        Ok((again, written))
+    }
+}
+
+fn counts_of(made: &Compiled) -> [Item; 6] {
+    let [operations, fragments] = sizes(&made.document);
+    let definitions = Count(made.ast.len());
+    let schema_faults = Count(made.schema_faults.as_slice().len());
+    let document_faults = Count(made.document_faults.as_slice().len());
+    [
+        (" types, ", "types", Count(made.schema.types.len())),
+        (" definitions out, ", "definitions_out", definitions),
+        (" faults; ", "schema_faults", schema_faults),
+        operations,
+        fragments,
+        (" faults\n", "document_faults", document_faults),
+    ]
+}
+
+/// How many operations and fragments a typed document has.
+fn sizes(document: &ExecutableDocument) -> [Item; 2] {
+    let operations = Count(document.operations.len());
+    let fragments = Count(document.fragments.len());
+    [
+        (" operations, ", "operations", operations),
+        (" fragments, ", "fragments", fragments),
+    ]
+}
+
+/// How many a walk over one set gives, on from a number, as far as they can be counted.
+fn count_on(
+    alloc: Global,
+    document: &ExecutableDocument,
+    set: &SelectionSet,
+    deep: bool,
+    mut count: usize,
+) -> Result<usize, AllocError> {
+    let walk = if deep {
+        set.all_fields(alloc, document)
+    } else {
+        set.root_fields(alloc, document)
+    };
+    for field in walk {
+        let _field = field?;
+        count = count.saturating_add(1);
+    }
+    Ok(count)
+}
