@@ -26,8 +26,6 @@ mod nodes;
 #[cfg(test)]
 mod parts;
 #[cfg(test)]
-mod places;
-#[cfg(test)]
 mod reading;
 #[cfg(test)]
 mod samples;
