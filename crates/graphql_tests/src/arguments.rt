@@ -37,25 +37,21 @@ pub fn int_type(alloc: Global, required: bool) -> Result<Node<Type>, AllocError>
 }
 
 /// An argument definition of the type `Int`, or `Int!` where it is required, with a description.
-fn defined(
+/// No clause: it serves tests.
+pub fn defined(
     alloc: Global,
     text: &str,
     required: bool,
-    default_value: Option<Node<Value>>,
+    default_value: Option<&str>,
 ) -> Result<Node<InputValueDefinition>, AllocError> {
     let parts = both(int_type(alloc, required), NodeStr::new(alloc, "text"));
     let (name, (ty, description)) = both(name(alloc, text, None), parts)?;
     let mut definition = InputValueDefinition::new(alloc, name, ty);
     definition.description = Some(description);
-    definition.default_value = default_value;
+    if let Some(text) = default_value {
+        definition.default_value = Some(number(alloc, text)?);
+    }
     Node::new(alloc, definition)
-}
-
-/// The required argument `limit` with the default value `10`.
-/// No clause: it serves tests.
-pub fn with_default(alloc: Global) -> Result<Node<InputValueDefinition>, AllocError> {
-    let ten = number(alloc, "10")?;
-    defined(alloc, "limit", true, Some(ten))
 }
 
 /// What an answer says: the text of the number, `none`, or the name of the error.
@@ -87,10 +83,11 @@ fn is_answer(
 /// Whether this is the answer on the argument `limit`, which is not given and is so defined.
 fn is_answer_of(
     alloc: Global,
-    defined: Result<Node<InputValueDefinition>, AllocError>,
+    required: bool,
+    default_value: Option<&str>,
     want: &str,
 ) -> Result<bool, AllocError> {
-    let definition = defined?;
+    let definition = defined(alloc, "limit", required, default_value)?;
     is_answer(alloc, "limit", Some(&definition), want)
 }
 
@@ -99,11 +96,9 @@ fn an_argument_is_the_first_given_or_answered_by_its_definition(rt: HostRuntime)
     let alloc = rt.alloc();
     assert!(rt; is_answer(alloc, "first", None, "1") == Ok(true));
     assert!(rt; is_answer(alloc, "limit", None, "no such argument") == Ok(true));
-    assert!(rt; is_answer_of(alloc, with_default(alloc), "10") == Ok(true));
-    let required = defined(alloc, "limit", true, None);
-    assert!(rt; is_answer_of(alloc, required, "required") == Ok(true));
-    let optional = defined(alloc, "limit", false, None);
-    assert!(rt; is_answer_of(alloc, optional, "none") == Ok(true));
+    assert!(rt; is_answer_of(alloc, true, Some("10"), "10") == Ok(true));
+    assert!(rt; is_answer_of(alloc, true, None, "required") == Ok(true));
+    assert!(rt; is_answer_of(alloc, false, None, "none") == Ok(true));
 }
 
 /// Three definitions of arguments, two of one name.

@@ -102,7 +102,7 @@ fn nested(
 const ENTRIES: [(i32, char); 4] = [(5, 'a'), (3, 'b'), (9, 'c'), (7, 'd')];
 
 /// Lists of entries, how they go, and whether a table of them is equal to that of the entries.
-const OTHERS: [(&str, &[(i32, char)], bool); 9] = [
+const OTHERS: &[(&str, &[(i32, char)], bool)] = &[
     ("the same", &ENTRIES, true),
     ("turned", &[(7, 'd'), (9, 'c'), (3, 'b'), (5, 'a')], true),
     (
@@ -138,7 +138,7 @@ const OTHERS: [(&str, &[(i32, char)], bool); 9] = [
 #[test]
 fn tables_are_equal_in_any_order(rt: HostRuntime) {
     let alloc = rt.alloc();
-    for (title, other, equal) in OTHERS.iter() {
+    for (title, other, equal) in OTHERS {
         let table = table_of(alloc, &ENTRIES);
         expect_at(&rt, title, compares(table, table_of(alloc, other), *equal));
         let first = nested(alloc, [1, 2], &[(5, 'b')], &ENTRIES);
@@ -189,7 +189,7 @@ fn set_of(alloc: Global, keys: &[i32]) -> Result<KeySet<i32>, AllocError> {
 }
 
 /// Lists of keys, how they go, and whether a set of them is equal to that of 5, 3 and 9.
-const OTHER_KEYS: [(&str, &[i32], bool); 4] = [
+const OTHER_KEYS: &[(&str, &[i32], bool)] = &[
     ("the same", &[5, 3, 9], true),
     ("late turned", &[5, 9, 3], true),
     ("a late key", &[5, 3, 7], false),
@@ -198,7 +198,7 @@ const OTHER_KEYS: [(&str, &[i32], bool); 4] = [
 
 #[test]
 fn sets_are_equal_in_any_order(rt: HostRuntime) {
-    for (title, other, equal) in OTHER_KEYS.iter() {
+    for (title, other, equal) in OTHER_KEYS {
         let set = set_of(rt.alloc(), &[5, 3, 9]);
         expect_at(&rt, title, compares(set, set_of(rt.alloc(), other), *equal));
     }

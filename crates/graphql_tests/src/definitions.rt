@@ -1,6 +1,6 @@
 //! Definitions of all kinds: their texts and copies.
 
-use crate::samples::{PLACE, name};
+use crate::samples::PLACE;
 use graphql_ast::{
     Definition, DirectiveDefinition, EnumTypeDefinition, EnumTypeExtension, FragmentDefinition,
     InputObjectTypeDefinition, InputObjectTypeExtension, InterfaceTypeDefinition,
@@ -8,19 +8,13 @@ use graphql_ast::{
     ScalarTypeDefinition, ScalarTypeExtension, SchemaDefinition, SchemaExtension,
     UnionTypeDefinition, UnionTypeExtension,
 };
-use graphql_nodes::{Node, OperationType};
-use likeness::is_copied;
+use graphql_nodes::{Name, Node, OperationType};
+use likeness::{is_copied, is_copied_so};
 use std::alloc::Global;
-use std::test::Fail;
 
-/// Whether the definition has an equal copy, which is described so and is at the location.
+/// Whether this is how the definition is described, and it is at the location.
 fn is_described(definition: &Definition, text: &str) -> bool {
-    match definition.clone() {
-        Ok(copy) => {
-            copy == *definition && copy.describe() == text && copy.location() == Some(PLACE)
-        }
-        Err(_) => false,
-    }
+    definition.describe() == text && definition.location() == Some(PLACE)
 }
 
 /// Whether the value has an equal copy, and so has the definition of it at the location, which is described so. A copy of
@@ -30,59 +24,97 @@ where
     Definition: From<Node<T>>,
 {
     let is_value_copied = is_copied(&value);
-    match Node::new_opt_location(alloc, value, Some(PLACE)) {
-        Ok(node) => is_value_copied && is_described(&Definition::from(node), text),
+    let definition = Node::new_opt_location(alloc, value, Some(PLACE)).map(Definition::from);
+    is_copied_so(definition, |definition| is_described(definition, text)) && is_value_copied
+}
+
+/// Whether what is made of a name is so defined.
+fn is_named<T: Clone + PartialEq + Drop, F: FnOnce(Global, Name) -> T + Drop>(
+    alloc: Global,
+    make: F,
+    text: &str,
+) -> bool
+where
+    Definition: From<Node<T>>,
+    requires { F.IsAlwaysCallable make }
+{
+    match Name::new_unchecked(alloc, "n") {
+        Ok(name) => is_defined(alloc, make(alloc, name), text),
+        Err(_) => false,
+    }
+}
+
+/// Whether a fragment of a name, on a type, is defined.
+fn is_fragment_defined(alloc: Global) -> bool {
+    match Name::new_unchecked(alloc, "T") {
+        Ok(ty) => is_named(
+            alloc,
+            |alloc, name| FragmentDefinition::new(alloc, name, ty),
+            "a fragment definition",
+        ),
         Err(_) => false,
     }
 }
 
 #[test]
-fn definitions_without_a_type(rt: HostRuntime) -> Result<(), Fail> {
+fn definitions_without_a_type(rt: HostRuntime) {
     let alloc = rt.alloc();
     let operation = OperationDefinition::new(alloc, OperationType::Query);
     assert!(rt; is_defined(alloc, operation, "an operation definition"));
+    assert!(rt; is_fragment_defined(alloc));
+    assert!(rt; is_named(alloc, DirectiveDefinition::new, "a directive definition"));
     assert!(rt; is_defined(alloc, SchemaDefinition::new(alloc), "a schema definition"));
     assert!(rt; is_defined(alloc, SchemaExtension::new(alloc), "a schema extension"));
-    let directive = DirectiveDefinition::new(alloc, name(alloc, "n", None)?);
-    assert!(rt; is_defined(alloc, directive, "a directive definition"));
-    let ty = name(alloc, "T", None)?;
-    let fragment = FragmentDefinition::new(alloc, name(alloc, "n", None)?, ty);
-    assert!(rt; is_defined(alloc, fragment, "a fragment definition"));
-    Ok(())
 }
 
 #[test]
-fn definitions_of_types(rt: HostRuntime) -> Result<(), Fail> {
+fn definitions_of_types(rt: HostRuntime) {
     let alloc = rt.alloc();
-    let scalar = ScalarTypeDefinition::new(alloc, name(alloc, "n", None)?);
-    assert!(rt; is_defined(alloc, scalar, "a scalar type definition"));
-    let object = ObjectTypeDefinition::new(alloc, name(alloc, "n", None)?);
-    assert!(rt; is_defined(alloc, object, "an object type definition"));
-    let interface = InterfaceTypeDefinition::new(alloc, name(alloc, "n", None)?);
-    assert!(rt; is_defined(alloc, interface, "an interface type definition"));
-    let union = UnionTypeDefinition::new(alloc, name(alloc, "n", None)?);
-    assert!(rt; is_defined(alloc, union, "a union type definition"));
-    let enumeration = EnumTypeDefinition::new(alloc, name(alloc, "n", None)?);
-    assert!(rt; is_defined(alloc, enumeration, "an enum type definition"));
-    let input = InputObjectTypeDefinition::new(alloc, name(alloc, "n", None)?);
-    assert!(rt; is_defined(alloc, input, "an input object type definition"));
-    Ok(())
+    assert!(rt; is_named(alloc, ScalarTypeDefinition::new, "a scalar type definition"));
+    assert!(rt;
+        is_named(
+            alloc,
+            ObjectTypeDefinition::new,
+            "an object type definition"
+        )
+    );
+    assert!(rt;
+        is_named(
+            alloc,
+            InterfaceTypeDefinition::new,
+            "an interface type definition"
+        )
+    );
+    assert!(rt; is_named(alloc, UnionTypeDefinition::new, "a union type definition"));
+    assert!(rt; is_named(alloc, EnumTypeDefinition::new, "an enum type definition"));
+    assert!(rt;
+        is_named(
+            alloc,
+            InputObjectTypeDefinition::new,
+            "an input object type definition"
+        )
+    );
 }
 
 #[test]
-fn extensions_of_types(rt: HostRuntime) -> Result<(), Fail> {
+fn extensions_of_types(rt: HostRuntime) {
     let alloc = rt.alloc();
-    let scalar = ScalarTypeExtension::new(alloc, name(alloc, "n", None)?);
-    assert!(rt; is_defined(alloc, scalar, "a scalar type extension"));
-    let object = ObjectTypeExtension::new(alloc, name(alloc, "n", None)?);
-    assert!(rt; is_defined(alloc, object, "an object type extension"));
-    let interface = InterfaceTypeExtension::new(alloc, name(alloc, "n", None)?);
-    assert!(rt; is_defined(alloc, interface, "an interface type extension"));
-    let union = UnionTypeExtension::new(alloc, name(alloc, "n", None)?);
-    assert!(rt; is_defined(alloc, union, "a union type extension"));
-    let enumeration = EnumTypeExtension::new(alloc, name(alloc, "n", None)?);
-    assert!(rt; is_defined(alloc, enumeration, "an enum type extension"));
-    let input = InputObjectTypeExtension::new(alloc, name(alloc, "n", None)?);
-    assert!(rt; is_defined(alloc, input, "an input object type extension"));
-    Ok(())
+    assert!(rt; is_named(alloc, ScalarTypeExtension::new, "a scalar type extension"));
+    assert!(rt; is_named(alloc, ObjectTypeExtension::new, "an object type extension"));
+    assert!(rt;
+        is_named(
+            alloc,
+            InterfaceTypeExtension::new,
+            "an interface type extension"
+        )
+    );
+    assert!(rt; is_named(alloc, UnionTypeExtension::new, "a union type extension"));
+    assert!(rt; is_named(alloc, EnumTypeExtension::new, "an enum type extension"));
+    assert!(rt;
+        is_named(
+            alloc,
+            InputObjectTypeExtension::new,
+            "an input object type extension"
+        )
+    );
 }

@@ -9,7 +9,7 @@ use std::alloc::Global;
 
 /// Texts, and the line and column of each offset up to the end: of none, of each line terminator, of two that touch, and of
 /// characters of two, three and four bytes.
-const EXAMPLES: [(&str, &[(usize, usize)]); 7] = [
+const EXAMPLES: &[(&str, &[(usize, usize)])] = &[
     ("", &[(1, 1)]),
     ("a\nb", &[(1, 1), (1, 2), (2, 1), (2, 2)]),
     ("a\rb", &[(1, 1), (1, 2), (2, 1), (2, 2)]),
@@ -54,7 +54,7 @@ fn are_line_columns(alloc: Global, text: &str, line_columns: &[(usize, usize)]) 
 
 #[test]
 fn lines_and_columns_of_offsets(rt: HostRuntime) {
-    for (text, line_columns) in EXAMPLES.iter() {
+    for (text, line_columns) in EXAMPLES {
         expect_at(&rt, text, are_line_columns(rt.alloc(), text, line_columns));
     }
 }

@@ -11,7 +11,7 @@ use std::alloc::{AllocError, Global};
 use std::cmp::Ordering;
 
 /// Texts, and whether each is a name.
-const TEXTS: [(&str, bool); 17] = [
+const TEXTS: &[(&str, bool)] = &[
     ("a", true),
     ("_", true),
     ("__typename", true),
@@ -33,7 +33,7 @@ const TEXTS: [(&str, bool); 17] = [
 
 #[test]
 fn grammar(rt: HostRuntime) {
-    for (text, valid) in TEXTS.iter() {
+    for (text, valid) in TEXTS {
         expect_at(&rt, text, Name::is_valid_syntax(text) == *valid);
     }
 }

@@ -1,6 +1,6 @@
 //! Parts of operations and of types: their copies.
 
-use crate::arguments::{field, int_type, number, with_default};
+use crate::arguments::{defined, field, int_type, number};
 use crate::samples::name;
 use graphql_ast::operation::VariableDefinition;
 use graphql_ast::selection::FragmentSpread;
@@ -22,7 +22,7 @@ fn variable_definition(alloc: Global) -> Result<VariableDefinition, AllocError> 
 fn parts_of_operations_and_types_are_copied(rt: HostRuntime) -> Result<(), Fail> {
     let alloc = rt.alloc();
     assert!(rt; is_made_copied(variable_definition(alloc)));
-    assert!(rt; is_held_copied(with_default(alloc)));
+    assert!(rt; is_held_copied(defined(alloc, "limit", true, Some("10"))));
     assert!(rt; is_made_copied(field(alloc)));
     let spread = FragmentSpread::new(alloc, name(alloc, "n", None)?);
     assert!(rt; is_copied(&spread));

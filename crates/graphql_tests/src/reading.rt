@@ -25,8 +25,14 @@ fn printed(alloc: Global, documents: &[Document]) -> Result<String, AllocError> 
     Ok(text)
 }
 
+/// The prints of the documents that a text says.
+fn read_again(alloc: Global, input: &str) -> Result<String, ReadError> {
+    let documents = read(alloc, input)?;
+    Ok(printed(alloc, documents.as_slice())?)
+}
+
 /// The prints of the documents of both sorts that a text says, divided as they are.
-fn printed_again(alloc: Global, input: &str) -> Result<String, ReadError> {
+fn divided_again(alloc: Global, input: &str) -> Result<String, ReadError> {
     let documents = read_divided(alloc, input)?;
     let mut text = printed(alloc, documents.schema.as_slice())?;
     text.push_str("===\n")?;
@@ -43,17 +49,22 @@ fn expect_told(rt: &(impl Abort + AllocGlobal), told: Result<String, ReadError>,
     }
 }
 
-/// Definitions and extensions that are printed as they are read, and behind the division operations and fragments.
+/// Documents that are printed as they are read.
 const SAME: &str =
-    "ext scalar S\n@ d\n---\next interface I\nimplements J\nimplements J\nfield a Int\n---\next union U\nmember A\nmember A\n---\next enum E\nvalue true\n---\next input P\nfield a Int\n---\next object T\n@ d\nimplements I\nfield a Int\narg x Int\n---\nschema\n---\next-schema\n---\next-schema\n@ d\nroot query A\nroot query B\nroot query A\n---\nschema\nroot query query\next-schema\nroot mutation root\ndef object schema\nschema\n---\next-schema\nroot query A\nschema\n@ d\nroot query B\n===\noperation query -\n@ d\nsel 0 field a\nsel 0 field a b\nsel 1 field c\nsel 2 spread F\nsel 2 inline T\nsel 3 field d\nsel 1 inline\nsel 2 spread G\nsel 0 spread F\n---\nfragment F T\n@ d\n@ d\nsel 0 field a\noperation subscription S\n---\nfragment G T\n";
+    "ext scalar S\n@ d\n---\next interface I\nimplements J\nimplements J\nfield a Int\n---\next union U\nmember A\nmember A\n---\next enum E\nvalue true\n---\next input P\nfield a Int\n---\next object T\n@ d\nimplements I\nfield a Int\narg x Int\n---\nschema\n---\next-schema\n---\next-schema\n@ d\nroot query A\nroot query B\nroot query A\n---\nschema\nroot query query\next-schema\nroot mutation root\ndef object schema\nschema\n---\next-schema\nroot query A\nschema\n@ d\nroot query B\n";
+
+/// Executable documents that are printed as they are read.
+const EXECUTABLE: &str =
+    "operation query -\n@ d\nsel 0 field a\nsel 0 field a b\nsel 1 field c\nsel 2 spread F\nsel 2 inline T\nsel 3 field d\nsel 1 inline\nsel 2 spread G\nsel 0 spread F\n---\nfragment F T\n@ d\n@ d\nsel 0 field a\noperation subscription S\n---\nfragment G T\n";
 
 #[test]
-fn definitions_operations_and_fragments_are_printed_as_they_are_read(rt: HostRuntime) {
-    expect_told(&rt, printed_again(rt.alloc(), SAME), SAME);
+fn documents_of_both_sorts_are_printed_as_they_are_read(rt: HostRuntime) {
+    expect_told(&rt, read_again(rt.alloc(), SAME), SAME);
+    expect_told(&rt, read_again(rt.alloc(), EXECUTABLE), EXECUTABLE);
 }
 
 /// Texts, and how the documents of each are printed and divided, or why it is refused.
-const DIVIDED: [(&str, &str); 5] = [
+const DIVIDED: &[(&str, &str)] = &[
     (
         "def object A\n---\n\n===\noperation query Q\nsel 0 field a\n---\n",
         "def object A\n---\n===\noperation query Q\nsel 0 field a\n---\n",
@@ -66,8 +77,8 @@ const DIVIDED: [(&str, &str); 5] = [
 
 #[test]
 fn a_text_is_divided_once_into_schema_documents_and_executable_ones(rt: HostRuntime) {
-    for (input, wanted) in DIVIDED.iter() {
-        expect_told(&rt, printed_again(rt.alloc(), input), wanted);
+    for (input, wanted) in DIVIDED {
+        expect_told(&rt, divided_again(rt.alloc(), input), wanted);
     }
 }
 

@@ -8,9 +8,9 @@ use std::alloc::{AllocError, Global};
 /// The sources of one file of this text, under this number.
 /// No clause: it serves tests.
 pub fn one(alloc: Global, number: u64, text: &str) -> Result<SourceMap, AllocError> {
-    let file = SourceFile::new(alloc, "a.graphql", text)?;
+    let file = Shared::new(alloc, SourceFile::new(alloc, "a.graphql", text)?)?;
     let mut sources = Table::new(alloc);
-    sources.insert(FileId(number), Shared::new(alloc, file)?)?;
+    sources.insert(FileId(number), file)?;
     Ok(sources)
 }
 
