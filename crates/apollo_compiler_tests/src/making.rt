@@ -137,8 +137,9 @@ fn selections(alloc: Global) -> Result<Items<Selection>, AllocError> {
     field.alias = Some(alias);
     let spread = FragmentSpread::new(alloc, space);
     let (field, spread) = both(Node::new(alloc, field), Node::new(alloc, spread))?;
-    let selections = [Selection::Field(field), Selection::FragmentSpread(spread)];
-    Ok(Items::from_array(alloc, selections)?)
+    let mut selections = list(alloc, Ok(Selection::Field(field)))?;
+    selections.push(Selection::FragmentSpread(spread))?;
+    Ok(selections)
 }
 
 /// A document of a fragment of the name of a space on the type of the empty name: the field `→` under an alias of two words, and

@@ -1,6 +1,7 @@
 //! Arguments by their names.
 
 use crate::samples::{PLACE, name, node, pair};
+use crate::tables::expect_at;
 use crate::values::int;
 use graphql_ast::argument::ArgumentByNameError;
 use graphql_ast::directive::Argument;
@@ -80,25 +81,36 @@ fn is_answer(
     Ok(said(Argument::argument_by_name(given.as_slice(), &name, definition)) == want)
 }
 
-/// Whether this is the answer on the argument `limit`, which is not given and is so defined.
+/// Whether this is the answer on the argument of this name, which is so defined.
 fn is_answer_of(
     alloc: Global,
+    text: &str,
     required: bool,
     default_value: Option<&str>,
     want: &str,
 ) -> Result<bool, AllocError> {
-    let definition = defined(alloc, "limit", required, default_value)?;
-    is_answer(alloc, "limit", Some(&definition), want)
+    let definition = defined(alloc, text, required, default_value)?;
+    is_answer(alloc, text, Some(&definition), want)
 }
+
+/// Names of arguments, whether each is defined as required and with which default value, if it is, and the answer.
+const ANSWERS: &[(&str, Option<(bool, Option<&str>)>, &str)] = &[
+    ("first", None, "1"),
+    ("limit", None, "no such argument"),
+    ("limit", Some((true, Some("10"))), "10"),
+    ("limit", Some((true, None)), "required"),
+    ("limit", Some((false, None)), "none"),
+];
 
 #[test]
 fn an_argument_is_the_first_given_or_answered_by_its_definition(rt: HostRuntime) {
-    let alloc = rt.alloc();
-    assert!(rt; is_answer(alloc, "first", None, "1") == Ok(true));
-    assert!(rt; is_answer(alloc, "limit", None, "no such argument") == Ok(true));
-    assert!(rt; is_answer_of(alloc, true, Some("10"), "10") == Ok(true));
-    assert!(rt; is_answer_of(alloc, true, None, "required") == Ok(true));
-    assert!(rt; is_answer_of(alloc, false, None, "none") == Ok(true));
+    for (name, definition, want) in ANSWERS {
+        let is_so = match definition {
+            Some((required, default)) => is_answer_of(rt.alloc(), name, *required, *default, want),
+            None => is_answer(rt.alloc(), name, None, want),
+        };
+        expect_at(&rt, want, is_so == Ok(true));
+    }
 }
 
 /// Three definitions of arguments, two of one name.

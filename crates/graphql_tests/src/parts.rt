@@ -5,9 +5,8 @@ use crate::samples::name;
 use graphql_ast::operation::VariableDefinition;
 use graphql_ast::selection::FragmentSpread;
 use graphql_ast::type_system::EnumValueDefinition;
-use likeness::{both, is_copied, is_held_copied, is_made_copied};
+use likeness::{both, is_held_copied, is_made_copied};
 use std::alloc::{AllocError, Global};
-use std::test::Fail;
 
 /// The variable `$n: Int! = 10`.
 fn variable_definition(alloc: Global) -> Result<VariableDefinition, AllocError> {
@@ -18,15 +17,20 @@ fn variable_definition(alloc: Global) -> Result<VariableDefinition, AllocError> 
     Ok(variable)
 }
 
+fn spread(alloc: Global) -> Result<FragmentSpread, AllocError> {
+    Ok(FragmentSpread::new(alloc, name(alloc, "n", None)?))
+}
+
+fn enum_value(alloc: Global) -> Result<EnumValueDefinition, AllocError> {
+    Ok(EnumValueDefinition::new(alloc, name(alloc, "n", None)?))
+}
+
 #[test]
-fn parts_of_operations_and_types_are_copied(rt: HostRuntime) -> Result<(), Fail> {
+fn parts_of_operations_and_types_are_copied(rt: HostRuntime) {
     let alloc = rt.alloc();
     assert!(rt; is_made_copied(variable_definition(alloc)));
+    assert!(rt; is_made_copied(spread(alloc)));
     assert!(rt; is_held_copied(defined(alloc, "limit", true, Some("10"))));
     assert!(rt; is_made_copied(field(alloc)));
-    let spread = FragmentSpread::new(alloc, name(alloc, "n", None)?);
-    assert!(rt; is_copied(&spread));
-    let enum_value = EnumValueDefinition::new(alloc, name(alloc, "n", None)?);
-    assert!(rt; is_copied(&enum_value));
-    Ok(())
+    assert!(rt; is_made_copied(enum_value(alloc)));
 }

@@ -1,5 +1,6 @@
 //! What is read from lines: extensions as they stand, before a schema is built of them, and the locations of nodes.
 
+use crate::tables::expect_at;
 use bench_notation::printing::print;
 use bench_notation::reading::{read, read_divided};
 use bench_notation::refusal::ReadError;
@@ -45,7 +46,7 @@ fn divided_again(alloc: Global, input: &str) -> Result<String, ReadError> {
 fn expect_told(rt: &(impl Abort + AllocGlobal), told: Result<String, ReadError>, wanted: &str) {
     match told {
         Ok(text) => assert_eq!(rt; text.as_str(), wanted),
-        Err(error) => assert!(rt; is_printed(rt.alloc(), &error, wanted), "not read: {error}"),
+        Err(error) => expect_at(rt, wanted, is_printed(rt.alloc(), &error, wanted)),
     }
 }
 

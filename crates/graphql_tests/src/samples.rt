@@ -50,5 +50,7 @@ pub fn pair<T: Drop>(
     second: Result<T, AllocError>,
 ) -> Result<Items<T>, AllocError> {
     let (first, second) = both(first, second)?;
-    Ok(Items::from_array(alloc, [first, second])?)
+    let mut pair = list(alloc, Ok(first))?;
+    pair.push(second)?;
+    Ok(pair)
 }
