@@ -1,15 +1,13 @@
 //! The keys that the tables of what is built and compiled hash by.
 
-use crate::rebuilt::PLAIN;
-use apollo_compiler::{
-    CompileError, CompileOptions, Compiled, Document, HashKeys, build_schema, compile_with_keys,
-};
+use crate::compiling::PLAIN;
+use apollo_compiler::{CompileOptions, Document, HashKeys, build_schema, compile_with_keys};
 use bench_notation::reading::read_divided;
+use bench_notation::refusal::ReadError;
 use graphql_nodes::collections::shared::Shared;
 use graphql_nodes::source::{FileId, SourceFile};
 use std::alloc::{AllocError, Global};
 use std::slice;
-use std::test::Fail;
 use telling::keys::{is_document_keyed, is_schema_keyed};
 
 /// Bytes that a system may have drawn.
@@ -25,30 +23,6 @@ const ADOPTING: CompileOptions = CompileOptions {
 const INPUT: &str =
     "ext object Query\nfield late Int\ndef object Query\nfield node Node\nimplements Node\ndef interface Node\nfield id ID!\nimplements Node\ndef union Hit\nmember Query\ndef enum Tone\nvalue LOW\next enum Tone\nvalue HIGH\ndef input Wide\nfield a Int\nfield b Int\nfield c Int\nfield d Int\nfield e Int\nfield f Int\nfield g Int\nfield h Int\nfield i Int\nfield j Int\ndef scalar Date\ndirective key\non OBJECT\next object Left\nfield over Int\next enum Gone\nvalue A\n===\noperation query One\nsel 0 field late\nsel 0 spread F\noperation query Two\nsel 0 field late\nfragment F Query\nsel 0 field node\nsel 1 field id\n";
 
-/// Which of both schemas and of the document hash by these keys: the schema, the one that is rebuilt, the document.
-fn keyed_parts(compiled: Result<Compiled, CompileError>, keys: HashKeys) -> [bool; 3] {
-    match compiled {
-        Ok(compiled) => [
-            is_schema_keyed(&compiled.schema, keys),
-            is_schema_keyed(&compiled.rebuilt, keys),
-            is_document_keyed(&compiled.document, keys),
-        ],
-        Err(_) => [false; 3],
-    }
-}
-
-/// The same of what the documents are compiled to.
-fn compiled_parts(
-    alloc: Global,
-    options: CompileOptions,
-    schema: &[Document],
-    executable: &[Document],
-) -> [bool; 3] {
-    let keys = HashKeys::from_bytes(DRAWN);
-    let compiled = compile_with_keys(alloc, keys, options, schema, executable, true);
-    keyed_parts(compiled, keys)
-}
-
 /// Whether the schema that the documents build hashes by the keys that the call is handed.
 fn is_built_keyed(alloc: Global, options: CompileOptions, documents: &[Document]) -> bool {
     let keys = HashKeys::from_bytes(DRAWN);
@@ -58,47 +32,47 @@ fn is_built_keyed(alloc: Global, options: CompileOptions, documents: &[Document]
     }
 }
 
-#[test]
-fn a_schema_that_is_built_hashes_by_the_keys_handed_in(rt: HostRuntime) -> Result<(), Fail> {
-    let documents = read_divided(rt.alloc(), INPUT)?;
-    assert!(rt; is_built_keyed(rt.alloc(), PLAIN, documents.schema.as_slice()));
-    assert!(rt; is_built_keyed(rt.alloc(), ADOPTING, documents.schema.as_slice()));
-    Ok(())
+/// Which of all that is built and compiled hash by these keys: the schema that is built, the one that is compiled, the one that
+/// is rebuilt, the typed document.
+fn keyed_parts(
+    alloc: Global,
+    options: CompileOptions,
+    schema: &[Document],
+    executable: &[Document],
+) -> [bool; 4] {
+    let keys = HashKeys::from_bytes(DRAWN);
+    match compile_with_keys(alloc, keys, options, schema, executable, true) {
+        Ok(compiled) => [
+            is_built_keyed(alloc, options, schema),
+            is_schema_keyed(&compiled.schema, keys),
+            is_schema_keyed(&compiled.rebuilt, keys),
+            is_document_keyed(&compiled.document, keys),
+        ],
+        Err(_) => [false; 4],
+    }
 }
 
-#[test]
-fn all_that_is_compiled_hashes_by_the_keys_handed_in(rt: HostRuntime) -> Result<(), Fail> {
-    let documents = read_divided(rt.alloc(), INPUT)?;
-    let schema = documents.schema.as_slice();
-    let executable = documents.executable.as_slice();
-    assert_eq!(rt;
-        compiled_parts(rt.alloc(), PLAIN, schema, executable),
-        [true; 3]
-    );
-    assert_eq!(rt;
-        compiled_parts(rt.alloc(), ADOPTING, schema, executable),
-        [true; 3]
-    );
-    Ok(())
+/// Which of these of the input do.
+fn keyed_parts_of_input(alloc: Global, options: CompileOptions) -> Result<[bool; 4], ReadError> {
+    let documents = read_divided(alloc, INPUT)?;
+    let (schema, executable) = (documents.schema.as_slice(), documents.executable.as_slice());
+    Ok(keyed_parts(alloc, options, schema, executable))
 }
 
-/// A document of one file, without definitions.
-fn of_file(alloc: Global) -> Result<Document, AllocError> {
+/// Which of these of a document of one file, without definitions, do.
+fn keyed_parts_of_file(alloc: Global) -> Result<[bool; 4], AllocError> {
     let file = SourceFile::new(alloc, "a.graphql", "")?;
-    let file = Shared::new(alloc, file)?;
     let mut document = Document::new(alloc);
-    document.sources.insert(FileId(3), file)?;
-    Ok(document)
+    document
+        .sources
+        .insert(FileId(3), Shared::new(alloc, file)?)?;
+    let documents = slice::from_ref(&document);
+    Ok(keyed_parts(alloc, PLAIN, documents, documents))
 }
 
 #[test]
-fn sources_hash_by_the_keys_handed_in(rt: HostRuntime) -> Result<(), Fail> {
-    let document = of_file(rt.alloc())?;
-    let documents = slice::from_ref(&document);
-    assert!(rt; is_built_keyed(rt.alloc(), PLAIN, documents));
-    assert_eq!(rt;
-        compiled_parts(rt.alloc(), PLAIN, documents, documents),
-        [true; 3]
-    );
-    Ok(())
+fn all_that_is_built_and_compiled_and_its_sources_hash_by_the_keys_handed_in(rt: HostRuntime) {
+    assert!(rt; keyed_parts_of_input(rt.alloc(), PLAIN) == Ok([true; 4]));
+    assert!(rt; keyed_parts_of_input(rt.alloc(), ADOPTING) == Ok([true; 4]));
+    assert!(rt; keyed_parts_of_file(rt.alloc()) == Ok([true; 4]));
 }

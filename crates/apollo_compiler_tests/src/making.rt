@@ -2,9 +2,9 @@
 //! GraphQL, and nodes that are marked built-in.
 
 use graphql_ast::{
-    Argument, Definition, Directive, Document, Field, FieldDefinition, FragmentDefinition,
-    FragmentSpread, Items, Name, Node, ObjectTypeDefinition, ObjectTypeExtension, Selection, Type,
-    Value,
+    Argument, Definition, Directive, DirectiveList, Document, Field, FieldDefinition,
+    FragmentDefinition, FragmentSpread, Items, Name, Node, ObjectTypeDefinition,
+    ObjectTypeExtension, Selection, Type, Value,
 };
 use graphql_nodes::source::{FileId, SourceSpan};
 use likeness::both;
@@ -40,41 +40,34 @@ where
     Ok(document)
 }
 
-/// A field of this name and of the type of this name.
-fn field(alloc: Global, text: &str, ty: &str) -> Result<FieldDefinition, AllocError> {
-    let (name, ty) = both(name(alloc, text), name(alloc, ty))?;
-    Ok(FieldDefinition::new(alloc, name, Type::named(ty)))
-}
-
-/// That field in a node, at this location.
-fn placed(
+/// A field of this name and of the type of this name, at this location.
+fn field(
     alloc: Global,
     text: &str,
     ty: &str,
     location: Option<SourceSpan>,
 ) -> Result<Node<FieldDefinition>, AllocError> {
-    Node::new_opt_location(alloc, field(alloc, text, ty)?, location)
-}
-
-/// The argument `graph: INVENTORY`.
-fn graph(alloc: Global) -> Result<Node<Argument>, AllocError> {
-    let (name, value) = both(name(alloc, "graph"), name(alloc, "INVENTORY"))?;
-    let value = Node::new(alloc, Value::Enum(value));
-    Node::new(alloc, Argument::new(name, value?))
+    let (name, ty) = both(name(alloc, text), name(alloc, ty))?;
+    let field = FieldDefinition::new(alloc, name, Type::named(ty));
+    Node::new_opt_location(alloc, field, location)
 }
 
 /// The directive `@join__field(graph: INVENTORY)`.
 fn join_field(alloc: Global) -> Result<Node<Directive>, AllocError> {
-    let arguments = list(alloc, graph(alloc));
+    let (graph, value) = both(name(alloc, "graph"), name(alloc, "INVENTORY"))?;
+    let value = Node::new(alloc, Value::Enum(value))?;
+    let arguments = list(alloc, Node::new(alloc, Argument::new(graph, value)));
     let (name, arguments) = both(name(alloc, "join__field"), arguments)?;
     Node::new(alloc, Directive { name, arguments })
 }
 
 /// The field `inStock: Boolean @join__field(graph: INVENTORY)`.
 fn in_stock(alloc: Global) -> Result<Node<FieldDefinition>, AllocError> {
-    let mut in_stock = field(alloc, "inStock", "Boolean")?;
-    in_stock.directives.push(join_field(alloc)?)?;
-    Node::new(alloc, in_stock)
+    let directives = list(alloc, join_field(alloc));
+    let (mut in_stock, directives) = both(field(alloc, "inStock", "Boolean", None), directives)?;
+    let written = in_stock.make_mut()?;
+    written.directives = DirectiveList(directives);
+    Ok(in_stock)
 }
 
 /// The definition of an object type of this name with this field, at this location.
@@ -93,7 +86,7 @@ fn object(
 /// An object type whose field has a directive with an argument, and the type `Query`.
 /// No clause: it serves tests.
 pub fn products(alloc: Global) -> Result<Document, AllocError> {
-    let top = placed(alloc, "topProducts", "Product", None);
+    let top = field(alloc, "topProducts", "Product", None);
     let query = object(alloc, "Query", top, None);
     document(
         alloc,
@@ -102,60 +95,62 @@ pub fn products(alloc: Global) -> Result<Document, AllocError> {
     )
 }
 
-/// An extension of the object type of the empty name, with the directive `→` and a field of a space.
-fn extension(alloc: Global) -> Result<Node<ObjectTypeExtension>, AllocError> {
-    let space = list(alloc, placed(alloc, " ", "", None));
-    let (names, fields) = both(both(name(alloc, ""), name(alloc, "→")), space)?;
-    let mut extension = ObjectTypeExtension::new(alloc, names.0);
+/// An extension of the object type of this name by this field, at this location.
+fn extension(
+    alloc: Global,
+    text: &str,
+    field: Result<Node<FieldDefinition>, AllocError>,
+    location: Option<SourceSpan>,
+) -> Result<Node<ObjectTypeExtension>, AllocError> {
+    let (name, fields) = both(name(alloc, text), list(alloc, field))?;
+    let mut extension = ObjectTypeExtension::new(alloc, name);
     extension.fields = fields;
-    let directive = Node::new(alloc, Directive::new(alloc, names.1))?;
-    extension.directives.push(directive)?;
-    Node::new(alloc, extension)
+    Node::new_opt_location(alloc, extension, location)
+}
+
+/// An extension of the object type of the empty name, with the directive `→` and a field of a space.
+fn unchecked_extension(alloc: Global) -> Result<Node<ObjectTypeExtension>, AllocError> {
+    let space = field(alloc, " ", "", None);
+    let (mut extension, arrow) = both(extension(alloc, "", space, None), name(alloc, "→"))?;
+    let directives = list(alloc, Node::new(alloc, Directive::new(alloc, arrow)))?;
+    let written = extension.make_mut()?;
+    written.directives = DirectiveList(directives);
+    Ok(extension)
 }
 
 /// That extension, and the definition of the type behind it, whose field `→` is of a type of two words.
 /// No clause: it serves tests.
 pub fn unchecked_names(alloc: Global) -> Result<Document, AllocError> {
-    let arrow = placed(alloc, "→", "a b", None);
-    document(alloc, extension(alloc), object(alloc, "", arrow, None))
+    let arrow = field(alloc, "→", "a b", None);
+    document(
+        alloc,
+        unchecked_extension(alloc),
+        object(alloc, "", arrow, None),
+    )
 }
 
-/// The field `→` under an alias of two words.
-fn aliased(alloc: Global) -> Result<Selection, AllocError> {
-    let (name, alias) = both(name(alloc, "→"), name(alloc, "a b"))?;
-    let mut field = Field::new(alloc, name);
-    field.alias = Some(alias);
-    Ok(Selection::Field(Node::new(alloc, field)?))
-}
-
-/// A spread of the fragment of the name of a space.
-fn spread(alloc: Global) -> Result<Selection, AllocError> {
-    let spread = FragmentSpread::new(alloc, name(alloc, " ")?);
-    Ok(Selection::FragmentSpread(Node::new(alloc, spread)?))
-}
-
-/// Both selections.
+/// The field `→` under an alias of two words, and a spread of the fragment of the name of a space.
 fn selections(alloc: Global) -> Result<Items<Selection>, AllocError> {
-    let (field, spread) = both(aliased(alloc), spread(alloc))?;
-    let mut selections = list(alloc, Ok(field))?;
-    selections.push(spread)?;
+    let names = both(name(alloc, "→"), name(alloc, "a b"));
+    let ((arrow, alias), space) = both(names, name(alloc, " "))?;
+    let mut field = Field::new(alloc, arrow);
+    field.alias = Some(alias);
+    let spread = FragmentSpread::new(alloc, space);
+    let (field, spread) = both(Node::new(alloc, field), Node::new(alloc, spread))?;
+    let mut selections = list(alloc, Ok(Selection::Field(field)))?;
+    selections.push(Selection::FragmentSpread(spread))?;
     Ok(selections)
 }
 
-/// A fragment of the name of a space on the type of the empty name: the field `→` under an alias of two words, and a spread of
-/// the fragment itself.
-fn fragment(alloc: Global) -> Result<Node<FragmentDefinition>, AllocError> {
+/// A document of a fragment of the name of a space on the type of the empty name: the field `→` under an alias of two words, and
+/// a spread of the fragment itself.
+/// No clause: it serves tests.
+pub fn unchecked_fragment(alloc: Global) -> Result<Document, AllocError> {
     let names = both(name(alloc, " "), name(alloc, ""));
     let ((name, ty), selections) = both(names, selections(alloc))?;
     let mut fragment = FragmentDefinition::new(alloc, name, ty);
     fragment.selection_set = selections;
-    Node::new(alloc, fragment)
-}
-
-/// A document of that fragment.
-/// No clause: it serves tests.
-pub fn unchecked_fragment(alloc: Global) -> Result<Document, AllocError> {
-    let fragment = fragment(alloc)?;
+    let fragment = Node::new(alloc, fragment)?;
     let mut document = Document::new(alloc);
     document.definitions.push(fragment.into())?;
     Ok(document)
@@ -167,22 +162,10 @@ const BUILT_IN: Option<SourceSpan> = Some(SourceSpan {
     end: 0,
 });
 
-/// An extension of the object type `T` by the field `b`, marked built-in.
-fn marked_extension(alloc: Global) -> Result<Node<ObjectTypeExtension>, AllocError> {
-    let fields = list(alloc, placed(alloc, "b", "Int", BUILT_IN));
-    let (name, fields) = both(name(alloc, "T"), fields)?;
-    let mut extension = ObjectTypeExtension::new(alloc, name);
-    extension.fields = fields;
-    Node::new_opt_location(alloc, extension, BUILT_IN)
-}
-
 /// The definition of an object type and an extension of it, both marked built-in.
 /// No clause: it serves tests.
 pub fn marked(alloc: Global) -> Result<Document, AllocError> {
-    let field = placed(alloc, "a", "Int", BUILT_IN);
-    document(
-        alloc,
-        object(alloc, "T", field, BUILT_IN),
-        marked_extension(alloc),
-    )
+    let object = object(alloc, "T", field(alloc, "a", "Int", BUILT_IN), BUILT_IN);
+    let added = field(alloc, "b", "Int", BUILT_IN);
+    document(alloc, object, extension(alloc, "T", added, BUILT_IN))
 }

@@ -1,36 +1,35 @@
 //! Arguments by their names.
 
-use crate::samples::{PLACE, list, placed};
+use crate::samples::{PLACE, name, node, pair};
+use crate::tables::expect_at;
+use crate::values::int;
 use graphql_ast::argument::ArgumentByNameError;
-use graphql_ast::directive::{Argument, DirectiveList};
+use graphql_ast::directive::Argument;
 use graphql_ast::type_reference::Type;
 use graphql_ast::type_system::{DirectiveDefinition, FieldDefinition, InputValueDefinition};
 use graphql_ast::value::Value;
 use graphql_nodes::collections::items::Items;
-use graphql_nodes::collections::text::Text;
-use graphql_nodes::name::Name;
 use graphql_nodes::node::Node;
 use graphql_nodes::node_str::NodeStr;
-use likeness::is_so;
+use likeness::both;
 use std::alloc::{AllocError, Global};
 
 /// The node of this integer, at the location.
 /// No clause: it serves tests.
 pub fn number(alloc: Global, text: &str) -> Result<Node<Value>, AllocError> {
-    placed(alloc, Value::Int(Text::from_str(alloc, text)?))
+    node(alloc, int(alloc, text), Some(PLACE))
 }
 
 /// The argument `first` of this value.
 fn argument(alloc: Global, value: &str) -> Result<Node<Argument>, AllocError> {
-    let value = number(alloc, value)?;
-    let name = Name::new_unchecked(alloc, "first")?;
+    let (name, value) = both(name(alloc, "first", None), number(alloc, value))?;
     Node::new(alloc, Argument { name, value })
 }
 
 /// The type `Int`, or `Int!` where it is required.
 /// No clause: it serves tests.
 pub fn int_type(alloc: Global, required: bool) -> Result<Node<Type>, AllocError> {
-    let int = Name::new_unchecked(alloc, "Int")?;
+    let int = name(alloc, "Int", None)?;
     if required {
         Node::new(alloc, Type::NonNullNamed(int))
     } else {
@@ -39,22 +38,20 @@ pub fn int_type(alloc: Global, required: bool) -> Result<Node<Type>, AllocError>
 }
 
 /// An argument definition of the type `Int`, or `Int!` where it is required, with a description.
-fn defined(
+/// No clause: it serves tests.
+pub fn defined(
     alloc: Global,
-    name: &str,
+    text: &str,
     required: bool,
-    default_value: Option<Node<Value>>,
+    default_value: Option<&str>,
 ) -> Result<Node<InputValueDefinition>, AllocError> {
-    let ty = int_type(alloc, required)?;
-    let name = Name::new_unchecked(alloc, name)?;
-    let description = Some(NodeStr::new(alloc, "text")?);
-    let definition = InputValueDefinition {
-        description,
-        name,
-        ty,
-        default_value,
-        directives: DirectiveList::new(alloc),
-    };
+    let parts = both(int_type(alloc, required), NodeStr::new(alloc, "text"));
+    let (name, (ty, description)) = both(name(alloc, text, None), parts)?;
+    let mut definition = InputValueDefinition::new(alloc, name, ty);
+    definition.description = Some(description);
+    if let Some(text) = default_value {
+        definition.default_value = Some(number(alloc, text)?);
+    }
     Node::new(alloc, definition)
 }
 
@@ -71,72 +68,49 @@ fn said(answer: Result<Option<&Node<Value>>, ArgumentByNameError>) -> &str {
     }
 }
 
-/// The arguments `first: 1` and `first: 2`.
-fn given(alloc: Global) -> Result<Items<Node<Argument>>, AllocError> {
-    let mut given = list(alloc, argument(alloc, "1")?)?;
-    given.push(argument(alloc, "2")?)?;
-    Ok(given)
-}
-
-/// Whether this is the answer on an argument of this name and definition, where two of the name `first` are given.
+/// Whether this is the answer on the argument of this text as name, at a location, and of this definition, where two of the
+/// name `first` are given, 1 and 2.
 fn is_answer(
     alloc: Global,
-    name: &Name,
+    text: &str,
     definition: Option<&Node<InputValueDefinition>>,
     want: &str,
-) -> bool {
-    match given(alloc) {
-        Ok(given) => {
-            said(Argument::argument_by_name(given.as_slice(), name, definition)) == want
-        }
-        Err(_) => false,
-    }
+) -> Result<bool, AllocError> {
+    let given = pair(alloc, argument(alloc, "1"), argument(alloc, "2"));
+    let (name, given) = both(name(alloc, text, Some(PLACE)), given)?;
+    Ok(said(Argument::argument_by_name(given.as_slice(), &name, definition)) == want)
 }
 
-/// Whether this is the answer on the argument of this text as name, at a location.
-fn is_answer_on(
-    alloc: Global,
-    name: &str,
-    definition: Option<&Node<InputValueDefinition>>,
-    want: &str,
-) -> bool {
-    match Name::new_unchecked(alloc, name) {
-        Ok(name) => is_answer(alloc, &name.with_location(PLACE), definition, want),
-        Err(_) => false,
-    }
-}
-
-/// Whether this is the answer on the argument `limit`, which is not given and is so defined.
+/// Whether this is the answer on the argument of this name, which is so defined.
 fn is_answer_of(
     alloc: Global,
-    defined: Result<Node<InputValueDefinition>, AllocError>,
+    text: &str,
+    required: bool,
+    default_value: Option<&str>,
     want: &str,
-) -> bool {
-    match defined {
-        Ok(definition) => is_answer_on(alloc, "limit", Some(&definition), want),
-        Err(_) => false,
+) -> Result<bool, AllocError> {
+    let definition = defined(alloc, text, required, default_value)?;
+    is_answer(alloc, text, Some(&definition), want)
+}
+
+/// Names of arguments, whether each is defined as required and with which default value, if it is, and the answer.
+const ANSWERS: &[(&str, Option<(bool, Option<&str>)>, &str)] = &[
+    ("first", None, "1"),
+    ("limit", None, "no such argument"),
+    ("limit", Some((true, Some("10"))), "10"),
+    ("limit", Some((true, None)), "required"),
+    ("limit", Some((false, None)), "none"),
+];
+
+#[test]
+fn an_argument_is_the_first_given_or_answered_by_its_definition(rt: HostRuntime) {
+    for (name, definition, want) in ANSWERS {
+        let is_so = match definition {
+            Some((required, default)) => is_answer_of(rt.alloc(), name, *required, *default, want),
+            None => is_answer(rt.alloc(), name, None, want),
+        };
+        expect_at(&rt, want, is_so == Ok(true));
     }
-}
-
-#[test]
-fn argument_by_name(rt: HostRuntime) {
-    assert!(rt; is_answer_on(rt.alloc(), "first", None, "1"));
-}
-
-/// The required argument `limit` with the default value `10`.
-/// No clause: it serves tests.
-pub fn with_default(alloc: Global) -> Result<Node<InputValueDefinition>, AllocError> {
-    let ten = number(alloc, "10")?;
-    defined(alloc, "limit", true, Some(ten))
-}
-
-#[test]
-fn argument_that_is_not_given(rt: HostRuntime) {
-    let alloc = rt.alloc();
-    assert!(rt; is_answer_on(alloc, "limit", None, "no such argument"));
-    assert!(rt; is_answer_of(alloc, with_default(alloc), "10"));
-    assert!(rt; is_answer_of(alloc, defined(alloc, "limit", true, None), "required"));
-    assert!(rt; is_answer_of(alloc, defined(alloc, "limit", false, None), "none"));
 }
 
 /// Three definitions of arguments, two of one name.
@@ -150,30 +124,20 @@ fn definitions(alloc: Global) -> Result<Items<Node<InputValueDefinition>>, Alloc
 
 /// The directive `paged`.
 fn directive(alloc: Global) -> Result<DirectiveDefinition, AllocError> {
-    let arguments = definitions(alloc)?;
-    let name = Name::new_unchecked(alloc, "paged")?;
-    Ok(DirectiveDefinition {
-        description: None,
-        name,
-        arguments,
-        repeatable: false,
-        locations: Items::new(alloc),
-    })
+    let (name, arguments) = both(name(alloc, "paged", None), definitions(alloc))?;
+    let mut directive = DirectiveDefinition::new(alloc, name);
+    directive.arguments = arguments;
+    Ok(directive)
 }
 
 /// The field `pages` of the type `Page`.
 /// No clause: it serves tests.
 pub fn field(alloc: Global) -> Result<FieldDefinition, AllocError> {
-    let arguments = definitions(alloc)?;
-    let ty = Type::Named(Name::new_unchecked(alloc, "Page")?);
-    let name = Name::new_unchecked(alloc, "pages")?;
-    Ok(FieldDefinition {
-        description: None,
-        name,
-        arguments,
-        ty,
-        directives: DirectiveList::new(alloc),
-    })
+    let parts = both(name(alloc, "Page", None), definitions(alloc));
+    let (name, (ty, arguments)) = both(name(alloc, "pages", None), parts)?;
+    let mut field = FieldDefinition::new(alloc, name, Type::named(ty));
+    field.arguments = arguments;
+    Ok(field)
 }
 
 /// Whether the argument is required, if there is one.
@@ -184,34 +148,19 @@ fn is_required(argument: Option<&Node<InputValueDefinition>>) -> Option<bool> {
     }
 }
 
-/// Whether the first argument of the last one's name is found, and none of the field's name.
-fn are_of_field(field: &FieldDefinition) -> bool {
-    match field.arguments.get(2) {
-        Some(last) => {
-            let limit = is_required(field.argument_by_name(&last.name));
-            (limit, is_required(field.argument_by_name(&field.name))) == (Some(true), None)
-        }
-        None => false,
-    }
-}
-
-/// Whether the first argument of the last one's name is found, and none of the directive's name.
-fn are_of_directive(directive: &DirectiveDefinition) -> bool {
-    match directive.arguments.get(2) {
-        Some(last) => {
-            let limit = is_required(directive.argument_by_name(&last.name));
-            (
-                limit,
-                is_required(directive.argument_by_name(&directive.name)),
-            ) == (Some(true), None)
-        }
-        None => false,
-    }
+/// Whether the first definition of `limit` is found, of a field and of a directive, and none of a name that is not defined.
+fn are_found(alloc: Global) -> Result<bool, AllocError> {
+    let (field, directive) = both(field(alloc), directive(alloc))?;
+    let limit = name(alloc, "limit", None)?;
+    Ok(
+        is_required(field.argument_by_name(&limit)) == Some(true)
+            && is_required(directive.argument_by_name(&limit)) == Some(true)
+            && field.argument_by_name(&field.name).is_none()
+            && directive.argument_by_name(&directive.name).is_none(),
+    )
 }
 
 #[test]
 fn definitions_by_name(rt: HostRuntime) {
-    let alloc = rt.alloc();
-    assert!(rt; is_so(field(alloc), are_of_field));
-    assert!(rt; is_so(directive(alloc), are_of_directive));
+    assert!(rt; are_found(rt.alloc()) == Ok(true));
 }

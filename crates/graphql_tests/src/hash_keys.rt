@@ -1,13 +1,13 @@
 //! The keys that tables and sets hash by.
 
+use crate::shown::is_shown;
 use graphql_nodes::collections::hash_keys::HashKeys;
 use graphql_nodes::collections::key_set::KeySet;
 use graphql_nodes::collections::table::Table;
-use likeness::is_so;
+use likeness::both;
 use std::alloc::{AllocError, Global};
 use std::io::{self, Error, ErrorKind};
 use std::random::RandomSource;
-use std::test::Fail;
 
 /// Bytes that a system may have drawn.
 const DRAWN: [u8; 16] = [7, 1, 200, 3, 99, 5, 6, 17, 8, 91, 10, 240, 12, 13, 140, 15];
@@ -36,70 +36,18 @@ fn lengths(alloc: Global, keys: HashKeys) -> Result<Table<&'static str, usize>, 
 
 /// Whether the table and its copy hash by these keys, and are equal.
 fn keeps(table: &Table<&'static str, usize>, keys: HashKeys) -> bool {
-    table.hash_keys() == keys
-        && is_so(
-            table.clone(),
-            |copy| copy.hash_keys() == keys && *copy == *table,
-        )
-}
-
-#[test]
-fn tables_keep_their_keys(rt: HostRuntime) -> Result<(), Fail> {
-    let drawn = HashKeys::from_bytes(DRAWN);
-    let fixed_table = lengths(rt.alloc(), HashKeys::FIXED)?;
-    let drawn_table = lengths(rt.alloc(), drawn)?;
-    assert!(rt; keeps(&fixed_table, HashKeys::FIXED) && keeps(&drawn_table, drawn));
-    // Each text of the one is looked up in the other.
-    assert!(rt;
-        fixed_table == drawn_table && drawn_table == fixed_table && drawn != HashKeys::FIXED
-    );
-    Ok(())
-}
-
-#[test]
-fn keys_are_told_by_each_of_their_bytes(rt: HostRuntime) {
-    let none = HashKeys::from_bytes([0; 16]);
-    for place in 0..16 {
-        let mut bytes = [0; 16];
-        bytes[place] = 1;
-        assert!(rt; HashKeys::from_bytes(bytes) != none);
+    match table.clone() {
+        Ok(copy) => { table.hash_keys() == keys && copy.hash_keys() == keys && copy == *table }
+        Err(_) => false,
     }
 }
 
-/// A source that gives the drawn bytes.
-#[derive(Drop)]
-struct KnownSource;
-
-impl RandomSource for KnownSource {
-    fn fill_bytes(&self, buf: &mut [u8]) -> io::Result<()> {
-        for (to, from) in buf.iter_mut().zip(DRAWN) {
-            *to = from;
-        }
-        Ok(())
-    }
-}
-
-/// A source that gives nothing.
-#[derive(Drop)]
-struct EmptySource;
-
-impl RandomSource for EmptySource {
-    fn fill_bytes(&self, _buf: &mut [u8]) -> io::Result<()> {
-        Err(Error::from(ErrorKind::PermissionDenied))
-    }
-}
-
-#[test]
-fn drawn_keys_are_those_of_the_bytes_of_the_source(rt: HostRuntime) -> Result<(), Fail> {
-    let keys = HashKeys::drawn(&KnownSource)?;
-    assert!(rt; keys == HashKeys::from_bytes(DRAWN));
-    Ok(())
-}
-
-#[test]
-fn the_error_of_a_source_is_handed_on(rt: HostRuntime) {
-    let kind = HashKeys::drawn(&EmptySource).map_err(|error| error.kind());
-    assert!(rt; kind == Err(ErrorKind::PermissionDenied));
+/// Whether tables keep the fixed keys and others, and each text of the one is found in the other.
+fn are_tables_keyed(alloc: Global, drawn: HashKeys) -> Result<bool, AllocError> {
+    let tables = both(lengths(alloc, HashKeys::FIXED), lengths(alloc, drawn))?;
+    let (fixed_table, drawn_table) = tables;
+    let are_kept = keeps(&fixed_table, HashKeys::FIXED) && keeps(&drawn_table, drawn);
+    Ok(are_kept && fixed_table == drawn_table && drawn_table == fixed_table)
 }
 
 /// Whether a set of 5 and its copy hash by these keys.
@@ -111,16 +59,59 @@ fn is_set_keyed(alloc: Global, keys: HashKeys) -> Result<bool, AllocError> {
 }
 
 #[test]
-fn sets_keep_their_keys(rt: HostRuntime) {
-    assert!(rt; is_set_keyed(rt.alloc(), HashKeys::from_bytes(DRAWN)) == Ok(true));
-    assert!(rt; KeySet::<u8>::new(rt.alloc()).hash_keys() == HashKeys::FIXED);
+fn tables_and_sets_keep_their_keys(rt: HostRuntime) {
+    let alloc = rt.alloc();
+    let drawn = HashKeys::from_bytes(DRAWN);
+    assert!(rt; drawn != HashKeys::FIXED && are_tables_keyed(alloc, drawn) == Ok(true));
+    assert!(rt; is_set_keyed(alloc, drawn) == Ok(true));
+    assert!(rt; KeySet::<u8>::new(alloc).hash_keys() == HashKeys::FIXED);
 }
 
-/// Keys aren't told by their print.
 #[test]
-fn keys_stay_secret(rt: HostRuntime) -> Result<(), Fail> {
-    let keys = HashKeys::from_bytes(DRAWN);
-    let shown = format!(in rt.alloc(); "{keys:?}")?;
-    assert_eq!(rt; shown.as_str(), "HashKeys { .. }");
-    Ok(())
+fn keys_are_told_by_each_of_their_bytes_and_not_by_their_print(rt: HostRuntime) {
+    let none = HashKeys::from_bytes([0; 16]);
+    for place in 0..16 {
+        let mut bytes = [0; 16];
+        bytes[place] = 1;
+        assert!(rt; HashKeys::from_bytes(bytes) != none);
+    }
+    assert!(rt; is_shown(rt.alloc(), &HashKeys::from_bytes(DRAWN), "HashKeys { .. }"));
+}
+
+/// A source that gives the drawn bytes, or nothing.
+#[derive(Drop)]
+struct Source {
+    is_empty: bool,
+}
+
+impl RandomSource for Source {
+    fn fill_bytes(&self, buf: &mut [u8]) -> io::Result<()> {
+        if self.is_empty {
+            return Err(Error::from(ErrorKind::PermissionDenied));
+        }
+        for (to, from) in buf.iter_mut().zip(DRAWN) {
+            *to = from;
+        }
+        Ok(())
+    }
+}
+
+/// The keys that are drawn from the source, or the kind of its error.
+fn drawn_from(source: &Source) -> Result<HashKeys, ErrorKind> {
+    match HashKeys::drawn(source) {
+        Ok(keys) => Ok(keys),
+        Err(error) => Err(error.kind()),
+    }
+}
+
+#[test]
+fn drawn_keys_are_those_of_the_bytes_of_the_source(rt: HostRuntime) {
+    let drawn = drawn_from(&Source { is_empty: false });
+    assert!(rt; drawn == Ok(HashKeys::from_bytes(DRAWN)));
+}
+
+#[test]
+fn the_error_of_a_source_is_handed_on(rt: HostRuntime) {
+    let drawn = drawn_from(&Source { is_empty: true });
+    assert!(rt; drawn == Err(ErrorKind::PermissionDenied));
 }

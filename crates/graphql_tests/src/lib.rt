@@ -2,7 +2,8 @@
 //! texts, examples from the specification, that calls and copies succeed with memory, and that a write leaves the other tree.
 //!
 //! What a test compares stands in functions that borrow and answer whether it holds: these are cheap to prove. What is dear
-//! to prove is what owns a tree or a definition, so generic functions own them, which are proved once for all types.
+//! to prove is what owns a tree or a definition, so generic functions own them, which are proved once for all types. A closure, a
+//! function that is handed in and a test that answers `Fail` are each proved as further functions.
 #![tactic(auto)]
 
 #[cfg(test)]
@@ -25,8 +26,6 @@ mod names;
 mod nodes;
 #[cfg(test)]
 mod parts;
-#[cfg(test)]
-mod places;
 #[cfg(test)]
 mod reading;
 #[cfg(test)]

@@ -1,13 +1,15 @@
 //! Lines and columns of offsets in texts.
 
-use crate::sources::{file, one};
+use crate::sources::one;
+use crate::tables::expect_at;
 use graphql_nodes::line_column::LineColumn;
 use graphql_nodes::source::{FileId, SourceFile, SourceMap, SourceSpan};
 use likeness::is_so;
+use std::alloc::Global;
 
 /// Texts, and the line and column of each offset up to the end: of none, of each line terminator, of two that touch, and of
 /// characters of two, three and four bytes.
-const EXAMPLES: [(&str, &[(usize, usize)]); 7] = [
+const EXAMPLES: &[(&str, &[(usize, usize)])] = &[
     ("", &[(1, 1)]),
     ("a\nb", &[(1, 1), (1, 2), (2, 1), (2, 2)]),
     ("a\rb", &[(1, 1), (1, 2), (2, 1), (2, 2)]),
@@ -36,22 +38,24 @@ fn at(line: usize, column: usize) -> LineColumn {
 }
 
 /// Whether the offsets of the text have these lines and columns, and the one after its end has none.
-fn are_line_columns(file: &SourceFile, line_columns: &[(usize, usize)]) -> bool {
-    let are_so = line_columns.iter().enumerate().all(|(offset, line_column)| file.get_line_column(
-        offset,
-    ) == Some(at(line_column.0, line_column.1)));
-    are_so && file.get_line_column(line_columns.len()).is_none()
+fn are_line_columns(alloc: Global, text: &str, line_columns: &[(usize, usize)]) -> bool {
+    match SourceFile::new(alloc, "a.graphql", text) {
+        Ok(file) => {
+            for (offset, (line, column)) in line_columns.iter().enumerate() {
+                if file.get_line_column(offset) != Some(at(*line, *column)) {
+                    return false;
+                }
+            }
+            file.get_line_column(line_columns.len()).is_none()
+        }
+        Err(_) => false,
+    }
 }
 
 #[test]
 fn lines_and_columns_of_offsets(rt: HostRuntime) {
-    for (text, line_columns) in EXAMPLES.iter() {
-        assert!(rt;
-            is_so(
-                file(rt.alloc(), text),
-                |file| are_line_columns(file, line_columns)
-            )
-        );
+    for (text, line_columns) in EXAMPLES {
+        expect_at(&rt, text, are_line_columns(rt.alloc(), text, line_columns));
     }
 }
 
@@ -63,37 +67,25 @@ fn span(file: u64, start: usize, end: usize) -> SourceSpan {
     }
 }
 
-/// Whether a span within the text has its lines and columns.
+/// Whether a span within the text has its lines and columns, one of another file has no line, and one that ends beyond the text
+/// has no range.
 fn are_found(sources: &SourceMap) -> bool {
-    let span = span(1, 1, 3);
-    span.line_column(sources) == Some(at(1, 2))
-        && span.line_column_range(sources) == Some(at(1, 2)..at(2, 1))
-}
-
-/// Whether a span of another file has no line, and one that ends beyond the text no range.
-fn are_missing(sources: &SourceMap) -> bool {
-    let (other, long) = (span(2, 0, 1), span(1, 4, 5));
-    let is_missing = other.line_column(sources).is_none()
-        && other.line_column_range(sources).is_none();
-    is_missing
+    let (inner, other, long) = (span(1, 1, 3), span(2, 0, 1), span(1, 4, 5));
+    inner.line_column(sources) == Some(at(1, 2))
+        && inner.line_column_range(sources) == Some(at(1, 2)..at(2, 1))
+        && other.line_column(sources).is_none()
+        && other.line_column_range(sources).is_none()
         && long.line_column(sources) == Some(at(2, 2))
         && long.line_column_range(sources).is_none()
 }
 
 #[test]
 fn lines_and_columns_of_spans(rt: HostRuntime) {
-    let sources = one(rt.alloc(), 1, "a\r\nb");
-    assert!(rt;
-        is_so(
-            sources,
-            |sources| are_found(sources) && are_missing(sources)
-        )
-    );
+    assert!(rt; is_so(one(rt.alloc(), 1, "a\r\nb"), are_found));
 }
 
 #[test]
 fn line_columns_are_equal_by_both_numbers(rt: HostRuntime) {
-    assert!(rt; at(2, 3) == at(2, 3));
-    assert!(rt; at(2, 3) != at(2, 4));
-    assert!(rt; at(2, 3) != at(3, 3));
+    let other = (at(2, 4), at(3, 3));
+    assert!(rt; at(2, 3) == at(2, 3) && at(2, 3) != other.0 && at(2, 3) != other.1);
 }

@@ -1,39 +1,37 @@
-//! Lists: walked, written to, and made of other values.
+//! Lists: made, read, walked, written to, copied and shown.
 
 use crate::shown::is_shown;
 use graphql_nodes::collections::items::Items;
+use likeness::is_copied;
 use std::alloc::{AllocError, Global};
 
-/// The list of 1 and 2.
-fn pair(alloc: Global) -> Result<Items<i32>, AllocError> {
-    Ok(Items::from_array(alloc, [1, 2])?)
-}
-
 /// Whether the elements are these.
-fn are(items: &Items<i32>, wanted: &[i32]) -> bool {
-    items.as_slice() == wanted
+/// No clause: it serves tests.
+pub fn are(items: &[i32], wanted: &[i32]) -> bool {
+    items == wanted
 }
 
-/// Whether the list of 1 and 2 is walked from both ends, by each of its walks.
-fn is_walked(items: &Items<i32>) -> bool {
-    items.iter().rev().eq([2, 1].iter()) && items.into_iter().eq([1, 2].iter())
+/// Whether the list of 1, 2 and 3 reads so, is shown so, and is walked from both ends, by each of its walks.
+fn are_numbers(alloc: Global, items: &Items<i32>) -> bool {
+    (items.len(), items.is_empty(), items.get(2), items.get(3)) == (3, false, Some(&3), None)
+        && is_shown(alloc, items, "[1, 2, 3]")
+        && items.iter().eq([1, 2, 3].iter())
+        && items.iter().rev().eq([3, 2, 1].iter())
+        && items.into_iter().eq([1, 2, 3].iter())
 }
 
 /// Whether the list of 1 and 2 is walked by value.
-fn is_walked_by_value(items: Items<i32>) -> bool {
-    let mut walk = items.into_iter();
-    (walk.next(), walk.next(), walk.next()) == (Some(1), Some(2), None)
+fn is_walked_by_value(alloc: Global) -> Result<bool, AllocError> {
+    let mut walk = Items::from_array(alloc, [1, 2])?.into_iter();
+    Ok((walk.next(), walk.next(), walk.next()) == (Some(1), Some(2), None))
 }
 
-/// Whether the list of 1 and 2 is shown, and can be walked.
-fn are_walks(alloc: Global) -> Result<bool, AllocError> {
-    let items = pair(alloc)?;
-    Ok(is_shown(alloc, &items, "[1, 2]") && is_walked(&items) && is_walked_by_value(items))
-}
-
-#[test]
-fn lists_are_shown_and_walked(rt: HostRuntime) {
-    assert!(rt; are_walks(rt.alloc()) == Ok(true));
+/// Whether the list of 1, 2 and 3 is made, read and copied.
+fn are_numbers_kept(alloc: Global) -> Result<bool, AllocError> {
+    let mut items = Items::from_vec([1, 2].to_vec(alloc)?);
+    items.push(3)?;
+    let is_read = are_numbers(alloc, &items) && is_copied(&items);
+    Ok(is_read && are(items.as_slice(), &[1, 2, 3]) && are(items.into_vec().as_slice(), &[1, 2, 3]))
 }
 
 /// Writes 7 to each element.
@@ -53,38 +51,28 @@ fn write_first(items: &mut Items<i32>) -> Option<i32> {
 }
 
 /// Whether the list of 1 and 2 is written to: each element, the first, and as a `Vec`.
-fn is_written(items: &mut Items<i32>) -> bool {
-    write_each(items);
-    let is_read = write_first(items) == Some(7) && are(items, &[8, 7]);
+fn is_written(alloc: Global) -> Result<bool, AllocError> {
+    let mut items = Items::from_array(alloc, [1, 2])?;
+    write_each(&mut items);
+    let is_read = write_first(&mut items) == Some(7) && are(items.as_slice(), &[8, 7]);
     items.truncate(1);
-    is_read && are(items, &[8])
+    Ok(is_read && are(items.as_slice(), &[8]))
 }
 
-/// Whether a list is written to.
-fn are_writes(alloc: Global) -> Result<bool, AllocError> {
-    let mut items = pair(alloc)?;
-    Ok(is_written(&mut items))
-}
-
-#[test]
-fn writes(rt: HostRuntime) {
-    assert!(rt; are_writes(rt.alloc()) == Ok(true));
-}
-
-/// The list of 4 and 5, collected.
-fn collected(alloc: Global) -> Result<Items<i32>, AllocError> {
-    [4, 5].iter().copied().collect(alloc)
-}
-
-/// Whether the collected list reads so, and can be extended.
+/// Whether the list of 4 and 5 is collected, and can be extended.
 fn is_extended(alloc: Global) -> Result<bool, AllocError> {
-    let mut items = collected(alloc)?;
-    let is_collected = are(&items, &[4, 5]);
+    let mut items: Items<i32> = [4, 5].iter().copied().collect(alloc)?;
+    let is_collected = are(items.as_slice(), &[4, 5]);
     items.extend([6].iter().copied())?;
-    Ok(is_collected && are(&items, &[4, 5, 6]))
+    Ok(is_collected && are(items.as_slice(), &[4, 5, 6]))
 }
 
 #[test]
-fn collecting(rt: HostRuntime) {
-    assert!(rt; is_extended(rt.alloc()) == Ok(true));
+fn lists_are_read_walked_written_to_and_collected(rt: HostRuntime) {
+    let alloc = rt.alloc();
+    assert!(rt; Items::<u8>::new(alloc).is_empty());
+    assert!(rt; are_numbers_kept(alloc) == Ok(true));
+    assert!(rt; is_walked_by_value(alloc) == Ok(true));
+    assert!(rt; is_written(alloc) == Ok(true));
+    assert!(rt; is_extended(alloc) == Ok(true));
 }

@@ -1,17 +1,13 @@
 //! Nodes and their locations.
 
-use crate::samples::PLACE;
+use crate::samples::{PLACE, name, node};
+use crate::shown::is_shown;
 use graphql_nodes::name::Name;
 use graphql_nodes::node::Node;
 use graphql_nodes::source::{FileId, SourceFile, SourceSpan};
-use likeness::{are_alike, are_equal};
+use likeness::{are_alike, are_equal, both};
 use std::alloc::{AllocError, Global};
 use std::mem::size_of;
-
-#[test]
-fn one_pointer_wide(rt: HostRuntime) {
-    assert!(rt; size_of::<Node<SourceFile>>() == size_of::<usize>());
-}
 
 /// A location in the file of built-in definitions.
 const BUILT_IN: SourceSpan = SourceSpan {
@@ -20,73 +16,41 @@ const BUILT_IN: SourceSpan = SourceSpan {
     end: 0,
 };
 
-/// Whether the node was made, and is at this location.
+/// Whether a node of 7 is at this location, is shown as 7, and is equal to a node of 7 at none, and hashed the same.
 fn is_at(
-    node: Result<Node<i32>, AllocError>,
+    alloc: Global,
     location: Option<SourceSpan>,
     is_built_in: bool,
-) -> bool {
-    match node {
-        Ok(node) => (node.location(), node.is_built_in()) == (location, is_built_in),
-        Err(_) => false,
-    }
+) -> Result<bool, AllocError> {
+    let located = Node::new_opt_location(alloc, 7, location);
+    let (nowhere, node) = both(Node::new(alloc, 7), located)?;
+    let is_placed = (node.location(), node.is_built_in()) == (location, is_built_in)
+        && (nowhere.location(), nowhere.is_built_in()) == (None, false);
+    Ok(is_placed && is_shown(alloc, &node, "7") && are_alike(&nowhere, &node))
 }
 
-/// A node that holds 7 at this location.
-fn seven(alloc: Global, location: Option<SourceSpan>) -> Result<Node<i32>, AllocError> {
-    Node::new_opt_location(alloc, 7, location)
-}
-
-/// A node that holds `a` at the location of another.
-fn beside(alloc: Global) -> Result<Node<char>, AllocError> {
-    seven(alloc, Some(PLACE))?.same_location(alloc, 'a')
-}
-
-/// Whether the node was made, and holds `a` at the location.
-fn is_beside(node: Result<Node<char>, AllocError>) -> bool {
-    match node {
-        Ok(node) => (*node, node.location()) == ('a', Some(PLACE)),
-        Err(_) => false,
-    }
+/// Whether a node of `a` can be made at the location of another.
+fn is_beside(alloc: Global) -> Result<bool, AllocError> {
+    let seven = Node::new_opt_location(alloc, 7, Some(PLACE))?;
+    let beside = seven.same_location(alloc, 'a')?;
+    Ok((*beside, beside.location()) == ('a', Some(PLACE)))
 }
 
 #[test]
-fn locations(rt: HostRuntime) {
+fn nodes_are_one_pointer_wide_and_equal_without_locations(rt: HostRuntime) {
     let alloc = rt.alloc();
-    assert!(rt; is_at(Node::new(alloc, 7), None, false));
-    assert!(rt; is_at(seven(alloc, None), None, false));
-    assert!(rt; is_at(seven(alloc, Some(PLACE)), Some(PLACE), false));
-    assert!(rt; is_at(seven(alloc, Some(BUILT_IN)), Some(BUILT_IN), true));
-    assert!(rt; is_beside(beside(alloc)));
-}
-
-/// Whether a node of 7 and one of 7 at this location are equal, and hashed the same.
-fn is_alike_at(alloc: Global, location: Option<SourceSpan>) -> bool {
-    match (Node::new(alloc, 7), seven(alloc, location)) {
-        (Ok(nowhere), Ok(node)) => are_alike(&nowhere, &node),
-        _ => false,
-    }
-}
-
-#[test]
-fn nodes_are_equal_without_locations(rt: HostRuntime) {
-    let alloc = rt.alloc();
-    assert!(rt; is_alike_at(alloc, None));
-    assert!(rt; is_alike_at(alloc, Some(PLACE)));
-    assert!(rt; is_alike_at(alloc, Some(BUILT_IN)));
+    assert!(rt; size_of::<Node<SourceFile>>() == size_of::<usize>());
+    assert!(rt; is_at(alloc, None, false) == Ok(true));
+    assert!(rt; is_at(alloc, Some(PLACE), false) == Ok(true));
+    assert!(rt; is_at(alloc, Some(BUILT_IN), true) == Ok(true));
+    assert!(rt; is_beside(alloc) == Ok(true));
     assert!(rt; are_equal(Node::new(alloc, 7), Node::new(alloc, 8)) == Some(false));
 }
 
-/// The node of this name.
-fn named(alloc: Global, name: &str) -> Result<Node<Name>, AllocError> {
-    let name = Name::new_unchecked(alloc, name)?;
-    Node::new_opt_location(alloc, name, Some(PLACE))
-}
-
 /// Writes another name to the node.
-fn rename(alloc: Global, node: &mut Node<Name>, name: &str) -> Result<(), AllocError> {
+fn rename(alloc: Global, node: &mut Node<Name>, text: &str) -> Result<(), AllocError> {
     let held = node.make_mut()?;
-    *held = Name::new_unchecked(alloc, name)?;
+    *held = name(alloc, text, None)?;
     Ok(())
 }
 
@@ -96,27 +60,18 @@ fn are_named(first: &Node<Name>, second: &Node<Name>, names: (&str, &str)) -> bo
     (first.as_str(), second.as_str()) == names && locations == (Some(PLACE), Some(PLACE))
 }
 
-/// Whether a write to the second of two equal nodes leaves the first, and another makes them equal again.
-fn is_write_apart(
-    alloc: Global,
-    first: &Node<Name>,
-    second: &mut Node<Name>,
-) -> Result<bool, AllocError> {
-    let is_shared = *first == *second;
-    rename(alloc, second, "after")?;
-    let is_apart = are_named(first, second, ("before", "after")) && *first != *second;
-    rename(alloc, second, "before")?;
-    Ok(is_shared && is_apart && *first == *second)
-}
-
-/// Whether two nodes that share a name are written apart.
-fn are_written_apart(alloc: Global) -> Result<bool, AllocError> {
-    let first = named(alloc, "before")?;
+/// Whether a write to the second of two nodes that share a name leaves the first, and another makes them equal again.
+fn is_write_apart(alloc: Global) -> Result<bool, AllocError> {
+    let first = node(alloc, name(alloc, "before", None), Some(PLACE))?;
     let mut second = first.clone()?;
-    is_write_apart(alloc, &first, &mut second)
+    let is_shared = first == second;
+    rename(alloc, &mut second, "after")?;
+    let is_apart = are_named(&first, &second, ("before", "after")) && first != second;
+    rename(alloc, &mut second, "before")?;
+    Ok(is_shared && is_apart && first == second)
 }
 
 #[test]
 fn a_write_leaves_the_other_node(rt: HostRuntime) {
-    assert!(rt; are_written_apart(rt.alloc()) == Ok(true));
+    assert!(rt; is_write_apart(rt.alloc()) == Ok(true));
 }

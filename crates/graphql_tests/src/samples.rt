@@ -4,6 +4,7 @@ use graphql_nodes::collections::items::Items;
 use graphql_nodes::name::Name;
 use graphql_nodes::node::Node;
 use graphql_nodes::source::{FileId, SourceSpan};
+use likeness::both;
 use std::alloc::{AllocError, Global};
 
 /// The location of what the tests put at one.
@@ -13,16 +14,14 @@ pub const PLACE: SourceSpan = SourceSpan {
     end: 17,
 };
 
-/// The node of this value, at the location.
+/// The node of this value, if there was memory for the value, at a location if one is given.
 /// No clause: it serves tests.
-pub fn placed<T: Drop>(alloc: Global, value: T) -> Result<Node<T>, AllocError> {
-    Node::new_opt_location(alloc, value, Some(PLACE))
-}
-
-/// The name `n`, at the location.
-/// No clause: it serves tests.
-pub fn located_name(alloc: Global) -> Result<Name, AllocError> {
-    name(alloc, "n", Some(PLACE))
+pub fn node<T: Drop>(
+    alloc: Global,
+    value: Result<T, AllocError>,
+    location: Option<SourceSpan>,
+) -> Result<Node<T>, AllocError> {
+    Node::new_opt_location(alloc, value?, location)
 }
 
 /// The name of this text, at a location if one is given.
@@ -35,10 +34,23 @@ pub fn name(alloc: Global, text: &str, location: Option<SourceSpan>) -> Result<N
     }
 }
 
-/// A list of this value alone.
+/// A list of this value alone, if there was memory for the value.
 /// No clause: it serves tests.
-pub fn list<T: Drop>(alloc: Global, value: T) -> Result<Items<T>, AllocError> {
+pub fn list<T: Drop>(alloc: Global, value: Result<T, AllocError>) -> Result<Items<T>, AllocError> {
     let mut list = Items::new(alloc);
-    list.push(value)?;
+    list.push(value?)?;
     Ok(list)
+}
+
+/// A list of both values, if there was memory for each.
+/// No clause: it serves tests.
+pub fn pair<T: Drop>(
+    alloc: Global,
+    first: Result<T, AllocError>,
+    second: Result<T, AllocError>,
+) -> Result<Items<T>, AllocError> {
+    let (first, second) = both(first, second)?;
+    let mut pair = list(alloc, Ok(first))?;
+    pair.push(second)?;
+    Ok(pair)
 }

@@ -5,30 +5,13 @@ use graphql_nodes::collections::table::Table;
 use graphql_nodes::source::{FileId, SourceFile, SourceMap, merge_sources};
 use std::alloc::{AllocError, Global};
 
-/// A file of this text.
-/// No clause: it serves tests.
-pub fn file(alloc: Global, text: &str) -> Result<SourceFile, AllocError> {
-    SourceFile::new(alloc, "a.graphql", text)
-}
-
 /// The sources of one file of this text, under this number.
 /// No clause: it serves tests.
 pub fn one(alloc: Global, number: u64, text: &str) -> Result<SourceMap, AllocError> {
-    let file = Shared::new(alloc, file(alloc, text)?)?;
+    let file = Shared::new(alloc, SourceFile::new(alloc, "a.graphql", text)?)?;
     let mut sources = Table::new(alloc);
     sources.insert(FileId(number), file)?;
     Ok(sources)
-}
-
-/// Merges a file of this text, under this number.
-fn merge(
-    alloc: Global,
-    sources: &mut SourceMap,
-    number: u64,
-    text: &str,
-) -> Result<(), AllocError> {
-    let more = one(alloc, number, text)?;
-    merge_sources(sources, &more)
 }
 
 /// Whether the file at this place has this number and text.
@@ -42,8 +25,8 @@ fn is_at(sources: &SourceMap, place: usize, number: u64, text: &str) -> bool {
 /// Whether a further file comes last, and a later one of a number in the place of the earlier.
 fn are_merged(alloc: Global) -> Result<bool, AllocError> {
     let mut sources = one(alloc, 1, "a")?;
-    merge(alloc, &mut sources, 2, "b")?;
-    merge(alloc, &mut sources, 1, "c")?;
+    merge_sources(&mut sources, &one(alloc, 2, "b")?)?;
+    merge_sources(&mut sources, &one(alloc, 1, "c")?)?;
     Ok(is_at(&sources, 0, 1, "c") && is_at(&sources, 1, 2, "b") && sources.len() == 2)
 }
 

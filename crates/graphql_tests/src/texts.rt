@@ -24,19 +24,16 @@ fn kinds(rt: HostRuntime) {
     }
 }
 
-/// Whether the root has this default name, without a location.
-fn is_root(alloc: Global, operation: OperationType, root: &str) -> bool {
+/// Whether the operation has this keyword, and this default name of its root, without a location.
+fn is_operation(alloc: Global, operation: OperationType, keyword: &str, root: &str) -> bool {
     match operation.default_type_name(alloc) {
-        Ok(name) => (name.as_str(), name.location()) == (root, None),
+        Ok(name) => {
+            (name.as_str(), name.location()) == (root, None)
+                && operation.name() == keyword
+                && is_printed(alloc, &operation, keyword)
+        }
         Err(_) => false,
     }
-}
-
-/// Whether the operation has this keyword, and this default name of its root.
-fn is_operation(alloc: Global, operation: OperationType, keyword: &str, root: &str) -> bool {
-    operation.name() == keyword
-        && is_printed(alloc, &operation, keyword)
-        && is_root(alloc, operation, root)
 }
 
 /// Each operation, with its keyword and the default name of its root.
@@ -88,15 +85,11 @@ fn is_location(alloc: Global, location: DirectiveLocation, text: &str) -> bool {
 }
 
 #[test]
-fn directive_locations(rt: HostRuntime) {
+fn directive_locations_are_found_by_their_names_alone(rt: HostRuntime) {
     let alloc = rt.alloc();
     for (location, text) in LOCATIONS {
         expect_at(&rt, text, is_location(alloc, *location, text));
     }
-}
-
-#[test]
-fn other_texts_are_no_locations(rt: HostRuntime) {
     for text in &["", "NOWHERE", "query", "QUERY ", "FIELD_", "ENUM_VALUES"] {
         expect_at(&rt, text, DirectiveLocation::from_name(text).is_none());
     }

@@ -3,17 +3,13 @@
 use crate::samples::{PLACE, name};
 use graphql_ast::Type;
 use graphql_nodes::Boxed;
-use likeness::{are_equal, is_copied_so, is_so};
+use likeness::{are_equal, is_copied_so};
 use std::alloc::{AllocError, Global};
 
-/// The type `Page!`, at a location.
-fn page(alloc: Global) -> Result<Type, AllocError> {
-    Ok(Type::named(name(alloc, "Page", Some(PLACE))?).non_null())
-}
-
-/// The type `[Page!]`.
+/// The type `[Page!]`, with its name at a location.
 fn pages(alloc: Global) -> Result<Type, AllocError> {
-    page(alloc)?.list(alloc)
+    let page = Type::named(name(alloc, "Page", Some(PLACE))?).non_null();
+    page.list(alloc)
 }
 
 /// The type `[Page!]`, of the variants.
@@ -22,29 +18,27 @@ fn listed(alloc: Global) -> Result<Type, AllocError> {
     Ok(Type::List(Boxed::new(alloc, page)?))
 }
 
-/// The type `[Page!]!`.
-fn all_pages(alloc: Global) -> Result<Type, AllocError> {
-    Ok(pages(alloc)?.non_null())
-}
-
-/// The type `Page`.
-fn optional(alloc: Global) -> Result<Type, AllocError> {
-    Ok(Type::named(name(alloc, "Page", None)?))
-}
-
-fn is_optional(ty: &Type) -> bool {
-    !ty.is_non_null()
+/// Whether the type is one that can't be null, if there was memory for it.
+fn is_non_null(ty: Result<Type, AllocError>) -> Option<bool> {
+    match ty {
+        Ok(ty) => Some(ty.is_non_null()),
+        Err(_) => None,
+    }
 }
 
 #[test]
 fn type_references(rt: HostRuntime) {
     let alloc = rt.alloc();
-    assert!(rt; is_so(page(alloc), Type::is_non_null));
-    assert!(rt; is_so(pages(alloc), is_optional));
-    assert!(rt; is_so(all_pages(alloc), Type::is_non_null));
-    assert!(rt; is_so(optional(alloc), is_optional));
+    let optional = name(alloc, "Page", None).map(Type::named);
+    let all_pages = pages(alloc).map(Type::non_null);
+    assert!(rt; are_equal(optional, all_pages) == Some(false));
     assert!(rt; are_equal(pages(alloc), listed(alloc)) == Some(true));
-    assert!(rt; are_equal(optional(alloc), all_pages(alloc)) == Some(false));
+    let optional = name(alloc, "Page", None).map(Type::named);
+    assert!(rt; is_non_null(optional) == Some(false));
+    let page = name(alloc, "Page", None).map(Type::named);
+    assert!(rt; is_non_null(page.map(Type::non_null)) == Some(true));
+    assert!(rt; is_non_null(pages(alloc)) == Some(false));
+    assert!(rt; is_non_null(pages(alloc).map(Type::non_null)) == Some(true));
 }
 
 /// Whether the type's name is `Page`, at the location.
@@ -55,5 +49,6 @@ fn is_of_page(ty: &Type) -> bool {
 
 #[test]
 fn type_references_are_copied(rt: HostRuntime) {
-    assert!(rt; is_copied_so(all_pages(rt.alloc()), is_of_page));
+    let all_pages = pages(rt.alloc()).map(Type::non_null);
+    assert!(rt; is_copied_so(all_pages, is_of_page));
 }
