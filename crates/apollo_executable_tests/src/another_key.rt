@@ -40,50 +40,63 @@ fn push_walks(
     push_beside(text, collected, set.all_fields(alloc, document))
 }
 
-/// Adds spreads of these names to a set.
-fn spread(alloc: Global, set: &mut SelectionSet, texts: [&str; 2]) -> Result<(), AllocError> {
+/// A set with spreads of these names behind what it has.
+fn spreading(
+    alloc: Global,
+    set: SelectionSet,
+    texts: [&str; 2],
+) -> Result<SelectionSet, AllocError> {
+    let mut set = set;
     for text in texts {
         let spread = FragmentSpread::new(alloc, name(alloc, text)?);
         set.push(Selection::of_fragment_spread(alloc, spread)?)?;
     }
-    Ok(())
+    Ok(set)
 }
 
 /// The fragment `Own`, of a field and spreads of its key and its name.
 fn fragment(alloc: Global) -> Result<Node<Fragment>, AllocError> {
     let mut set = empty(alloc)?;
     set.push(Selection::of_field(alloc, field(alloc, "a")?)?)?;
-    spread(alloc, &mut set, ["F", "Own"])?;
     let fragment = Fragment {
         name: name(alloc, "Own")?,
         directives: DirectiveList::new(alloc),
-        selection_set: set,
+        selection_set: spreading(alloc, set, ["F", "Own"])?,
     };
     Node::new(alloc, fragment)
 }
 
-/// What walks over spreads of its name and its key give, and over its own set.
-fn told(alloc: Global) -> Result<String, AllocError> {
+/// A document with this fragment under another key than its name.
+fn document(alloc: Global) -> Result<ExecutableDocument, AllocError> {
     let mut document = ExecutableDocument::new(alloc);
-    // If it is refused, no walk gives its field.
-    let _ = document
-        .fragments
-        .insert(name(alloc, "F")?, fragment(alloc)?);
-    let mut start = empty(alloc)?;
-    spread(alloc, &mut start, ["Own", "F"])?;
+    let (key, fragment) = (name(alloc, "F")?, fragment(alloc)?);
+    match document.fragments.insert(key, fragment) {
+        Ok(_) => Ok(document),
+        Err(_) => Err(AllocError),
+    }
+}
+
+/// What walks over a set give, and over the own sets of the fragments of a document.
+fn told(
+    alloc: Global,
+    document: &ExecutableDocument,
+    start: &SelectionSet,
+) -> Result<String, AllocError> {
     let mut text = String::new(alloc);
-    push_walks(alloc, &mut text, &document, &start)?;
+    push_walks(alloc, &mut text, document, start)?;
     for fragment in document.fragments.values() {
         let name = &fragment.name;
         write!(text, "{name}\n")?;
-        push_walks(alloc, &mut text, &document, &fragment.selection_set)?;
+        push_walks(alloc, &mut text, document, &fragment.selection_set)?;
     }
     Ok(text)
 }
 
 #[test]
 fn a_fragment_is_opened_under_its_key(rt: HostRuntime) -> Result<(), Fail> {
-    let text = told(rt.alloc())?;
+    let document = document(rt.alloc())?;
+    let start = spreading(rt.alloc(), empty(rt.alloc())?, ["Own", "F"])?;
+    let text = told(rt.alloc(), &document, &start)?;
     let expected =
         "root a - = a - true in 7\nall a - = a - true in 7\nOwn\nroot a - a - = a - a - true in 8\nall a - a - = a - a - true in 8\n";
     assert_eq!(rt; text.as_str(), expected);

@@ -63,54 +63,66 @@ fn push_map(log: &mut String, map: &OperationMap) -> Result<(), AllocError> {
     log.push_str("\n")
 }
 
+/// Says what a request of this name asks for.
+fn push_requested(
+    log: &mut String,
+    map: &OperationMap,
+    text: &str,
+    name: Option<&Name>,
+) -> Result<(), AllocError> {
+    match map.get(name) {
+        Ok(operation) => {
+            let kind = operation.operation_type.name();
+            write!(log, "  {text} is {kind}\n")
+        }
+        Err(error) => write!(log, "  {text} is {error}\n"),
+    }
+}
+
 /// Says what requests of some names ask for.
 fn push_requests(alloc: Global, log: &mut String, map: &OperationMap) -> Result<(), AllocError> {
-    for text in ["-", "A", "X"].iter() {
-        let name = name_or_none(alloc, *text)?;
-        write!(log, "  {text} is ")?;
-        match map.get(name.as_ref()) {
-            Ok(operation) => log.push_str(operation.operation_type.name())?,
-            Err(error) => write!(log, "{error}")?,
-        }
-        log.push_str("\n")?;
+    for text in ["-", "A", "X"] {
+        let name = name_or_none(alloc, text)?;
+        push_requested(log, map, text, name.as_ref())?;
     }
     Ok(())
 }
 
-/// Inserts an operation of each of these names, the kinds in turn, and says after each what there is.
-fn told(alloc: Global, texts: &[&'static str]) -> Result<String, AllocError> {
-    let mut log = String::new(alloc);
-    let mut map = OperationMap::new(alloc);
-    push_requests(alloc, &mut log, &map)?;
-    for (text, kind) in texts.iter().zip(KINDS.iter()) {
-        log.push_str(*text)?;
-        insert(alloc, &mut map, *kind, *text, &mut log)?;
-        log.push_str("\n ")?;
-        push_map(&mut log, &map)?;
-        push_requests(alloc, &mut log, &map)?;
-    }
-    Ok(log)
+/// Inserts an operation, and says what there is then.
+fn push_inserted(
+    alloc: Global,
+    log: &mut String,
+    map: &mut OperationMap,
+    kind: OperationType,
+    text: &str,
+) -> Result<(), AllocError> {
+    log.push_str(text)?;
+    insert(alloc, map, kind, text, log)?;
+    log.push_str("\n ")?;
+    push_map(log, map)?;
+    push_requests(alloc, log, map)
 }
 
-const INSERTED: [([&str; 3], &str); 2] = [
-    (
-        ["-", "-", "A"],
-        "  - is Ambiguous request: multiple operations but no specified `operationName`\n  A is No operation named 'A'\n  X is No operation named 'X'\n- new\n 1 false: query\n  - is query\n  A is No operation named 'A'\n  X is No operation named 'X'\n- for query\n 1 false: mutation\n  - is mutation\n  A is No operation named 'A'\n  X is No operation named 'X'\nA new\n 2 false: mutation subscription\n  - is Ambiguous request: multiple operations but no specified `operationName`\n  A is subscription\n  X is No operation named 'X'\n",
-    ),
-    (
-        ["A", "B", "A"],
-        "  - is Ambiguous request: multiple operations but no specified `operationName`\n  A is No operation named 'A'\n  X is No operation named 'X'\nA new\n 1 false: query\n  - is query\n  A is query\n  X is No operation named 'X'\nB new\n 2 false: query mutation\n  - is Ambiguous request: multiple operations but no specified `operationName`\n  A is query\n  X is No operation named 'X'\nA for query\n 2 false: subscription mutation\n  - is Ambiguous request: multiple operations but no specified `operationName`\n  A is subscription\n  X is No operation named 'X'\n",
-    ),
-];
+/// Inserts an operation of each of these names, the kinds in turn, and says before and after each what there is.
+fn tell_inserted(alloc: Global, log: &mut String, texts: [&str; 3]) -> Result<(), AllocError> {
+    let mut map = OperationMap::new(alloc);
+    push_requests(alloc, log, &map)?;
+    for (text, kind) in texts.iter().zip(KINDS.iter()) {
+        push_inserted(alloc, log, &mut map, *kind, *text)?;
+    }
+    Ok(())
+}
 
 #[test]
 fn a_second_operation_takes_the_place_of_the_first_of_its_name_or_of_none(
     rt: HostRuntime,
 ) -> Result<(), Fail> {
-    for (texts, expected) in INSERTED.iter() {
-        let log = told(rt.alloc(), texts)?;
-        assert_eq!(rt; log.as_str(), *expected, "of {texts:?}");
-    }
+    let mut log = String::new(rt.alloc());
+    tell_inserted(rt.alloc(), &mut log, ["-", "-", "A"])?;
+    tell_inserted(rt.alloc(), &mut log, ["A", "B", "A"])?;
+    let expected =
+        "  - is Ambiguous request: multiple operations but no specified `operationName`\n  A is No operation named 'A'\n  X is No operation named 'X'\n- new\n 1 false: query\n  - is query\n  A is No operation named 'A'\n  X is No operation named 'X'\n- for query\n 1 false: mutation\n  - is mutation\n  A is No operation named 'A'\n  X is No operation named 'X'\nA new\n 2 false: mutation subscription\n  - is Ambiguous request: multiple operations but no specified `operationName`\n  A is subscription\n  X is No operation named 'X'\n  - is Ambiguous request: multiple operations but no specified `operationName`\n  A is No operation named 'A'\n  X is No operation named 'X'\nA new\n 1 false: query\n  - is query\n  A is query\n  X is No operation named 'X'\nB new\n 2 false: query mutation\n  - is Ambiguous request: multiple operations but no specified `operationName`\n  A is query\n  X is No operation named 'X'\nA for query\n 2 false: subscription mutation\n  - is Ambiguous request: multiple operations but no specified `operationName`\n  A is subscription\n  X is No operation named 'X'\n";
+    assert_eq!(rt; log.as_str(), expected);
     Ok(())
 }
 
