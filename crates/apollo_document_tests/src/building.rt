@@ -37,7 +37,7 @@ fn build(
 
 /// What is looked at of a document that was built, with its faults, beside a schema.
 pub trait View {
-    /// Adds what is told of it. The error is want of memory.
+    /// Adds what is told of it. The error is out of memory.
     fn view(
         &self,
         alloc: Global,
@@ -48,33 +48,14 @@ pub trait View {
     ) -> Result<(), AllocError>;
 }
 
-/// A view of what documents build over the schema of the input.
+/// A view of what documents build over the schema of the input, or without one: then definitions of the type system are no faults.
 #[derive(Drop)]
-pub struct Over<V> {
+pub struct Built<V> {
+    pub is_over: bool,
     pub view: V,
 }
 
-/// A view of what documents build without a schema, where definitions of the type system are no faults.
-#[derive(Drop)]
-pub struct Without<V> {
-    pub view: V,
-}
-
-/// Adds what is told of what was built, or the error.
-fn tell_built<V: View>(
-    alloc: Global,
-    view: &V,
-    schema: &Schema,
-    built: Result<(ExecutableDocument, Faults), BuilderError>,
-    text: &mut String,
-) -> Result<(), AllocError> {
-    match built {
-        Ok(built) => view.view(alloc, schema, &built.0, built.1.as_slice(), text),
-        Err(error) => write!(text, "{error}\n"),
-    }
-}
-
-impl<V: View> Account for Over<V> {
+impl<V: View> Account for Built<V> {
     fn tell(
         &self,
         alloc: Global,
@@ -82,48 +63,47 @@ impl<V: View> Account for Over<V> {
         documents: &[Document],
         text: &mut String,
     ) -> Result<(), AllocError> {
-        let built = build(alloc, Some(schema), documents, true);
-        tell_built(alloc, &self.view, schema, built, text)
-    }
-}
-
-impl<V: View> Account for Without<V> {
-    fn tell(
-        &self,
-        alloc: Global,
-        schema: &Schema,
-        documents: &[Document],
-        text: &mut String,
-    ) -> Result<(), AllocError> {
-        let built = build(alloc, None, documents, false);
-        tell_built(alloc, &self.view, schema, built, text)
+        let over = if self.is_over { Some(schema) } else { None };
+        match build(alloc, over, documents, self.is_over) {
+            Ok(built) => self
+                .view
+                .view(alloc, schema, &built.0, built.1.as_slice(), text),
+            Err(error) => write!(text, "{error}\n"),
+        }
     }
 }
 
 /// The document and its faults, and what its write-out builds over a schema or without one.
 #[derive(Drop)]
 pub struct Whole {
-    pub is_over: bool,
+    is_over: bool,
 }
 
-/// Whether a document is equal to another, and its faults.
-#[derive(Drop)]
-struct Again<'a> {
-    document: &'a ExecutableDocument,
-}
+pub const OVER: Built<Whole> = Built {
+    is_over: true,
+    view: Whole { is_over: true },
+};
 
-impl<'a> View for Again<'a> {
-    fn view(
-        &self,
-        alloc: Global,
-        _schema: &Schema,
-        document: &ExecutableDocument,
-        faults: &[Fault],
-        text: &mut String,
-    ) -> Result<(), AllocError> {
-        let is_equal = *document == *self.document;
-        write!(text, "again: {is_equal}\n")?;
-        tell_all(faults, text)
+pub const WITHOUT: Built<Whole> = Built {
+    is_over: false,
+    view: Whole { is_over: false },
+};
+
+/// Adds whether the write-out of a document builds it again, and the faults of that.
+fn tell_again(
+    alloc: Global,
+    schema: Option<&Schema>,
+    document: &ExecutableDocument,
+    text: &mut String,
+) -> Result<(), AllocError> {
+    let written = document.to_ast(alloc)?;
+    match build(alloc, schema, slice::from_ref(&written), true) {
+        Ok(again) => {
+            let is_equal = again.0 == *document;
+            write!(text, "again: {is_equal}\n")?;
+            tell_all(again.1.as_slice(), text)
+        }
+        Err(error) => write!(text, "{error}\n"),
     }
 }
 
@@ -139,10 +119,6 @@ impl View for Whole {
         document.tell(text)?;
         tell_all(faults, text)?;
         let over = if self.is_over { Some(schema) } else { None };
-        let again = match document.to_ast(alloc) {
-            Ok(written) => build(alloc, over, slice::from_ref(&written), true),
-            Err(_) => Err(BuilderError::Memory),
-        };
-        tell_built(alloc, &Again { document }, schema, again, text)
+        tell_again(alloc, over, document, text)
     }
 }

@@ -1,13 +1,13 @@
 //! A typed document that is made by calls alone, beside one that is built.
 
-use crate::building::{Over, View};
-use crate::expecting::expect;
-use crate::typed::making::{name, selected};
+use crate::building::{Built, View};
+use crate::inputs::expect;
 use apollo_elaboration::Fault;
 use apollo_executable::{ExecutableDocument, NewFieldError, Operation, Selection, SelectionSet};
 use apollo_schema::schema::Schema;
 use graphql_ast::directive::DirectiveList;
 use graphql_nodes::collections::items::Items;
+use graphql_nodes::name::Name;
 use graphql_nodes::node::Node;
 use graphql_nodes::operation_type::OperationType;
 use std::alloc::{AllocError, Global};
@@ -22,10 +22,10 @@ fn of_user<'schema>(
     alloc: Global,
     schema: &'schema Schema,
 ) -> Result<SelectionSet, NewFieldError<'schema>> {
-    let mut set = SelectionSet::new(alloc, name(alloc, "Query")?);
-    let user = selected(alloc, schema, &set, "user")?;
-    set.push(user)?;
-    let spread = set.new_fragment_spread(alloc, name(alloc, "F")?);
+    let mut set = SelectionSet::new(alloc, Name::new_unchecked(alloc, "Query")?);
+    let user = set.new_field(alloc, schema, Name::new_unchecked(alloc, "user")?)?;
+    set.push(Selection::of_field(alloc, user)?)?;
+    let spread = set.new_fragment_spread(alloc, Name::new_unchecked(alloc, "F")?);
     set.push(Selection::of_fragment_spread(alloc, spread)?)?;
     Ok(set)
 }
@@ -48,13 +48,6 @@ pub fn document_of(
     Ok(document)
 }
 
-fn made<'schema>(
-    alloc: Global,
-    schema: &'schema Schema,
-) -> Result<ExecutableDocument, NewFieldError<'schema>> {
-    Ok(document_of(alloc, of_user(alloc, schema)?)?)
-}
-
 impl View for Alike {
     fn view(
         &self,
@@ -64,9 +57,9 @@ impl View for Alike {
         _faults: &[Fault],
         text: &mut String,
     ) -> Result<(), AllocError> {
-        match made(alloc, schema) {
-            Ok(made) => {
-                let is_equal = made == *document;
+        match of_user(alloc, schema) {
+            Ok(set) => {
+                let is_equal = document_of(alloc, set)? == *document;
                 write!(text, "equal: {is_equal}\n")
             }
             Err(_) => text.push_str("not made\n"),
@@ -74,22 +67,23 @@ impl View for Alike {
     }
 }
 
-#[test]
-fn a_document_by_calls_is_equal_to_the_built_one(rt: HostRuntime) -> Result<(), Fail> {
-    expect(
-        &rt,
-        &Over { view: Alike },
+const ROWS: [(&str, &str); 2] = [
+    (
         "def object Query\nfield id ID\nfield user User\ndef object User\nfield id ID\n===\noperation query -\nsel 0 field id\nsel 1 field x\nsel 0 field user\nsel 1 field nope\nsel 0 inline Gone\nsel 1 field a\nsel 0 spread F\n",
         "equal: true\n",
-    )
-}
-
-#[test]
-fn a_document_of_another_field_is_not(rt: HostRuntime) -> Result<(), Fail> {
-    expect(
-        &rt,
-        &Over { view: Alike },
+    ),
+    // One of another field isn't.
+    (
         "def object Query\nfield id ID\nfield user User\ndef object User\nfield id ID\n===\noperation query -\nsel 0 field user\nsel 1 field id\nsel 0 spread F\n",
         "equal: false\n",
-    )
+    ),
+];
+
+#[test]
+fn a_document_by_calls_is_equal_to_the_built_one(rt: HostRuntime) -> Result<(), Fail> {
+    let account = Built {
+        is_over: true,
+        view: Alike,
+    };
+    expect(&rt, &account, &ROWS)
 }

@@ -1,7 +1,7 @@
 //! Each fault that a document can have: its text, and its copy.
 
-use crate::building::{Over, View};
-use crate::expecting::expect;
+use crate::building::{Built, View};
+use crate::inputs::expect;
 use apollo_elaboration::Fault;
 use apollo_executable::ExecutableDocument;
 use apollo_schema::schema::Schema;
@@ -60,13 +60,8 @@ sel 0 field a
 def object T
 ";
 
-#[test]
-fn faults_have_their_texts_and_copies(rt: HostRuntime) -> Result<(), Fail> {
-    expect(
-        &rt,
-        &Over { view: Faults },
-        FAULTY,
-        "\
+/// Their texts.
+const TEXTS: &str = "\
 field selection of scalar type `Int` must not have subselections: true
 field selection of enum type `Color` must not have subselections: true
 type `Query` does not have a field `zz`: true
@@ -77,6 +72,13 @@ the operation `Q` is defined multiple times in the document: true
 the fragment `F` is defined multiple times in the document: true
 type condition `Gone` of fragment `G` is not a type defined in the schema: true
 an executable document must not contain an object type definition: true
-",
-    )
+";
+
+#[test]
+fn faults_have_their_texts_and_copies(rt: HostRuntime) -> Result<(), Fail> {
+    let account = Built {
+        is_over: true,
+        view: Faults,
+    };
+    expect(&rt, &account, &[(FAULTY, TEXTS)])
 }

@@ -5,10 +5,12 @@ use apollo_schema::schema_builder::SchemaBuilder;
 use bench_notation::reading::{DividedDocuments, read_divided};
 use graphql_ast::document::Document;
 use std::alloc::{AllocError, Global};
+use std::process::Abort;
+use std::test::Fail;
 
 /// What is looked at of documents over a schema.
 pub trait Account {
-    /// Adds what is told of them. The error is want of memory.
+    /// Adds what is told of them. The error is out of memory.
     fn tell(
         &self,
         alloc: Global,
@@ -16,20 +18,6 @@ pub trait Account {
         documents: &[Document],
         text: &mut String,
     ) -> Result<(), AllocError>;
-}
-
-/// Tells of the documents over what a builder builds.
-fn tell_built<A: Account>(
-    alloc: Global,
-    account: &A,
-    builder: SchemaBuilder,
-    documents: &[Document],
-    text: &mut String,
-) -> Result<(), AllocError> {
-    match builder.build() {
-        Ok(schema) => account.tell(alloc, &schema, documents, text),
-        Err(_) => text.push_str("no schema\n"),
-    }
 }
 
 /// Adds a document, unless it is refused: then no schema is built. The contract of the call stays here, so that no loop carries
@@ -48,16 +36,32 @@ fn tell_read<A: Account>(
     for document in input.schema.as_slice() {
         add(&mut builder, document);
     }
-    tell_built(alloc, account, builder, input.executable.as_slice(), text)
+    match builder.build() {
+        Ok(schema) => account.tell(alloc, &schema, input.executable.as_slice(), text),
+        Err(_) => text.push_str("no schema\n"),
+    }
 }
 
 /// What is told of an input.
-/// No clause: it serves tests.
-pub fn told<A: Account>(alloc: Global, account: &A, input: &str) -> Result<String, AllocError> {
+fn told<A: Account>(alloc: Global, account: &A, input: &str) -> Result<String, AllocError> {
     let mut text = String::new(alloc);
     match read_divided(alloc, input) {
         Ok(documents) => tell_read(alloc, account, &documents, &mut text)?,
         Err(_) => text.push_str("not read\n")?,
     }
     Ok(text)
+}
+
+/// Expects of the input of each row what stands beside it.
+/// No clause: it serves tests.
+pub fn expect<A: Account>(
+    rt: &(impl Abort + AllocGlobal),
+    account: &A,
+    rows: &[(&str, &str)],
+) -> Result<(), Fail> {
+    for (input, expected) in rows {
+        let text = told(rt.alloc(), account, *input)?;
+        assert_eq!(rt; text.as_str(), *expected, "of {input:?}");
+    }
+    Ok(())
 }

@@ -1,8 +1,8 @@
 //! Documents larger than a row could have.
 
-use crate::building::{Over, View};
-use crate::field_sets::FieldSets;
-use crate::inputs::told;
+use crate::building::{Built, View};
+use crate::elaborated::Elaborated;
+use crate::inputs::expect;
 use apollo_elaboration::Fault;
 use apollo_executable::{AllFields, ExecutableDocument, SelectionSet};
 use apollo_schema::schema::Schema;
@@ -31,9 +31,11 @@ fn a_field_set_is_150_deep_below_each_of_150_aliases(rt: HostRuntime) -> Result<
     input.push_str(QUERY)?;
     input.push_str("fragment F Query\n")?;
     input.push_str(selections.as_str())?;
-    let written = told(rt.alloc(), &FieldSets { are_whole: false }, input.as_str())?;
-    assert!(rt; written.as_str() == selections.as_str());
-    Ok(())
+    let account = Elaborated {
+        has_schema: true,
+        is_whole: false,
+    };
+    expect(&rt, &account, &[(input.as_str(), selections.as_str())])
 }
 
 /// How many fields the walks over the anonymous operation give, and in how many turns.
@@ -105,10 +107,10 @@ fn a_walk_opens_each_of_10_000_fragments_in_a_ring_once(rt: HostRuntime) -> Resu
     input.push_str(QUERY)?;
     input.push_str("operation query -\nsel 0 spread F0\n")?;
     push_ring(&mut input)?;
-    let text = told(rt.alloc(), &Over { view: CountedWalks }, input.as_str())?;
-    assert_eq!(rt;
-        text.as_str(),
-        "10000 root fields, 10000 fields in 30002 turns: true\n"
-    );
-    Ok(())
+    let account = Built {
+        is_over: true,
+        view: CountedWalks,
+    };
+    let expected = "10000 root fields, 10000 fields in 30002 turns: true\n";
+    expect(&rt, &account, &[(input.as_str(), expected)])
 }

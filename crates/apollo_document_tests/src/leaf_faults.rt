@@ -1,36 +1,23 @@
-//! Leaf faults over the schema of the input, or over one of no documents: of what its documents build over its schema or without
+//! Leaf faults over the schema of the input, and over one of no documents: of what its documents build over its schema or without
 //! one, and of a document that is made by calls.
 
-use crate::building::{Over, View, Without};
+use crate::building::{Built, View};
 use crate::by_calls::document_of;
-use crate::expecting::expect;
-use crate::inputs::Account;
-use crate::typed::making::{field, name, selected};
+use crate::inputs::{Account, expect};
 use apollo_elaboration::Fault;
-use apollo_executable::{ExecutableDocument, Field, NewFieldError, Selection, SelectionSet};
+use apollo_executable::{ExecutableDocument, NewFieldError, Selection, SelectionSet};
 use apollo_schema::schema::Schema;
 use graphql_ast::document::Document;
+use graphql_nodes::name::Name;
 use leafcheck::leaf_faults;
 use std::alloc::{AllocError, Global};
 use std::test::Fail;
 
-/// The leaf faults of a document over the schema.
-#[derive(Drop)]
-struct Leaves;
-
-/// The leaf faults of a document over the schema of no documents.
-#[derive(Drop)]
-struct LeavesElsewhere;
-
-/// The leaf faults of a document that is made by calls.
-#[derive(Drop)]
-struct LeavesByCalls;
-
 fn tell_leaves(
     alloc: Global,
-    text: &mut String,
     schema: &Schema,
     document: &ExecutableDocument,
+    text: &mut String,
 ) -> Result<(), AllocError> {
     let faults = leaf_faults(alloc, schema, document)?;
     for fault in faults.as_slice() {
@@ -38,6 +25,10 @@ fn tell_leaves(
     }
     Ok(())
 }
+
+/// The leaf faults of a document over the schema, and over the schema of no documents.
+#[derive(Drop)]
+struct Leaves;
 
 impl View for Leaves {
     fn view(
@@ -48,43 +39,31 @@ impl View for Leaves {
         _faults: &[Fault],
         text: &mut String,
     ) -> Result<(), AllocError> {
-        tell_leaves(alloc, text, schema, document)
-    }
-}
-
-impl View for LeavesElsewhere {
-    fn view(
-        &self,
-        alloc: Global,
-        _schema: &Schema,
-        document: &ExecutableDocument,
-        _faults: &[Fault],
-        text: &mut String,
-    ) -> Result<(), AllocError> {
+        tell_leaves(alloc, schema, document, text)?;
+        text.push_str("elsewhere:\n")?;
         match Schema::new(alloc) {
-            Ok(schema) => tell_leaves(alloc, text, &schema, document),
+            Ok(schema) => tell_leaves(alloc, &schema, document, text),
             Err(error) => Err(error),
         }
     }
 }
 
-/// `id { user }` in a query, by definitions of the schema.
+/// `{ id { user } }`, by definitions of the schema.
 fn below_id<'schema>(
     alloc: Global,
     schema: &'schema Schema,
-) -> Result<Field, NewFieldError<'schema>> {
-    let set = SelectionSet::new(alloc, name(alloc, "Query")?);
-    let user = selected(alloc, schema, &set, "user")?;
-    let id = field(alloc, schema, &set, "id")?;
-    Ok(id.with_selection(user)?)
+) -> Result<ExecutableDocument, NewFieldError<'schema>> {
+    let mut set = SelectionSet::new(alloc, Name::new_unchecked(alloc, "Query")?);
+    let user = set.new_field(alloc, schema, Name::new_unchecked(alloc, "user")?)?;
+    let id = set.new_field(alloc, schema, Name::new_unchecked(alloc, "id")?)?;
+    let id = id.with_selection(Selection::of_field(alloc, user)?)?;
+    set.push(Selection::of_field(alloc, id)?)?;
+    Ok(document_of(alloc, set)?)
 }
 
-/// `{ id { user } }`
-fn made(alloc: Global, id: Field) -> Result<ExecutableDocument, AllocError> {
-    let mut set = SelectionSet::new(alloc, name(alloc, "Query")?);
-    set.push(Selection::of_field(alloc, id)?)?;
-    document_of(alloc, set)
-}
+/// The leaf faults of a document that is made by calls.
+#[derive(Drop)]
+struct LeavesByCalls;
 
 impl Account for LeavesByCalls {
     fn tell(
@@ -95,47 +74,53 @@ impl Account for LeavesByCalls {
         text: &mut String,
     ) -> Result<(), AllocError> {
         match below_id(alloc, schema) {
-            Ok(id) => tell_leaves(alloc, text, schema, &made(alloc, id)?),
+            Ok(document) => tell_leaves(alloc, schema, &document, text),
             Err(_) => text.push_str("not made\n"),
         }
     }
 }
 
+const BY_CALLS: [(&str, &str); 1] = [(
+    "def object Query\nfield id ID\nfield user User\ndef object User\n===\n",
+    "`id`: a field of scalar or enum type must not have subselections\n`user`: a field of object, interface or union type must have subselections\n",
+)];
+
 #[test]
 fn below_a_field_at_fault_others_are(rt: HostRuntime) -> Result<(), Fail> {
-    expect(
-        &rt,
-        &LeavesByCalls,
-        "def object Query\nfield id ID\nfield user User\ndef object User\n===\n",
-        "`id`: a field of scalar or enum type must not have subselections\n`user`: a field of object, interface or union type must have subselections\n",
-    )
+    expect(&rt, &LeavesByCalls, &BY_CALLS)
 }
+
+const UNKNOWN: [(&str, &str); 2] = [
+    (
+        "def object Query\nfield id ID\nfield user User\ndef object User\n===\noperation query -\nsel 0 field id\nsel 1 field user\n",
+        "elsewhere:\n",
+    ),
+    // The schema at hand may have the unknown type.
+    (
+        "def union UNKNOWN\n===\nfragment F Gone\nsel 0 field a\nsel 1 field b\n",
+        "`b`: a field of object, interface or union type must have subselections\nelsewhere:\n",
+    ),
+];
 
 #[test]
 fn without_a_schema_types_are_unknown(rt: HostRuntime) -> Result<(), Fail> {
-    expect(
-        &rt,
-        &Without { view: Leaves },
-        "def object Query\nfield id ID\nfield user User\ndef object User\n===\noperation query -\nsel 0 field id\nsel 1 field user\n",
-        "",
-    )?;
-    // The schema at hand may have the unknown type.
-    expect(
-        &rt,
-        &Without { view: Leaves },
-        "def union UNKNOWN\n===\nfragment F Gone\nsel 0 field a\nsel 1 field b\n",
-        "`b`: a field of object, interface or union type must have subselections\n",
-    )
+    let account = Built {
+        is_over: false,
+        view: Leaves,
+    };
+    expect(&rt, &account, &UNKNOWN)
 }
+
+const AT_HAND: [(&str, &str); 1] = [(
+    "def object Query\nfield user User\ndef object User\n===\noperation query -\nsel 0 field user\nsel 0 field __schema\n",
+    "`user`: a field of object, interface or union type must have subselections\n`__schema`: a field of object, interface or union type must have subselections\nelsewhere:\n`__schema`: a field of object, interface or union type must have subselections\n",
+)];
 
 #[test]
 fn types_are_those_of_the_schema_at_hand(rt: HostRuntime) -> Result<(), Fail> {
-    expect(
-        &rt,
-        &Over {
-            view: LeavesElsewhere,
-        },
-        "def object Query\nfield user User\ndef object User\n===\noperation query -\nsel 0 field user\nsel 0 field __schema\n",
-        "`__schema`: a field of object, interface or union type must have subselections\n",
-    )
+    let account = Built {
+        is_over: true,
+        view: Leaves,
+    };
+    expect(&rt, &account, &AT_HAND)
 }

@@ -1,6 +1,5 @@
-//! Tests of typed trees, of walks over them, of elaboration, of the builder of documents and of leaf faults, of what no clause
-//! says: that calls succeed with memory, on worked documents, and the texts of faults and paths. Most compare a text that tells
-//! all that is looked at.
+//! Tests of elaboration, of the builder of documents and of leaf faults, of what no clause says: that calls succeed with memory, on
+//! worked documents, and the texts of faults and paths. Most compare a text that tells all that is looked at.
 #![tactic(auto)]
 
 #[cfg(test)]
@@ -10,11 +9,9 @@ mod by_calls;
 #[cfg(test)]
 mod documents;
 #[cfg(test)]
+mod elaborated;
+#[cfg(test)]
 mod errors;
-#[cfg(test)]
-mod expecting;
-#[cfg(test)]
-mod field_sets;
 #[cfg(test)]
 mod hash_keys;
 #[cfg(test)]
@@ -26,10 +23,4 @@ mod leaf_faults;
 #[cfg(test)]
 mod operations;
 #[cfg(test)]
-mod selections;
-#[cfg(test)]
 mod sources;
-#[cfg(test)]
-mod typed;
-#[cfg(test)]
-mod walks;

@@ -1,37 +1,19 @@
-//! Operations of built documents, by request.
+//! Operations of built documents: which one a request asks for, whether they ask for the schema alone, and walks over them.
 
-use crate::building::{Over, View};
-use crate::expecting::expect;
+use crate::building::{Built, View};
+use crate::inputs::expect;
 use apollo_elaboration::Fault;
-use apollo_executable::{ExecutableDocument, Operation, OperationMap};
+use apollo_executable::ExecutableDocument;
 use apollo_schema::schema::Schema;
 use graphql_nodes::name::Name;
 use std::alloc::{AllocError, Global};
 use std::test::Fail;
+use telling::Tell;
+use telling::walks::{End, push_walk};
 
-/// The operations that requests without a name and of the name `X` ask for, of each document.
+/// The operations that requests without a name and of the name `X` ask for.
 #[derive(Drop)]
 struct Requests;
-
-fn tell_operation(text: &mut String, operation: &Operation) -> Result<(), AllocError> {
-    match &operation.name {
-        Some(name) => text.push_str(name.as_str()),
-        None => text.push_str("-"),
-    }
-}
-
-/// Adds the name of the operation that is asked for, or the error.
-fn tell_requested(
-    text: &mut String,
-    operations: &OperationMap,
-    name: Option<&Name>,
-) -> Result<(), AllocError> {
-    match operations.get(name) {
-        Ok(operation) => tell_operation(text, operation)?,
-        Err(error) => write!(text, "{error}")?,
-    }
-    text.push_str("\n")
-}
 
 impl View for Requests {
     fn view(
@@ -43,24 +25,133 @@ impl View for Requests {
         text: &mut String,
     ) -> Result<(), AllocError> {
         let name = Name::new_unchecked(alloc, "X")?;
-        tell_requested(text, &document.operations, None)?;
-        tell_requested(text, &document.operations, Some(&name))
+        for request in [None, Some(&name)] {
+            match document.operations.get(request) {
+                Ok(operation) => operation.name.tell(text)?,
+                Err(error) => write!(text, "{error}")?,
+            }
+            text.push_str("\n")?;
+        }
+        Ok(())
     }
 }
 
-#[test]
-fn two_kept_operations_are_ambiguous(rt: HostRuntime) -> Result<(), Fail> {
-    expect(
-        &rt,
-        &Over { view: Requests },
+const REQUESTED: [(&str, &str); 2] = [
+    (
         "def object Query\nfield a Int\n===\noperation query -\nsel 0 field a\noperation query Q\nsel 0 field a\n",
         "Ambiguous request: multiple operations but no specified `operationName`\nNo operation named 'X'\n",
-    )?;
+    ),
     // One that is kept is asked for without a name too.
-    expect(
-        &rt,
-        &Over { view: Requests },
+    (
         "def object Query\nfield a Int\n===\noperation query X\nsel 0 field a\noperation query -\nsel 0 field a\n",
-        "X\nX\n",
-    )
+        "X 1:4 \nX 1:4 \n",
+    ),
+];
+
+#[test]
+fn two_kept_operations_are_ambiguous(rt: HostRuntime) -> Result<(), Fail> {
+    let account = Built {
+        is_over: true,
+        view: Requests,
+    };
+    expect(&rt, &account, &REQUESTED)
+}
+
+/// Of each operation what walks over it give, each up to its end, and whether it asks for the schema alone.
+#[derive(Drop)]
+struct Walked;
+
+impl View for Walked {
+    fn view(
+        &self,
+        alloc: Global,
+        _schema: &Schema,
+        document: &ExecutableDocument,
+        _faults: &[Fault],
+        text: &mut String,
+    ) -> Result<(), AllocError> {
+        for operation in document.operations.iter() {
+            text.push_str("root ")?;
+            let root = push_walk(text, &mut operation.root_fields(alloc, document))?;
+            text.push_str("all ")?;
+            let all = push_walk(text, &mut operation.all_fields(alloc, document))?;
+            let are_over = root == End::Over && all == End::Over;
+            let is_introspection = operation.is_introspection(alloc, document)?;
+            write!(text, "over {are_over} introspection {is_introspection}\n")?;
+        }
+        Ok(())
+    }
+}
+
+const WALKS: Built<Walked> = Built {
+    is_over: false,
+    view: Walked,
+};
+
+/// Operations that ask for the schema alone.
+const META: &str = "\
+===
+operation query A
+operation query B
+sel 0 spread Name
+sel 0 spread Gone
+operation query C
+sel 0 field __schema
+sel 1 field types
+operation query D
+sel 0 field __type ty
+sel 0 inline
+sel 1 field __typename
+fragment Name Query
+sel 0 field __typename
+fragment More Query
+sel 0 field name
+";
+
+#[test]
+fn queries_of_meta_fields_alone_are_introspection(rt: HostRuntime) -> Result<(), Fail> {
+    let expected = "\
+root all over true introspection true
+root __typename 1:14 all __typename 1:14 over true introspection true
+root __schema 1:7 all __schema 1:7 types 1:8 over true introspection true
+root ty 1:10 __typename 1:12 all ty 1:10 __typename 1:12 over true introspection true
+";
+    expect(&rt, &WALKS, &[(META, expected)])
+}
+
+/// Operations that ask for something else, or aren't queries.
+const OTHERS: &str = "\
+===
+operation mutation A
+sel 0 field __typename
+operation subscription B
+sel 0 field __typename
+operation query C
+sel 0 field __schema
+sel 0 spread More
+operation query D
+sel 0 field name __typename
+operation query E
+sel 0 field __types
+fragment More Query
+sel 0 field name
+";
+
+#[test]
+fn other_operations_are_no_introspection(rt: HostRuntime) -> Result<(), Fail> {
+    let expected = "\
+root __typename 1:3 all __typename 1:3 over true introspection false
+root __typename 1:5 all __typename 1:5 over true introspection false
+root __schema 1:7 name 1:14 all __schema 1:7 name 1:14 over true introspection false
+root __typename 1:10 all __typename 1:10 over true introspection false
+root __types 1:12 all __types 1:12 over true introspection false
+";
+    expect(&rt, &WALKS, &[(OTHERS, expected)])
+}
+
+#[test]
+fn operations_are_walked_over(rt: HostRuntime) -> Result<(), Fail> {
+    let input = "===\noperation mutation -\nsel 0 field a\nsel 1 field b\n";
+    let expected = "root a 1:3 all a 1:3 b 1:4 over true introspection false\n";
+    expect(&rt, &WALKS, &[(input, expected)])
 }

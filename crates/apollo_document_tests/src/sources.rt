@@ -1,10 +1,7 @@
 //! The sources of documents.
 
-use crate::building::{Over, View};
-use crate::expecting::expect;
-use crate::inputs::Account;
-use apollo_elaboration::Fault;
-use apollo_executable::ExecutableDocument;
+use crate::building::WITHOUT;
+use crate::inputs::{Account, expect};
 use apollo_schema::schema::Schema;
 use graphql_ast::document::Document;
 use graphql_nodes::collections::items::Items;
@@ -22,40 +19,11 @@ fn of_file(alloc: Global, number: u64, path: &str) -> Result<Document, AllocErro
     Ok(document)
 }
 
-/// Three documents, of which the first and the last are of one number.
-fn three(alloc: Global) -> Result<Items<Document>, AllocError> {
-    let mut documents = Items::new(alloc);
-    for (number, path) in [(1, "a"), (2, "b"), (1, "c")] {
-        documents.push(of_file(alloc, number, path)?)?;
-    }
-    Ok(documents)
-}
-
-/// The paths of the files of a document, in order.
+/// What three documents build, of which the first and the last are of one number.
 #[derive(Drop)]
-struct Paths;
+struct OfThree;
 
-impl View for Paths {
-    fn view(
-        &self,
-        _alloc: Global,
-        _schema: &Schema,
-        document: &ExecutableDocument,
-        _faults: &[Fault],
-        text: &mut String,
-    ) -> Result<(), AllocError> {
-        for file in document.sources.values() {
-            text.push_str(file.path.as_str())?;
-        }
-        Ok(())
-    }
-}
-
-/// The same of the three documents.
-#[derive(Drop)]
-struct PathsOfThree;
-
-impl Account for PathsOfThree {
+impl Account for OfThree {
     fn tell(
         &self,
         alloc: Global,
@@ -63,12 +31,16 @@ impl Account for PathsOfThree {
         _documents: &[Document],
         text: &mut String,
     ) -> Result<(), AllocError> {
-        let documents = three(alloc)?;
-        Over { view: Paths }.tell(alloc, schema, documents.as_slice(), text)
+        let mut documents = Items::new(alloc);
+        for (number, path) in [(1, "a"), (2, "b"), (1, "c")] {
+            documents.push(of_file(alloc, number, path)?)?;
+        }
+        WITHOUT.tell(alloc, schema, documents.as_slice(), text)
     }
 }
 
 #[test]
 fn a_later_file_of_a_number_takes_the_place_of_the_earlier(rt: HostRuntime) -> Result<(), Fail> {
-    expect(&rt, &PathsOfThree, "===\n", "cb")
+    let expected = "file 1 \"c\" \"\"\nfile 2 \"b\" \"\"\nagain: true\n";
+    expect(&rt, &OfThree, &[("===\n", expected)])
 }

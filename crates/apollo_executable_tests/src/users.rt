@@ -1,23 +1,34 @@
-//! Documents over the users' schema, made by calls alone.
+//! The users' schema, and a document over it that is made by calls alone.
 
+use crate::making::{name, operation};
 use apollo_executable::{
-    ExecutableDocument, Field, Fragment, FragmentSpread, InlineFragment, NewFieldError, Operation,
-    Selection, SelectionSet,
+    ExecutableDocument, Field, Fragment, FragmentSpread, InlineFragment, NewFieldError, Selection,
+    SelectionSet,
 };
 use apollo_schema::schema::Schema;
+use bench_notation::reading::read;
 use graphql_ast::directive::{Argument, Directive, DirectiveList};
 use graphql_ast::value::Value;
 use graphql_nodes::collections::items::Items;
 use graphql_nodes::collections::text::Text;
-use graphql_nodes::name::Name;
 use graphql_nodes::node::Node;
 use graphql_nodes::operation_type::OperationType;
 use std::alloc::{AllocError, Global};
+use std::test::Fail;
 
-/// A name of this text.
+/// Users with a name and a picture, and a query for one.
+const SCHEMA: &str =
+    "def object Query\nfield id ID\nfield user User\narg id ID\ndef object User\nfield id ID\nfield name String\nfield profilePic URL\narg size Int\ndef scalar URL\n";
+
+/// The schema that typed documents are made over.
 /// No clause: it serves tests.
-pub fn name(alloc: Global, text: &str) -> Result<Name, AllocError> {
-    Name::new_unchecked(alloc, text)
+pub fn users_schema(alloc: Global) -> Result<Schema, Fail> {
+    let documents = read(alloc, SCHEMA)?;
+    let mut builder = Schema::builder(alloc)?;
+    if let Some(document) = documents.first() {
+        builder.add_ast(document)?;
+    }
+    Ok(builder.build()?)
 }
 
 /// The directive of this name.
@@ -28,8 +39,9 @@ fn directive(alloc: Global, text: &str) -> Result<Node<Directive>, AllocError> {
 /// The directives `@first @second`.
 fn directives(alloc: Global) -> Result<Vec<Node<Directive>>, AllocError> {
     let mut list = Items::new(alloc);
-    list.push(directive(alloc, "first")?)?;
-    list.push(directive(alloc, "second")?)?;
+    for text in ["first", "second"] {
+        list.push(directive(alloc, text)?)?;
+    }
     Ok(list.into_vec())
 }
 
@@ -48,8 +60,7 @@ fn arguments(alloc: Global) -> Result<Vec<Node<Argument>>, AllocError> {
 }
 
 /// The field of this name, in this set.
-/// No clause: it serves tests.
-pub fn field<'schema>(
+fn field<'schema>(
     alloc: Global,
     schema: &'schema Schema,
     set: &SelectionSet,
@@ -156,24 +167,6 @@ fn root<'schema>(
     Ok(set)
 }
 
-/// An operation with these selections.
-/// No clause: it serves tests.
-pub fn operation(
-    alloc: Global,
-    operation_type: OperationType,
-    name: Option<Name>,
-    selection_set: SelectionSet,
-) -> Result<Node<Operation>, AllocError> {
-    let operation = Operation {
-        operation_type,
-        name,
-        variables: Items::new(alloc),
-        directives: DirectiveList::new(alloc),
-        selection_set,
-    };
-    Node::new(alloc, operation)
-}
-
 /// The fragment `Picture on User { profilePic(size: 50) }`.
 fn picture<'schema>(
     alloc: Global,
@@ -191,32 +184,6 @@ fn picture<'schema>(
     Ok(Node::new(alloc, fragment)?)
 }
 
-/// Adds the query `GetUser` to the document. Whether it is in.
-fn add_query<'schema>(
-    alloc: Global,
-    schema: &'schema Schema,
-    document: &mut ExecutableDocument,
-) -> Result<bool, NewFieldError<'schema>> {
-    let set = root(alloc, schema)?;
-    let name = name(alloc, "GetUser")?;
-    let query = operation(alloc, OperationType::Query, Some(name), set)?;
-    Ok(document.operations.insert(query).is_ok())
-}
-
-/// Adds the fragment `Picture` to the document.
-fn add_fragment<'schema>(
-    alloc: Global,
-    schema: &'schema Schema,
-    document: &mut ExecutableDocument,
-) -> Result<(), NewFieldError<'schema>> {
-    let fragment = picture(alloc, schema)?;
-    let name = name(alloc, "Picture")?;
-    match document.fragments.insert(name, fragment) {
-        Ok(_) => Ok(()),
-        Err(_) => Err(NewFieldError::Memory),
-    }
-}
-
 /// The document of the query `GetUser` and of the fragment `Picture`.
 /// No clause: it serves tests.
 pub fn users_document<'schema>(
@@ -224,9 +191,14 @@ pub fn users_document<'schema>(
     schema: &'schema Schema,
 ) -> Result<ExecutableDocument, NewFieldError<'schema>> {
     let mut document = ExecutableDocument::new(alloc);
-    if !add_query(alloc, schema, &mut document)? {
-        return Err(NewFieldError::Memory);
+    let (get_user, set) = (name(alloc, "GetUser")?, root(alloc, schema)?);
+    let query = operation(alloc, OperationType::Query, Some(get_user), set)?;
+    let is_query_in = document.operations.insert(query).is_ok();
+    let (key, fragment) = (name(alloc, "Picture")?, picture(alloc, schema)?);
+    let is_fragment_in = document.fragments.insert(key, fragment).is_ok();
+    if is_query_in && is_fragment_in {
+        Ok(document)
+    } else {
+        Err(NewFieldError::Memory)
     }
-    add_fragment(alloc, schema, &mut document)?;
-    Ok(document)
 }

@@ -1,38 +1,31 @@
 //! Walks over more selections than could ever be counted.
 
-use crate::typed::making::name;
-use crate::walks::making::field;
+use crate::making::{empty, field, name, operation};
 use apollo_executable::{
     AllFields, ExecutableDocument, InlineFragment, Operation, Selection, SelectionSet,
 };
-use graphql_ast::directive::DirectiveList;
-use graphql_nodes::collections::items::Items;
 use graphql_nodes::node::Node;
 use graphql_nodes::operation_type::OperationType;
 use std::alloc::{AllocError, Global};
 use std::test::Fail;
 
-fn empty(alloc: Global) -> Result<SelectionSet, AllocError> {
-    Ok(SelectionSet::new(alloc, name(alloc, "Query")?))
-}
-
-/// How deep the fields stand, one in another.
+/// How deep the selections stand, one in another.
 const DEPTH: u32 = 100;
 
-/// The key of a field that stands so deep.
-fn key(alloc: Global, depth: u32) -> Result<String, AllocError> {
-    format!(in alloc; "a{depth}")
+/// A set with a selection twice, which both share what is in it.
+fn twice(alloc: Global, selection: Selection) -> Result<SelectionSet, AllocError> {
+    let mut outer = empty(alloc)?;
+    outer.push(selection.clone()?)?;
+    outer.push(selection)?;
+    Ok(outer)
 }
 
 /// A set with two selections of one field at this depth, whose set is this one.
 fn doubled(alloc: Global, depth: u32, set: SelectionSet) -> Result<SelectionSet, AllocError> {
-    let mut field = field(alloc, key(alloc, depth)?.as_str())?;
+    let text = format!(in alloc; "a{depth}")?;
+    let mut field = field(alloc, text.as_str())?;
     field.selection_set = set;
-    let node = Node::new(alloc, field)?;
-    let mut outer = empty(alloc)?;
-    outer.push(Selection::Field(node.clone()?))?;
-    outer.push(Selection::Field(node))?;
-    Ok(outer)
+    twice(alloc, Selection::of_field(alloc, field)?)
 }
 
 /// Such a set in such a set, down to the deepest.
@@ -47,15 +40,13 @@ fn nested(alloc: Global) -> Result<SelectionSet, AllocError> {
 /// Adds the key of the next field of a walk. The contract of the call stays here, so that no loop carries it along.
 fn push_next(text: &mut String, walk: &mut AllFields<'_>) -> Result<(), AllocError> {
     match walk.next() {
-        Some(Ok(field)) => push_line(text, field.response_key().as_str()),
+        Some(Ok(field)) => {
+            let key = field.response_key();
+            write!(text, "{key}\n")
+        }
         Some(Err(error)) => Err(error),
         None => text.push_str("an end\n"),
     }
-}
-
-fn push_line(text: &mut String, key: &str) -> Result<(), AllocError> {
-    text.push_str(key)?;
-    text.push_str("\n")
 }
 
 /// The keys of the first thousand items.
@@ -76,7 +67,7 @@ fn expected_keys(alloc: Global) -> Result<String, AllocError> {
     let mut text = String::new(alloc);
     let (mut depth, mut deepest) = (1, 0_u32);
     for _ in 0..1000 {
-        push_line(&mut text, key(alloc, depth)?.as_str())?;
+        write!(text, "a{depth}\n")?;
         if depth < DEPTH {
             depth = depth.wrapping_add(1);
         } else {
@@ -99,38 +90,23 @@ fn a_walk_over_shared_fields_is_given_up(rt: HostRuntime) -> Result<(), Fail> {
 fn inlined(alloc: Global, set: SelectionSet) -> Result<SelectionSet, AllocError> {
     let mut inline = InlineFragment::without_type_condition(alloc, name(alloc, "Query")?);
     inline.selection_set = set;
-    let node = Node::new(alloc, inline)?;
-    let mut outer = empty(alloc)?;
-    outer.push(Selection::InlineFragment(node.clone()?))?;
-    outer.push(Selection::InlineFragment(node))?;
-    Ok(outer)
+    twice(alloc, Selection::of_inline_fragment(alloc, inline)?)
 }
 
-/// A query with one field in such a set in such a set, 100 deep.
-fn query(alloc: Global) -> Result<Operation, AllocError> {
+/// A query with one field in such a set in such a set.
+fn query(alloc: Global) -> Result<Node<Operation>, AllocError> {
     let mut set = empty(alloc)?;
     set.push(Selection::of_field(alloc, field(alloc, "name")?)?)?;
-    for _ in 0..100 {
+    for _ in 0..DEPTH {
         set = inlined(alloc, set)?;
     }
-    Ok(Operation {
-        operation_type: OperationType::Query,
-        name: None,
-        variables: Items::new(alloc),
-        directives: DirectiveList::new(alloc),
-        selection_set: set,
-    })
-}
-
-fn is_introspection(alloc: Global) -> Result<bool, AllocError> {
-    let operation = query(alloc)?;
-    let document = ExecutableDocument::new(alloc);
-    operation.is_introspection(alloc, &document)
+    operation(alloc, OperationType::Query, None, set)
 }
 
 #[test]
 fn is_introspection_stops_at_the_first_other_field(rt: HostRuntime) -> Result<(), Fail> {
-    let is_introspection = is_introspection(rt.alloc())?;
-    assert!(rt; !is_introspection);
+    let operation = query(rt.alloc())?;
+    let document = ExecutableDocument::new(rt.alloc());
+    assert!(rt; !operation.is_introspection(rt.alloc(), &document)?);
     Ok(())
 }

@@ -1,7 +1,7 @@
 //! Maps of operations in all their cases, with the texts of errors.
 
-use crate::typed::making::{name, operation};
-use apollo_executable::{ExecutableDocument, OperationMap, RequestError, SelectionSet};
+use crate::making::{empty, name, operation};
+use apollo_executable::{ExecutableDocument, OperationMap, RequestError};
 use graphql_nodes::collections::hash_keys::HashKeys;
 use graphql_nodes::name::Name;
 use graphql_nodes::operation_type::OperationType;
@@ -30,8 +30,7 @@ fn insert(
     text: &str,
     log: &mut String,
 ) -> Result<(), AllocError> {
-    let set = SelectionSet::new(alloc, name(alloc, "Query")?);
-    let operation = operation(alloc, kind, name_or_none(alloc, text)?, set)?;
+    let operation = operation(alloc, kind, name_or_none(alloc, text)?, empty(alloc)?)?;
     match map.insert(operation) {
         Ok(Some(old)) => {
             log.push_str(" for ")?;
@@ -39,22 +38,6 @@ fn insert(
         }
         Ok(None) => log.push_str(" new"),
         Err(_) => log.push_str(" refused"),
-    }
-}
-
-fn push_error(log: &mut String, error: &RequestError<'_>) -> Result<(), AllocError> {
-    write!(log, "{error}")
-}
-
-/// Says which operation a request of this name asks for.
-fn push_requested(
-    log: &mut String,
-    map: &OperationMap,
-    name: Option<&Name>,
-) -> Result<(), AllocError> {
-    match map.get(name) {
-        Ok(operation) => log.push_str(operation.operation_type.name()),
-        Err(error) => push_error(log, &error),
     }
 }
 
@@ -80,46 +63,65 @@ fn push_map(log: &mut String, map: &OperationMap) -> Result<(), AllocError> {
     log.push_str("\n")
 }
 
+/// Says what a request of this name asks for.
+fn push_requested(
+    log: &mut String,
+    map: &OperationMap,
+    text: &str,
+    name: Option<&Name>,
+) -> Result<(), AllocError> {
+    match map.get(name) {
+        Ok(operation) => {
+            let kind = operation.operation_type.name();
+            write!(log, "  {text} is {kind}\n")
+        }
+        Err(error) => write!(log, "  {text} is {error}\n"),
+    }
+}
+
 /// Says what requests of some names ask for.
 fn push_requests(alloc: Global, log: &mut String, map: &OperationMap) -> Result<(), AllocError> {
-    for text in ["-", "A", "X"].iter() {
-        let name = name_or_none(alloc, *text)?;
-        write!(log, "  {text} is ")?;
-        push_requested(log, map, name.as_ref())?;
-        log.push_str("\n")?;
+    for text in ["-", "A", "X"] {
+        let name = name_or_none(alloc, text)?;
+        push_requested(log, map, text, name.as_ref())?;
     }
     Ok(())
 }
 
-/// Inserts an operation of each of these names, the kinds in turn, and says after each what there is.
-fn told(alloc: Global, texts: &[&'static str]) -> Result<String, AllocError> {
-    let mut log = String::new(alloc);
+/// Inserts an operation, and says what there is then.
+fn push_inserted(
+    alloc: Global,
+    log: &mut String,
+    map: &mut OperationMap,
+    kind: OperationType,
+    text: &str,
+) -> Result<(), AllocError> {
+    log.push_str(text)?;
+    insert(alloc, map, kind, text, log)?;
+    log.push_str("\n ")?;
+    push_map(log, map)?;
+    push_requests(alloc, log, map)
+}
+
+/// Inserts an operation of each of these names, the kinds in turn, and says before and after each what there is.
+fn tell_inserted(alloc: Global, log: &mut String, texts: [&str; 3]) -> Result<(), AllocError> {
     let mut map = OperationMap::new(alloc);
-    push_requests(alloc, &mut log, &map)?;
+    push_requests(alloc, log, &map)?;
     for (text, kind) in texts.iter().zip(KINDS.iter()) {
-        log.push_str(*text)?;
-        insert(alloc, &mut map, *kind, *text, &mut log)?;
-        log.push_str("\n ")?;
-        push_map(&mut log, &map)?;
-        push_requests(alloc, &mut log, &map)?;
+        push_inserted(alloc, log, &mut map, *kind, *text)?;
     }
-    Ok(log)
-}
-
-#[test]
-fn a_second_anonymous_operation_takes_the_place_of_the_first(rt: HostRuntime) -> Result<(), Fail> {
-    let log = told(rt.alloc(), &["-", "-", "A"])?;
-    let expected =
-        "  - is Ambiguous request: multiple operations but no specified `operationName`\n  A is No operation named 'A'\n  X is No operation named 'X'\n- new\n 1 false: query\n  - is query\n  A is No operation named 'A'\n  X is No operation named 'X'\n- for query\n 1 false: mutation\n  - is mutation\n  A is No operation named 'A'\n  X is No operation named 'X'\nA new\n 2 false: mutation subscription\n  - is Ambiguous request: multiple operations but no specified `operationName`\n  A is subscription\n  X is No operation named 'X'\n";
-    assert_eq!(rt; log.as_str(), expected);
     Ok(())
 }
 
 #[test]
-fn a_second_operation_of_a_name_takes_the_place_of_the_first(rt: HostRuntime) -> Result<(), Fail> {
-    let log = told(rt.alloc(), &["A", "B", "A"])?;
+fn a_second_operation_takes_the_place_of_the_first_of_its_name_or_of_none(
+    rt: HostRuntime,
+) -> Result<(), Fail> {
+    let mut log = String::new(rt.alloc());
+    tell_inserted(rt.alloc(), &mut log, ["-", "-", "A"])?;
+    tell_inserted(rt.alloc(), &mut log, ["A", "B", "A"])?;
     let expected =
-        "  - is Ambiguous request: multiple operations but no specified `operationName`\n  A is No operation named 'A'\n  X is No operation named 'X'\nA new\n 1 false: query\n  - is query\n  A is query\n  X is No operation named 'X'\nB new\n 2 false: query mutation\n  - is Ambiguous request: multiple operations but no specified `operationName`\n  A is query\n  X is No operation named 'X'\nA for query\n 2 false: subscription mutation\n  - is Ambiguous request: multiple operations but no specified `operationName`\n  A is subscription\n  X is No operation named 'X'\n";
+        "  - is Ambiguous request: multiple operations but no specified `operationName`\n  A is No operation named 'A'\n  X is No operation named 'X'\n- new\n 1 false: query\n  - is query\n  A is No operation named 'A'\n  X is No operation named 'X'\n- for query\n 1 false: mutation\n  - is mutation\n  A is No operation named 'A'\n  X is No operation named 'X'\nA new\n 2 false: mutation subscription\n  - is Ambiguous request: multiple operations but no specified `operationName`\n  A is subscription\n  X is No operation named 'X'\n  - is Ambiguous request: multiple operations but no specified `operationName`\n  A is No operation named 'A'\n  X is No operation named 'X'\nA new\n 1 false: query\n  - is query\n  A is query\n  X is No operation named 'X'\nB new\n 2 false: query mutation\n  - is Ambiguous request: multiple operations but no specified `operationName`\n  A is query\n  X is No operation named 'X'\nA for query\n 2 false: subscription mutation\n  - is Ambiguous request: multiple operations but no specified `operationName`\n  A is subscription\n  X is No operation named 'X'\n";
     assert_eq!(rt; log.as_str(), expected);
     Ok(())
 }
@@ -150,15 +152,20 @@ fn written(
     push_map(log, &copy)
 }
 
+const WRITTEN: [(&[&str], &str); 5] = [
+    (&["-"], "-"),
+    (&["A"], "-"),
+    (&["-", "A", "B"], "B"),
+    (&["-", "A"], "-"),
+    (&["A"], "B"),
+];
+
 #[test]
 fn a_write_reaches_the_operation_that_is_asked_for_alone(rt: HostRuntime) -> Result<(), Fail> {
-    let alloc = rt.alloc();
-    let mut log = String::new(alloc);
-    written(alloc, &["-"], "-", &mut log)?;
-    written(alloc, &["A"], "-", &mut log)?;
-    written(alloc, &["-", "A", "B"], "B", &mut log)?;
-    written(alloc, &["-", "A"], "-", &mut log)?;
-    written(alloc, &["A"], "B", &mut log)?;
+    let mut log = String::new(rt.alloc());
+    for (texts, request) in WRITTEN.iter() {
+        written(rt.alloc(), *texts, *request, &mut log)?;
+    }
     let expected =
         "true 1 false: query\n1 false: subscription\ntrue 1 false: query\n1 false: subscription\ntrue 3 false: query query query\n3 false: query query subscription\nfalse 2 false: query query\n2 false: query query\nfalse 1 false: query\n1 false: query\n";
     assert_eq!(rt; log.as_str(), expected);
@@ -167,9 +174,8 @@ fn a_write_reaches_the_operation_that_is_asked_for_alone(rt: HostRuntime) -> Res
 
 /// Whether a map of this one operation is made.
 fn is_made_of_one(alloc: Global, text: &str) -> Result<bool, AllocError> {
-    let set = SelectionSet::new(alloc, name(alloc, "Query")?);
     let name = name_or_none(alloc, text)?;
-    let operation = operation(alloc, OperationType::Query, name, set)?;
+    let operation = operation(alloc, OperationType::Query, name, empty(alloc)?)?;
     match OperationMap::from_one(alloc, operation) {
         Ok(map) => Ok(map.len() == 1),
         Err(_) => Ok(false),

@@ -1,0 +1,18 @@
+//! Tests of typed documents that are made by calls, of their operations and fields, and of walks over them, of what no clause says:
+//! that calls succeed with memory, the texts of errors, and documents that no row can say.
+#![tactic(auto)]
+
+#[cfg(test)]
+mod another_key;
+#[cfg(test)]
+mod by_calls;
+#[cfg(test)]
+mod fields;
+#[cfg(test)]
+mod making;
+#[cfg(test)]
+mod nested;
+#[cfg(test)]
+mod operation_maps;
+#[cfg(test)]
+mod users;
