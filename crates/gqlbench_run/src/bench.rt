@@ -3,7 +3,6 @@
 
 use crate::command::{Command, Work};
 use crate::failure::Failure;
-use crate::questions::{Question, field_questions, subtype_questions};
 use apollo_compiler::building::build_schema;
 use apollo_compiler::compile_options::CompileOptions;
 use apollo_compiler::document_building::build_executable_document;
@@ -12,6 +11,7 @@ use apollo_executable::document::ExecutableDocument;
 use apollo_meaning::build_error::Faults as SchemaFaults;
 use apollo_schema::schema::Schema;
 use bench_notation::reading::{DividedDocuments, read, read_divided};
+use gqlbench_counts::questions::{Question, field_questions, subtype_questions};
 use gqltool_run::failure::Failure as InputFailure;
 use graphql_ast::document::Document;
 use graphql_nodes::collections::hash_keys::HashKeys;

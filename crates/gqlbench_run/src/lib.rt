@@ -6,7 +6,6 @@ mod command;
 mod failure;
 pub mod memory;
 mod phases;
-mod questions;
 mod report;
 pub mod running;
 pub mod stopwatch;

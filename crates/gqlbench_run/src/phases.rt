@@ -3,21 +3,20 @@
 
 use crate::bench::{Bench, Built, Questions, Ready, Typed};
 use crate::failure::Failure;
-use crate::questions::{count_fields, count_subtypes};
 use crate::report::Item;
 use crate::report::Value::{Count, Equality};
 use crate::stopwatch::Stopwatch;
 use apollo_compiler::compiled::Compiled;
 use apollo_compiler::compiling::compile_with_keys;
 use apollo_executable::document::ExecutableDocument;
-use apollo_executable::selection::SelectionSet;
 use apollo_schema::schema::Schema;
 use bench_notation::reading::DividedDocuments;
+use gqlbench_counts::questions::{count_fields, count_subtypes};
+use gqlbench_counts::walked::count_walked;
 use graphql_ast::definition::Definition;
 use graphql_ast::document::Document;
 use graphql_nodes::collections::items::Items;
 use leafcheck::checking::leaf_faults;
-use std::alloc::{AllocError, Global};
 use std::io::Write;
 use std::time::Clock;
 
@@ -138,27 +137,15 @@ impl<C: Clock> Stopwatch<'_, C> {
 
     fn time_walks(&mut self, document: &ExecutableDocument) -> Counted {
         let began = self.now()?;
-        let root = self.count_walked(document, false)?;
+        let root = count_walked(self.bench.alloc, document, false)?;
         let root = Count(self.took("root-walks", began, root)?);
         let began = self.now()?;
-        let all = self.count_walked(document, true)?;
+        let all = count_walked(self.bench.alloc, document, true)?;
         let all = Count(self.took("all-walks", began, all)?);
         let root = (" root fields, ", "root_fields", root);
         let all = (" fields in all\n", "all_fields", all);
         let [operations, fragments] = sizes(document);
         Ok([operations, fragments, root, all].to_vec(self.bench.alloc)?)
-    }
-
-    /// How many fields walks over all operations and fragments give: over all fields, or over root fields alone.
-    fn count_walked(&self, document: &ExecutableDocument, deep: bool) -> Result<usize, AllocError> {
-        let (alloc, mut count) = (self.bench.alloc, 0);
-        for operation in document.operations.iter() {
-            count = count_on(alloc, document, &operation.selection_set, deep, count)?;
-        }
-        for fragment in document.fragments.values() {
-            count = count_on(alloc, document, &fragment.selection_set, deep, count)?;
-        }
-        Ok(count)
     }
 
     fn time_leaf_faults(&mut self, schema: &Schema, document: &ExecutableDocument) -> Counted {
@@ -237,24 +224,4 @@ fn sizes(document: &ExecutableDocument) -> [Item; 2] {
         (" operations, ", "operations", operations),
         (" fragments, ", "fragments", fragments),
     ]
-}
-
-/// How many a walk over one set gives, on from a number, as far as they can be counted.
-fn count_on(
-    alloc: Global,
-    document: &ExecutableDocument,
-    set: &SelectionSet,
-    deep: bool,
-    mut count: usize,
-) -> Result<usize, AllocError> {
-    let walk = if deep {
-        set.all_fields(alloc, document)
-    } else {
-        set.root_fields(alloc, document)
-    };
-    for field in walk {
-        let _field = field?;
-        count = count.saturating_add(1);
-    }
-    Ok(count)
 }

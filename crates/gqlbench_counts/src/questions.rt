@@ -58,18 +58,25 @@ pub fn subtype_questions(alloc: Global, schema: &Schema) -> Result<Vec<Question>
     Ok(questions)
 }
 
+fn has_field(schema: &Schema, question: &Question) -> bool {
+    schema.type_field(&question.0, &question.1).is_ok()
+}
+
 /// Asks for each field, and counts those that there are.
 pub fn count_fields(schema: &Schema, questions: &[Question]) -> usize {
-    questions
-        .iter()
-        .filter(|question| schema.type_field(&question.0, &question.1).is_ok())
-        .count()
+    let mut count: usize = 0;
+    for question in questions {
+        count = count.saturating_add(usize::from(has_field(schema, question)));
+    }
+    count
 }
 
 /// Asks for each subtype, and counts those that there are.
 pub fn count_subtypes(schema: &Schema, questions: &[Question]) -> usize {
-    questions
-        .iter()
-        .filter(|question| schema.is_subtype(&question.0, &question.1))
-        .count()
+    let mut count: usize = 0;
+    for question in questions {
+        let is_subtype = schema.is_subtype(&question.0, &question.1);
+        count = count.saturating_add(usize::from(is_subtype));
+    }
+    count
 }
