@@ -1,7 +1,5 @@
 //! Arguments by their names.
 
-use crate::samples::{PLACE, name, node, pair};
-use crate::tables::expect_at;
 use crate::values::int;
 use graphql_ast::argument::ArgumentByNameError;
 use graphql_ast::directive::Argument;
@@ -11,6 +9,8 @@ use graphql_ast::value::Value;
 use graphql_nodes::collections::items::Items;
 use graphql_nodes::node::Node;
 use graphql_nodes::node_str::NodeStr;
+use graphql_nodes_tests::samples::{PLACE, name, node, pair};
+use graphql_nodes_tests::tables::expect_at;
 use likeness::both;
 use std::alloc::{AllocError, Global};
 

@@ -1,6 +1,5 @@
 //! Definitions of all kinds: their texts and copies.
 
-use crate::samples::PLACE;
 use graphql_ast::{
     Definition, DirectiveDefinition, EnumTypeDefinition, EnumTypeExtension, FragmentDefinition,
     InputObjectTypeDefinition, InputObjectTypeExtension, InterfaceTypeDefinition,
@@ -9,6 +8,7 @@ use graphql_ast::{
     UnionTypeDefinition, UnionTypeExtension,
 };
 use graphql_nodes::{Name, Node, OperationType};
+use graphql_nodes_tests::samples::PLACE;
 use likeness::{is_copied, is_copied_so};
 use std::alloc::Global;
 

@@ -1,8 +1,8 @@
 //! Documents and their sources.
 
-use crate::samples::PLACE;
 use graphql_ast::{Document, SchemaDefinition};
 use graphql_nodes::{FileId, Node, Shared, SourceFile, SourceMap, SourceSpan, Table};
+use graphql_nodes_tests::samples::PLACE;
 use likeness::{are_equal, is_copied_so};
 use std::alloc::{AllocError, Global};
 

@@ -1,10 +1,10 @@
 //! Parts of operations and of types: their copies.
 
 use crate::arguments::{defined, field, int_type, number};
-use crate::samples::name;
 use graphql_ast::operation::VariableDefinition;
 use graphql_ast::selection::FragmentSpread;
 use graphql_ast::type_system::EnumValueDefinition;
+use graphql_nodes_tests::samples::name;
 use likeness::{both, is_held_copied, is_made_copied};
 use std::alloc::{AllocError, Global};
 

@@ -1,6 +1,5 @@
 //! What is read from lines: extensions as they stand, before a schema is built of them, and the locations of nodes.
 
-use crate::tables::expect_at;
 use bench_notation::printing::print;
 use bench_notation::reading::{read, read_divided};
 use bench_notation::refusal::ReadError;
@@ -9,6 +8,7 @@ use graphql_ast::document::Document;
 use graphql_ast::type_system::{InputObjectTypeDefinition, SchemaDefinition};
 use graphql_nodes::node::Node;
 use graphql_nodes::source::SourceSpan;
+use graphql_nodes_tests::tables::expect_at;
 use likeness::{is_printed, push_location};
 use std::alloc::{AllocError, Global};
 use std::process::Abort;

@@ -1,9 +1,9 @@
 //! Selections with directives and arguments: their likeness, copies and writes.
 
-use crate::samples::{PLACE, list, name, node};
 use crate::values::value;
 use graphql_ast::{Argument, Directive, DirectiveList, Field, InlineFragment, Node, Selection};
 use graphql_nodes::SourceSpan;
+use graphql_nodes_tests::samples::{PLACE, list, name, node};
 use likeness::{are_made_alike, both, is_copied_so, is_held_copied, is_made_copied};
 use std::alloc::{AllocError, Global};
 

@@ -1,8 +1,8 @@
 //! References to types, and their copies.
 
-use crate::samples::{PLACE, name};
 use graphql_ast::Type;
 use graphql_nodes::Boxed;
+use graphql_nodes_tests::samples::{PLACE, name};
 use likeness::{are_equal, is_copied_so};
 use std::alloc::{AllocError, Global};
 

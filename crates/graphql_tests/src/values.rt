@@ -1,10 +1,10 @@
 //! Values, and their copies.
 
-use crate::samples::{list, name, node, pair};
 use graphql_ast::value::Value;
 use graphql_nodes::collections::text::Text;
 use graphql_nodes::node::Node;
 use graphql_nodes::source::SourceSpan;
+use graphql_nodes_tests::samples::{list, name, node, pair};
 use likeness::{are_equal, both, is_copied, is_held_copied, is_made_copied};
 use std::alloc::{AllocError, Global};
 

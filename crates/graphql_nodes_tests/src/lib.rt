@@ -1,0 +1,26 @@
+//! Tests of names, nodes, containers and enums, of what no clause says: printed texts, examples from the specification, that calls and
+//! copies succeed with memory, and that a write leaves the other node; and what tests of trees make, too.
+#![tactic(auto)]
+
+#[cfg(test)]
+mod containers;
+#[cfg(test)]
+mod hash_keys;
+#[cfg(test)]
+mod line_columns;
+#[cfg(test)]
+mod lists;
+#[cfg(test)]
+mod names;
+#[cfg(test)]
+mod nodes;
+pub mod samples;
+#[cfg(test)]
+mod shown;
+#[cfg(test)]
+mod single_values;
+#[cfg(test)]
+mod sources;
+pub mod tables;
+#[cfg(test)]
+mod texts;
