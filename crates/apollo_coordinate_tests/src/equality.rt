@@ -1,8 +1,8 @@
 //! What lookups answer in two schemas, compared.
 
-use crate::schemas::built;
 use apollo_coordinate::coordinates::SchemaCoordinate;
 use apollo_schema::schema::Schema;
+use apollo_types_tests::schemas::schema_of;
 use std::process::Abort;
 
 /// Each form that a coordinate can have points to something here.
@@ -40,8 +40,8 @@ fn are_same(coordinate: &SchemaCoordinate, first: &Schema, second: &Schema) -> O
 
 /// Expects what coordinates of each form point to in the schemas of two texts to be equal, or else unequal but for the enum value.
 fn expect(rt: &(impl Abort + AllocGlobal), second: &str, are_equal: bool) {
-    let first = built(rt, FIRST);
-    let second = built(rt, second);
+    let first = schema_of(rt, FIRST);
+    let second = schema_of(rt, second);
     for (input, expected) in [
         ("Query", are_equal),
         ("Query.f", are_equal),

@@ -9,5 +9,3 @@ mod equality;
 mod lookups;
 #[cfg(test)]
 mod reading;
-#[cfg(test)]
-mod schemas;

@@ -1,9 +1,9 @@
 //! Coordinates looked up in a schema that is built of a text.
 
-use crate::schemas::built;
 use apollo_coordinate::coordinates::SchemaCoordinate;
 use apollo_coordinate::lookup_answers::{SchemaCoordinateLookup, SchemaLookupError};
 use apollo_schema::schema::Schema;
+use apollo_types_tests::schemas::schema_of;
 use std::alloc::{AllocError, Global};
 use std::process::Abort;
 
@@ -69,7 +69,7 @@ fn answer(
 
 /// Expects these answers of the schema that a text builds.
 fn expect(rt: &(impl Abort + AllocGlobal), schema: &str, rows: &[(Lookup, &str, &str)]) {
-    let schema = built(rt, schema);
+    let schema = schema_of(rt, schema);
     for (lookup, input, expected) in rows {
         let read = SchemaCoordinate::from_str(rt.alloc(), *input);
         let coordinate = read.expect(rt, "a coordinate");

@@ -5,7 +5,7 @@ use apollo_folding::builder_error::BuilderError;
 use apollo_schema::build_failure::{BuildFailure, WithErrors};
 use apollo_schema::schema::Schema;
 use apollo_schema::schema_builder::SchemaBuilder;
-use apollo_types::extended_type::ExtendedType;
+use apollo_types_tests::schemas::made_again;
 use bench_notation::printing::print;
 use bench_notation::reading::read;
 use graphql_ast::document::Document;
@@ -98,14 +98,6 @@ pub fn is_built_of(
     })
 }
 
-/// The schema that a text builds, which has no fault.
-/// No clause: it serves tests.
-pub fn schema_of(rt: &(impl Abort + AllocGlobal), input: &str) -> Schema {
-    let documents = read(rt.alloc(), input).expect(rt, "documents");
-    let built = built_of(rt.alloc(), &PLAIN, documents.as_slice()).expect(rt, "memory");
-    built.expect(rt, "a schema")
-}
-
 /// Adds what a schema has besides the built-in definitions, and its roots: as its definition has them,
 /// and as lookups answer.
 fn push_schema(text: &mut String, schema: &Schema) -> Result<(), AllocError> {
@@ -135,19 +127,6 @@ fn push_write_out(alloc: Global, text: &mut String, schema: &Schema) -> Result<(
     text.push_str(print(alloc, written.definitions.as_slice())?.as_str())?;
     let is_rebuilt = is_built_of(alloc, &ADOPTING, schema, slice::from_ref(&written))?;
     write!(text, "rebuilt equal: {is_rebuilt}\n")
-}
-
-/// A type made of a copy of this one's value, in a node of its own. A copy of the type shares its node.
-/// No clause: it serves tests.
-pub fn made_again(alloc: Global, ty: &ExtendedType) -> Result<ExtendedType, AllocError> {
-    match ty {
-        ExtendedType::Scalar(node) => ExtendedType::of_scalar(alloc, (**node).clone()?),
-        ExtendedType::Object(node) => ExtendedType::of_object(alloc, (**node).clone()?),
-        ExtendedType::Interface(node) => ExtendedType::of_interface(alloc, (**node).clone()?),
-        ExtendedType::Union(node) => ExtendedType::of_union(alloc, (**node).clone()?),
-        ExtendedType::Enum(node) => ExtendedType::of_enum(alloc, (**node).clone()?),
-        ExtendedType::InputObject(node) => ExtendedType::of_input_object(alloc, (**node).clone()?),
-    }
 }
 
 /// Adds whether copies of a schema and of its parts are equal to them: of its types, and of what these hold.

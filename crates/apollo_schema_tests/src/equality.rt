@@ -1,8 +1,9 @@
 //! Schemas that differ in one thing each, and whether they are equal: the order of directives and of arguments counts, that of
 //! types, fields and other members doesn't, and neither do locations and origins.
 
-use crate::building::{ADOPTING, is_built_of, schema_of};
+use crate::building::{ADOPTING, is_built_of};
 use apollo_schema::schema::Schema;
+use apollo_types_tests::schemas::schema_of;
 use std::process::Abort;
 
 /// Expects the schemas that two texts build to be equal, or else unequal, whichever comes first.

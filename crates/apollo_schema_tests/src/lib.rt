@@ -1,4 +1,4 @@
-//! Tests of components, and of schemas and their builder, of what the proofs don't show: that calls succeed with memory, and the
+//! Tests of schemas and their builder, of what the proofs don't show: that calls succeed with memory, and the
 //! texts of faults. Most compare a text that tells all that is looked at.
 #![tactic(auto)]
 
@@ -9,10 +9,6 @@ mod by_calls;
 #[cfg(test)]
 mod by_hand;
 #[cfg(test)]
-mod components;
-#[cfg(test)]
-mod directives;
-#[cfg(test)]
 mod equality;
 #[cfg(test)]
 mod extensions;
@@ -21,10 +17,6 @@ mod faults;
 #[cfg(test)]
 mod hash_keys;
 #[cfg(test)]
-mod lookups;
-#[cfg(test)]
 mod rearranging;
 #[cfg(test)]
 mod roots;
-#[cfg(test)]
-mod types;

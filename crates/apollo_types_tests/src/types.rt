@@ -1,7 +1,7 @@
 //! The origins of components, types by their kinds, and schemas that are made of parts.
 
-use crate::building::{made_again, schema_of};
 use crate::lookups::USERS;
+use crate::schemas::{made_again, schema_of};
 use apollo_schema::schema::Schema;
 use apollo_types::extended_type::ExtendedType;
 use apollo_types::schema_definition::SchemaDefinition;

@@ -1,6 +1,6 @@
 //! Lookups in schemas, over tables of names: subtypes, implementers and fields.
 
-use crate::building::schema_of;
+use crate::schemas::schema_of;
 use apollo_schema::field_lookup_error::FieldLookupError;
 use apollo_schema::implementers::Implementers;
 use apollo_schema::schema::Schema;

@@ -1,0 +1,13 @@
+//! Tests of components and types, and of lookups in schemas, of what the proofs don't show: that calls succeed with memory, and texts;
+//! and what tests of schemas and coordinates make, too.
+#![tactic(auto)]
+
+#[cfg(test)]
+mod components;
+#[cfg(test)]
+mod directives;
+#[cfg(test)]
+mod lookups;
+pub mod schemas;
+#[cfg(test)]
+mod types;
