@@ -40,8 +40,8 @@ fn are_same(coordinate: &SchemaCoordinate, first: &Schema, second: &Schema) -> O
 
 /// Expects what coordinates of each form point to in the schemas of two texts to be equal, or else unequal but for the enum value.
 fn expect(rt: &(impl Abort + AllocGlobal), second: &str, are_equal: bool) {
-    let first = schema_of(rt, FIRST);
-    let second = schema_of(rt, second);
+    let first = schema_of(rt.alloc(), FIRST).expect(rt, "a schema");
+    let second = schema_of(rt.alloc(), second).expect(rt, "a schema");
     for (input, expected) in [
         ("Query", are_equal),
         ("Query.f", are_equal),

@@ -69,7 +69,7 @@ fn answer(
 
 /// Expects these answers of the schema that a text builds.
 fn expect(rt: &(impl Abort + AllocGlobal), schema: &str, rows: &[(Lookup, &str, &str)]) {
-    let schema = schema_of(rt, schema);
+    let schema = schema_of(rt.alloc(), schema).expect(rt, "a schema");
     for (lookup, input, expected) in rows {
         let read = SchemaCoordinate::from_str(rt.alloc(), *input);
         let coordinate = read.expect(rt, "a coordinate");

@@ -8,8 +8,8 @@ use std::process::Abort;
 
 /// Expects the schemas that two texts build to be equal, or else unequal, whichever comes first.
 fn expect(rt: &(impl Abort + AllocGlobal), one: &str, other: &str, are_equal: bool) {
-    let first = schema_of(rt, one);
-    let second = schema_of(rt, other);
+    let first = schema_of(rt.alloc(), one).expect(rt, "a schema");
+    let second = schema_of(rt.alloc(), other).expect(rt, "a schema");
     assert!(rt; (first == second) == are_equal, "{one:?} and {other:?}");
     assert!(rt; (second == first) == are_equal, "{other:?} and {one:?}");
 }

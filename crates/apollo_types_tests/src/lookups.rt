@@ -33,7 +33,7 @@ fn push_subtypes(alloc: Global, text: &mut String, schema: &Schema) -> Result<()
 
 #[test]
 fn nothing_is_a_subtype_through_something_else(rt: HostRuntime) {
-    let schema = schema_of(&rt, CHAIN);
+    let schema = schema_of(rt.alloc(), CHAIN).expect(&rt, "a schema");
     let mut text = String::new(rt.alloc());
     push_subtypes(rt.alloc(), &mut text, &schema).expect(&rt, "memory");
     assert_eq!(rt;
@@ -64,7 +64,7 @@ const WIDE: &str =
 fn implementers_declare_the_interface_themselves(rt: HostRuntime) {
     let mut text = String::new(rt.alloc());
     for input in [CHAIN, WIDE] {
-        let schema = schema_of(&rt, input);
+        let schema = schema_of(rt.alloc(), input).expect(&rt, "a schema");
         let map = schema.implementers_map(rt.alloc()).expect(&rt, "memory");
         push_map(&mut text, &map).expect(&rt, "memory");
     }
@@ -117,7 +117,7 @@ fn expect_fields(
     names: &[(&str, &str)],
     expected: &str,
 ) {
-    let schema = schema_of(rt, input);
+    let schema = schema_of(rt.alloc(), input).expect(rt, "a schema");
     let mut text = String::new(rt.alloc());
     for (ty, field) in names {
         let ty = Name::new_unchecked(rt.alloc(), *ty).expect(rt, "memory");

@@ -6,22 +6,23 @@ use apollo_types::extended_type::ExtendedType;
 use bench_notation::reading::read;
 use graphql_ast::document::Document;
 use std::alloc::{AllocError, Global};
-use std::process::Abort;
 
-/// Adds a document. What the call promises stays here, so that no loop carries it along.
-fn add(rt: &impl Abort, builder: &mut SchemaBuilder, document: &Document) {
-    builder.add_ast(document).expect(rt, "memory");
+/// Adds a document, and answers whether that was done. What the call promises stays here, so that no loop carries it along.
+fn is_added(builder: &mut SchemaBuilder, document: &Document) -> bool {
+    builder.add_ast(document).is_ok()
 }
 
-/// The schema of the documents that a text says. It has no fault.
+/// The schema of the documents that a text says, if it says documents, and they have no fault.
 /// No clause: it serves tests.
-pub fn schema_of(rt: &(impl Abort + AllocGlobal), input: &str) -> Schema {
-    let documents = read(rt.alloc(), input).expect(rt, "documents");
-    let mut builder = Schema::builder(rt.alloc()).expect(rt, "memory");
+pub fn schema_of(alloc: Global, input: &str) -> Option<Schema> {
+    let documents = read(alloc, input).ok()?;
+    let mut builder = Schema::builder(alloc).ok()?;
     for document in documents.as_slice() {
-        add(rt, &mut builder, document);
+        if !is_added(&mut builder, document) {
+            return None;
+        }
     }
-    builder.build().expect(rt, "a schema")
+    builder.build().ok()
 }
 
 /// A type made of a copy of this one's value, in a node of its own. A copy of the type shares its node.

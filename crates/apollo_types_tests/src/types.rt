@@ -53,7 +53,7 @@ fn made_of(alloc: Global, schema: &Schema) -> Result<Schema, AllocError> {
 
 /// Expects this to be told of the origins in the schema of a text. Copies of its parts make an equal schema.
 fn expect_origins(rt: &(impl Abort + AllocGlobal), input: &str, expected: &str) {
-    let schema = schema_of(rt, input);
+    let schema = schema_of(rt.alloc(), input).expect(rt, "a schema");
     let mut text = String::new(rt.alloc());
     push_definition(rt.alloc(), &mut text, &schema.schema_definition).expect(rt, "memory");
     for ty in schema.types.values() {
@@ -177,7 +177,7 @@ fn push_types(alloc: Global, text: &mut String, schema: &Schema) -> Result<(), A
 fn each_type_is_of_its_kind_alone(rt: HostRuntime) {
     let mut text = String::new(rt.alloc());
     for input in [KINDS, USERS] {
-        let schema = schema_of(&rt, input);
+        let schema = schema_of(rt.alloc(), input).expect(&rt, "a schema");
         push_types(rt.alloc(), &mut text, &schema).expect(&rt, "memory");
     }
     assert_eq!(rt;

@@ -21,6 +21,8 @@ mod shown;
 mod single_values;
 #[cfg(test)]
 mod sources;
+#[cfg(test)]
+mod tables;
 pub mod tables;
 #[cfg(test)]
 mod texts;

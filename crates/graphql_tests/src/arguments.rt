@@ -10,7 +10,6 @@ use graphql_nodes::collections::items::Items;
 use graphql_nodes::node::Node;
 use graphql_nodes::node_str::NodeStr;
 use graphql_nodes_tests::samples::{PLACE, name, node, pair};
-use graphql_nodes_tests::tables::expect_at;
 use likeness::both;
 use std::alloc::{AllocError, Global};
 
@@ -109,7 +108,7 @@ fn an_argument_is_the_first_given_or_answered_by_its_definition(rt: HostRuntime)
             Some((required, default)) => is_answer_of(rt.alloc(), name, *required, *default, want),
             None => is_answer(rt.alloc(), name, None, want),
         };
-        expect_at(&rt, want, is_so == Ok(true));
+        assert!(rt; is_so == Ok(true), "at {want}");
     }
 }
 

@@ -8,7 +8,6 @@ use graphql_ast::document::Document;
 use graphql_ast::type_system::{InputObjectTypeDefinition, SchemaDefinition};
 use graphql_nodes::node::Node;
 use graphql_nodes::source::SourceSpan;
-use graphql_nodes_tests::tables::expect_at;
 use likeness::{is_printed, push_location};
 use std::alloc::{AllocError, Global};
 use std::process::Abort;
@@ -46,7 +45,7 @@ fn divided_again(alloc: Global, input: &str) -> Result<String, ReadError> {
 fn expect_told(rt: &(impl Abort + AllocGlobal), told: Result<String, ReadError>, wanted: &str) {
     match told {
         Ok(text) => assert_eq!(rt; text.as_str(), wanted),
-        Err(error) => expect_at(rt, wanted, is_printed(rt.alloc(), &error, wanted)),
+        Err(error) => assert!(rt; is_printed(rt.alloc(), &error, wanted), "at {wanted}"),
     }
 }
 
