@@ -23,6 +23,5 @@ mod single_values;
 mod sources;
 #[cfg(test)]
 mod tables;
-pub mod tables;
 #[cfg(test)]
 mod texts;
