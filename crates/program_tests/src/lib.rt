@@ -1,8 +1,7 @@
-//! Tests of the program `gqltool`, of what rows can't say, and of the tools `gqlrows` and `gqlbench`.
+//! Tests of the program `gqltool`, of what rows can't say; and readers and writers that fail, which tests of the tools have, too.
 #![tactic(auto)]
 
-#[cfg(test)]
-mod bench;
+pub mod failing;
 #[cfg(test)]
 mod failures;
 #[cfg(test)]
@@ -11,8 +10,6 @@ mod hash_keys;
 mod interruptions;
 #[cfg(test)]
 mod long_walks;
-#[cfg(test)]
-mod rows;
 #[cfg(test)]
 mod running;
 #[cfg(test)]

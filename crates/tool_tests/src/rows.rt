@@ -1,9 +1,9 @@
 //! Runs of `gqlrows`: rows that are refused, the report on rows that differ, and files and streams that fail.
 
-use crate::streams::FailingReader;
 use gqlrows_run::row::read_rows;
 use gqlrows_run::running::run_rows;
 use gqltool_run::status::Status;
+use program_tests::failing::FailingReader;
 use std::io::{BufWriter, ErrorKind, Read, Write};
 use std::process::Abort;
 use std::rt::Files;

@@ -1,10 +1,10 @@
 //! Runs of `gqlbench` over systems whose answers are known.
 
-use crate::streams::FailingWriter;
 use gqlbench_run::memory::ProcessStatus;
 use gqlbench_run::running::run;
 use gqlbench_run::stopwatch::summary;
 use gqltool_run::status::Status;
+use program_tests::failing::FailingWriter;
 use std::alloc::Global;
 use std::cell::Cell;
 use std::io::{self, Error, ErrorKind};
@@ -249,10 +249,10 @@ drop           min            7 median            7 mean            7 ns
 
 /// Expects a run on these words to write this, over a system that gives no random bytes, and with
 /// `--random-keys` between them over one that does.
-fn expect_report(
+fn expect_report<'a>(
     rt: &(impl Abort + AllocGlobal),
-    before: &[&str],
-    behind: &[&str],
+    before: &[&'a str],
+    behind: &[&'a str],
     input: &str,
     output: &str,
 ) -> Result<(), Fail> {
