@@ -1,7 +1,7 @@
 //! Numbers: GraphQL specification of October 2021, sections 2.9.1 and 2.9.2.
-ghost use Rattle.std.specs.Prelude.{◌≡◌, ◌<◌, ◌≤◌, length, nat_eq, IsTrue};
+ghost use Rattle.std.specs.Prelude.{◌≡◌, ◌<◌, ◌≤◌, ◌+◌, ◌^◌, length, nat_eq, true, IsTrue};
 ghost use Rattle.graphql_tokens.specs.Bytes.{begins};
-ghost use Rattle.graphql_tokens.specs.Numbers.{decimal, exponent, fraction, goes_on, integer, number, scientific, with_digits};
+ghost use Rattle.graphql_tokens.specs.Numbers.{decimal, exponent, fraction, goes_on, integer, number, scientific, then_part, with_digits};
 
 use crate::runs::{digits, is_name_byte};
 
@@ -84,6 +84,19 @@ fn exponent(text: &[u8]) -> Part
     with_digits(1 + sign, text)
 }
 
+/// A whole part, and the next one, which makes a float.
+fn joined(first: Part, next: Part) -> Part
+    requires whole { first.is_whole ≡ true }
+    requires fits { first.size + next.size < 2 ^ 64 }
+    ensures { result ≡ then_part first next }
+{
+    Part {
+        size: first.size + next.size,
+        is_whole: next.is_whole,
+        is_float: first.is_float || next.size > 0,
+    }
+}
+
 /// An integer, and a fraction behind it.
 fn decimal(text: &[u8]) -> Part
     ensures same { result ≡ decimal text.now }
@@ -94,12 +107,7 @@ fn decimal(text: &[u8]) -> Part
     if !integer.is_whole {
         return integer;
     }
-    let fraction = fraction(&text[integer.size..]);
-    Part {
-        size: integer.size + fraction.size,
-        is_whole: fraction.is_whole,
-        is_float: integer.is_float || fraction.size > 0,
-    }
+    joined(integer, fraction(&text[integer.size..]))
 }
 
 /// That, and an exponent behind it.
@@ -112,12 +120,7 @@ fn scientific(text: &[u8]) -> Part
     if !decimal.is_whole {
         return decimal;
     }
-    let exponent = exponent(&text[decimal.size..]);
-    Part {
-        size: decimal.size + exponent.size,
-        is_whole: exponent.is_whole,
-        is_float: decimal.is_float || exponent.size > 0,
-    }
+    joined(decimal, exponent(&text[decimal.size..]))
 }
 
 /// Whether what stands here may not follow a number at once.
