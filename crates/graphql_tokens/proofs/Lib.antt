@@ -1,3 +1,5 @@
+mod EndLemmas
+pub mod FirstLemmas
 mod HexLemmas
 mod PieceLemmas
 mod TokenLemmas

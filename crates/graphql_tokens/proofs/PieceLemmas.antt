@@ -1,5 +1,5 @@
 -- Pieces of a text, the first one and those behind it.
-use Rattle.std.proofs.Common.{◌≡◌, ◌+◌, ◌-◌, ◌<◌, ◌≤◌, ℕ, zero, suc, List, [], ◌∷◌, length, take, drop, cond, refl, sym, ap, subst, ◌∙◌, arith}
+use Rattle.std.proofs.Common.{◌≡◌, ◌+◌, ◌-◌, ◌<◌, ◌≤◌, ℕ, zero, suc, Bool, true, false, List, [], ◌∷◌, length, take, drop, cond, refl, sym, ap, subst, ◌∙◌, arith}
 use Rattle.std.proofs.lemmas.List.{take_all, drop_all, length-drop, drop-drop}
 use Rattle.std.specs.Prelude.{nat_eq}
 use Rattle.std.proofs.lemmas.Bool.{ne_eqb}
@@ -29,6 +29,16 @@ module _ (size : List ℕ → ℕ) where
   pub no_piece : (xs : List ℕ) → size xs ≡ 0 → pieces size 0 xs ≡ 0
   no_piece [] none = refl
   no_piece (c ∷ cs) none = rw none refl
+
+-- pieces lie within the text
+pub pieces_within : (size : List ℕ → ℕ) (left : ℕ) (xs : List ℕ) → pieces size left xs ≤ length xs
+pieces_within size left [] = omega arith
+pieces_within size (suc left) (c ∷ cs) = let more = pieces_within size left cs in omega (arith, more)
+pieces_within size zero (c ∷ cs) = by (nat_eq (size (c ∷ cs)) 0) (pieces_within size (size (c ∷ cs) - 1) cs)
+  where
+    by : (b : Bool) → pieces size (size (c ∷ cs) - 1) cs ≤ length cs → cond b 0 (pieces size (size (c ∷ cs) - 1) cs + 1) ≤ suc (length cs)
+    by true more = omega arith
+    by false more = omega (arith, more)
 
 -- the rest of a text, as a slice of it is seen
 abbrev pub rest_at : ℕ → List ℕ → List ℕ

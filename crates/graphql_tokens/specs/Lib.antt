@@ -1,4 +1,5 @@
 pub mod Bytes
+pub mod First
 pub mod Ignored
 pub mod Lexemes
 pub mod Numbers
