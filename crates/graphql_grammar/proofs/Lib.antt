@@ -1,0 +1,7 @@
+pub mod BranchLaws
+pub mod KindLemmas
+pub mod LoopLaws
+pub mod ManyLaws
+pub mod PieceLaws
+pub mod ReadingLemmas
+pub mod WholeLaws

@@ -1,0 +1,274 @@
+-- What a grammar is made of. A piece says which words spell a value, and how it is read.
+use Rattle.std.specs.Prelude.{◌≡◌, ℕ, zero, suc, List, [], ◌∷◌, ◌++◌, length, Bool, true, false, ◌&&◌, if◌then◌else◌, Option, Some, None, Result, Ok, Err}
+use Rattle.graphql_grammar.specs.Kinds.{Kinds, either_of, none, only}
+use Rattle.graphql_grammar.specs.Spelling.{Parts, spells_by, spells_many, spells_optional}
+use Rattle.graphql_grammar.specs.Words.{WordView, begins, ended, starting}
+use Rattle.graphql_grammar.specs.declared.fault.FaultKind.{FaultKind}
+use Rattle.graphql_grammar.specs.declared.fault.FaultKind.TheVariants.{Expected, TooDeep}
+use Rattle.graphql_grammar.specs.declared.fault.Item.TheVariants as i
+use Rattle.graphql_grammar.specs.declared.fault.ReadError.{ReadError}
+use Rattle.graphql_grammar.specs.declared.fault.ReadError.TheVariants as errors
+use Rattle.graphql_grammar.specs.declared.kind.Kind.{Kind}
+
+-- where reading stands: the end of the last word that was taken, and the words that are left
+pub record State : Type 0 where
+  pub last : ℕ
+  pub left : List WordView
+
+-- what is wrong, and the words that are left from the one on that it is wrong at
+pub record Refusal : Type 0 where
+  pub kind : FaultKind
+  pub left : List WordView
+
+-- what is read, and where reading stands then
+abbrev pub Reading : Type 0 → Type 0
+Reading A = Result (A × State) Refusal
+
+abbrev pub Reader : Type 0 → Type 0
+Reader A = State → Result (A × State) Refusal
+
+-- what is wrong, by the words that are left
+abbrev pub Wrong : Type 0
+Wrong = List WordView → FaultKind
+
+infixl 10 ◌>>=◌
+abbrev pub ◌>>=◌ : {A B : Type 0} → Result A Refusal → (A → Result B Refusal) → Result B Refusal
+(Ok x) >>= f = f x
+(Err e) >>= f = Err e
+
+abbrev pub refused : {A : Type 0} → FaultKind → List WordView → Result A Refusal
+refused kind left = Err (record { kind = kind; left = left })
+
+pub record Piece (A : Type 0) : Type 1 where
+  -- which words spell a value
+  pub spells : A → List WordView → Type 0
+  -- how it is read
+  pub read : State → Result (A × State) Refusal
+  -- what it begins with
+  pub first : Kinds
+  -- what may go on with it behind what spells a value
+  pub more : Kinds
+  pub may_be_empty : Bool
+
+-- ---- one word
+
+-- the next word, if it is of such a kind
+abbrev pub take_word : Kinds → FaultKind → List WordView → Reading WordView
+take_word kinds fault [] = refused fault []
+take_word kinds fault (w ∷ ws) = if kinds w.kind then Ok (w, record { last = w.end; left = ws }) else refused fault (w ∷ ws)
+
+-- a word of one of these kinds
+abbrev pub word : Kinds → Wrong → Piece WordView
+word kinds wrong = record {
+  spells = λ w front. (front ≡ w ∷ []) × (kinds w.kind ≡ true);
+  read = λ s. take_word kinds (wrong s.left) s.left;
+  first = kinds;
+  more = none;
+  may_be_empty = false;
+}
+
+-- the next word, of which only that it is there matters
+abbrev pub take_sign : Kind → FaultKind → List WordView → Reading (Unit {0})
+take_sign kind fault left = take_word (only kind) fault left >>= λ x. Ok (tt, x.1)
+
+-- a word of this kind, of which only that it is there matters; what is wrong where it isn't is said
+abbrev pub sign_or : Kind → Wrong → Piece (Unit {0})
+sign_or kind wrong = record {
+  spells = λ _ front. (w : WordView) × (front ≡ w ∷ []) × (only kind w.kind ≡ true);
+  read = λ s. take_sign kind (wrong s.left) s.left;
+  first = only kind;
+  more = none;
+  may_be_empty = false;
+}
+
+-- a word of this kind, where nothing else may stand
+abbrev pub sign : Kind → Piece (Unit {0})
+sign kind = sign_or kind (λ _. Expected (i.Word kind))
+
+-- the word of this kind that closes a list of such items
+abbrev pub close : Kind → FaultKind → Piece (Unit {0})
+close kind fault = sign_or kind (λ _. fault)
+
+-- ---- nothing
+
+-- no word, for this value
+abbrev pub empty : {A : Type 0} → A → Piece A
+empty x = record {
+  spells = λ y front. (y ≡ x) × (front ≡ []);
+  read = λ s. Ok (x, s);
+  first = none;
+  more = none;
+  may_be_empty = true;
+}
+
+-- what no words spell
+abbrev pub nothing : {A : Type 0} → Wrong → Piece A
+nothing wrong = record {
+  spells = λ x front. ⊥;
+  read = λ s. refused (wrong s.left) s.left;
+  first = none;
+  more = none;
+  may_be_empty = false;
+}
+
+-- ---- one after the other
+
+abbrev pub read_both : {A B : Type 0} → Reader A → Reader B → Reader (A × B)
+read_both p q s = p s >>= λ x. q x.1 >>= λ y. Ok ((x.0, y.0), y.1)
+
+abbrev pub seq : {A B : Type 0} → Piece A → Piece B → Piece (A × B)
+seq p q = record {
+  spells = λ x front. Parts (p.spells x.0) (q.spells x.1) front;
+  read = read_both p.read q.read;
+  first = if p.may_be_empty then either_of p.first q.first else p.first;
+  more = if q.may_be_empty then either_of q.more p.more else q.more;
+  may_be_empty = p.may_be_empty && q.may_be_empty;
+}
+
+-- ---- the same, said otherwise
+
+abbrev pub read_as : {A B : Type 0} → (A → B) → Reader A → Reader B
+read_as f p s = p s >>= λ x. Ok (f x.0, x.1)
+
+abbrev pub mapped : {A B : Type 0} → (A → B) → Piece A → Piece B
+mapped {A} f p = record {
+  spells = λ b front. (a : A) × (b ≡ f a) × p.spells a front;
+  read = read_as f p.read;
+  first = p.first;
+  more = p.more;
+  may_be_empty = p.may_be_empty;
+}
+
+-- ---- only what passes a test, which is made behind it
+
+abbrev pub tested : {A : Type 0} → (A → Bool) → Wrong → A × State → Reading A
+tested test wrong x = if test x.0 then Ok x else refused (wrong x.1.left) x.1.left
+
+abbrev pub filtered : {A : Type 0} → (A → Bool) → Wrong → Piece A → Piece A
+filtered test wrong p = record {
+  spells = λ x front. p.spells x front × (test x ≡ true);
+  read = λ s. p.read s >>= tested test wrong;
+  first = p.first;
+  more = p.more;
+  may_be_empty = p.may_be_empty;
+}
+
+-- ---- one or none
+
+abbrev pub read_optional : {A : Type 0} → Kinds → Reader A → Reader (Option A)
+read_optional first p s = if begins first s.left then (p s >>= λ x. Ok (Some x.0, x.1)) else Ok (None, s)
+
+abbrev pub optional : {A : Type 0} → Piece A → Piece (Option A)
+optional p = record {
+  spells = spells_optional p.spells;
+  read = read_optional p.first p.read;
+  first = p.first;
+  more = either_of p.more p.first;
+  may_be_empty = true;
+}
+
+-- ---- any number
+
+abbrev pub many_at : {A : Type 0} → Kinds → Reader A → ℕ → Reader (List A)
+many_at first p zero s = Ok ([], s)
+many_at first p (suc n) s = if begins first s.left then (p s >>= λ x. many_at first p n x.1 >>= λ y. Ok (x.0 ∷ y.0, y.1)) else Ok ([], s)
+
+abbrev pub many : {A : Type 0} → Piece A → Piece (List A)
+many p = record {
+  spells = spells_many p.spells;
+  read = λ s. many_at p.first p.read (length s.left) s;
+  first = p.first;
+  more = either_of p.more p.first;
+  may_be_empty = true;
+}
+
+abbrev pub listed : {A : Type 0} → A × List A → List A
+listed x = x.0 ∷ x.1
+
+-- one or more
+abbrev pub some : {A : Type 0} → Piece A → Piece (List A)
+some p = mapped listed (seq p (many p))
+
+-- ---- one of several, by the kind of the first word
+
+abbrev pub read_first : {A : Type 0} → (Kind → Piece A) → Wrong → State → List WordView → Reading A
+read_first pick wrong s [] = refused (wrong []) []
+read_first pick wrong s (w ∷ ws) = (pick w.kind).read s
+
+-- the piece that is picked by the kind of the first word; what it begins with, and what goes on with it, is said here
+abbrev pub branch : {A : Type 0} → Kinds → Kinds → (Kind → Piece A) → Wrong → Piece A
+branch first more pick wrong = record {
+  spells = spells_by (λ kind. (pick kind).spells);
+  read = λ s. read_first pick wrong s s.left;
+  first = first;
+  more = more;
+  may_be_empty = false;
+}
+
+-- ---- with where it stands, from the start of its first word to the end of its last
+
+abbrev pub located : {A : Type 0} → Piece A → Piece (A × (ℕ × ℕ))
+located p = record {
+  spells = λ x front. p.spells x.0 front × (x.1 ≡ (starting front, ended 0 front));
+  read = λ s. p.read s >>= λ x. Ok ((x.0, (starting s.left, x.1.last)), x.1);
+  first = p.first;
+  more = p.more;
+  may_be_empty = p.may_be_empty;
+}
+
+-- ---- what begins with one of these, as is said here, and is never gone on with
+
+abbrev pub headed : {A : Type 0} → Kinds → Piece A → Piece A
+headed kinds p = record {
+  spells = p.spells;
+  read = p.read;
+  first = kinds;
+  more = none;
+  may_be_empty = false;
+}
+
+-- ---- what is nested too deep
+
+-- nothing, at a sign that would open it
+abbrev pub too_deep : {A : Type 0} → Piece A
+too_deep = nothing (λ _. TooDeep)
+
+-- between signs, of which so many may be open: what stands between them may open one less
+abbrev pub nested : {A : Type 0} → ℕ → (ℕ → Piece A) → Piece A
+nested zero p = too_deep
+nested (suc depth) p = p depth
+
+-- ---- what a function returns, against a reading
+
+abbrev pub Fails : {A : Type 0} → ReadError → List WordView → Reading A → Type 0
+Fails errors.Memory left reading = Unit {0}
+Fails (errors.Fault kind) left reading = reading ≡ refused kind left
+
+-- what a function returned and left is what reading gives, unless memory ran out
+abbrev pub Gives : {A : Type 0} → Result A ReadError → State → Reading A → Type 0
+Gives (Ok x) s reading = reading ≡ Ok (x, s)
+Gives (Err e) s reading = Fails e s.left reading
+
+-- the same of a value that is seen so
+abbrev pub GivesSeen : {A B : Type 0} → (A → B) → Result A ReadError → State → Reading B → Type 0
+GivesSeen see (Ok x) s reading = reading ≡ Ok (see x, s)
+GivesSeen see (Err e) s reading = Fails e s.left reading
+
+-- what was read before, and what is still read
+abbrev pub with_front : {A : Type 0} → List A → Reading (List A) → Reading (List A)
+with_front front reading = reading >>= λ y. Ok (front ++ y.0, y.1)
+
+-- what a function returned that adds what is read to a list
+abbrev pub Adds : {A : Type 0} → Result (Unit {0}) ReadError → List A → List A → State → Reading (List A) → Type 0
+Adds (Ok _) old new s reading = with_front old reading ≡ Ok (new, s)
+Adds (Err e) old new s reading = Fails e s.left reading
+
+-- ---- all of some words
+
+abbrev pub all_read : {A : Type 0} → A → List WordView → Result A Refusal
+all_read x [] = Ok x
+all_read x (w ∷ ws) = refused (Expected i.End) (w ∷ ws)
+
+-- a piece, and nothing behind it
+abbrev pub read_all : {A : Type 0} → Piece A → List WordView → Result A Refusal
+read_all p left = p.read (record { last = 0; left = left }) >>= λ x. all_read x.0 x.1.left

@@ -1,0 +1,153 @@
+//! Kinds of words: GraphQL specification of October 2021, section 2.1.6. The words that the grammar tells apart from other names
+//! have kinds of their own.
+ghost use Rattle.std.specs.Prelude.{◌≡◌};
+ghost use Rattle.graphql_grammar.specs.Kinds.{is_name, only, tag};
+
+/// What a word is.
+#[derive(Clone, Copy, Debug, PartialEq, Eq)]
+pub enum Kind {
+    /// A name that is none of the words below.
+    Name,
+    /// `true`
+    True,
+    /// `false`
+    False,
+    /// `null`
+    Null,
+    /// `on`
+    On,
+    /// `query`
+    Query,
+    /// `mutation`
+    Mutation,
+    /// `subscription`
+    Subscription,
+    /// `fragment`
+    Fragment,
+    /// `schema`
+    Schema,
+    /// `scalar`
+    Scalar,
+    /// `type`
+    Type,
+    /// `interface`
+    Interface,
+    /// `union`
+    Union,
+    /// `enum`
+    Enum,
+    /// `input`
+    Input,
+    /// `directive`
+    Directive,
+    /// `extend`
+    Extend,
+    /// `implements`
+    Implements,
+    /// `repeatable`
+    Repeatable,
+    /// `!`
+    Bang,
+    /// `$`
+    Dollar,
+    /// `&`
+    Ampersand,
+    /// `(`
+    LeftParen,
+    /// `)`
+    RightParen,
+    /// `...`
+    Spread,
+    /// `:`
+    Colon,
+    /// `=`
+    Equals,
+    /// `@`
+    At,
+    /// `[`
+    LeftBracket,
+    /// `]`
+    RightBracket,
+    /// `{`
+    LeftBrace,
+    /// `|`
+    Pipe,
+    /// `}`
+    RightBrace,
+    /// An integer.
+    Int,
+    /// A number with a fraction or an exponent.
+    Float,
+    /// A string in quotes.
+    String,
+    /// A string in `"""`.
+    BlockString,
+    /// What is no token: nothing is spelled with it.
+    Wrong,
+    /// The token behind as many as are allowed: nothing is spelled with it.
+    TooMany,
+}
+
+impl Kind {
+    /// The number of the kind.
+    pub fn tag(self) -> u8
+        ensures { result ≡ tag self }
+    {
+        match self {
+            Kind::Name => 0,
+            Kind::True => 1,
+            Kind::False => 2,
+            Kind::Null => 3,
+            Kind::On => 4,
+            Kind::Query => 5,
+            Kind::Mutation => 6,
+            Kind::Subscription => 7,
+            Kind::Fragment => 8,
+            Kind::Schema => 9,
+            Kind::Scalar => 10,
+            Kind::Type => 11,
+            Kind::Interface => 12,
+            Kind::Union => 13,
+            Kind::Enum => 14,
+            Kind::Input => 15,
+            Kind::Directive => 16,
+            Kind::Extend => 17,
+            Kind::Implements => 18,
+            Kind::Repeatable => 19,
+            Kind::Bang => 20,
+            Kind::Dollar => 21,
+            Kind::Ampersand => 22,
+            Kind::LeftParen => 23,
+            Kind::RightParen => 24,
+            Kind::Spread => 25,
+            Kind::Colon => 26,
+            Kind::Equals => 27,
+            Kind::At => 28,
+            Kind::LeftBracket => 29,
+            Kind::RightBracket => 30,
+            Kind::LeftBrace => 31,
+            Kind::Pipe => 32,
+            Kind::RightBrace => 33,
+            Kind::Int => 34,
+            Kind::Float => 35,
+            Kind::String => 36,
+            Kind::BlockString => 37,
+            Kind::Wrong => 38,
+            Kind::TooMany => 39,
+        }
+    }
+
+    /// Whether this is the other kind.
+    pub fn is(self, other: Kind) -> bool
+        ensures { result ≡ only other self }
+    {
+        self.tag() == other.tag()
+    }
+
+    /// Whether words of the kind are names, the words that the grammar tells apart among them.
+    pub fn is_name(self) -> bool
+        ensures { result ≡ is_name self }
+    {
+        self.tag() < 20
+    }
+}
