@@ -5,3 +5,4 @@ pub mod ManyLaws
 pub mod PieceLaws
 pub mod ReadingLemmas
 pub mod WholeLaws
+pub mod WordLemmas

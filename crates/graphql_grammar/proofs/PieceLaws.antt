@@ -1,5 +1,6 @@
 -- What a piece reads is spelled so, and what is spelled so is read, whatever stands behind it that can't go on with it.
 use Rattle.std.proofs.Common.{◌≡◌, ℕ, zero, suc, Bool, true, false, ◌||◌, ◌&&◌, cond, List, [], ◌∷◌, ◌++◌, length, Option, Some, None, Result, Ok, Err, ◌⊎◌, inl, inr, refl, sym, ap, subst, ◌∙◌, append_assoc}
+use Rattle.std.specs.Option.{option_map_or}
 use Rattle.graphql_grammar.specs.declared.fault.FaultKind.{FaultKind}
 use Rattle.graphql_grammar.specs.declared.fault.FaultKind.TheVariants.{Expected, TooDeep}
 use Rattle.graphql_grammar.specs.declared.fault.Item.TheVariants as i
@@ -7,7 +8,7 @@ use Rattle.graphql_grammar.specs.declared.kind.Kind.{Kind}
 use Rattle.graphql_grammar.specs.Kinds.{Kinds, each_kind, either_of, none, only}
 use Rattle.graphql_grammar.specs.Words.{WordView, begins, ended, starting}
 use Rattle.graphql_grammar.specs.Spelling.{Parts}
-use Rattle.graphql_grammar.specs.Pieces.{Piece, Reading, State, Wrong, ◌>>=◌, close, empty, filtered, headed, located, mapped, nested, nothing, optional, refused, seq, sign, sign_or, take_word, tested, too_deep, word}
+use Rattle.graphql_grammar.specs.Pieces.{Piece, Reading, State, Wrong, ◌>>=◌, close, empty, filtered, headed, item, located, mapped, nested, nothing, optional, picked, refused, seq, sign, sign_or, take_picked, take_word, tested, too_deep, word}
 use Rattle.graphql_grammar.proofs.KindLemmas.{of_each}
 use Rattle.graphql_grammar.proofs.ReadingLemmas.{and_right, and_true, bind_ok, chosen, ended_append, ok_is, or_false, or_left, or_right}
 
@@ -83,6 +84,27 @@ word_law kinds wrong = record {
   sound = λ s x then e. took_word kinds (wrong s.left) wrong s.last s.left x then e;
   complete = λ x front rest last h _. word_again kinds (wrong (front ++ rest)) x front rest last h;
   begun = λ x front h. subst (λ (f : List WordView). Begun kinds false f) (sym h.0) h.1;
+}
+
+took_picked : {A : Type 0} (pick : WordView → Option A) (kinds : Kinds) (wrong : Wrong) (fault : FaultKind) (last : ℕ) (w : WordView) (ws : List WordView) (made : Option A) (x : A) (then : State) → pick w ≡ made
+    → option_map_or (λ y. Ok (y, record { last = w.end; left = ws })) made (refused fault (w ∷ ws)) ≡ Ok (x, then) → Took (picked pick kinds wrong).spells (record { last = last; left = w ∷ ws }) x then
+took_picked pick kinds wrong fault last w ws None x then is e = absurd cc
+took_picked {A} pick kinds wrong fault last w ws (Some y) x then is e =
+    let t : Took (picked pick kinds wrong).spells (record { last = last; left = w ∷ ws }) y (record { last = w.end; left = ws }) = record { front = w ∷ []; left = refl; last = refl; spelled = (w, refl, is) } in
+    subst (λ (v : A × State). Took (picked pick kinds wrong).spells (record { last = last; left = w ∷ ws }) v.0 v.1) (ok_is (y, record { last = w.end; left = ws }) (x, then) e) t
+
+took_first : {A : Type 0} (pick : WordView → Option A) (kinds : Kinds) (wrong : Wrong) (fault : FaultKind) (last : ℕ) (left : List WordView) (x : A) (then : State) → take_picked pick fault left ≡ Ok (x, then) → Took (picked pick kinds wrong).spells (record { last = last; left = left }) x then
+took_first pick kinds wrong fault last [] x then e = absurd cc
+took_first pick kinds wrong fault last (w ∷ ws) x then e = took_picked pick kinds wrong fault last w ws (pick w) x then refl e
+
+-- what a word is picked as says that it is of these kinds
+pub picked_law : {A : Type 0} (pick : WordView → Option A) (kinds : Kinds) (wrong : Wrong) → ((w : WordView) (x : A) → pick w ≡ Some x → kinds w.kind ≡ true) → Lawful (picked pick kinds wrong)
+picked_law {A} pick kinds wrong sure = record {
+  sound = λ s x then e. took_first pick kinds wrong (wrong s.left) s.last s.left x then e;
+  complete = λ x front rest last h _.
+      subst (λ (f : List WordView). take_picked pick (wrong (front ++ rest)) (f ++ rest) ≡ Ok (x, record { last = ended last f; left = rest })) (sym h.1)
+      (ap (λ (o : Option A). option_map_or (λ y. Ok (y, record { last = h.0.end; left = rest })) o (refused (wrong (front ++ rest)) (h.0 ∷ rest))) h.2);
+  begun = λ x front h. subst (λ (f : List WordView). Begun kinds false f) (sym h.1) (sure h.0 x h.2);
 }
 
 pub sign_or_law : (kind : Kind) (wrong : Wrong) → Lawful (sign_or kind wrong)
@@ -319,6 +341,21 @@ pub headed_law : {A : Type 0} (kinds : Kinds) (p : Piece A) → Lawful p → eac
 headed_law {A} kinds p pl first more solid = record {
   sound = λ s x then e. let t : Took p.spells s x then = pl.sound s x then e in record { front = t.front; left = t.left; last = t.last; spelled = t.spelled };
   complete = λ x front rest last h stops. pl.complete x front rest last h (stops_same none p.more (λ other. agreed (p.more other) false (of_each (λ o. agree (p.more o) false) more other)) rest stops);
+  begun = λ x front h. begun_same p.first kinds p.may_be_empty false (λ other. agreed (kinds other) (p.first other) (of_each (λ o. agree (kinds o) (p.first o)) first other)) (sym solid) front (pl.begun x front h);
+}
+
+-- ---- items
+
+pub item_law : {A : Type 0} (kinds : Kinds) (wrong : Wrong) (p : Piece A) → Lawful p → each_kind (λ other. agree (kinds other) (p.first other)) ≡ true → p.may_be_empty ≡ false → Lawful (item kinds wrong p)
+item_law {A} kinds wrong p pl first solid = record {
+  sound = λ s x then e. elim (chosen (begins kinds s.left) (p.read s) (refused (wrong s.left) s.left) (Ok (x, then)) e) [
+    | inl (hit, is) ↦ let t : Took p.spells s x then = pl.sound s x then is in record { front = t.front; left = t.left; last = t.last; spelled = t.spelled }
+    | inr (miss, is) ↦ absurd cc
+  ];
+  complete = λ x front rest last h stops.
+      let begun : Begun kinds p.may_be_empty front = begun_same p.first kinds p.may_be_empty p.may_be_empty (λ other. agreed (kinds other) (p.first other) (of_each (λ o. agree (kinds o) (p.first o)) first other)) refl front (pl.begun x front h) in
+      ap (λ (b : Bool). cond b (p.read (record { last = last; left = front ++ rest })) (refused (wrong (front ++ rest)) (front ++ rest))) (is_begun kinds p.may_be_empty front rest solid begun)
+      ∙ pl.complete x front rest last h stops;
   begun = λ x front h. begun_same p.first kinds p.may_be_empty false (λ other. agreed (kinds other) (p.first other) (of_each (λ o. agree (kinds o) (p.first o)) first other)) (sym solid) front (pl.begun x front h);
 }
 

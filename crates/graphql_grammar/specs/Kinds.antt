@@ -2,6 +2,8 @@
 use Rattle.std.specs.Prelude.{ℕ, Bool, true, false, ◌||◌, ◌&&◌, not, List, [], ◌∷◌, nat_eq, nat_lt, if◌then◌else◌}
 use Rattle.graphql_grammar.specs.declared.kind.Kind.{Kind}
 use Rattle.graphql_grammar.specs.declared.kind.Kind.TheVariants as k
+use Rattle.graphql_grammar.specs.declared.kind.Names.{Names}
+use Rattle.graphql_grammar.specs.declared.kind.Names.TheVariants as n
 
 -- the number of a kind
 abbrev pub tag : Kind → ℕ
@@ -65,6 +67,12 @@ either_of a b other = a other || b other
 -- names, the words that the grammar tells apart among them: section 2.1.9
 abbrev pub is_name : Kinds
 is_name kind = nat_lt (tag kind) 20
+
+-- the names that may stand at such a place: all; all but `on`; all but `true`, `false` and `null`
+abbrev pub names_of : Names → Kinds
+names_of n.Any kind = is_name kind
+names_of n.Fragment kind = is_name kind && not (only k.On kind)
+names_of n.EnumValue kind = is_name kind && (nat_eq (tag kind) 0 || nat_lt 3 (tag kind))
 
 -- all kinds
 abbrev pub all_kinds : List Kind

@@ -1,4 +1,6 @@
 pub mod Kinds
 pub mod Pieces
 pub mod Spelling
+pub mod Standing
 pub mod Words
+pub mod WordsOfText

@@ -1,4 +1,5 @@
 -- What a grammar is made of. A piece says which words spell a value, and how it is read.
+use Rattle.std.specs.Option.{option_map_or}
 use Rattle.std.specs.Prelude.{◌≡◌, ℕ, zero, suc, List, [], ◌∷◌, ◌++◌, length, Bool, true, false, ◌&&◌, if◌then◌else◌, Option, Some, None, Result, Ok, Err}
 use Rattle.graphql_grammar.specs.Kinds.{Kinds, either_of, none, only}
 use Rattle.graphql_grammar.specs.Spelling.{Parts, spells_by, spells_many, spells_optional}
@@ -62,6 +63,21 @@ abbrev pub word : Kinds → Wrong → Piece WordView
 word kinds wrong = record {
   spells = λ w front. (front ≡ w ∷ []) × (kinds w.kind ≡ true);
   read = λ s. take_word kinds (wrong s.left) s.left;
+  first = kinds;
+  more = none;
+  may_be_empty = false;
+}
+
+-- what the next word is picked as
+abbrev pub take_picked : {A : Type 0} → (WordView → Option A) → FaultKind → List WordView → Reading A
+take_picked pick fault [] = refused fault []
+take_picked pick fault (w ∷ ws) = option_map_or (λ x. Ok (x, record { last = w.end; left = ws })) (pick w) (refused fault (w ∷ ws))
+
+-- a word that is picked as something, which is of one of these kinds
+abbrev pub picked : {A : Type 0} → (WordView → Option A) → Kinds → Wrong → Piece A
+picked pick kinds wrong = record {
+  spells = λ x front. (w : WordView) × (front ≡ w ∷ []) × (pick w ≡ Some x);
+  read = λ s. take_picked pick (wrong s.left) s.left;
   first = kinds;
   more = none;
   may_be_empty = false;
@@ -226,6 +242,24 @@ headed kinds p = record {
   more = none;
   may_be_empty = false;
 }
+
+-- ---- an item, which begins with one of these; what is wrong where it doesn't is said
+
+abbrev pub item : {A : Type 0} → Kinds → Wrong → Piece A → Piece A
+item kinds wrong p = record {
+  spells = p.spells;
+  read = λ s. if begins kinds s.left then p.read s else refused (wrong s.left) s.left;
+  first = kinds;
+  more = p.more;
+  may_be_empty = false;
+}
+
+-- one or more after each other, with a sign between them, and one before the first or not
+abbrev pub separated_of : {A : Type 0} → Option (Unit {0}) × (A × List A) → List A
+separated_of x = x.1.0 ∷ x.1.1
+
+abbrev pub separated : {A : Type 0} → Kind → Piece A → Piece (List A)
+separated kind p = mapped separated_of (seq (optional (sign kind)) (seq p (many (mapped (λ x. x.1) (seq (sign kind) p)))))
 
 -- ---- what is nested too deep
 

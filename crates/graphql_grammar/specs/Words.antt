@@ -19,6 +19,16 @@ abbrev pub begins : Kinds → List WordView → Bool
 begins kinds [] = false
 begins kinds (w ∷ ws) = kinds w.kind
 
+-- the first of these
+abbrev pub first_word : List WordView → Option WordView
+first_word [] = None
+first_word (w ∷ ws) = Some w
+
+-- a word of the code, if there is one
+abbrev pub seen_word : Option Word → Option WordView
+seen_word None = None
+seen_word (Some w) = Some (word_view w)
+
 -- the kind of the first of these
 abbrev pub first_kind : List WordView → Option Kind
 first_kind [] = None

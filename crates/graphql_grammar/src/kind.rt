@@ -1,7 +1,7 @@
 //! Kinds of words: GraphQL specification of October 2021, section 2.1.6. The words that the grammar tells apart from other names
 //! have kinds of their own.
 ghost use Rattle.std.specs.Prelude.{◌≡◌};
-ghost use Rattle.graphql_grammar.specs.Kinds.{is_name, only, tag};
+ghost use Rattle.graphql_grammar.specs.Kinds.{is_name, names_of, only, tag};
 
 /// What a word is.
 #[derive(Clone, Copy, Debug, PartialEq, Eq)]
@@ -149,5 +149,29 @@ impl Kind {
         ensures { result ≡ is_name self }
     {
         self.tag() < 20
+    }
+}
+
+/// Which words are names at a place: section 2.1.9 and appendix B.
+#[derive(Clone, Copy, Debug, PartialEq, Eq)]
+pub enum Names {
+    /// Each word.
+    Any,
+    /// Each but `on`: the name of a fragment.
+    Fragment,
+    /// Each but `true`, `false` and `null`: the name of an enum value.
+    EnumValue,
+}
+
+impl Names {
+    /// Whether words of the kind are such names.
+    pub fn has(self, kind: Kind) -> bool
+        ensures { result ≡ names_of self kind }
+    {
+        match self {
+            Names::Any => kind.is_name(),
+            Names::Fragment => kind.is_name() && !kind.is(Kind::On),
+            Names::EnumValue => kind.is_name() && (kind.tag() == 0 || kind.tag() > 3),
+        }
     }
 }

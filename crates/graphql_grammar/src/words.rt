@@ -1,0 +1,260 @@
+//! The words of a text that are left to read. They are made one by one, as they are taken.
+ghost use Rattle.std.specs.Prelude.{◌≡◌, ◌-◌, [], length, Option, None, Some};
+ghost use Rattle.graphql_grammar.specs.Kinds.{is_name, names_of, only};
+ghost use Rattle.graphql_grammar.specs.Pieces.{Gives, GivesSeen, take_sign, take_word};
+ghost use Rattle.graphql_grammar.specs.Standing.{before, standing};
+ghost use Rattle.graphql_grammar.specs.Words.{begins, first_kind, first_word, seen_word, starting, word_view};
+ghost use Rattle.graphql_grammar.specs.WordsOfText.{name_kind, too_many, word_kind, word_of, words_at, words_of, wrong};
+ghost use Rattle.graphql_tokens.specs.First.{seen};
+
+use crate::fault::{FaultKind, ReadError};
+use crate::kind::{Kind, Names};
+use crate::word::Word;
+use graphql_tokens::first::{FirstToken, first_token_of};
+use graphql_tokens::token::{TokenError, TokenKind};
+
+/// The words of a text that are left, and where the last one before them ended.
+#[derive(Drop)]
+pub struct Words<'a> {
+    /// The byte behind the last word that was taken, and 0 where none was.
+    pub last: usize,
+    next: Option<Word<'a>>,
+    /// What stands behind the next word.
+    rest: &'a str,
+    /// How many bytes the whole text has.
+    total: usize,
+    /// How many words are allowed behind the next one.
+    allowed: usize,
+    /// What is wrong where the text stops being tokens, once that is met.
+    error: Option<TokenError>,
+}
+
+/// The kind of a name: the words that the grammar tells apart have kinds of their own.
+fn name_kind(text: &str) -> Kind
+    ensures { result ≡ name_kind text.now }
+{
+    match text {
+        "true" => Kind::True,
+        "false" => Kind::False,
+        "null" => Kind::Null,
+        "on" => Kind::On,
+        "query" => Kind::Query,
+        "mutation" => Kind::Mutation,
+        "subscription" => Kind::Subscription,
+        "fragment" => Kind::Fragment,
+        "schema" => Kind::Schema,
+        "scalar" => Kind::Scalar,
+        "type" => Kind::Type,
+        "interface" => Kind::Interface,
+        "union" => Kind::Union,
+        "enum" => Kind::Enum,
+        "input" => Kind::Input,
+        "directive" => Kind::Directive,
+        "extend" => Kind::Extend,
+        "implements" => Kind::Implements,
+        "repeatable" => Kind::Repeatable,
+        _ => Kind::Name,
+    }
+}
+
+/// The kind of the word that a token is.
+fn word_kind(kind: TokenKind, text: &str) -> Kind
+    ensures { result ≡ word_kind kind text.now }
+{
+    match kind {
+        TokenKind::Name => name_kind(text),
+        TokenKind::Bang => Kind::Bang,
+        TokenKind::Dollar => Kind::Dollar,
+        TokenKind::Ampersand => Kind::Ampersand,
+        TokenKind::LeftParen => Kind::LeftParen,
+        TokenKind::RightParen => Kind::RightParen,
+        TokenKind::Spread => Kind::Spread,
+        TokenKind::Colon => Kind::Colon,
+        TokenKind::Equals => Kind::Equals,
+        TokenKind::At => Kind::At,
+        TokenKind::LeftBracket => Kind::LeftBracket,
+        TokenKind::RightBracket => Kind::RightBracket,
+        TokenKind::LeftBrace => Kind::LeftBrace,
+        TokenKind::Pipe => Kind::Pipe,
+        TokenKind::RightBrace => Kind::RightBrace,
+        TokenKind::Int => Kind::Int,
+        TokenKind::Float => Kind::Float,
+        TokenKind::String => Kind::String,
+        TokenKind::BlockString => Kind::BlockString,
+    }
+}
+
+/// The word that a token is, in a text of so many bytes.
+fn word_of<'a>(total: usize, token: FirstToken<'a>) -> Word<'a>
+    ensures { word_view result ≡ word_of total (seen token.entry) }
+{
+    let end = total.saturating_sub(token.rest.len());
+    Word {
+        kind: word_kind(token.kind, token.text),
+        text: token.text,
+        start: end.saturating_sub(token.text.len()),
+        end,
+    }
+}
+
+/// What stands there where no more words are allowed.
+fn too_many<'a>(total: usize, token: FirstToken<'a>) -> Word<'a>
+    ensures { word_view result ≡ too_many total (seen token.entry) }
+{
+    Word {
+        kind: Kind::TooMany,
+        text: "",
+        ..word_of(total, token)
+    }
+}
+
+/// What stands there where a text stops being tokens.
+fn wrong<'a>(total: usize, text: &'a str, error: TokenError) -> Word<'a>
+    ensures { word_view result ≡ wrong total text.now error }
+{
+    let at = total.saturating_sub(text.len().saturating_sub(error.at));
+    Word {
+        kind: Kind::Wrong,
+        text: "",
+        start: at,
+        end: at,
+    }
+}
+
+impl<'a> Words<'a> {
+    /// The words of a text, of which so many are allowed.
+    pub fn new(text: &'a str, allowed: usize) -> Words<'a>
+        ensures { standing result ≡ record { last = 0; left = words_of allowed text.now } }
+    {
+        let mut words = Words {
+            last: 0,
+            next: None,
+            rest: text,
+            total: text.len(),
+            allowed,
+            error: None,
+        };
+        words.advance();
+        words
+    }
+
+    /// Makes the word that stands at the front of the rest the next one.
+    fn advance(&mut self)
+        ensures last { self.new.last ≡ self.old.last }
+        ensures left { (standing self.new).left ≡ words_at self.old.allowed self.old.total self.old.rest.now }
+    {
+        match first_token_of(self.rest) {
+            Ok(None) => {
+                self.next = None;
+            }
+            Err(error) => {
+                self.next = Some(wrong(self.total, self.rest, error));
+                self.rest = "";
+                self.error = Some(error);
+            }
+            Ok(Some(token)) if self.allowed == 0 => {
+                self.next = Some(too_many(self.total, token));
+                self.rest = "";
+            }
+            Ok(Some(token)) => {
+                self.next = Some(word_of(self.total, token));
+                self.rest = token.rest;
+                self.allowed -= 1;
+            }
+        }
+    }
+
+    /// The next word, if there is one.
+    pub fn next(&self) -> Option<Word<'a>>
+        ensures { seen_word result ≡ first_word (standing self.now).left }
+    {
+        self.next
+    }
+
+    /// What is wrong where the text stops being tokens, if that was met.
+    pub fn error(&self) -> Option<TokenError> {
+        self.error
+    }
+
+    /// The kind of the next word, if there is one.
+    pub fn next_kind(&self) -> Option<Kind>
+        ensures { result ≡ first_kind (standing self.now).left }
+    {
+        match &self.next {
+            Some(word) => Some(word.kind),
+            None => None,
+        }
+    }
+
+    /// Whether the next word is of this kind.
+    pub fn next_is(&self, kind: Kind) -> bool
+        ensures { result ≡ begins (only kind) (standing self.now).left }
+    {
+        match &self.next {
+            Some(word) => word.kind.is(kind),
+            None => false,
+        }
+    }
+
+    /// Whether the next word is such a name.
+    pub fn next_is_name(&self, names: Names) -> bool
+        ensures { result ≡ begins (names_of names) (standing self.now).left }
+    {
+        match &self.next {
+            Some(word) => names.has(word.kind),
+            None => false,
+        }
+    }
+
+    /// Where the next word starts, and 0 where there is none.
+    pub fn start(&self) -> usize
+        ensures { result ≡ starting (standing self.now).left }
+    {
+        match &self.next {
+            Some(word) => word.start,
+            None => 0,
+        }
+    }
+
+    /// Takes the next word, which is of this kind; else this is wrong.
+    pub fn expect(&mut self, kind: Kind, fault: FaultKind) -> Result<(), ReadError>
+        ensures { Gives result (standing self.new) (take_sign kind fault (standing self.old).left) }
+    {
+        match self.next {
+            Some(word) if word.kind.is(kind) => {
+                self.last = word.end;
+                self.advance();
+                Ok(())
+            }
+            _ => Err(ReadError::Fault(fault)),
+        }
+    }
+
+    /// Takes the next word, which is of this kind; else this is wrong.
+    pub fn expect_word(&mut self, kind: Kind, fault: FaultKind) -> Result<Word<'a>, ReadError>
+        ensures { GivesSeen word_view result (standing self.new) (take_word (only kind) fault (standing self.old).left) }
+    {
+        match self.next {
+            Some(word) if word.kind.is(kind) => {
+                self.last = word.end;
+                self.advance();
+                Ok(word)
+            }
+            _ => Err(ReadError::Fault(fault)),
+        }
+    }
+
+    /// Takes the next word, which is such a name; else this is wrong.
+    pub fn expect_name(&mut self, names: Names, fault: FaultKind) -> Result<Word<'a>, ReadError>
+        ensures { GivesSeen word_view result (standing self.new) (take_word (names_of names) fault (standing self.old).left) }
+    {
+        match self.next {
+            Some(word) if names.has(word.kind) => {
+                self.last = word.end;
+                self.advance();
+                Ok(word)
+            }
+            _ => Err(ReadError::Fault(fault)),
+        }
+    }
+}
