@@ -4,22 +4,9 @@ use Rattle.graphql_grammar.specs.declared.kind.Kind.{Kind}
 use Rattle.graphql_grammar.specs.Kinds.{Kinds, each_kind}
 use Rattle.graphql_grammar.specs.Spelling.{spells_by}
 use Rattle.graphql_grammar.specs.Words.{WordView, ended}
-use Rattle.graphql_grammar.specs.Pieces.{Piece, Reading, State, Wrong, branch, read_first}
+use Rattle.graphql_grammar.specs.Pieces.{Piece, Reading, State, Wrong, branch, choose, read_first}
 use Rattle.graphql_grammar.proofs.KindLemmas.{of_each}
-use Rattle.graphql_grammar.proofs.PieceLaws.{Begun, Lawful, Stops, Took}
-
--- the second where the first
-abbrev pub implied : Bool → Bool → Bool
-implied true b = b
-implied false b = true
-
-by_implied : (a b : Bool) → implied a b ≡ true → a ≡ true → b ≡ true
-by_implied true b e h = e
-by_implied false b e h = absurd cc
-
-by_not : (b : Bool) → not b ≡ true → b ≡ false
-by_not true e = absurd cc
-by_not false e = refl
+use Rattle.graphql_grammar.proofs.PieceLaws.{Begun, Lawful, Stops, Took, by_implied, by_not, implied}
 
 not_more : (a b : Bool) → implied a b ≡ true → b ≡ false → a ≡ false
 not_more true b e h = absurd (let w = sym e ∙ h in cc)
@@ -46,11 +33,11 @@ module _ {A : Type 0} (first more : Kinds) (pick : Kind → Piece A) (wrong : Wr
       let head : w ≡ f = cc in
       subst (λ (k : Kind). (pick k).spells x (f ∷ fs)) (sym same ∙ ap (λ (v : WordView). v.kind) head) h
 
-  branch_sound : (last : ℕ) (left : List WordView) (x : A) (then : State) → read_first pick wrong (record { last = last; left = left }) left ≡ Ok (x, then) → Took (branch first more pick wrong).spells (record { last = last; left = left }) x then
-  branch_sound last [] x then e = absurd cc
-  branch_sound last (w ∷ ws) x then e =
-      let t : Took (pick w.kind).spells (record { last = last; left = w ∷ ws }) x then = (laws w.kind).sound (record { last = last; left = w ∷ ws }) x then e in
-      record { front = t.front; left = t.left; last = t.last; spelled = picked w.kind x t.front ws then.left w refl t.spelled t.left }
+  branch_sound : (last : ℕ) (left : List WordView) (x : A) (after : State) → read_first pick wrong (record { last = last; left = left }) left ≡ Ok (x, after) → Took (branch first more pick wrong).spells (record { last = last; left = left }) x after
+  branch_sound last [] x after e = absurd cc
+  branch_sound last (w ∷ ws) x after e =
+      let t : Took (pick w.kind).spells (record { last = last; left = w ∷ ws }) x after = (laws w.kind).sound (record { last = last; left = w ∷ ws }) x after e in
+      record { front = t.front; left = t.left; last = t.last; spelled = picked w.kind x t.front ws after.left w refl t.spelled t.left }
 
   branch_again : (x : A) (front rest : List WordView) (last : ℕ) → spells_by (λ kind. (pick kind).spells) x front → Stops more rest
       → (branch first more pick wrong).read (record { last = last; left = front ++ rest }) ≡ Ok (x, record { last = ended last front; left = rest })
@@ -63,4 +50,9 @@ module _ {A : Type 0} (first more : Kinds) (pick : Kind → Piece A) (wrong : Wr
       by_implied ((pick w.kind).first w.kind) (first w.kind) (of_each (λ kind. implied ((pick kind).first kind) (first kind)) heads w.kind) ((laws w.kind).begun x (w ∷ ws) h)
 
   pub branch_law : Lawful (branch first more pick wrong)
-  branch_law = record { sound = λ s x then e. branch_sound s.last s.left x then e; complete = branch_again; begun = branch_begun }
+  branch_law = record { sound = λ s x after e. branch_sound s.last s.left x after e; complete = branch_again; begun = branch_begun }
+
+-- one of two, by a flag
+pub either_law : {A : Type 0} (flag : Bool) (p q : Piece A) → Lawful p → Lawful q → Lawful (choose flag p q)
+either_law true p q pl ql = pl
+either_law false p q pl ql = ql

@@ -1,6 +1,5 @@
 -- What a piece reads is spelled so, and what is spelled so is read, whatever stands behind it that can't go on with it.
-use Rattle.std.proofs.Common.{◌≡◌, ℕ, zero, suc, Bool, true, false, ◌||◌, ◌&&◌, cond, List, [], ◌∷◌, ◌++◌, length, Option, Some, None, Result, Ok, Err, ◌⊎◌, inl, inr, refl, sym, ap, subst, ◌∙◌, append_assoc}
-use Rattle.std.specs.Option.{option_map_or}
+use Rattle.std.proofs.Common.{◌≡◌, ℕ, zero, suc, Bool, true, false, not, ◌||◌, ◌&&◌, cond, List, [], ◌∷◌, ◌++◌, length, Option, Some, None, Result, Ok, Err, ◌⊎◌, inl, inr, refl, sym, ap, subst, ◌∙◌, append_assoc}
 use Rattle.graphql_grammar.specs.declared.fault.FaultKind.{FaultKind}
 use Rattle.graphql_grammar.specs.declared.fault.FaultKind.TheVariants.{Expected, TooDeep}
 use Rattle.graphql_grammar.specs.declared.fault.Item.TheVariants as i
@@ -8,7 +7,7 @@ use Rattle.graphql_grammar.specs.declared.kind.Kind.{Kind}
 use Rattle.graphql_grammar.specs.Kinds.{Kinds, each_kind, either_of, none, only}
 use Rattle.graphql_grammar.specs.Words.{WordView, begins, ended, starting}
 use Rattle.graphql_grammar.specs.Spelling.{Parts}
-use Rattle.graphql_grammar.specs.Pieces.{Piece, Reading, State, Wrong, ◌>>=◌, close, empty, filtered, headed, item, located, mapped, nested, nothing, optional, picked, refused, seq, sign, sign_or, take_picked, take_word, tested, too_deep, word}
+use Rattle.graphql_grammar.specs.Pieces.{Piece, Reading, State, Wrong, ◌>>=◌, close, empty, filtered, headed, item, located, mapped, nested, nothing, optional, picked, picked_at, refused, seq, sign, sign_or, take_picked, take_word, tested, too_deep, word}
 use Rattle.graphql_grammar.proofs.KindLemmas.{of_each}
 use Rattle.graphql_grammar.proofs.ReadingLemmas.{and_right, and_true, bind_ok, chosen, ended_append, ok_is, or_false, or_left, or_right}
 
@@ -87,7 +86,7 @@ word_law kinds wrong = record {
 }
 
 took_picked : {A : Type 0} (pick : WordView → Option A) (kinds : Kinds) (wrong : Wrong) (fault : FaultKind) (last : ℕ) (w : WordView) (ws : List WordView) (made : Option A) (x : A) (then : State) → pick w ≡ made
-    → option_map_or (λ y. Ok (y, record { last = w.end; left = ws })) made (refused fault (w ∷ ws)) ≡ Ok (x, then) → Took (picked pick kinds wrong).spells (record { last = last; left = w ∷ ws }) x then
+    → picked_at w ws made fault ≡ Ok (x, then) → Took (picked pick kinds wrong).spells (record { last = last; left = w ∷ ws }) x then
 took_picked pick kinds wrong fault last w ws None x then is e = absurd cc
 took_picked {A} pick kinds wrong fault last w ws (Some y) x then is e =
     let t : Took (picked pick kinds wrong).spells (record { last = last; left = w ∷ ws }) y (record { last = w.end; left = ws }) = record { front = w ∷ []; left = refl; last = refl; spelled = (w, refl, is) } in
@@ -103,7 +102,7 @@ picked_law {A} pick kinds wrong sure = record {
   sound = λ s x then e. took_first pick kinds wrong (wrong s.left) s.last s.left x then e;
   complete = λ x front rest last h _.
       subst (λ (f : List WordView). take_picked pick (wrong (front ++ rest)) (f ++ rest) ≡ Ok (x, record { last = ended last f; left = rest })) (sym h.1)
-      (ap (λ (o : Option A). option_map_or (λ y. Ok (y, record { last = h.0.end; left = rest })) o (refused (wrong (front ++ rest)) (h.0 ∷ rest))) h.2);
+      (ap (λ (o : Option A). picked_at h.0 rest o (wrong (front ++ rest))) h.2);
   begun = λ x front h. subst (λ (f : List WordView). Begun kinds false f) (sym h.1) (sure h.0 x h.2);
 }
 
@@ -317,46 +316,49 @@ module _ {A : Type 0} (p : Piece A) (pl : Lawful p) (solid : p.may_be_empty ≡ 
 
 -- ---- what begins with a sign, and is never gone on with
 
-stops_same : (a b : Kinds) → ((kind : Kind) → b kind ≡ a kind) → (rest : List WordView) → Stops a rest → Stops b rest
-stops_same a b same [] stops = tt
-stops_same a b same (t ∷ ts) stops = same t.kind ∙ stops
+-- the second where the first
+abbrev pub implied : Bool → Bool → Bool
+implied true b = b
+implied false b = true
 
-begun_same : (a b : Kinds) (e f : Bool) → ((kind : Kind) → b kind ≡ a kind) → f ≡ e → (front : List WordView) → Begun a e front → Begun b f front
-begun_same a b e f same is [] h = is ∙ h
-begun_same a b e f same is (t ∷ ts) h = same t.kind ∙ h
+pub by_implied : (a b : Bool) → implied a b ≡ true → a ≡ true → b ≡ true
+by_implied true b e h = e
+by_implied false b e h = absurd cc
 
--- two tests that agree
-abbrev pub agree : Bool → Bool → Bool
-agree true b = b
-agree false true = false
-agree false false = true
+pub by_not : (b : Bool) → not b ≡ true → b ≡ false
+by_not true e = absurd cc
+by_not false e = refl
 
-agreed : (a b : Bool) → agree a b ≡ true → a ≡ b
-agreed true true e = refl
-agreed true false e = absurd cc
-agreed false true e = absurd cc
-agreed false false e = refl
+-- nothing goes on with what goes on with nothing
+stops_none : (more : Kinds) → each_kind (λ other. not (more other)) ≡ true → (rest : List WordView) → Stops more rest
+stops_none more nowhere [] = tt
+stops_none more nowhere (w ∷ ws) = by_not (more w.kind) (of_each (λ other. not (more other)) nowhere w.kind)
 
-pub headed_law : {A : Type 0} (kinds : Kinds) (p : Piece A) → Lawful p → each_kind (λ other. agree (kinds other) (p.first other)) ≡ true → each_kind (λ other. agree (p.more other) false) ≡ true → p.may_be_empty ≡ false → Lawful (headed kinds p)
+-- what begins with one of these begins with one of those
+begun_within : (a b : Kinds) (e : Bool) → each_kind (λ other. implied (a other) (b other)) ≡ true → e ≡ false → (front : List WordView) → Begun a e front → Begun b false front
+begun_within a b e within solid [] h = absurd cc
+begun_within a b e within solid (w ∷ ws) h = by_implied (a w.kind) (b w.kind) (of_each (λ other. implied (a other) (b other)) within w.kind) h
+
+pub headed_law : {A : Type 0} (kinds : Kinds) (p : Piece A) → Lawful p → each_kind (λ other. implied (p.first other) (kinds other)) ≡ true → each_kind (λ other. not (p.more other)) ≡ true → p.may_be_empty ≡ false → Lawful (headed kinds p)
 headed_law {A} kinds p pl first more solid = record {
   sound = λ s x then e. let t : Took p.spells s x then = pl.sound s x then e in record { front = t.front; left = t.left; last = t.last; spelled = t.spelled };
-  complete = λ x front rest last h stops. pl.complete x front rest last h (stops_same none p.more (λ other. agreed (p.more other) false (of_each (λ o. agree (p.more o) false) more other)) rest stops);
-  begun = λ x front h. begun_same p.first kinds p.may_be_empty false (λ other. agreed (kinds other) (p.first other) (of_each (λ o. agree (kinds o) (p.first o)) first other)) (sym solid) front (pl.begun x front h);
+  complete = λ x front rest last h stops. pl.complete x front rest last h (stops_none p.more more rest);
+  begun = λ x front h. begun_within p.first kinds p.may_be_empty first solid front (pl.begun x front h);
 }
 
 -- ---- items
 
-pub item_law : {A : Type 0} (kinds : Kinds) (wrong : Wrong) (p : Piece A) → Lawful p → each_kind (λ other. agree (kinds other) (p.first other)) ≡ true → p.may_be_empty ≡ false → Lawful (item kinds wrong p)
+pub item_law : {A : Type 0} (kinds : Kinds) (wrong : Wrong) (p : Piece A) → Lawful p → each_kind (λ other. implied (p.first other) (kinds other)) ≡ true → p.may_be_empty ≡ false → Lawful (item kinds wrong p)
 item_law {A} kinds wrong p pl first solid = record {
   sound = λ s x then e. elim (chosen (begins kinds s.left) (p.read s) (refused (wrong s.left) s.left) (Ok (x, then)) e) [
     | inl (hit, is) ↦ let t : Took p.spells s x then = pl.sound s x then is in record { front = t.front; left = t.left; last = t.last; spelled = t.spelled }
     | inr (miss, is) ↦ absurd cc
   ];
   complete = λ x front rest last h stops.
-      let begun : Begun kinds p.may_be_empty front = begun_same p.first kinds p.may_be_empty p.may_be_empty (λ other. agreed (kinds other) (p.first other) (of_each (λ o. agree (kinds o) (p.first o)) first other)) refl front (pl.begun x front h) in
-      ap (λ (b : Bool). cond b (p.read (record { last = last; left = front ++ rest })) (refused (wrong (front ++ rest)) (front ++ rest))) (is_begun kinds p.may_be_empty front rest solid begun)
+      ap (λ (b : Bool). cond b (p.read (record { last = last; left = front ++ rest })) (refused (wrong (front ++ rest)) (front ++ rest)))
+          (is_begun kinds false front rest refl (begun_within p.first kinds p.may_be_empty first solid front (pl.begun x front h)))
       ∙ pl.complete x front rest last h stops;
-  begun = λ x front h. begun_same p.first kinds p.may_be_empty false (λ other. agreed (kinds other) (p.first other) (of_each (λ o. agree (kinds o) (p.first o)) first other)) (sym solid) front (pl.begun x front h);
+  begun = λ x front h. begun_within p.first kinds p.may_be_empty first solid front (pl.begun x front h);
 }
 
 -- ---- what is nested

@@ -1,5 +1,4 @@
 -- What a grammar is made of. A piece says which words spell a value, and how it is read.
-use Rattle.std.specs.Option.{option_map_or}
 use Rattle.std.specs.Prelude.{◌≡◌, ℕ, zero, suc, List, [], ◌∷◌, ◌++◌, length, Bool, true, false, ◌&&◌, if◌then◌else◌, Option, Some, None, Result, Ok, Err}
 use Rattle.graphql_grammar.specs.Kinds.{Kinds, either_of, none, only}
 use Rattle.graphql_grammar.specs.Spelling.{Parts, spells_by, spells_many, spells_optional}
@@ -68,10 +67,14 @@ word kinds wrong = record {
   may_be_empty = false;
 }
 
+abbrev pub picked_at : {A : Type 0} → WordView → List WordView → Option A → FaultKind → Reading A
+picked_at w ws None fault = refused fault (w ∷ ws)
+picked_at w ws (Some x) fault = Ok (x, record { last = w.end; left = ws })
+
 -- what the next word is picked as
 abbrev pub take_picked : {A : Type 0} → (WordView → Option A) → FaultKind → List WordView → Reading A
 take_picked pick fault [] = refused fault []
-take_picked pick fault (w ∷ ws) = option_map_or (λ x. Ok (x, record { last = w.end; left = ws })) (pick w) (refused fault (w ∷ ws))
+take_picked pick fault (w ∷ ws) = picked_at w ws (pick w) fault
 
 -- a word that is picked as something, which is of one of these kinds
 abbrev pub picked : {A : Type 0} → (WordView → Option A) → Kinds → Wrong → Piece A
@@ -210,6 +213,11 @@ some p = mapped listed (seq p (many p))
 abbrev pub read_first : {A : Type 0} → (Kind → Piece A) → Wrong → State → List WordView → Reading A
 read_first pick wrong s [] = refused (wrong []) []
 read_first pick wrong s (w ∷ ws) = (pick w.kind).read s
+
+-- the first where the flag is set, else the second
+abbrev pub choose : {A : Type 0} → Bool → Piece A → Piece A → Piece A
+choose true p q = p
+choose false p q = q
 
 -- the piece that is picked by the kind of the first word; what it begins with, and what goes on with it, is said here
 abbrev pub branch : {A : Type 0} → Kinds → Kinds → (Kind → Piece A) → Wrong → Piece A
