@@ -1,0 +1,59 @@
+-- Arguments and directives: what is read is spelled so, and the other way round.
+use Rattle.std.proofs.Common.{◌≡◌, ℕ, zero, suc, Bool, false, List, refl}
+use Rattle.graphql_nodes.specs.declared.source.FileId.{FileId}
+use Rattle.graphql_nodes.specs.NameView.{NameView}
+use Rattle.graphql_nodes.specs.NodeView.{NodeView}
+use Rattle.graphql_ast.specs.declared.directive.Argument.{Argument}
+use Rattle.graphql_ast.specs.declared.directive.Directive.{Directive}
+use Rattle.graphql_ast.specs.declared.value.Value.{Value}
+use Rattle.graphql_grammar.specs.declared.fault.FaultKind.TheVariants.{TooDeep}
+use Rattle.graphql_grammar.specs.declared.kind.Kind.TheVariants as k
+use Rattle.graphql_grammar.specs.Kinds.{is_name, only}
+use Rattle.graphql_grammar.specs.Pieces.{Piece, many, mapped, optional, seq, sign, some, too_deep}
+use Rattle.graphql_grammar.proofs.ManyLaws.{many_law, some_law}
+use Rattle.graphql_grammar.proofs.PieceLaws.{Lawful, apart, headed_law, item_law, mapped_law, nothing_law, optional_law, seq_law, sign_law}
+use Rattle.graphql_text.specs.Directives.{argument, argument_list, argument_of, arguments, directive, directive_of, directives, no_argument}
+use Rattle.graphql_text.specs.Nodes.{between, name, node, or_none}
+use Rattle.graphql_text.specs.Values.{value_node}
+use Rattle.graphql_text.proofs.NodeLaws.{between_law, name_law, node_law}
+use Rattle.graphql_text.proofs.ValueLaws.{value_node_law}
+
+pub argument_law : (file : FileId) (constant : Bool) (depth : ℕ) → Lawful (argument file constant depth)
+unfolding argument name
+argument_law file constant depth =
+    let v : Piece (NodeView Value) = value_node file constant depth in
+    let c : Piece (Unit {0} × NodeView Value) = seq (sign k.Colon) v in
+    let s : Piece (NameView × (Unit {0} × NodeView Value)) = seq (name file) c in
+    let sl : Lawful s = seq_law (name file) c (name_law file) (seq_law (sign k.Colon) v (sign_law k.Colon) (value_node_law file constant depth) (λ kind h. refl)) (λ kind h. refl) in
+    let m : Piece Argument = mapped argument_of s in
+    item_law is_name no_argument (node file m) (node_law file m (mapped_law argument_of s sl) refl) refl refl
+
+pub argument_list_law : (file : FileId) (constant : Bool) (depth : ℕ) → Lawful (argument_list file constant depth)
+unfolding argument name
+argument_list_law file constant zero = headed_law (only k.LeftParen) too_deep (nothing_law (λ _. TooDeep)) refl refl refl
+argument_list_law file constant (suc depth) =
+    let a : Piece (NodeView Argument) = argument file constant depth in
+    let sl : Lawful (some a) = some_law a (argument_law file constant depth) refl (apart a.more a.first refl) in
+    let b : Piece (List (NodeView Argument)) = between k.LeftParen k.RightParen no_argument (some a) in
+    headed_law (only k.LeftParen) b (between_law k.LeftParen k.RightParen no_argument (some a) sl (apart (some a).more (only k.RightParen) refl)) refl refl refl
+
+pub arguments_law : (file : FileId) (constant : Bool) (depth : ℕ) → Lawful (arguments file constant depth)
+unfolding arguments name
+arguments_law file constant depth =
+    mapped_law or_none (optional (argument_list file constant depth)) (optional_law (argument_list file constant depth) (argument_list_law file constant depth) refl)
+
+pub directive_law : (file : FileId) (constant : Bool) (depth : ℕ) → Lawful (directive file constant depth)
+unfolding directive arguments name
+directive_law file constant depth =
+    let a : Piece (List (NodeView Argument)) = arguments file constant depth in
+    let n : Piece (NameView × List (NodeView Argument)) = seq (name file) a in
+    let nl : Lawful n = seq_law (name file) a (name_law file) (arguments_law file constant depth) (λ kind h. refl) in
+    let s : Piece (Unit {0} × (NameView × List (NodeView Argument))) = seq (sign k.At) n in
+    let m : Piece Directive = mapped directive_of s in
+    node_law file m (mapped_law directive_of s (seq_law (sign k.At) n (sign_law k.At) nl (λ kind h. refl))) refl
+
+pub directives_law : (file : FileId) (constant : Bool) (depth : ℕ) → Lawful (directives file constant depth)
+unfolding directives directive arguments name
+directives_law file constant depth =
+    let d : Piece (NodeView Directive) = directive file constant depth in
+    mapped_law (λ x. record { 0 = x }) (many d) (many_law d (directive_law file constant depth) refl (apart d.more d.first refl))

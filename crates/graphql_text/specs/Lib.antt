@@ -1,0 +1,10 @@
+pub mod Directives
+pub mod Documents
+pub mod Locations
+pub mod Nodes
+pub mod Operations
+pub mod Selections
+pub mod Types
+pub mod TypeSystem
+pub mod Values
+pub mod StringsStub

@@ -1,0 +1,88 @@
+-- Operations and fragments: GraphQL specification of October 2021, sections 2.3, 2.8 and 2.10.
+use Rattle.std.specs.Prelude.{ℕ, List, [], Bool, true, false, ◌||◌, Option, None, Some}
+use Rattle.graphql_nodes.specs.declared.source.FileId.{FileId}
+use Rattle.graphql_nodes.specs.declared.operation_type.OperationType.{OperationType}
+use Rattle.graphql_nodes.specs.declared.operation_type.OperationType.TheVariants as o
+use Rattle.graphql_nodes.specs.NameView.{NameView}
+use Rattle.graphql_nodes.specs.NodeView.{NodeView}
+use Rattle.graphql_ast.specs.declared.directive.DirectiveList.{DirectiveList}
+use Rattle.graphql_ast.specs.declared.operation.FragmentDefinition.{FragmentDefinition}
+use Rattle.graphql_ast.specs.declared.operation.OperationDefinition.{OperationDefinition}
+use Rattle.graphql_ast.specs.declared.operation.VariableDefinition.{VariableDefinition}
+use Rattle.graphql_ast.specs.declared.selection.Selection.{Selection}
+use Rattle.graphql_ast.specs.declared.type_reference.Type.{«Type» as TypeReference}
+use Rattle.graphql_ast.specs.declared.value.Value.{Value}
+use Rattle.graphql_grammar.specs.declared.fault.FaultKind.TheVariants.{Expected}
+use Rattle.graphql_grammar.specs.declared.fault.Item.TheVariants as i
+use Rattle.graphql_grammar.specs.declared.kind.Kind.{Kind}
+use Rattle.graphql_grammar.specs.declared.kind.Kind.TheVariants as k
+use Rattle.graphql_grammar.specs.Kinds.{Kinds, none, only}
+use Rattle.graphql_grammar.specs.Pieces.{Piece, Wrong, branch, choose, headed, item, mapped, nothing, optional, seq, sign, some}
+use Rattle.graphql_text.specs.Directives.{directives}
+use Rattle.graphql_text.specs.Nodes.{behind, enclosed, name, node, or_none}
+use Rattle.graphql_text.specs.Selections.{fragment_name, selection_set, type_condition}
+use Rattle.graphql_text.specs.Types.{type}
+use Rattle.graphql_text.specs.Values.{value_node, variable}
+
+-- what an operation type begins with
+abbrev pub is_operation_type : Kinds
+is_operation_type kind = only k.Query kind || (only k.Mutation kind || only k.Subscription kind)
+
+abbrev pub no_root : Wrong
+no_root = λ _. Expected i.RootOperation
+
+abbrev pub operation_type_pick : Kind → Piece OperationType
+operation_type_pick kind =
+    choose (only k.Query kind) (mapped (λ _. o.Query) (sign k.Query)) (
+    choose (only k.Mutation kind) (mapped (λ _. o.Mutation) (sign k.Mutation)) (
+    choose (only k.Subscription kind) (mapped (λ _. o.Subscription) (sign k.Subscription)) (
+    nothing no_root)))
+
+-- OperationType
+abbrev pub operation_type : Piece OperationType
+operation_type = branch is_operation_type none operation_type_pick no_root
+
+unfoldable pub default_body : FileId → ℕ → Piece (NodeView Value)
+default_body file depth = mapped behind (seq (sign k.Equals) (value_node file true depth))
+
+-- DefaultValue, which is constant
+abbrev pub default_value : FileId → ℕ → Piece (NodeView Value)
+default_value file depth = headed (only k.Equals) (default_body file depth)
+
+abbrev pub no_variable : Wrong
+no_variable = λ _. Expected i.VariableDefinition
+
+abbrev pub variable_of : NameView × (Unit {0} × (NodeView TypeReference × (Option (NodeView Value) × DirectiveList))) → VariableDefinition
+variable_of x = record { name = x.0; ty = x.1.1.0; default_value = x.1.1.1.0; directives = x.1.1.1.1 }
+
+-- VariableDefinition: section 2.10
+unfoldable pub variable_definition : FileId → ℕ → Piece (NodeView VariableDefinition)
+variable_definition file depth =
+    item (only k.Dollar) no_variable (node file (mapped variable_of (seq (variable file) (seq (sign k.Colon) (seq (node file (type file depth)) (seq (optional (default_value file depth)) (directives file true depth)))))))
+
+-- VariablesDefinition, if there is one
+unfoldable pub variables : FileId → ℕ → Piece (List (NodeView VariableDefinition))
+variables file depth = mapped or_none (optional (enclosed k.LeftParen k.RightParen no_variable depth (λ inside. some (variable_definition file inside))))
+
+abbrev pub operation_of : OperationType × (Option NameView × (List (NodeView VariableDefinition) × (DirectiveList × List Selection))) → OperationDefinition
+operation_of x = record { operation_type = x.0; name = x.1.0; variables = x.1.1.0; directives = x.1.1.1.0; selection_set = x.1.1.1.1 }
+
+-- OperationDefinition: section 2.3
+unfoldable pub operation : FileId → ℕ → Piece OperationDefinition
+operation file depth =
+    mapped operation_of (seq operation_type (seq (optional (name file)) (seq (variables file depth) (seq (directives file false depth) (selection_set file depth)))))
+
+abbrev pub shorthand_of : List Selection → OperationDefinition
+shorthand_of selections = record { operation_type = o.Query; name = None; variables = []; directives = record { 0 = [] }; selection_set = selections }
+
+-- a query without the word, a name, variables and directives
+unfoldable pub shorthand : FileId → ℕ → Piece OperationDefinition
+shorthand file depth = mapped shorthand_of (selection_set file depth)
+
+abbrev pub fragment_of : Unit {0} × (NameView × (NameView × (DirectiveList × List Selection))) → FragmentDefinition
+fragment_of x = record { name = x.1.0; type_condition = x.1.1.0; directives = x.1.1.1.0; selection_set = x.1.1.1.1 }
+
+-- FragmentDefinition: section 2.8
+unfoldable pub fragment_definition : FileId → ℕ → Piece FragmentDefinition
+fragment_definition file depth =
+    mapped fragment_of (seq (sign k.Fragment) (seq (fragment_name file) (seq (type_condition file) (seq (directives file false depth) (selection_set file depth)))))

@@ -1,0 +1,315 @@
+-- The type system: GraphQL specification of October 2021, section 3.
+use Rattle.std.specs.Prelude.{ℕ, List, [], ◌∷◌, Bool, true, false, not, ◌||◌, ◌&&◌, Option, None, Some, if◌then◌else◌}
+use Rattle.graphql_nodes.specs.declared.directive_location.DirectiveLocation.{DirectiveLocation}
+use Rattle.graphql_nodes.specs.declared.operation_type.OperationType.{OperationType}
+use Rattle.graphql_nodes.specs.declared.source.FileId.{FileId}
+use Rattle.graphql_nodes.specs.declared.source.SourceSpan.{SourceSpan}
+use Rattle.graphql_nodes.specs.declared.type_kind.TypeKind.{TypeKind}
+use Rattle.graphql_nodes.specs.declared.type_kind.TypeKind.TheVariants as t
+use Rattle.graphql_nodes.specs.NameView.{NameView}
+use Rattle.graphql_nodes.specs.NodeView.{NodeView}
+use Rattle.graphql_ast.specs.DefinitionParts.{no_parts, schema_definition, schema_extension, type_definition, type_extension}
+use Rattle.graphql_ast.specs.declared.definition.Definition.{Definition}
+use Rattle.graphql_ast.specs.declared.definition.Definition.TheVariants as d
+use Rattle.graphql_ast.specs.declared.definition_parts.DefinitionParts.{DefinitionParts}
+use Rattle.graphql_ast.specs.declared.directive.DirectiveList.{DirectiveList}
+use Rattle.graphql_ast.specs.declared.type_reference.Type.{«Type» as TypeReference}
+use Rattle.graphql_ast.specs.declared.type_system.EnumValueDefinition.{EnumValueDefinition}
+use Rattle.graphql_ast.specs.declared.type_system.FieldDefinition.{FieldDefinition}
+use Rattle.graphql_ast.specs.declared.type_system.InputValueDefinition.{InputValueDefinition}
+use Rattle.graphql_ast.specs.declared.value.Value.{Value}
+use Rattle.graphql_text.specs.StringsStub.{block_string_value, string_value}
+use Rattle.graphql_grammar.specs.declared.fault.FaultKind.TheVariants.{DescriptionNotAllowed, Expected, ReservedName, UnknownDirectiveLocation}
+use Rattle.graphql_grammar.specs.declared.fault.Item.{Item}
+use Rattle.graphql_grammar.specs.declared.fault.Item.TheVariants as i
+use Rattle.graphql_grammar.specs.declared.kind.Kind.{Kind}
+use Rattle.graphql_grammar.specs.declared.kind.Kind.TheVariants as k
+use Rattle.graphql_grammar.specs.declared.kind.Names.TheVariants as names
+use Rattle.graphql_grammar.specs.Kinds.{Kinds, is_name, names_of, none, only}
+use Rattle.graphql_grammar.specs.Pieces.{Piece, Wrong, branch, choose, empty, filtered, headed, item, located, mapped, nothing, optional, picked, separated, seq, sign, some, word}
+use Rattle.graphql_grammar.specs.Words.{WordView, begins}
+use Rattle.graphql_text.specs.Directives.{directives}
+use Rattle.graphql_text.specs.Locations.{location_of}
+use Rattle.graphql_text.specs.Nodes.{behind, enclosed, name, name_of, node, or_none, span_at}
+use Rattle.graphql_text.specs.Operations.{default_value, is_operation_type, no_root, operation_type}
+use Rattle.graphql_text.specs.Types.{type}
+
+-- ---- descriptions: section 3.2
+
+-- the text of a description, at the word that it is
+abbrev pub description_of : FileId → WordView → NameView
+description_of file w = record { text = (if only k.BlockString w.kind then block_string_value w.text else string_value w.text); location = span_at file (w.start, w.end) }
+
+abbrev pub is_description : Kinds
+is_description kind = only k.String kind || only k.BlockString kind
+
+-- Description
+unfoldable pub description : FileId → Piece NameView
+description file = mapped (description_of file) (word is_description (λ _. Expected i.Definition))
+
+-- what may begin with a description, and begins with a name without one
+abbrev pub is_described_name : Kinds
+is_described_name kind = is_name kind || is_description kind
+
+-- ---- input values: sections 3.6.1 and 3.10
+
+abbrev pub expecting : Item → Wrong
+expecting wanted = λ _. Expected wanted
+
+abbrev pub input_of : Option NameView × (NameView × (Unit {0} × (NodeView TypeReference × (Option (NodeView Value) × DirectiveList)))) → InputValueDefinition
+input_of x = record { description = x.0; name = x.1.0; ty = x.1.1.1.0; default_value = x.1.1.1.1.0; directives = x.1.1.1.1.1 }
+
+-- InputValueDefinition, where this item is read
+unfoldable pub input_value : FileId → Item → ℕ → Piece (NodeView InputValueDefinition)
+input_value file wanted depth =
+    item is_described_name (expecting wanted) (node file (mapped input_of
+    (seq (optional (description file)) (seq (name file) (seq (sign k.Colon) (seq (node file (type file depth)) (seq (optional (default_value file depth)) (directives file true depth))))))))
+
+-- ArgumentsDefinition, if there is one
+unfoldable pub argument_definitions : FileId → ℕ → Piece (List (NodeView InputValueDefinition))
+argument_definitions file depth =
+    mapped or_none (optional (enclosed k.LeftParen k.RightParen (expecting i.ArgumentDefinition) depth (λ inside. some (input_value file i.ArgumentDefinition inside))))
+
+-- InputFieldsDefinition, if there is one
+unfoldable pub input_fields : FileId → ℕ → Piece (List (NodeView InputValueDefinition))
+input_fields file depth =
+    mapped or_none (optional (enclosed k.LeftBrace k.RightBrace (expecting i.InputField) depth (λ inside. some (input_value file i.InputField inside))))
+
+-- ---- fields: section 3.6
+
+abbrev pub field_of : Option NameView × (NameView × (List (NodeView InputValueDefinition) × (Unit {0} × (TypeReference × DirectiveList)))) → FieldDefinition
+field_of x = record { description = x.0; name = x.1.0; arguments = x.1.1.0; ty = x.1.1.1.1.0; directives = x.1.1.1.1.1 }
+
+-- FieldDefinition
+unfoldable pub field_definition : FileId → ℕ → Piece (NodeView FieldDefinition)
+field_definition file depth =
+    item is_described_name (expecting i.FieldDefinition) (node file (mapped field_of
+    (seq (optional (description file)) (seq (name file) (seq (argument_definitions file depth) (seq (sign k.Colon) (seq (type file depth) (directives file true depth))))))))
+
+-- FieldsDefinition, if there is one
+unfoldable pub fields : FileId → ℕ → Piece (List (NodeView FieldDefinition))
+fields file depth = mapped or_none (optional (enclosed k.LeftBrace k.RightBrace (expecting i.FieldDefinition) depth (λ inside. some (field_definition file inside))))
+
+-- ---- interfaces and members: sections 3.6 and 3.8
+
+abbrev pub names_body : FileId → Kind → Kind → Piece (List NameView)
+names_body file opening between = mapped behind (seq (sign opening) (separated between (name file)))
+
+-- names behind a word, with a sign between them and one before the first or not, if there are any
+unfoldable pub names_behind : FileId → Kind → Kind → Piece (List NameView)
+names_behind file opening between = mapped or_none (optional (names_body file opening between))
+
+-- ---- enum values: section 3.9
+
+abbrev pub is_reserved : Kinds
+is_reserved kind = only k.True kind || (only k.False kind || only k.Null kind)
+
+-- what is wrong where no enum value is defined
+abbrev pub no_enum_value : Wrong
+no_enum_value left = if begins is_reserved left then ReservedName else Expected i.EnumValue
+
+abbrev pub is_enum_value : Kinds
+is_enum_value kind = names_of names.EnumValue kind || is_description kind
+
+abbrev pub enum_value_of : Option NameView × (NameView × DirectiveList) → EnumValueDefinition
+enum_value_of x = record { description = x.0; value = x.1.0; directives = x.1.1 }
+
+-- EnumValueDefinition: a name, not `true`, `false` or `null`
+unfoldable pub enum_value_definition : FileId → ℕ → Piece (NodeView EnumValueDefinition)
+enum_value_definition file depth =
+    item is_enum_value no_enum_value (node file (mapped enum_value_of
+    (seq (optional (description file)) (seq (mapped (name_of file) (word (names_of names.EnumValue) no_enum_value)) (directives file true depth)))))
+
+-- EnumValuesDefinition, if there is one
+unfoldable pub enum_values : FileId → ℕ → Piece (List (NodeView EnumValueDefinition))
+enum_values file depth = mapped or_none (optional (enclosed k.LeftBrace k.RightBrace no_enum_value depth (λ inside. some (enum_value_definition file inside))))
+
+-- ---- roots: section 3.3
+
+abbrev pub root_of : OperationType × (Unit {0} × NameView) → OperationType × NameView
+root_of x = (x.0, x.1.1)
+
+-- RootOperationTypeDefinition
+unfoldable pub root : FileId → Piece (NodeView (OperationType × NameView))
+root file = item is_operation_type no_root (node file (mapped root_of (seq operation_type (seq (sign k.Colon) (name file)))))
+
+-- the roots between braces
+abbrev pub roots : FileId → ℕ → Piece (List (NodeView (OperationType × NameView)))
+roots file depth = enclosed k.LeftBrace k.RightBrace no_root depth (λ inside. some (root file))
+
+-- ---- what a definition or extension of a kind holds behind its name
+
+abbrev pub scalar_parts : DirectiveList → DefinitionParts
+scalar_parts directives = record no_parts { directives = directives }
+
+abbrev pub fielded_parts : List NameView × (DirectiveList × List (NodeView FieldDefinition)) → DefinitionParts
+fielded_parts x = record no_parts { names = x.0; directives = x.1.0; fields = x.1.1 }
+
+abbrev pub union_parts : DirectiveList × List NameView → DefinitionParts
+union_parts x = record no_parts { directives = x.0; names = x.1 }
+
+abbrev pub enum_parts : DirectiveList × List (NodeView EnumValueDefinition) → DefinitionParts
+enum_parts x = record no_parts { directives = x.0; values = x.1 }
+
+abbrev pub input_parts : DirectiveList × List (NodeView InputValueDefinition) → DefinitionParts
+input_parts x = record no_parts { directives = x.0; input_fields = x.1 }
+
+abbrev pub schema_parts : DirectiveList × List (NodeView (OperationType × NameView)) → DefinitionParts
+schema_parts x = record no_parts { directives = x.0; roots = x.1 }
+
+unfoldable pub fielded : FileId → ℕ → Piece DefinitionParts
+fielded file depth = mapped fielded_parts (seq (names_behind file k.Implements k.Ampersand) (seq (directives file true depth) (fields file depth)))
+
+-- what stands behind the name of a type of this kind: sections 3.5 to 3.10
+unfoldable pub parts : FileId → TypeKind → ℕ → Piece DefinitionParts
+parts file t.Scalar depth = mapped scalar_parts (directives file true depth)
+parts file t.Object depth = fielded file depth
+parts file t.Interface depth = fielded file depth
+parts file t.Union depth = mapped union_parts (seq (directives file true depth) (names_behind file k.Equals k.Pipe))
+parts file t.Enum depth = mapped enum_parts (seq (directives file true depth) (enum_values file depth))
+parts file t.InputObject depth = mapped input_parts (seq (directives file true depth) (input_fields file depth))
+
+-- the word of a kind of types
+abbrev pub keyword : TypeKind → Kind
+keyword t.Scalar = k.Scalar
+keyword t.Object = k.Type
+keyword t.Interface = k.Interface
+keyword t.Union = k.Union
+keyword t.Enum = k.Enum
+keyword t.InputObject = k.Input
+
+-- ---- definitions
+
+-- a definition that wants its description and its location
+abbrev pub Described : Type 0
+Described = Option NameView → Option SourceSpan → Definition
+
+abbrev pub type_of : TypeKind → Unit {0} × (NameView × DefinitionParts) → Described
+type_of kind x = λ description location. type_definition kind description x.1.0 x.1.1 location
+
+-- ScalarTypeDefinition .. InputObjectTypeDefinition, behind the description
+unfoldable pub type_body : FileId → TypeKind → ℕ → Piece Described
+type_body file kind depth = mapped (type_of kind) (seq (sign (keyword kind)) (seq (name file) (parts file kind depth)))
+
+abbrev pub schema_of : Unit {0} × (DirectiveList × List (NodeView (OperationType × NameView))) → Described
+schema_of x = λ description location. schema_definition description (schema_parts x.1) location
+
+-- SchemaDefinition, behind the description: section 3.3
+unfoldable pub schema_body : FileId → ℕ → Piece Described
+schema_body file depth = mapped schema_of (seq (sign k.Schema) (seq (directives file true depth) (roots file depth)))
+
+abbrev pub no_location : Wrong
+no_location left = if begins is_name left then UnknownDirectiveLocation else Expected i.DirectiveLocation
+
+-- the location that a word names
+abbrev pub location_word : WordView → Option DirectiveLocation
+location_word w = if is_name w.kind then location_of w.text else None
+
+-- DirectiveLocation: section 3.13
+unfoldable pub location : Piece DirectiveLocation
+location = picked location_word is_name no_location
+
+abbrev pub is_there : Option (Unit {0}) → Bool
+is_there None = false
+is_there (Some _) = true
+
+abbrev pub directive_of : Unit {0} × (Unit {0} × (NameView × (List (NodeView InputValueDefinition) × (Option (Unit {0}) × (Unit {0} × List DirectiveLocation))))) → Described
+directive_of x = λ description location. d.DirectiveDefinition (record {
+  value = record { description = description; name = x.1.1.0; arguments = x.1.1.1.0; repeatable = is_there x.1.1.1.1.0; locations = x.1.1.1.1.1.1 };
+  location = location;
+})
+
+-- DirectiveDefinition, behind the description: section 3.13
+unfoldable pub directive_body : FileId → ℕ → Piece Described
+directive_body file depth =
+    mapped directive_of (seq (sign k.Directive) (seq (sign k.At) (seq (name file) (seq (argument_definitions file depth) (seq (optional (sign k.Repeatable)) (seq (sign k.On) (separated k.Pipe location)))))))
+
+-- what no description may stand before
+abbrev pub is_undescribed : Kinds
+is_undescribed kind = only k.LeftBrace kind || (is_operation_type kind || (only k.Fragment kind || only k.Extend kind))
+
+abbrev pub no_described : Wrong
+no_described left = if begins is_undescribed left then DescriptionNotAllowed else Expected i.Definition
+
+abbrev pub described_pick : FileId → ℕ → Kind → Piece Described
+described_pick file depth kind =
+    choose (only k.Schema kind) (schema_body file depth) (
+    choose (only k.Scalar kind) (type_body file t.Scalar depth) (
+    choose (only k.Type kind) (type_body file t.Object depth) (
+    choose (only k.Interface kind) (type_body file t.Interface depth) (
+    choose (only k.Union kind) (type_body file t.Union depth) (
+    choose (only k.Enum kind) (type_body file t.Enum depth) (
+    choose (only k.Input kind) (type_body file t.InputObject depth) (
+    choose (only k.Directive kind) (directive_body file depth) (
+    nothing no_described))))))))
+
+-- the words that definitions of the type system begin with, behind their descriptions
+abbrev pub is_described : Kinds
+is_described kind = only k.Schema kind || (only k.Scalar kind || (only k.Type kind || (only k.Interface kind || (only k.Union kind || (only k.Enum kind || (only k.Input kind || only k.Directive kind))))))
+
+-- what goes on with a definition of the type system, or an extension
+abbrev pub goes_on_type : Kinds
+goes_on_type kind = only k.At kind || (only k.LeftParen kind || (only k.LeftBrace kind || (only k.Implements kind || (only k.Ampersand kind || (only k.Equals kind || only k.Pipe kind)))))
+
+abbrev pub described : FileId → ℕ → Piece Described
+described file depth = branch is_described goes_on_type (described_pick file depth) no_described
+
+abbrev pub definition_made : FileId → (Option NameView × Described) × (ℕ × ℕ) → Definition
+definition_made file x = x.0.1 x.0.0 (span_at file x.1)
+
+-- TypeSystemDefinition, from its description on
+unfoldable pub system_definition : FileId → ℕ → Piece Definition
+system_definition file depth = mapped (definition_made file) (located (seq (optional (description file)) (described file depth)))
+
+-- ---- extensions
+
+abbrev pub is_none : {A : Type 0} → List A → Bool
+is_none [] = true
+is_none (x ∷ xs) = false
+
+-- whether there is any part
+abbrev pub has_part : DefinitionParts → Bool
+has_part p = not (is_none p.directives.0 && (is_none p.names && (is_none p.fields && (is_none p.values && (is_none p.input_fields && is_none p.roots)))))
+
+abbrev pub extension_of : TypeKind → Unit {0} × (NameView × DefinitionParts) → Option SourceSpan → Definition
+extension_of kind x location = type_extension kind x.1.0 x.1.1 location
+
+-- ScalarTypeExtension .. InputObjectTypeExtension, behind `extend`
+unfoldable pub extension_body : FileId → TypeKind → ℕ → Piece (Option SourceSpan → Definition)
+extension_body file kind depth =
+    mapped (extension_of kind) (seq (sign (keyword kind)) (seq (name file) (filtered has_part (expecting i.ExtensionPart) (parts file kind depth))))
+
+abbrev pub extended_schema_parts : DirectiveList × Option (List (NodeView (OperationType × NameView))) → DefinitionParts
+extended_schema_parts x = schema_parts (x.0, or_none x.1)
+
+abbrev pub schema_extension_of : Unit {0} × DefinitionParts → Option SourceSpan → Definition
+schema_extension_of x location = schema_extension x.1 location
+
+-- SchemaExtension, behind `extend`: section 3.3.2
+unfoldable pub schema_extension_body : FileId → ℕ → Piece (Option SourceSpan → Definition)
+schema_extension_body file depth =
+    mapped schema_extension_of (seq (sign k.Schema) (filtered has_part (expecting i.ExtensionPart) (mapped extended_schema_parts (seq (directives file true depth) (optional (roots file depth))))))
+
+abbrev pub extended_pick : FileId → ℕ → Kind → Piece (Option SourceSpan → Definition)
+extended_pick file depth kind =
+    choose (only k.Schema kind) (schema_extension_body file depth) (
+    choose (only k.Scalar kind) (extension_body file t.Scalar depth) (
+    choose (only k.Type kind) (extension_body file t.Object depth) (
+    choose (only k.Interface kind) (extension_body file t.Interface depth) (
+    choose (only k.Union kind) (extension_body file t.Union depth) (
+    choose (only k.Enum kind) (extension_body file t.Enum depth) (
+    choose (only k.Input kind) (extension_body file t.InputObject depth) (
+    nothing (expecting i.Extended))))))))
+
+abbrev pub is_extended : Kinds
+is_extended kind = only k.Schema kind || (only k.Scalar kind || (only k.Type kind || (only k.Interface kind || (only k.Union kind || (only k.Enum kind || only k.Input kind)))))
+
+abbrev pub extended : FileId → ℕ → Piece (Option SourceSpan → Definition)
+extended file depth = branch is_extended goes_on_type (extended_pick file depth) (expecting i.Extended)
+
+abbrev pub extension_made : FileId → (Unit {0} × (Option SourceSpan → Definition)) × (ℕ × ℕ) → Definition
+extension_made file x = x.0.1 (span_at file x.1)
+
+-- TypeSystemExtension
+unfoldable pub extension : FileId → ℕ → Piece Definition
+extension file depth = mapped (extension_made file) (located (seq (sign k.Extend) (extended file depth)))

@@ -1,0 +1,3 @@
+//! Stub.
+/// Nothing.
+pub fn nothing() {}
