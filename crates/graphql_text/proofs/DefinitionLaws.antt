@@ -26,7 +26,8 @@ use Rattle.graphql_text.specs.Directives.{arguments, directive, directives}
 use Rattle.graphql_text.specs.Documents.{definition, definition_pick, fragment, is_definition, operation_definition, shorthand_definition}
 use Rattle.graphql_text.specs.Locations.{location_of}
 use Rattle.graphql_text.specs.Nodes.{name, node}
-use Rattle.graphql_text.specs.Operations.{fragment_definition, is_operation_type, operation, shorthand}
+use Rattle.graphql_text.specs.Operations.{fragment_definition, is_operation_type, operation, shorthand, variables}
+use Rattle.graphql_text.specs.Selections.{fragment_name}
 use Rattle.graphql_text.specs.TypeSystem.{Described, argument_definitions, definition_made, described, described_pick, description, directive_body, directive_of, enum_values, expecting, extended, extended_pick, extended_schema_parts, extension, extension_body, extension_made, extension_of, fielded, fields, goes_on_type, has_part, input_fields, is_described, is_description, is_extended, keyword, location, location_word, names_behind, no_described, no_location, parts, roots, schema_body, schema_extension_body, schema_extension_of, schema_of, system_definition, type_body, type_of}
 use Rattle.graphql_text.proofs.DirectiveLaws.{directives_law}
 use Rattle.graphql_text.proofs.NodeLaws.{name_law, node_law}
@@ -186,7 +187,7 @@ fragment_law file depth =
     mapped_law (λ x. d.FragmentDefinition x) (node file (fragment_definition file depth)) (node_law file (fragment_definition file depth) (fragment_definition_law file depth) refl)
 
 pub definition_law : (file : FileId) (depth : ℕ) → Lawful (definition file depth)
-unfolding operation_definition operation shorthand_definition shorthand fragment fragment_definition extension system_definition description name
+unfolding operation_definition operation shorthand_definition shorthand fragment fragment_definition extension system_definition description variables directives fragment_name name
 definition_law file depth =
     let p0 : Piece Definition = nothing (expecting i.Definition) in
     let pick_law : (kind : Kind) → Lawful (definition_pick file depth kind) = λ kind.

@@ -1,5 +1,6 @@
 pub mod DefinitionLaws
 pub mod DirectiveLaws
+pub mod NestedLemmas
 pub mod NodeLaws
 pub mod OperationLaws
 pub mod SelectionLaws

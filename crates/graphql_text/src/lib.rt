@@ -1,4 +1,4 @@
 //! GraphQL text as documents: the grammar of the GraphQL specification of October 2021, appendix B.
 #![tactic(auto)]
 
-pub mod stub;
+mod reading;

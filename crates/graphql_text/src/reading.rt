@@ -1,0 +1,4 @@
+//! Reading trees from words, one function a production.
+
+mod lists;
+mod target;

@@ -1,0 +1,79 @@
+//! What is read into.
+ghost use Rattle.std.specs.Prelude.{◌≡◌, true, IfOk};
+ghost use Rattle.graphql_grammar.specs.Pieces.{Gives, sign};
+ghost use Rattle.graphql_grammar.specs.Standing.{standing};
+ghost use Rattle.graphql_grammar.specs.Words.{word_view};
+ghost use Rattle.graphql_text.specs.Nodes.{name, name_of, node_of};
+
+use graphql_grammar::fault::{FaultKind, Item, ReadError};
+use graphql_grammar::kind::{Kind, Names};
+use graphql_grammar::word::Word;
+use graphql_grammar::words::Words;
+use graphql_nodes::name::Name;
+use graphql_nodes::node::Node;
+use graphql_nodes::source::{FileId, SourceSpan};
+use std::alloc::{AllocError, Global};
+
+/// What is read into: where memory comes from, the file that locations name, whether values are constant, and how many signs may
+/// be open inside.
+#[derive(Clone, Copy)]
+pub(crate) struct Target {
+    pub(crate) alloc: Global,
+    pub(crate) file: FileId,
+    pub(crate) constant: bool,
+    pub(crate) depth: usize,
+}
+
+impl Target {
+    /// The same where values are constant.
+    pub(crate) fn constant(self) -> Target
+        ensures { result ≡ record self { constant = true } }
+    {
+        Target {
+            constant: true,
+            ..self
+        }
+    }
+
+    /// The bytes from the first of these up to the second.
+    pub(crate) fn span(self, start: usize, end: usize) -> SourceSpan
+        ensures { result ≡ record { file = self.file; start = start; end = end } }
+    {
+        SourceSpan {
+            file: self.file,
+            start,
+            end,
+        }
+    }
+
+    /// A node at the words from a start on up to the last that was taken.
+    pub(crate) fn node<T: Drop>(self, value: T, start: usize, end: usize) -> Result<Node<T>, AllocError>
+        ensures { IfOk result (λ node. node ≡ node_of self.file (value, (start, end))) }
+    {
+        Node::new_opt_location(self.alloc, value, Some(self.span(start, end)))
+    }
+
+    /// The name that a word is.
+    pub(crate) fn name_of(self, word: Word<'_>) -> Result<Name, AllocError>
+        ensures { IfOk result (λ name. name ≡ name_of self.file (word_view word.entry)) }
+    {
+        let name = Name::new_unchecked(self.alloc, word.text)?;
+        Ok(name.with_location(self.span(word.start, word.end)))
+    }
+
+    /// Reads a name.
+    #[tactic(auto, unfolding(crate::specs::Nodes::name))]
+    pub(crate) fn name(self, words: &mut Words<'_>) -> Result<Name, ReadError>
+        ensures { Gives result (standing words.new) ((name self.file).read (standing words.old)) }
+    {
+        let word = words.expect_name(Names::Any, FaultKind::Expected(Item::Name))?;
+        Ok(self.name_of(word)?)
+    }
+}
+
+/// Takes a sign, where nothing else may stand.
+pub(crate) fn sign(words: &mut Words<'_>, kind: Kind) -> Result<(), ReadError>
+    ensures { Gives result (standing words.new) ((sign kind).read (standing words.old)) }
+{
+    words.expect(kind, FaultKind::Expected(Item::Word(kind)))
+}

@@ -1,3 +1,0 @@
-//! Stub.
-/// Nothing.
-pub fn nothing() {}
