@@ -1,8 +1,10 @@
+pub mod BlindLaws
 pub mod BranchLaws
 pub mod KindLemmas
 pub mod LoopLaws
 pub mod ManyLaws
 pub mod PieceLaws
 pub mod ReadingLemmas
+pub mod WholeBlind
 pub mod WholeLaws
 pub mod WordLemmas
