@@ -8,4 +8,5 @@ pub mod ReadingLemmas
 pub mod ViableLaws
 pub mod WholeBlind
 pub mod WholeLaws
+pub mod WholeViable
 pub mod WordLemmas

@@ -13,7 +13,7 @@ Unspelled {A} spells front [] = (x : A) → spells x front → ⊥
 Unspelled {A} spells front (w ∷ ws) = (x : A) (others : List WordView) → spells x (front ++ w ∷ others) → ⊥
 
 -- words that are left over are refused where they begin
-left_over : {A : Type 0} (x : A) (left : List WordView) (e : Refusal) → all_read x left ≡ Err e → left ≡ e.left
+pub left_over : {A : Type 0} (x : A) (left : List WordView) (e : Refusal) → all_read x left ≡ Err e → left ≡ e.left
 left_over x [] e h = absurd cc
 left_over x (w ∷ ws) e h = let same : w ∷ ws ≡ e.left = cc in same
 
