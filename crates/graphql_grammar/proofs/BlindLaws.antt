@@ -7,9 +7,9 @@ use Rattle.graphql_grammar.specs.declared.fault.Item.TheVariants as i
 use Rattle.graphql_grammar.specs.declared.kind.Kind.{Kind}
 use Rattle.graphql_grammar.specs.Kinds.{Kinds, only}
 use Rattle.graphql_grammar.specs.Words.{WordView, begins, starting}
-use Rattle.graphql_grammar.specs.Pieces.{Piece, Reading, State, Wrong, ◌>>=◌, branch, close, empty, filtered, headed, listed, located, many, many_at, mapped, nested, nothing, optional, read_first, refused, seq, sign, sign_or, some, take_word, tested, word}
+use Rattle.graphql_grammar.specs.Pieces.{Piece, Reading, State, Wrong, ◌>>=◌, branch, close, empty, filtered, headed, item, listed, located, many, many_at, mapped, nested, nothing, optional, picked, read_first, refused, separated, separated_of, seq, sign, sign_or, some, take_picked, take_word, tested, word}
 use Rattle.graphql_grammar.proofs.ManyLaws.{shorter}
-use Rattle.graphql_grammar.proofs.PieceLaws.{Lawful}
+use Rattle.graphql_grammar.proofs.PieceLaws.{Lawful, mapped_law, seq_law, sign_law}
 
 -- the first words are the end of the others
 abbrev pub EndOf : List WordView → List WordView → Type 0
@@ -162,6 +162,32 @@ pub word_blind : (kinds : Kinds) (wrong : Wrong) → Blind (word kinds wrong)
 word_blind kinds wrong = record {
   within = λ s. word_within kinds (wrong s.left) s.left;
   same = λ f s t a. word_same f kinds (wrong s.left) (wrong t.left) s.left t.left a.left;
+}
+
+picked_within : {A : Type 0} (made : Option A) (fault : FaultKind) (v : WordView) (vs : List WordView) → EndOf (rest_of (take_picked (λ _. made) fault (v ∷ vs))) (v ∷ vs)
+picked_within None fault v vs = ([], refl)
+picked_within (Some x) fault v vs = (v ∷ [], refl)
+
+pick_within : {A : Type 0} (pick : WordView → Option A) (fault : FaultKind) (left : List WordView) → EndOf (rest_of (take_picked pick fault left)) left
+pick_within pick fault [] = ([], refl)
+pick_within pick fault (v ∷ vs) = picked_within (pick v) fault v vs
+
+picked_last : {A : Type 0} (f : Fork) (made : Option A) (c d : FaultKind) → Related f (take_picked (λ _. made) c (f.at ∷ f.one)) (take_picked (λ _. made) d (f.at ∷ f.other))
+picked_last f None c d = inr (record { front = []; here = refl; there = refl })
+picked_last f (Some x) c d = inl (omega arith)
+
+picked_before : {A : Type 0} (f : Fork) (made : Option A) (c d : FaultKind) (v : WordView) (vs : List WordView) → Related f (take_picked (λ _. made) c (v ∷ (vs ++ f.at ∷ f.one))) (take_picked (λ _. made) d (v ∷ (vs ++ f.at ∷ f.other)))
+picked_before f None c d v vs = inr (record { front = v ∷ vs; here = refl; there = refl })
+picked_before f (Some x) c d v vs = inr (refl, record { last = refl; left = record { front = vs; here = refl; there = refl } })
+
+pick_at : {A : Type 0} (f : Fork) (pick : WordView → Option A) (c d : FaultKind) (front : List WordView) → Related f (take_picked pick c (front ++ f.at ∷ f.one)) (take_picked pick d (front ++ f.at ∷ f.other))
+pick_at f pick c d [] = picked_last f (pick f.at) c d
+pick_at f pick c d (v ∷ vs) = picked_before f (pick v) c d v vs
+
+pub picked_blind : {A : Type 0} (pick : WordView → Option A) (kinds : Kinds) (wrong : Wrong) → Blind (picked pick kinds wrong)
+picked_blind pick kinds wrong = record {
+  within = λ s. pick_within pick (wrong s.left) s.left;
+  same = λ f s t a. forked_is f (λ (l m : List WordView). Related f (take_picked pick (wrong s.left) l) (take_picked pick (wrong t.left) m)) (pick_at f pick (wrong s.left) (wrong t.left)) s.left t.left a.left;
 }
 
 pub sign_or_blind : (kind : Kind) (wrong : Wrong) → Blind (sign_or kind wrong)
@@ -321,12 +347,37 @@ module _ {A : Type 0} (p : Piece A) (pb : Blind p) where
     within = λ s. bind_within {B = A × (ℕ × ℕ)} (p.read s) (λ x. Ok ((x.0, (starting s.left, x.1.last)), x.1)) s.left (pb.within s) (λ x. nothing_taken x.1.left);
     same = located_same;
   }
+  -- ---- what begins with one of these, items, and what is nested
 
-  -- ---- what begins with one of these, and what is nested
+pub headed_blind : {A : Type 0} (kinds : Kinds) (p : Piece A) → Blind p → Blind (headed kinds p)
+headed_blind kinds p pb = record { within = pb.within; same = pb.same }
 
-  pub headed_blind : (kinds : Kinds) → Blind (headed kinds p)
-  headed_blind kinds = record { within = pb.within; same = pb.same }
+pub item_blind : {A : Type 0} (kinds : Kinds) (wrong : Wrong) (p : Piece A) → Blind p → Blind (item kinds wrong p)
+item_blind {A} kinds wrong p pb = record {
+  within = λ s. chosen_within (begins kinds s.left) (p.read s) (refused (wrong s.left) s.left) s.left (pb.within s) (nothing_taken s.left);
+  same = λ f s t a.
+      chosen_same f (begins kinds s.left) (begins kinds t.left) (p.read s) (p.read t) (refused (wrong s.left) s.left) (refused (wrong t.left) t.left) (begins_same f kinds s.left t.left a.left) (pb.same f s t a)
+      (inr a.left);
+}
 
 pub nested_blind : {A : Type 0} (depth : ℕ) (p : ℕ → Piece A) → ((n : ℕ) → Blind (p n)) → Blind (nested depth p)
 nested_blind zero p pb = nothing_blind (λ _. TooDeep)
 nested_blind (suc depth) p pb = pb depth
+
+-- ---- one or more with a sign between them
+
+-- one behind the sign
+abbrev pub another : {A : Type 0} → Kind → Piece A → Piece A
+another kind p = mapped (λ x. x.1) (seq (sign kind) p)
+
+pub another_law : {A : Type 0} (kind : Kind) (p : Piece A) → Lawful p → Lawful (another kind p)
+another_law kind p pl = mapped_law (λ x. x.1) (seq (sign kind) p) (seq_law (sign kind) p (sign_law kind) pl (λ _ _. refl))
+
+another_blind : {A : Type 0} (kind : Kind) (p : Piece A) → Blind p → Blind (another kind p)
+another_blind kind p pb = mapped_blind (λ x. x.1) (seq (sign kind) p) (seq_blind (sign kind) p (sign_blind kind) pb)
+
+pub separated_blind : {A : Type 0} (kind : Kind) (p : Piece A) → Lawful p → Blind p → Blind (separated kind p)
+separated_blind kind p pl pb =
+    mapped_blind separated_of (seq (optional (sign kind)) (seq p (many (another kind p))))
+    (seq_blind (optional (sign kind)) (seq p (many (another kind p))) (optional_blind (sign kind) (sign_blind kind))
+    (seq_blind p (many (another kind p)) pb (many_blind (another kind p) (another_law kind p pl) refl (another_blind kind p pb))))

@@ -9,8 +9,9 @@ use Rattle.graphql_grammar.specs.declared.kind.Kind.{Kind}
 use Rattle.graphql_grammar.specs.Kinds.{Kinds, only, tag}
 use Rattle.graphql_grammar.specs.Spelling.{spells_by}
 use Rattle.graphql_grammar.specs.Words.{WordView, begins, ended, starting}
-use Rattle.graphql_grammar.specs.Pieces.{Piece, Reading, Refusal, State, Wrong, ◌>>=◌, branch, close, empty, filtered, headed, listed, located, many, many_at, mapped, nested, nothing, optional, read_first, refused, seq, sign, sign_or, some, take_sign, take_word, tested, too_deep, word}
-use Rattle.graphql_grammar.proofs.PieceLaws.{Lawful, Took}
+use Rattle.graphql_grammar.specs.Pieces.{Piece, Reading, Refusal, State, Wrong, ◌>>=◌, branch, close, empty, filtered, headed, item, listed, located, many, many_at, mapped, nested, nothing, optional, picked, read_first, refused, separated, separated_of, seq, sign, sign_or, some, take_picked, take_sign, take_word, tested, too_deep, word}
+use Rattle.graphql_grammar.proofs.BlindLaws.{another, another_law}
+use Rattle.graphql_grammar.proofs.PieceLaws.{Lawful, Took, optional_law, sign_law}
 use Rattle.graphql_grammar.proofs.ReadingLemmas.{chosen}
 
 -- of these words those before what is left begin what is spelled
@@ -76,6 +77,23 @@ word_begins kinds wrong kind h = record {
   some = (refl, h);
   wider = λ x front g. g;
   viable = λ s e g. at_once (word kinds wrong).spells s.left e.left (word_of kind) (word_of kind ∷ []) (not_taken kinds (wrong s.left) s.left e g) (refl, h);
+}
+
+not_made : {A : Type 0} (made : Option A) (fault : FaultKind) (w : WordView) (ws : List WordView) (e : Refusal) → take_picked (λ _. made) fault (w ∷ ws) ≡ Err e → w ∷ ws ≡ e.left
+not_made {A} None fault w ws e h = refused_left {A = A × State} fault (w ∷ ws) e h
+not_made (Some x) fault w ws e h = absurd cc
+
+not_picked : {A : Type 0} (pick : WordView → Option A) (fault : FaultKind) (left : List WordView) (e : Refusal) → take_picked pick fault left ≡ Err e → left ≡ e.left
+not_picked {A} pick fault [] e h = refused_left {A = A × State} fault [] e h
+not_picked pick fault (w ∷ ws) e h = not_made (pick w) fault w ws e h
+
+pub picked_begins : {A : Type 0} (pick : WordView → Option A) (kinds : Kinds) (wrong : Wrong) (w : WordView) (x : A) → pick w ≡ Some x → Begins (picked pick kinds wrong) (picked pick kinds wrong)
+picked_begins pick kinds wrong w x h = record {
+  value = x;
+  words = w ∷ [];
+  some = (w, refl, h);
+  wider = λ y front g. g;
+  viable = λ s e g. at_once (picked pick kinds wrong).spells s.left e.left x (w ∷ []) (not_picked pick (wrong s.left) s.left e g) (w, refl, h);
 }
 
 sign_refused : (kind : Kind) (fault : FaultKind) (left : List WordView) (e : Refusal) → take_sign kind fault left ≡ Err e → left ≡ e.left
@@ -178,6 +196,11 @@ pub record GoesOn {A : Type 0} (test : A → Bool) (spells : A → List WordView
   pub spelled : spells value (front ++ more)
   pub passes : test value ≡ true
 
+-- where only what no words spell fails the test, words that pass go on with what fails
+pub none_goes_on : {A : Type 0} (test : A → Bool) (q : Piece A) (y : A) (words : List WordView) → q.spells y words → test y ≡ true → ((x : A) (front : List WordView) → q.spells x front → test x ≡ false → front ≡ [])
+    → (x : A) (front : List WordView) → q.spells x front → test x ≡ false → GoesOn test q.spells front
+none_goes_on test q y words h passes fails x front g e = record { more = words; value = y; spelled = subst (λ (l : List WordView). q.spells y (l ++ words)) (sym (fails x front g e)) h; passes = passes }
+
 module _ {A : Type 0} (test : A → Bool) (wrong : Wrong) (p q : Piece A) (pl : Lawful p) (pb : Begins p q)
     (goes_on : (x : A) (front : List WordView) → q.spells x front → test x ≡ false → GoesOn test q.spells front) where
   passing : (x : A) (front : List WordView) (b : Bool) → q.spells x front → test x ≡ b → GoesOn test q.spells front
@@ -232,7 +255,7 @@ module _ {A : Type 0} (test : A → Bool) (wrong : Wrong) (p q : Piece A) (pl : 
 
 -- ---- one or none, and any number
 
-module _ {A : Type 0} (p q : Piece A) (pl : Lawful p) (pb : Begins p q) where
+module _ {A : Type 0} (p q : Piece A) (pb : Begins p q) where
   optional_wider : (x : Option A) (front : List WordView) → (optional p).spells x front → (optional q).spells x front
   optional_wider None front h = h
   optional_wider (Some x) front h = pb.wider x front h
@@ -248,6 +271,7 @@ module _ {A : Type 0} (p q : Piece A) (pl : Lawful p) (pb : Begins p q) where
   pub optional_begins : Begins (optional p) (optional q)
   optional_begins = record { value = None; words = []; some = refl; wider = optional_wider; viable = optional_viable }
 
+module _ {A : Type 0} (p q : Piece A) (pl : Lawful p) (pb : Begins p q) where
   many_wider : (xs : List A) (front : List WordView) → (many p).spells xs front → (many q).spells xs front
   many_wider [] front h = h
   many_wider (x ∷ xs) front h = record { head = h.head; tail = h.tail; whole = h.whole; first = pb.wider x h.head h.first; second = many_wider xs h.tail h.second }
@@ -310,6 +334,9 @@ begun_leads p q pb = record { wider = pb.wider; viable = λ s e h. inr (pb.viabl
 pub nothing_leads : {A : Type 0} (wrong : Wrong) (q : Piece A) → Leads (nothing wrong) q
 nothing_leads {A} wrong q = record { wider = λ x front h. absurd h; viable = λ s e h. inl (refused_left {A = A × State} (wrong s.left) s.left e h) }
 
+pub headed_leads : {A : Type 0} (kinds : Kinds) (p q : Piece A) → Leads p q → Leads (headed kinds p) (headed kinds q)
+headed_leads kinds p q leads = record { wider = leads.wider; viable = leads.viable }
+
 module _ {A : Type 0} (first more : Kinds) (pick pick2 : Kind → Piece A) (wrong : Wrong) (leads : (kind : Kind) → Leads (pick kind) (pick2 kind))
     (x : A) (words : List WordView) (spelled : spells_by (λ kind. (pick2 kind).spells) x words) where
   any_at_once : (left rest : List WordView) → left ≡ rest → Viable (spells_by (λ kind. (pick2 kind).spells)) left rest
@@ -335,7 +362,7 @@ module _ {A : Type 0} (first more : Kinds) (pick pick2 : Kind → Piece A) (wron
   pub branch_begins : Begins (branch first more pick wrong) (branch first more pick2 wrong)
   branch_begins = record { value = x; words = words; some = spelled; wider = branch_wider; viable = λ s e h. branch_viable s.last s.left e h }
 
--- ---- with where it stands, what begins with one of these, and what is nested
+-- ---- with where it stands, what begins with one of these, items, and what is nested
 
 pub located_begins : {A : Type 0} (p q : Piece A) → Begins p q → Begins (located p) (located q)
 located_begins {A} p q pb = record {
@@ -351,6 +378,18 @@ located_begins {A} p q pb = record {
 pub headed_begins : {A : Type 0} (kinds : Kinds) (p q : Piece A) → Begins p q → Begins (headed kinds p) (headed kinds q)
 headed_begins kinds p q pb = record { value = pb.value; words = pb.words; some = pb.some; wider = pb.wider; viable = pb.viable }
 
+pub item_begins : {A : Type 0} (kinds : Kinds) (wrong : Wrong) (p q : Piece A) → Begins p q → Begins (item kinds wrong p) (item kinds wrong q)
+item_begins {A} kinds wrong p q pb = record {
+  value = pb.value;
+  words = pb.words;
+  some = pb.some;
+  wider = pb.wider;
+  viable = λ s e h. elim (chosen (begins kinds s.left) (p.read s) (refused (wrong s.left) s.left) (Err e) h) [
+    | inl (hit, is) ↦ pb.viable s e is
+    | inr (miss, is) ↦ at_once q.spells s.left e.left pb.value pb.words (refused_left {A = A × State} (wrong s.left) s.left e is) pb.some
+  ];
+}
+
 -- what is nested too deep, against what does nest
 pub deep_begins : {A : Type 0} (q : Piece A) (x : A) (words : List WordView) → q.spells x words → Begins too_deep q
 deep_begins q x words h = nothing_begins (λ _. TooDeep) q x words h
@@ -359,3 +398,15 @@ deep_begins q x words h = nothing_begins (λ _. TooDeep) q x words h
 pub nested_begins : {A : Type 0} (depth : ℕ) (p q : ℕ → Piece A) (x : A) (words : List WordView) → (q depth).spells x words → ((n : ℕ) → depth ≡ suc n → Begins (p n) (q (suc n))) → Begins (nested depth p) (nested (suc depth) q)
 nested_begins zero p q x words h deeper = deep_begins (q zero) x words h
 nested_begins (suc depth) p q x words h deeper = deeper depth refl
+
+-- ---- one or more with a sign between them
+
+another_begins : {A : Type 0} (kind : Kind) (p q : Piece A) → Begins p q → Begins (another kind p) (another kind q)
+another_begins kind p q pb = mapped_begins (λ x. x.1) (seq (sign kind) p) (seq (sign kind) q) (seq_begins (sign kind) (sign kind) p q (sign_law kind) (sign_begins kind) pb)
+
+pub separated_begins : {A : Type 0} (kind : Kind) (p q : Piece A) → Lawful p → Begins p q → Begins (separated kind p) (separated kind q)
+separated_begins kind p q pl pb =
+    mapped_begins separated_of (seq (optional (sign kind)) (seq p (many (another kind p)))) (seq (optional (sign kind)) (seq q (many (another kind q))))
+    (seq_begins (optional (sign kind)) (optional (sign kind)) (seq p (many (another kind p))) (seq q (many (another kind q))) (optional_law (sign kind) (sign_law kind) refl)
+    (optional_begins (sign kind) (sign kind) (sign_begins kind))
+    (seq_begins p q (many (another kind p)) (many (another kind q)) pl pb (many_begins (another kind p) (another kind q) (another_law kind p pl) (another_begins kind p q pb))))
