@@ -7,7 +7,7 @@ use Rattle.graphql_grammar.specs.declared.fault.Item.TheVariants as i
 use Rattle.graphql_grammar.specs.declared.kind.Kind.{Kind}
 use Rattle.graphql_grammar.specs.Kinds.{Kinds, only}
 use Rattle.graphql_grammar.specs.Words.{WordView, begins, starting}
-use Rattle.graphql_grammar.specs.Pieces.{Piece, Reading, State, Wrong, ◌>>=◌, branch, close, empty, filtered, headed, item, listed, located, many, many_at, mapped, nested, nothing, optional, picked, read_first, refused, separated, separated_of, seq, sign, sign_or, some, take_picked, take_word, tested, word}
+use Rattle.graphql_grammar.specs.Pieces.{Piece, Reading, State, Wrong, ◌>>=◌, branch, choose, close, empty, filtered, headed, item, listed, located, many, many_at, mapped, nested, nothing, optional, picked, read_first, refused, separated, separated_of, seq, sign, sign_or, some, take_picked, take_word, tested, word}
 use Rattle.graphql_grammar.proofs.ManyLaws.{shorter}
 use Rattle.graphql_grammar.proofs.PieceLaws.{Lawful, mapped_law, seq_law, sign_law}
 
@@ -381,3 +381,9 @@ separated_blind kind p pl pb =
     mapped_blind separated_of (seq (optional (sign kind)) (seq p (many (another kind p))))
     (seq_blind (optional (sign kind)) (seq p (many (another kind p))) (optional_blind (sign kind) (sign_blind kind))
     (seq_blind p (many (another kind p)) pb (many_blind (another kind p) (another_law kind p pl) refl (another_blind kind p pb))))
+
+-- ---- one of two, by a flag
+
+pub choose_blind : {A : Type 0} (flag : Bool) (p q : Piece A) → Blind p → Blind q → Blind (choose flag p q)
+choose_blind true p q pb qb = pb
+choose_blind false p q pb qb = qb

@@ -9,7 +9,7 @@ use Rattle.graphql_grammar.specs.declared.kind.Kind.{Kind}
 use Rattle.graphql_grammar.specs.Kinds.{Kinds, only, tag}
 use Rattle.graphql_grammar.specs.Spelling.{spells_by}
 use Rattle.graphql_grammar.specs.Words.{WordView, begins, ended, starting}
-use Rattle.graphql_grammar.specs.Pieces.{Piece, Reading, Refusal, State, Wrong, ◌>>=◌, branch, close, empty, filtered, headed, item, listed, located, many, many_at, mapped, nested, nothing, optional, picked, read_first, refused, separated, separated_of, seq, sign, sign_or, some, take_picked, take_sign, take_word, tested, too_deep, word}
+use Rattle.graphql_grammar.specs.Pieces.{Piece, Reading, Refusal, State, Wrong, ◌>>=◌, branch, choose, close, empty, filtered, headed, item, listed, located, many, many_at, mapped, nested, nothing, optional, picked, read_first, refused, separated, separated_of, seq, sign, sign_or, some, take_picked, take_sign, take_word, tested, too_deep, word}
 use Rattle.graphql_grammar.proofs.BlindLaws.{another, another_law}
 use Rattle.graphql_grammar.proofs.PieceLaws.{Lawful, Took, optional_law, sign_law}
 use Rattle.graphql_grammar.proofs.ReadingLemmas.{chosen}
@@ -57,8 +57,8 @@ at_once spells words left x others same h = record { front = []; more = others; 
 -- ---- one word
 
 -- a word of this kind
-abbrev word_of : Kind → WordView
-word_of kind = record { kind = kind; text = []; start = 0; end = 0 }
+abbrev pub bare_word : Kind → WordView
+bare_word kind = record { kind = kind; text = []; start = 0; end = 0 }
 
 pub is_only : (kind : Kind) → only kind kind ≡ true
 is_only kind = eq-eqb (tag kind) (tag kind) refl
@@ -72,11 +72,11 @@ not_taken kinds fault (w ∷ ws) e h = elim (chosen (kinds w.kind) (Ok (w, recor
 
 pub word_begins : (kinds : Kinds) (wrong : Wrong) (kind : Kind) → kinds kind ≡ true → Begins (word kinds wrong) (word kinds wrong)
 word_begins kinds wrong kind h = record {
-  value = word_of kind;
-  words = word_of kind ∷ [];
+  value = bare_word kind;
+  words = bare_word kind ∷ [];
   some = (refl, h);
   wider = λ x front g. g;
-  viable = λ s e g. at_once (word kinds wrong).spells s.left e.left (word_of kind) (word_of kind ∷ []) (not_taken kinds (wrong s.left) s.left e g) (refl, h);
+  viable = λ s e g. at_once (word kinds wrong).spells s.left e.left (bare_word kind) (bare_word kind ∷ []) (not_taken kinds (wrong s.left) s.left e g) (refl, h);
 }
 
 not_made : {A : Type 0} (made : Option A) (fault : FaultKind) (w : WordView) (ws : List WordView) (e : Refusal) → take_picked (λ _. made) fault (w ∷ ws) ≡ Err e → w ∷ ws ≡ e.left
@@ -102,10 +102,10 @@ sign_refused kind fault left e h = not_taken (only kind) fault left e (given_err
 pub sign_or_begins : (kind : Kind) (wrong : Wrong) → Begins (sign_or kind wrong) (sign_or kind wrong)
 sign_or_begins kind wrong = record {
   value = tt;
-  words = word_of kind ∷ [];
-  some = (word_of kind, refl, is_only kind);
+  words = bare_word kind ∷ [];
+  some = (bare_word kind, refl, is_only kind);
   wider = λ x front g. g;
-  viable = λ s e g. at_once (sign_or kind wrong).spells s.left e.left tt (word_of kind ∷ []) (sign_refused kind (wrong s.left) s.left e g) (word_of kind, refl, is_only kind);
+  viable = λ s e g. at_once (sign_or kind wrong).spells s.left e.left tt (bare_word kind ∷ []) (sign_refused kind (wrong s.left) s.left e g) (bare_word kind, refl, is_only kind);
 }
 
 pub sign_begins : (kind : Kind) → Begins (sign kind) (sign kind)
@@ -336,6 +336,11 @@ nothing_leads {A} wrong q = record { wider = λ x front h. absurd h; viable = λ
 
 pub headed_leads : {A : Type 0} (kinds : Kinds) (p q : Piece A) → Leads p q → Leads (headed kinds p) (headed kinds q)
 headed_leads kinds p q leads = record { wider = leads.wider; viable = leads.viable }
+
+-- one of two, by a flag
+pub choose_leads : {A : Type 0} (flag : Bool) (p p2 q q2 : Piece A) → Leads p p2 → Leads q q2 → Leads (choose flag p q) (choose flag p2 q2)
+choose_leads true p p2 q q2 pb qb = pb
+choose_leads false p p2 q q2 pb qb = qb
 
 module _ {A : Type 0} (first more : Kinds) (pick pick2 : Kind → Piece A) (wrong : Wrong) (leads : (kind : Kind) → Leads (pick kind) (pick2 kind))
     (x : A) (words : List WordView) (spelled : spells_by (λ kind. (pick2 kind).spells) x words) where

@@ -71,7 +71,11 @@ module _ {A : Type 0} (p : Piece A) (pl : Lawful p) (pb : Blind p) where
   unspelled_at front (w ∷ ws) e h here = blind_from front ws w e h here
 
   -- where words are refused, no words that are the same up to the refused one, that one included, spell anything
+  pub refusal_from : (front words : List WordView) (e : Refusal) → read_all p words ≡ Err e → words ≡ front ++ e.left → Unspelled p.spells front e.left
+  refusal_from front words e h whole = unspelled_at front e.left e (sym (ap (λ (l : List WordView). read_all p l) whole) ∙ h) refl
+
+  -- and there are such words before it
   pub refusal_law : (words : List WordView) (e : Refusal) → read_all p words ≡ Err e → (front : List WordView) × (words ≡ front ++ e.left) × Unspelled p.spells front e.left
   refusal_law words e h =
       let g : EndOf e.left words = refused_within words e h in
-      (g.0, g.1, unspelled_at g.0 e.left e (sym (ap (λ (l : List WordView). read_all p l) g.1) ∙ h) refl)
+      (g.0, g.1, refusal_from g.0 words e h g.1)
