@@ -1,0 +1,81 @@
+-- Where words are refused, none that are the same up to the refused word, that one included, spell anything.
+use Rattle.std.proofs.Common.{◌≡◌, ◌≤◌, List, [], ◌∷◌, ◌++◌, length, Ok, Err, inl, inr, refl, sym, ap, subst, ◌∙◌, arith}
+use Rattle.std.proofs.lemmas.List.{append-nil, length-append}
+use Rattle.graphql_grammar.specs.Words.{WordView}
+use Rattle.graphql_grammar.specs.Pieces.{Piece, Reading, Refusal, State, ◌>>=◌, all_read, read_all}
+use Rattle.graphql_grammar.proofs.BlindLaws.{Agree, Alike, Blind, EndOf, Fork, Forked, Related, rest_of}
+use Rattle.graphql_grammar.proofs.PieceLaws.{Lawful}
+use Rattle.graphql_grammar.proofs.WholeLaws.{all_again}
+
+-- no words that begin with this front and have the next word, spell anything; nor does the front alone, where no word is next
+abbrev pub Unspelled : {A : Type 0} → (A → List WordView → Type 0) → List WordView → List WordView → Type 0
+Unspelled {A} spells front [] = (x : A) → spells x front → ⊥
+Unspelled {A} spells front (w ∷ ws) = (x : A) (others : List WordView) → spells x (front ++ w ∷ others) → ⊥
+
+-- words that are left over are refused where they begin
+pub left_over : {A : Type 0} (x : A) (left : List WordView) (e : Refusal) → all_read x left ≡ Err e → left ≡ e.left
+left_over x [] e h = absurd cc
+left_over x (w ∷ ws) e h = let same : w ∷ ws ≡ e.left = cc in same
+
+none_left : {A : Type 0} (x y : A) (left : List WordView) → all_read x left ≡ Ok y → left ≡ []
+none_left x y [] h = refl
+none_left x y (w ∷ ws) h = absurd cc
+
+-- a refusal of the whole is where reading ended, or was refused
+refused_at : {A : Type 0} (r : Reading A) (e : Refusal) → (r >>= λ y. all_read y.0 y.1.left) ≡ Err e → rest_of r ≡ e.left
+refused_at (Ok y) e h = left_over y.0 y.1.left e h
+refused_at (Err d) e h = let same : d ≡ e = cc in ap (λ (r : Refusal). r.left) same
+
+-- a word that is left is not gone
+still_left : (f : Fork) (l m : List WordView) → Forked f l m → m ≡ [] → ⊥
+still_left f l m d h = omega (arith, ap length h, ap length d.there, length-append d.front (f.at ∷ f.other))
+
+not_read : {A : Type 0} (f : Fork) (r q : Reading A) (e : Refusal) (x : A) → Agree f r q → (r >>= λ y. all_read y.0 y.1.left) ≡ Err e → (q >>= λ y. all_read y.0 y.1.left) ≡ Ok x → ⊥
+not_read f (Ok y) (Ok z) e x agree h g = still_left f y.1.left z.1.left agree.1.left (none_left z.0 x z.1.left g)
+not_read f (Ok y) (Err d) e x agree h g = absurd agree
+not_read f (Err d) (Ok z) e x agree h g = absurd agree
+not_read f (Err d) (Err c) e x agree h g = absurd cc
+
+-- what was refused at that word was not refused behind it
+not_past : (f : Fork) (rest left : List WordView) → length rest ≤ length f.one → rest ≡ left → left ≡ f.at ∷ f.one → ⊥
+not_past f rest left past same here = omega (arith, ap length same, ap length here)
+
+not_whole : {A : Type 0} (f : Fork) (r q : Reading A) (e : Refusal) (x : A) → Related f r q → (r >>= λ y. all_read y.0 y.1.left) ≡ Err e → e.left ≡ f.at ∷ f.one → (q >>= λ y. all_read y.0 y.1.left) ≡ Ok x → ⊥
+not_whole f r q e x rel h here g = elim rel [
+  | inl past ↦ not_past f (rest_of r) e.left past (refused_at r e h) here
+  | inr agree ↦ not_read f r q e x agree h g
+]
+
+module _ {A : Type 0} (p : Piece A) (pl : Lawful p) (pb : Blind p) where
+  -- no words that have the same words up to the refused one, that one included, spell anything
+  pub blind_from : (front ws : List WordView) (w : WordView) (e : Refusal) → read_all p (front ++ w ∷ ws) ≡ Err e → e.left ≡ w ∷ ws → (x : A) (others : List WordView) → p.spells x (front ++ w ∷ others) → ⊥
+  blind_from front ws w e h here x others spelled =
+      let f : Fork = record { at = w; one = ws; other = others } in
+      let s : State = record { last = 0; left = front ++ w ∷ ws } in
+      let t : State = record { last = 0; left = front ++ w ∷ others } in
+      let a : Alike f s t = record { last = refl; left = record { front = front; here = refl; there = refl } } in
+      not_whole f (p.read s) (p.read t) e x (pb.same f s t a) h here (all_again p pl (front ++ w ∷ others) x spelled)
+
+  -- what is left where words are refused is their end
+  pub refused_within : (words : List WordView) (e : Refusal) → read_all p words ≡ Err e → EndOf e.left words
+  refused_within words e h =
+      let s : State = record { last = 0; left = words } in
+      subst (λ (l : List WordView). EndOf l words) (refused_at (p.read s) e h) (pb.within s)
+
+  -- what is refused spells nothing
+  refused_whole : (words : List WordView) (e : Refusal) → read_all p words ≡ Err e → (x : A) → p.spells x words → ⊥
+  refused_whole words e h x spelled = absurd (let both = sym (all_again p pl words x spelled) ∙ h in cc)
+
+  unspelled_at : (front left : List WordView) (e : Refusal) → read_all p (front ++ left) ≡ Err e → e.left ≡ left → Unspelled p.spells front left
+  unspelled_at front [] e h here = λ x spelled. refused_whole (front ++ []) e h x (subst (λ (l : List WordView). p.spells x l) (sym (append-nil front)) spelled)
+  unspelled_at front (w ∷ ws) e h here = blind_from front ws w e h here
+
+  -- where words are refused, no words that are the same up to the refused one, that one included, spell anything
+  pub refusal_from : (front words : List WordView) (e : Refusal) → read_all p words ≡ Err e → words ≡ front ++ e.left → Unspelled p.spells front e.left
+  refusal_from front words e h whole = unspelled_at front e.left e (sym (ap (λ (l : List WordView). read_all p l) whole) ∙ h) refl
+
+  -- and there are such words before it
+  pub refusal_law : (words : List WordView) (e : Refusal) → read_all p words ≡ Err e → (front : List WordView) × (words ≡ front ++ e.left) × Unspelled p.spells front e.left
+  refusal_law words e h =
+      let g : EndOf e.left words = refused_within words e h in
+      (g.0, g.1, refusal_from g.0 words e h g.1)
