@@ -14,8 +14,8 @@ pub enum Item {
     /// What a document extends: the schema, or a type by its kind.
     Extended,
     FieldDefinition,
-    ArgumentDefinition,
-    InputField,
+    /// An argument of a field or directive, or a field of an input object type.
+    InputValue,
     EnumValue,
     VariableDefinition,
     RootOperation,

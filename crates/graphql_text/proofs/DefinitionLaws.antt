@@ -22,13 +22,13 @@ use Rattle.graphql_grammar.specs.Words.{WordView}
 use Rattle.graphql_grammar.proofs.BranchLaws.{branch_law, either_law}
 use Rattle.graphql_grammar.proofs.ManyLaws.{many_law}
 use Rattle.graphql_grammar.proofs.PieceLaws.{Lawful, apart, filtered_law, located_law, mapped_law, nothing_law, optional_law, picked_law, seq_law, sign_law}
-use Rattle.graphql_text.specs.Directives.{arguments, directive, directives}
+use Rattle.graphql_text.specs.Directives.{arguments, directive_node, directives}
 use Rattle.graphql_text.specs.Documents.{definition, definition_pick, fragment, is_definition, operation_definition, shorthand_definition}
 use Rattle.graphql_text.specs.Locations.{location_of}
 use Rattle.graphql_text.specs.Nodes.{name, node}
 use Rattle.graphql_text.specs.Operations.{fragment_definition, is_operation_type, operation, shorthand, variables}
 use Rattle.graphql_text.specs.Selections.{fragment_name}
-use Rattle.graphql_text.specs.TypeSystem.{Described, argument_definitions, definition_made, described, described_pick, description, directive_body, directive_of, enum_values, expecting, extended, extended_pick, extended_schema_parts, extension, extension_body, extension_made, extension_of, fielded, fields, goes_on_type, has_part, input_fields, is_described, is_description, is_extended, keyword, location, location_word, names_behind, no_described, no_location, parts, roots, schema_body, schema_extension_body, schema_extension_of, schema_of, system_definition, type_body, type_of}
+use Rattle.graphql_text.specs.TypeSystem.{Described, definition_made, described, described_pick, description, directive_body, directive_of, enum_values, expecting, extended, extended_pick, extended_schema_parts, extension, extension_body, extension_made, extension_of, fielded, fields, goes_on_type, has_part, input_values, is_described, is_description, is_extended, keyword, location, location_word, names_behind, no_described, no_location, parts, roots, schema_body, schema_extension_body, schema_extension_of, schema_of, system_definition, type_body, type_of}
 use Rattle.graphql_text.proofs.DirectiveLaws.{directives_law}
 use Rattle.graphql_text.proofs.NodeLaws.{name_law, node_law}
 use Rattle.graphql_text.proofs.OperationLaws.{fragment_definition_law, operation_law, shorthand_law}
@@ -44,7 +44,7 @@ type_body_law file kind depth =
     mapped_law (type_of kind) (seq (sign (keyword kind)) n) (seq_law (sign (keyword kind)) n (sign_law (keyword kind)) nl (λ other h. refl))
 
 schema_body_law : (file : FileId) (depth : ℕ) → Lawful (schema_body file depth)
-unfolding schema_body directives directive arguments name
+unfolding schema_body directives directive_node arguments name
 schema_body_law file depth =
     let d : Piece DirectiveList = directives file true depth in
     let r : Piece (List (NodeView (OperationType × NameView))) = roots file depth in
@@ -72,14 +72,14 @@ locations_law =
     mapped_law separated_of w (seq_law o (seq location (many b)) (optional_law (sign k.Pipe) (sign_law k.Pipe) refl) nl (apart o.more location.first refl))
 
 directive_body_law : (file : FileId) (depth : ℕ) → Lawful (directive_body file depth)
-unfolding directive_body argument_definitions name
+unfolding directive_body input_values name
 directive_body_law file depth =
     let l : Piece (List DirectiveLocation) = separated k.Pipe location in
     let n : Piece (Unit {0} × List DirectiveLocation) = seq (sign k.On) l in
     let nl : Lawful n = seq_law (sign k.On) l (sign_law k.On) locations_law (λ kind h. refl) in
     let r : Piece (Option (Unit {0})) = optional (sign k.Repeatable) in
     let rl : Lawful (seq r n) = seq_law r n (optional_law (sign k.Repeatable) (sign_law k.Repeatable) refl) nl (apart r.more n.first refl) in
-    let a : Piece (List (NodeView InputValueDefinition)) = argument_definitions file depth in
+    let a : Piece (List (NodeView InputValueDefinition)) = input_values file k.LeftParen k.RightParen depth in
     let al : Lawful (seq a (seq r n)) = seq_law a (seq r n) (argument_definitions_law file depth) rl (apart a.more (seq r n).first refl) in
     let m : Piece (NameView × (List (NodeView InputValueDefinition) × (Option (Unit {0}) × (Unit {0} × List DirectiveLocation)))) = seq (name file) (seq a (seq r n)) in
     let ml : Lawful m = seq_law (name file) (seq a (seq r n)) (name_law file) al (λ kind h. refl) in
@@ -107,7 +107,7 @@ described_pick_law file depth kind =
     (either_law (only k.Directive kind) (directive_body file depth) p0 (directive_body_law file depth) (nothing_law no_described))))))))
 
 described_law : (file : FileId) (depth : ℕ) → Lawful (described file depth)
-unfolding schema_body type_body directive_body parts fielded names_behind fields enum_values input_fields directives directive arguments location name argument_definitions
+unfolding schema_body type_body directive_body parts fielded names_behind fields enum_values input_values directives directive_node arguments location name
 described_law file depth = branch_law is_described goes_on_type (described_pick file depth) no_described (described_pick_law file depth) refl refl refl
 
 pub system_definition_law : (file : FileId) (depth : ℕ) → Lawful (system_definition file depth)
@@ -130,7 +130,7 @@ extension_body_law file kind depth =
     mapped_law (extension_of kind) (seq (sign (keyword kind)) n) (seq_law (sign (keyword kind)) n (sign_law (keyword kind)) nl (λ other h. refl))
 
 schema_extension_body_law : (file : FileId) (depth : ℕ) → Lawful (schema_extension_body file depth)
-unfolding schema_extension_body directives directive arguments name
+unfolding schema_extension_body directives directive_node arguments name
 schema_extension_body_law file depth =
     let d : Piece DirectiveList = directives file true depth in
     let r : Piece (Option (List (NodeView (OperationType × NameView)))) = optional (roots file depth) in
@@ -158,7 +158,7 @@ extended_pick_law file depth kind =
     (either_law (only k.Input kind) (extension_body file t.InputObject depth) p0 (extension_body_law file t.InputObject depth) (nothing_law (expecting i.Extended))))))))
 
 extended_law : (file : FileId) (depth : ℕ) → Lawful (extended file depth)
-unfolding schema_extension_body extension_body parts fielded names_behind fields enum_values input_fields directives directive arguments name
+unfolding schema_extension_body extension_body parts fielded names_behind fields enum_values input_values directives directive_node arguments name
 extended_law file depth = branch_law is_extended goes_on_type (extended_pick file depth) (expecting i.Extended) (extended_pick_law file depth) refl refl refl
 
 pub extension_law : (file : FileId) (depth : ℕ) → Lawful (extension file depth)

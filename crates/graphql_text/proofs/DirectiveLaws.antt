@@ -12,14 +12,14 @@ use Rattle.graphql_grammar.specs.Kinds.{is_name, only}
 use Rattle.graphql_grammar.specs.Pieces.{Piece, many, mapped, optional, seq, sign, some, too_deep}
 use Rattle.graphql_grammar.proofs.ManyLaws.{many_law, some_law}
 use Rattle.graphql_grammar.proofs.PieceLaws.{Lawful, apart, headed_law, item_law, mapped_law, nothing_law, optional_law, seq_law, sign_law}
-use Rattle.graphql_text.specs.Directives.{argument, argument_list, argument_of, arguments, directive, directive_of, directives, no_argument}
+use Rattle.graphql_text.specs.Directives.{argument, argument_list, argument_node, argument_of, arguments, directive, directive_node, directive_of, directives, no_argument, no_directive}
 use Rattle.graphql_text.specs.Nodes.{between, name, node, or_none}
 use Rattle.graphql_text.specs.Values.{value_node}
 use Rattle.graphql_text.proofs.NodeLaws.{between_law, name_law, node_law}
 use Rattle.graphql_text.proofs.ValueLaws.{value_node_law}
 
 pub argument_law : (file : FileId) (constant : Bool) (depth : ℕ) → Lawful (argument file constant depth)
-unfolding argument name
+unfolding argument_node name
 argument_law file constant depth =
     let v : Piece (NodeView Value) = value_node file constant depth in
     let c : Piece (Unit {0} × NodeView Value) = seq (sign k.Colon) v in
@@ -29,7 +29,7 @@ argument_law file constant depth =
     item_law is_name no_argument (node file m) (node_law file m (mapped_law argument_of s sl) refl) refl refl
 
 pub argument_list_law : (file : FileId) (constant : Bool) (depth : ℕ) → Lawful (argument_list file constant depth)
-unfolding argument name
+unfolding argument_node name
 argument_list_law file constant zero = headed_law (only k.LeftParen) too_deep (nothing_law (λ _. TooDeep)) refl refl refl
 argument_list_law file constant (suc depth) =
     let a : Piece (NodeView Argument) = argument file constant depth in
@@ -43,17 +43,17 @@ arguments_law file constant depth =
     mapped_law or_none (optional (argument_list file constant depth)) (optional_law (argument_list file constant depth) (argument_list_law file constant depth) refl)
 
 pub directive_law : (file : FileId) (constant : Bool) (depth : ℕ) → Lawful (directive file constant depth)
-unfolding directive arguments name
+unfolding directive_node arguments name
 directive_law file constant depth =
     let a : Piece (List (NodeView Argument)) = arguments file constant depth in
     let n : Piece (NameView × List (NodeView Argument)) = seq (name file) a in
     let nl : Lawful n = seq_law (name file) a (name_law file) (arguments_law file constant depth) (λ kind h. refl) in
     let s : Piece (Unit {0} × (NameView × List (NodeView Argument))) = seq (sign k.At) n in
     let m : Piece Directive = mapped directive_of s in
-    node_law file m (mapped_law directive_of s (seq_law (sign k.At) n (sign_law k.At) nl (λ kind h. refl))) refl
+    item_law (only k.At) no_directive (node file m) (node_law file m (mapped_law directive_of s (seq_law (sign k.At) n (sign_law k.At) nl (λ kind h. refl))) refl) refl refl
 
 pub directives_law : (file : FileId) (constant : Bool) (depth : ℕ) → Lawful (directives file constant depth)
-unfolding directives directive arguments name
+unfolding directives directive_node arguments name
 directives_law file constant depth =
     let d : Piece (NodeView Directive) = directive file constant depth in
     mapped_law (λ x. record { 0 = x }) (many d) (many_law d (directive_law file constant depth) refl (apart d.more d.first refl))

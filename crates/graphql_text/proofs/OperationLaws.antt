@@ -18,9 +18,9 @@ use Rattle.graphql_grammar.specs.Pieces.{Piece, choose, mapped, nothing, optiona
 use Rattle.graphql_grammar.proofs.BranchLaws.{branch_law, either_law}
 use Rattle.graphql_grammar.proofs.ManyLaws.{some_law}
 use Rattle.graphql_grammar.proofs.PieceLaws.{Lawful, apart, headed_law, item_law, mapped_law, nothing_law, optional_law, seq_law, sign_law}
-use Rattle.graphql_text.specs.Directives.{arguments, directive, directives}
+use Rattle.graphql_text.specs.Directives.{arguments, directive_node, directives}
 use Rattle.graphql_text.specs.Nodes.{behind, between, enclosed, name, node, or_none}
-use Rattle.graphql_text.specs.Operations.{default_body, default_value, fragment_definition, fragment_of, is_operation_type, no_root, no_variable, operation, operation_of, operation_type, operation_type_pick, shorthand, shorthand_of, variable_definition, variable_of, variables}
+use Rattle.graphql_text.specs.Operations.{default_body, default_value, fragment_definition, fragment_of, is_operation_type, no_root, no_variable, operation, operation_of, operation_type, operation_type_pick, shorthand, shorthand_of, typed, variable_definition, variable_node, variable_of, variables}
 use Rattle.graphql_text.specs.Selections.{fragment_name, selection_set, type_condition}
 use Rattle.graphql_text.specs.Types.{type}
 use Rattle.graphql_text.specs.Values.{value_node, variable}
@@ -50,15 +50,14 @@ default_law file depth =
 
 -- a default value, if there is one, and directives
 pub defaulted_law : (file : FileId) (depth : ℕ) → Lawful (seq (optional (default_value file depth)) (directives file true depth))
-unfolding directives directive arguments name
+unfolding directives directive_node arguments name
 defaulted_law file depth =
     let e : Piece (Option (NodeView Value)) = optional (default_value file depth) in
     let d : Piece DirectiveList = directives file true depth in
     seq_law e d (optional_law (default_value file depth) (default_law file depth) refl) (directives_law file true depth) (apart e.more d.first refl)
 
--- a type behind `:`, and what may follow it
-pub typed_law : (file : FileId) (depth : ℕ) → Lawful (seq (sign k.Colon) (seq (node file (type file depth)) (seq (optional (default_value file depth)) (directives file true depth))))
-unfolding directives directive arguments name
+pub typed_law : (file : FileId) (depth : ℕ) → Lawful (typed file depth)
+unfolding typed directives directive_node arguments name
 typed_law file depth =
     let e : Piece (Option (NodeView Value) × DirectiveList) = seq (optional (default_value file depth)) (directives file true depth) in
     let t : Piece (NodeView TypeReference) = node file (type file depth) in
@@ -66,17 +65,16 @@ typed_law file depth =
     seq_law (sign k.Colon) (seq t e) (sign_law k.Colon) tl (λ kind h. refl)
 
 pub variable_definition_law : (file : FileId) (depth : ℕ) → Lawful (variable_definition file depth)
-unfolding variable_definition variable name
+unfolding variable_node variable name
 variable_definition_law file depth =
-    let c : Piece (Unit {0} × (NodeView TypeReference × (Option (NodeView Value) × DirectiveList))) =
-        seq (sign k.Colon) (seq (node file (type file depth)) (seq (optional (default_value file depth)) (directives file true depth))) in
+    let c : Piece (Unit {0} × (NodeView TypeReference × (Option (NodeView Value) × DirectiveList))) = typed file depth in
     let s : Piece (NameView × (Unit {0} × (NodeView TypeReference × (Option (NodeView Value) × DirectiveList)))) = seq (variable file) c in
     let sl : Lawful s = seq_law (variable file) c (variable_law file) (typed_law file depth) (λ kind h. refl) in
     let m : Piece VariableDefinition = mapped variable_of s in
     item_law (only k.Dollar) no_variable (node file m) (node_law file m (mapped_law variable_of s sl) refl) refl refl
 
 variable_list_law : (file : FileId) (depth : ℕ) → Lawful (enclosed k.LeftParen k.RightParen no_variable depth (λ inside. some (variable_definition file inside)))
-unfolding variable_definition directives directive arguments name
+unfolding variable_node typed directives directive_node arguments name
 variable_list_law file zero = headed_law (only k.LeftParen) too_deep (nothing_law (λ _. TooDeep)) refl refl refl
 variable_list_law file (suc depth) =
     let v : Piece (NodeView VariableDefinition) = variable_definition file depth in
@@ -92,14 +90,14 @@ variables_law file depth =
 
 -- directives, and a selection set
 directed_law : (file : FileId) (depth : ℕ) → Lawful (seq (directives file false depth) (selection_set file depth))
-unfolding directives directive arguments name
+unfolding directives directive_node arguments name
 directed_law file depth =
     let d : Piece DirectiveList = directives file false depth in
     let set : Piece (List Selection) = selection_set file depth in
     seq_law d set (directives_law file false depth) (selection_set_law file depth) (apart d.more set.first refl)
 
 pub operation_law : (file : FileId) (depth : ℕ) → Lawful (operation file depth)
-unfolding operation variables directives name directive arguments
+unfolding operation variables directives name directive_node arguments
 operation_law file depth =
     let d : Piece (DirectiveList × List Selection) = seq (directives file false depth) (selection_set file depth) in
     let v : Piece (List (NodeView VariableDefinition)) = variables file depth in
@@ -113,7 +111,7 @@ unfolding shorthand
 shorthand_law file depth = mapped_law shorthand_of (selection_set file depth) (selection_set_law file depth)
 
 pub fragment_definition_law : (file : FileId) (depth : ℕ) → Lawful (fragment_definition file depth)
-unfolding fragment_definition fragment_name directives directive arguments name
+unfolding fragment_definition fragment_name directives directive_node arguments name
 fragment_definition_law file depth =
     let d : Piece (DirectiveList × List Selection) = seq (directives file false depth) (selection_set file depth) in
     let c : Piece NameView = type_condition file in

@@ -19,7 +19,7 @@ use Rattle.graphql_grammar.specs.Pieces.{Piece, choose, headed, located, mapped,
 use Rattle.graphql_grammar.proofs.BranchLaws.{branch_law, either_law}
 use Rattle.graphql_grammar.proofs.ManyLaws.{some_law}
 use Rattle.graphql_grammar.proofs.PieceLaws.{Lawful, apart, headed_law, located_law, mapped_law, nothing_law, optional_law, seq_law, sign_law, word_law}
-use Rattle.graphql_text.specs.Directives.{arguments, directive, directives}
+use Rattle.graphql_text.specs.Directives.{arguments, directive_node, directives}
 use Rattle.graphql_text.specs.Nodes.{behind, between, name, name_of, node}
 use Rattle.graphql_text.specs.Selections.{alias, alias_body, bare_selections, condition_body, field, field_made, field_selection, fragment, fragment_body, fragment_name, fragment_pick, goes_on_selection, inline_at, inline_body, inline_of, is_fragment, is_of_directives, is_selection, nested_set, no_fragment_name, no_selection, placed_fragment, selection, selection_pick, selection_set, selections_of, spread_at, spread_body, spread_of, type_condition}
 use Rattle.graphql_text.proofs.DirectiveLaws.{arguments_law, directives_law}
@@ -43,7 +43,7 @@ fragment_name_law file = mapped_law (name_of file) (word (names_of names.Fragmen
 
 module _ (file : FileId) (depth : ℕ) (p : Piece (List Selection)) (pl : Lawful (headed (only k.LeftBrace) p)) where
   field_law : Lawful (field file depth (headed (only k.LeftBrace) p))
-  unfolding field directives directive arguments name
+  unfolding field directives directive_node arguments name
   field_law =
       let set : Piece (List Selection) = headed (only k.LeftBrace) p in
       let o : Piece (Option (List Selection)) = optional set in
@@ -63,7 +63,7 @@ module _ (file : FileId) (depth : ℕ) (p : Piece (List Selection)) (pl : Lawful
       mapped_law spread_of (seq (fragment_name file) d) (seq_law (fragment_name file) d (fragment_name_law file) (directives_law file false depth) (λ kind h. refl))
 
   inline_law : Lawful (inline_body file depth (headed (only k.LeftBrace) p))
-  unfolding inline_body directives directive arguments name
+  unfolding inline_body directives directive_node arguments name
   inline_law =
       let set : Piece (List Selection) = headed (only k.LeftBrace) p in
       let d : Piece DirectiveList = directives file false depth in
@@ -72,7 +72,7 @@ module _ (file : FileId) (depth : ℕ) (p : Piece (List Selection)) (pl : Lawful
       mapped_law inline_of (seq o (seq d set)) (seq_law o (seq d set) (optional_law (type_condition file) (condition_law file) refl) dl (apart o.more (seq d set).first refl))
 
   body_law : Lawful (fragment_body file depth (headed (only k.LeftBrace) p))
-  unfolding spread_body fragment_name inline_body directives directive arguments name
+  unfolding spread_body fragment_name inline_body directives directive_node arguments name
   body_law =
       let set : Piece (List Selection) = headed (only k.LeftBrace) p in
       let a : Piece (ℕ × ℕ → Selection) = mapped (inline_at file) (inline_body file depth set) in
@@ -98,7 +98,7 @@ module _ (file : FileId) (depth : ℕ) (p : Piece (List Selection)) (pl : Lawful
       mapped_law (λ x. s.Field x) (node file f) (node_law file f field_law refl)
 
   pub selection_law : Lawful (selection file depth (headed (only k.LeftBrace) p))
-  unfolding field_selection fragment field directives directive arguments name
+  unfolding field_selection fragment field directives directive_node arguments name
   selection_law =
       let set : Piece (List Selection) = headed (only k.LeftBrace) p in
       let f : Piece Selection = field_selection file depth set in

@@ -23,11 +23,11 @@ use Rattle.graphql_grammar.specs.Kinds.{names_of, only}
 use Rattle.graphql_grammar.specs.Pieces.{Piece, many, mapped, optional, separated, separated_of, seq, sign, some, too_deep, word}
 use Rattle.graphql_grammar.proofs.ManyLaws.{many_law, some_law}
 use Rattle.graphql_grammar.proofs.PieceLaws.{Lawful, apart, headed_law, item_law, mapped_law, nothing_law, optional_law, seq_law, sign_law, word_law}
-use Rattle.graphql_text.specs.Directives.{arguments, directive, directives}
+use Rattle.graphql_text.specs.Directives.{arguments, directive_node, directives}
 use Rattle.graphql_text.specs.Nodes.{behind, between, enclosed, name, name_of, node, or_none}
-use Rattle.graphql_text.specs.Operations.{default_value, is_operation_type, no_root, operation_type}
+use Rattle.graphql_text.specs.Operations.{is_operation_type, no_root, operation_type, typed}
 use Rattle.graphql_text.specs.Types.{type}
-use Rattle.graphql_text.specs.TypeSystem.{argument_definitions, description, description_of, enum_parts, enum_value_definition, enum_value_of, enum_values, expecting, field_definition, field_of, fielded, fielded_parts, fields, input_fields, input_of, input_parts, input_value, is_described_name, is_description, is_enum_value, names_behind, names_body, no_enum_value, parts, root, root_of, roots, scalar_parts, union_parts}
+use Rattle.graphql_text.specs.TypeSystem.{description, description_of, enum_parts, enum_value_definition, enum_value_name, enum_value_node, enum_value_of, enum_values, expecting, field_definition, field_node, field_of, fielded, fielded_parts, fields, input_node, input_of, input_parts, input_value, input_values, is_described_name, is_description, is_enum_value, names_behind, names_body, no_enum_value, parts, root, root_node, root_of, roots, scalar_parts, union_parts}
 use Rattle.graphql_text.proofs.DirectiveLaws.{directives_law}
 use Rattle.graphql_text.proofs.NodeLaws.{between_law, name_law, node_law}
 use Rattle.graphql_text.proofs.OperationLaws.{operation_type_law, typed_law}
@@ -43,63 +43,62 @@ optional_description_law file = optional_law (description file) (description_law
 
 -- ---- input values
 
-pub input_value_law : (file : FileId) (wanted : Item) (depth : ℕ) → Lawful (input_value file wanted depth)
-unfolding input_value description name
-input_value_law file wanted depth =
-    let c : Piece (Unit {0} × (NodeView TypeReference × (Option (NodeView Value) × DirectiveList))) =
-        seq (sign k.Colon) (seq (node file (type file depth)) (seq (optional (default_value file depth)) (directives file true depth))) in
+pub input_value_law : (file : FileId) (depth : ℕ) → Lawful (input_value file depth)
+unfolding input_node description name
+input_value_law file depth =
+    let c : Piece (Unit {0} × (NodeView TypeReference × (Option (NodeView Value) × DirectiveList))) = typed file depth in
     let n : Piece (NameView × (Unit {0} × (NodeView TypeReference × (Option (NodeView Value) × DirectiveList)))) = seq (name file) c in
     let nl : Lawful n = seq_law (name file) c (name_law file) (typed_law file depth) (λ kind h. refl) in
     let o : Piece (Option NameView) = optional (description file) in
     let ol : Lawful (seq o n) = seq_law o n (optional_description_law file) nl (apart o.more n.first refl) in
     let m : Piece InputValueDefinition = mapped input_of (seq o n) in
-    item_law is_described_name (expecting wanted) (node file m) (node_law file m (mapped_law input_of (seq o n) ol) refl) refl refl
+    item_law is_described_name (expecting i.InputValue) (node file m) (node_law file m (mapped_law input_of (seq o n) ol) refl) refl refl
 
-some_inputs_law : (file : FileId) (wanted : Item) (depth : ℕ) → Lawful (some (input_value file wanted depth))
-unfolding input_value directives directive arguments description name
-some_inputs_law file wanted depth =
-    let v : Piece (NodeView InputValueDefinition) = input_value file wanted depth in
-    some_law v (input_value_law file wanted depth) refl (apart v.more v.first refl)
+some_inputs_law : (file : FileId) (depth : ℕ) → Lawful (some (input_value file depth))
+unfolding input_node typed directives directive_node arguments description name
+some_inputs_law file depth =
+    let v : Piece (NodeView InputValueDefinition) = input_value file depth in
+    some_law v (input_value_law file depth) refl (apart v.more v.first refl)
 
-argument_definition_list_law : (file : FileId) (depth : ℕ) → Lawful (enclosed k.LeftParen k.RightParen (expecting i.ArgumentDefinition) depth (λ inside. some (input_value file i.ArgumentDefinition inside)))
-unfolding input_value directives directive arguments name
+argument_definition_list_law : (file : FileId) (depth : ℕ) → Lawful (enclosed k.LeftParen k.RightParen (expecting i.InputValue) depth (λ inside. some (input_value file inside)))
+unfolding input_node typed directives directive_node arguments name
 argument_definition_list_law file zero = headed_law (only k.LeftParen) too_deep (nothing_law (λ _. TooDeep)) refl refl refl
 argument_definition_list_law file (suc depth) =
-    let p : Piece (List (NodeView InputValueDefinition)) = some (input_value file i.ArgumentDefinition depth) in
-    let b : Piece (List (NodeView InputValueDefinition)) = between k.LeftParen k.RightParen (expecting i.ArgumentDefinition) p in
-    headed_law (only k.LeftParen) b (between_law k.LeftParen k.RightParen (expecting i.ArgumentDefinition) p (some_inputs_law file i.ArgumentDefinition depth) (apart p.more (only k.RightParen) refl)) refl refl refl
+    let p : Piece (List (NodeView InputValueDefinition)) = some (input_value file depth) in
+    let b : Piece (List (NodeView InputValueDefinition)) = between k.LeftParen k.RightParen (expecting i.InputValue) p in
+    headed_law (only k.LeftParen) b (between_law k.LeftParen k.RightParen (expecting i.InputValue) p (some_inputs_law file depth) (apart p.more (only k.RightParen) refl)) refl refl refl
 
-pub argument_definitions_law : (file : FileId) (depth : ℕ) → Lawful (argument_definitions file depth)
-unfolding argument_definitions
+pub argument_definitions_law : (file : FileId) (depth : ℕ) → Lawful (input_values file k.LeftParen k.RightParen depth)
+unfolding input_values
 argument_definitions_law file depth =
-    let p : Piece (List (NodeView InputValueDefinition)) = enclosed k.LeftParen k.RightParen (expecting i.ArgumentDefinition) depth (λ inside. some (input_value file i.ArgumentDefinition inside)) in
+    let p : Piece (List (NodeView InputValueDefinition)) = enclosed k.LeftParen k.RightParen (expecting i.InputValue) depth (λ inside. some (input_value file inside)) in
     mapped_law or_none (optional p) (optional_law p (argument_definition_list_law file depth) refl)
 
-input_field_list_law : (file : FileId) (depth : ℕ) → Lawful (enclosed k.LeftBrace k.RightBrace (expecting i.InputField) depth (λ inside. some (input_value file i.InputField inside)))
-unfolding input_value directives directive arguments name
+input_field_list_law : (file : FileId) (depth : ℕ) → Lawful (enclosed k.LeftBrace k.RightBrace (expecting i.InputValue) depth (λ inside. some (input_value file inside)))
+unfolding input_node typed directives directive_node arguments name
 input_field_list_law file zero = headed_law (only k.LeftBrace) too_deep (nothing_law (λ _. TooDeep)) refl refl refl
 input_field_list_law file (suc depth) =
-    let p : Piece (List (NodeView InputValueDefinition)) = some (input_value file i.InputField depth) in
-    let b : Piece (List (NodeView InputValueDefinition)) = between k.LeftBrace k.RightBrace (expecting i.InputField) p in
-    headed_law (only k.LeftBrace) b (between_law k.LeftBrace k.RightBrace (expecting i.InputField) p (some_inputs_law file i.InputField depth) (apart p.more (only k.RightBrace) refl)) refl refl refl
+    let p : Piece (List (NodeView InputValueDefinition)) = some (input_value file depth) in
+    let b : Piece (List (NodeView InputValueDefinition)) = between k.LeftBrace k.RightBrace (expecting i.InputValue) p in
+    headed_law (only k.LeftBrace) b (between_law k.LeftBrace k.RightBrace (expecting i.InputValue) p (some_inputs_law file depth) (apart p.more (only k.RightBrace) refl)) refl refl refl
 
-pub input_fields_law : (file : FileId) (depth : ℕ) → Lawful (input_fields file depth)
-unfolding input_fields
+pub input_fields_law : (file : FileId) (depth : ℕ) → Lawful (input_values file k.LeftBrace k.RightBrace depth)
+unfolding input_values
 input_fields_law file depth =
-    let p : Piece (List (NodeView InputValueDefinition)) = enclosed k.LeftBrace k.RightBrace (expecting i.InputField) depth (λ inside. some (input_value file i.InputField inside)) in
+    let p : Piece (List (NodeView InputValueDefinition)) = enclosed k.LeftBrace k.RightBrace (expecting i.InputValue) depth (λ inside. some (input_value file inside)) in
     mapped_law or_none (optional p) (optional_law p (input_field_list_law file depth) refl)
 
 -- ---- fields
 
 pub field_definition_law : (file : FileId) (depth : ℕ) → Lawful (field_definition file depth)
-unfolding field_definition argument_definitions directives directive arguments description name
+unfolding field_node input_values directives directive_node arguments description name
 field_definition_law file depth =
     let d : Piece DirectiveList = directives file true depth in
     let t : Piece TypeReference = type file depth in
     let tl : Lawful (seq t d) = seq_law t d (type_law file depth) (directives_law file true depth) (apart t.more d.first refl) in
     let c : Piece (Unit {0} × (TypeReference × DirectiveList)) = seq (sign k.Colon) (seq t d) in
     let cl : Lawful c = seq_law (sign k.Colon) (seq t d) (sign_law k.Colon) tl (λ kind h. refl) in
-    let a : Piece (List (NodeView InputValueDefinition)) = argument_definitions file depth in
+    let a : Piece (List (NodeView InputValueDefinition)) = input_values file k.LeftParen k.RightParen depth in
     let al : Lawful (seq a c) = seq_law a c (argument_definitions_law file depth) cl (apart a.more c.first refl) in
     let n : Piece (NameView × (List (NodeView InputValueDefinition) × (Unit {0} × (TypeReference × DirectiveList)))) = seq (name file) (seq a c) in
     let nl : Lawful n = seq_law (name file) (seq a c) (name_law file) al (λ kind h. refl) in
@@ -109,7 +108,7 @@ field_definition_law file depth =
     item_law is_described_name (expecting i.FieldDefinition) (node file m) (node_law file m (mapped_law field_of (seq o n) ol) refl) refl refl
 
 field_list_law : (file : FileId) (depth : ℕ) → Lawful (enclosed k.LeftBrace k.RightBrace (expecting i.FieldDefinition) depth (λ inside. some (field_definition file inside)))
-unfolding field_definition directives directive arguments name argument_definitions
+unfolding field_node directives directive_node arguments name input_values
 field_list_law file zero = headed_law (only k.LeftBrace) too_deep (nothing_law (λ _. TooDeep)) refl refl refl
 field_list_law file (suc depth) =
     let f : Piece (NodeView FieldDefinition) = field_definition file depth in
@@ -158,10 +157,10 @@ members_law file =
 -- ---- enum values
 
 pub enum_value_law : (file : FileId) (depth : ℕ) → Lawful (enum_value_definition file depth)
-unfolding enum_value_definition directives description directive arguments name
+unfolding enum_value_node enum_value_name directives description directive_node arguments name
 enum_value_law file depth =
     let d : Piece DirectiveList = directives file true depth in
-    let n : Piece NameView = mapped (name_of file) (word (names_of names.EnumValue) no_enum_value) in
+    let n : Piece NameView = enum_value_name file in
     let nl : Lawful (seq n d) = seq_law n d (mapped_law (name_of file) (word (names_of names.EnumValue) no_enum_value) (word_law (names_of names.EnumValue) no_enum_value)) (directives_law file true depth) (λ kind h. refl) in
     let o : Piece (Option NameView) = optional (description file) in
     let ol : Lawful (seq o (seq n d)) = seq_law o (seq n d) (optional_description_law file) nl (apart o.more n.first refl) in
@@ -169,7 +168,7 @@ enum_value_law file depth =
     item_law is_enum_value no_enum_value (node file m) (node_law file m (mapped_law enum_value_of (seq o (seq n d)) ol) refl) refl refl
 
 enum_value_list_law : (file : FileId) (depth : ℕ) → Lawful (enclosed k.LeftBrace k.RightBrace no_enum_value depth (λ inside. some (enum_value_definition file inside)))
-unfolding enum_value_definition directives directive arguments name
+unfolding enum_value_node enum_value_name directives directive_node arguments name
 enum_value_list_law file zero = headed_law (only k.LeftBrace) too_deep (nothing_law (λ _. TooDeep)) refl refl refl
 enum_value_list_law file (suc depth) =
     let v : Piece (NodeView EnumValueDefinition) = enum_value_definition file depth in
@@ -186,7 +185,7 @@ enum_values_law file depth =
 -- ---- roots
 
 pub root_law : (file : FileId) → Lawful (root file)
-unfolding root name
+unfolding root_node name
 root_law file =
     let c : Piece (Unit {0} × NameView) = seq (sign k.Colon) (name file) in
     let cl : Lawful c = seq_law (sign k.Colon) (name file) (sign_law k.Colon) (name_law file) (λ kind h. refl) in
@@ -195,7 +194,7 @@ root_law file =
     item_law is_operation_type no_root (node file m) (node_law file m (mapped_law root_of s (seq_law operation_type c operation_type_law cl (λ kind h. refl))) refl) refl refl
 
 pub roots_law : (file : FileId) (depth : ℕ) → Lawful (roots file depth)
-unfolding root name
+unfolding root_node name
 roots_law file zero = headed_law (only k.LeftBrace) too_deep (nothing_law (λ _. TooDeep)) refl refl refl
 roots_law file (suc depth) =
     let r : Piece (NodeView (OperationType × NameView)) = root file in
@@ -206,7 +205,7 @@ roots_law file (suc depth) =
 -- ---- what stands behind a name
 
 pub fielded_law : (file : FileId) (depth : ℕ) → Lawful (fielded file depth)
-unfolding fielded names_behind fields directives directive arguments name
+unfolding fielded names_behind fields directives directive_node arguments name
 fielded_law file depth =
     let f : Piece (List (NodeView FieldDefinition)) = fields file depth in
     let d : Piece DirectiveList = directives file true depth in
@@ -215,7 +214,7 @@ fielded_law file depth =
     mapped_law fielded_parts (seq n (seq d f)) (seq_law n (seq d f) (implementing_law file) dl (apart n.more (seq d f).first refl))
 
 pub parts_law : (file : FileId) (kind : TypeKind) (depth : ℕ) → Lawful (parts file kind depth)
-unfolding parts names_behind enum_values input_fields directives directive arguments name
+unfolding parts names_behind enum_values input_values directives directive_node arguments name
 parts_law file t.Scalar depth = mapped_law scalar_parts (directives file true depth) (directives_law file true depth)
 parts_law file t.Object depth = fielded_law file depth
 parts_law file t.Interface depth = fielded_law file depth
@@ -229,5 +228,5 @@ parts_law file t.Enum depth =
     mapped_law enum_parts (seq d v) (seq_law d v (directives_law file true depth) (enum_values_law file depth) (apart d.more v.first refl))
 parts_law file t.InputObject depth =
     let d : Piece DirectiveList = directives file true depth in
-    let f : Piece (List (NodeView InputValueDefinition)) = input_fields file depth in
+    let f : Piece (List (NodeView InputValueDefinition)) = input_values file k.LeftBrace k.RightBrace depth in
     mapped_law input_parts (seq d f) (seq_law d f (directives_law file true depth) (input_fields_law file depth) (apart d.more f.first refl))

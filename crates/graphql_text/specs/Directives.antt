@@ -10,7 +10,7 @@ use Rattle.graphql_ast.specs.declared.directive.DirectiveList.{DirectiveList}
 use Rattle.graphql_grammar.specs.declared.fault.FaultKind.TheVariants.{Expected}
 use Rattle.graphql_grammar.specs.declared.fault.Item.TheVariants as i
 use Rattle.graphql_grammar.specs.declared.kind.Kind.TheVariants as k
-use Rattle.graphql_grammar.specs.Kinds.{is_name}
+use Rattle.graphql_grammar.specs.Kinds.{is_name, only}
 use Rattle.graphql_grammar.specs.Pieces.{Piece, Wrong, item, many, mapped, optional, seq, sign, some}
 use Rattle.graphql_text.specs.Nodes.{enclosed, name, node, or_none}
 use Rattle.graphql_text.specs.Values.{value_node}
@@ -23,9 +23,11 @@ abbrev pub no_argument : Wrong
 no_argument = λ _. Expected i.Argument
 
 -- Argument, constant or not
-unfoldable pub argument : FileId → Bool → ℕ → Piece (NodeView Argument)
-argument file constant depth =
-    item is_name no_argument (node file (mapped argument_of (seq (name file) (seq (sign k.Colon) (value_node file constant depth)))))
+unfoldable pub argument_node : FileId → Bool → ℕ → Piece (NodeView Argument)
+argument_node file constant depth = node file (mapped argument_of (seq (name file) (seq (sign k.Colon) (value_node file constant depth))))
+
+abbrev pub argument : FileId → Bool → ℕ → Piece (NodeView Argument)
+argument file constant depth = item is_name no_argument (argument_node file constant depth)
 
 abbrev pub argument_list : FileId → Bool → ℕ → Piece (List (NodeView Argument))
 argument_list file constant depth = enclosed k.LeftParen k.RightParen no_argument depth (λ inside. some (argument file constant inside))
@@ -37,9 +39,16 @@ arguments file constant depth = mapped or_none (optional (argument_list file con
 abbrev pub directive_of : Unit {0} × (NameView × List (NodeView Argument)) → Directive
 directive_of x = record { name = x.1.0; arguments = x.1.1 }
 
+-- a directive was expected
+abbrev pub no_directive : Wrong
+no_directive = λ _. Expected (i.Word k.At)
+
 -- Directive, constant or not
-unfoldable pub directive : FileId → Bool → ℕ → Piece (NodeView Directive)
-directive file constant depth = node file (mapped directive_of (seq (sign k.At) (seq (name file) (arguments file constant depth))))
+unfoldable pub directive_node : FileId → Bool → ℕ → Piece (NodeView Directive)
+directive_node file constant depth = node file (mapped directive_of (seq (sign k.At) (seq (name file) (arguments file constant depth))))
+
+abbrev pub directive : FileId → Bool → ℕ → Piece (NodeView Directive)
+directive file constant depth = item (only k.At) no_directive (directive_node file constant depth)
 
 -- Directives, if there are any
 unfoldable pub directives : FileId → Bool → ℕ → Piece DirectiveList

@@ -55,10 +55,16 @@ no_variable = λ _. Expected i.VariableDefinition
 abbrev pub variable_of : NameView × (Unit {0} × (NodeView TypeReference × (Option (NodeView Value) × DirectiveList))) → VariableDefinition
 variable_of x = record { name = x.0; ty = x.1.1.0; default_value = x.1.1.1.0; directives = x.1.1.1.1 }
 
+-- a type behind `:`, with a default value, if there is one, and directives
+unfoldable pub typed : FileId → ℕ → Piece (Unit {0} × (NodeView TypeReference × (Option (NodeView Value) × DirectiveList)))
+typed file depth = seq (sign k.Colon) (seq (node file (type file depth)) (seq (optional (default_value file depth)) (directives file true depth)))
+
 -- VariableDefinition: section 2.10
-unfoldable pub variable_definition : FileId → ℕ → Piece (NodeView VariableDefinition)
-variable_definition file depth =
-    item (only k.Dollar) no_variable (node file (mapped variable_of (seq (variable file) (seq (sign k.Colon) (seq (node file (type file depth)) (seq (optional (default_value file depth)) (directives file true depth)))))))
+unfoldable pub variable_node : FileId → ℕ → Piece (NodeView VariableDefinition)
+variable_node file depth = node file (mapped variable_of (seq (variable file) (typed file depth)))
+
+abbrev pub variable_definition : FileId → ℕ → Piece (NodeView VariableDefinition)
+variable_definition file depth = item (only k.Dollar) no_variable (variable_node file depth)
 
 -- VariablesDefinition, if there is one
 unfoldable pub variables : FileId → ℕ → Piece (List (NodeView VariableDefinition))

@@ -31,7 +31,7 @@ use Rattle.graphql_grammar.specs.Words.{WordView, begins}
 use Rattle.graphql_text.specs.Directives.{directives}
 use Rattle.graphql_text.specs.Locations.{location_of}
 use Rattle.graphql_text.specs.Nodes.{behind, enclosed, name, name_of, node, or_none, span_at}
-use Rattle.graphql_text.specs.Operations.{default_value, is_operation_type, no_root, operation_type}
+use Rattle.graphql_text.specs.Operations.{is_operation_type, no_root, operation_type, typed}
 use Rattle.graphql_text.specs.Types.{type}
 
 -- ---- descriptions: section 3.2
@@ -59,21 +59,16 @@ expecting wanted = λ _. Expected wanted
 abbrev pub input_of : Option NameView × (NameView × (Unit {0} × (NodeView TypeReference × (Option (NodeView Value) × DirectiveList)))) → InputValueDefinition
 input_of x = record { description = x.0; name = x.1.0; ty = x.1.1.1.0; default_value = x.1.1.1.1.0; directives = x.1.1.1.1.1 }
 
--- InputValueDefinition, where this item is read
-unfoldable pub input_value : FileId → Item → ℕ → Piece (NodeView InputValueDefinition)
-input_value file wanted depth =
-    item is_described_name (expecting wanted) (node file (mapped input_of
-    (seq (optional (description file)) (seq (name file) (seq (sign k.Colon) (seq (node file (type file depth)) (seq (optional (default_value file depth)) (directives file true depth))))))))
+-- InputValueDefinition
+unfoldable pub input_node : FileId → ℕ → Piece (NodeView InputValueDefinition)
+input_node file depth = node file (mapped input_of (seq (optional (description file)) (seq (name file) (typed file depth))))
 
--- ArgumentsDefinition, if there is one
-unfoldable pub argument_definitions : FileId → ℕ → Piece (List (NodeView InputValueDefinition))
-argument_definitions file depth =
-    mapped or_none (optional (enclosed k.LeftParen k.RightParen (expecting i.ArgumentDefinition) depth (λ inside. some (input_value file i.ArgumentDefinition inside))))
+abbrev pub input_value : FileId → ℕ → Piece (NodeView InputValueDefinition)
+input_value file depth = item is_described_name (expecting i.InputValue) (input_node file depth)
 
--- InputFieldsDefinition, if there is one
-unfoldable pub input_fields : FileId → ℕ → Piece (List (NodeView InputValueDefinition))
-input_fields file depth =
-    mapped or_none (optional (enclosed k.LeftBrace k.RightBrace (expecting i.InputField) depth (λ inside. some (input_value file i.InputField inside))))
+-- input values between these signs, if there are any: ArgumentsDefinition, InputFieldsDefinition
+unfoldable pub input_values : FileId → Kind → Kind → ℕ → Piece (List (NodeView InputValueDefinition))
+input_values file opening closing depth = mapped or_none (optional (enclosed opening closing (expecting i.InputValue) depth (λ inside. some (input_value file inside))))
 
 -- ---- fields: section 3.6
 
@@ -81,10 +76,13 @@ abbrev pub field_of : Option NameView × (NameView × (List (NodeView InputValue
 field_of x = record { description = x.0; name = x.1.0; arguments = x.1.1.0; ty = x.1.1.1.1.0; directives = x.1.1.1.1.1 }
 
 -- FieldDefinition
-unfoldable pub field_definition : FileId → ℕ → Piece (NodeView FieldDefinition)
-field_definition file depth =
-    item is_described_name (expecting i.FieldDefinition) (node file (mapped field_of
-    (seq (optional (description file)) (seq (name file) (seq (argument_definitions file depth) (seq (sign k.Colon) (seq (type file depth) (directives file true depth))))))))
+unfoldable pub field_node : FileId → ℕ → Piece (NodeView FieldDefinition)
+field_node file depth =
+    node file (mapped field_of
+    (seq (optional (description file)) (seq (name file) (seq (input_values file k.LeftParen k.RightParen depth) (seq (sign k.Colon) (seq (type file depth) (directives file true depth)))))))
+
+abbrev pub field_definition : FileId → ℕ → Piece (NodeView FieldDefinition)
+field_definition file depth = item is_described_name (expecting i.FieldDefinition) (field_node file depth)
 
 -- FieldsDefinition, if there is one
 unfoldable pub fields : FileId → ℕ → Piece (List (NodeView FieldDefinition))
@@ -115,10 +113,14 @@ abbrev pub enum_value_of : Option NameView × (NameView × DirectiveList) → En
 enum_value_of x = record { description = x.0; value = x.1.0; directives = x.1.1 }
 
 -- EnumValueDefinition: a name, not `true`, `false` or `null`
-unfoldable pub enum_value_definition : FileId → ℕ → Piece (NodeView EnumValueDefinition)
-enum_value_definition file depth =
-    item is_enum_value no_enum_value (node file (mapped enum_value_of
-    (seq (optional (description file)) (seq (mapped (name_of file) (word (names_of names.EnumValue) no_enum_value)) (directives file true depth)))))
+unfoldable pub enum_value_name : FileId → Piece NameView
+enum_value_name file = mapped (name_of file) (word (names_of names.EnumValue) no_enum_value)
+
+unfoldable pub enum_value_node : FileId → ℕ → Piece (NodeView EnumValueDefinition)
+enum_value_node file depth = node file (mapped enum_value_of (seq (optional (description file)) (seq (enum_value_name file) (directives file true depth))))
+
+abbrev pub enum_value_definition : FileId → ℕ → Piece (NodeView EnumValueDefinition)
+enum_value_definition file depth = item is_enum_value no_enum_value (enum_value_node file depth)
 
 -- EnumValuesDefinition, if there is one
 unfoldable pub enum_values : FileId → ℕ → Piece (List (NodeView EnumValueDefinition))
@@ -130,8 +132,11 @@ abbrev pub root_of : OperationType × (Unit {0} × NameView) → OperationType �
 root_of x = (x.0, x.1.1)
 
 -- RootOperationTypeDefinition
-unfoldable pub root : FileId → Piece (NodeView (OperationType × NameView))
-root file = item is_operation_type no_root (node file (mapped root_of (seq operation_type (seq (sign k.Colon) (name file)))))
+unfoldable pub root_node : FileId → Piece (NodeView (OperationType × NameView))
+root_node file = node file (mapped root_of (seq operation_type (seq (sign k.Colon) (name file))))
+
+abbrev pub root : FileId → Piece (NodeView (OperationType × NameView))
+root file = item is_operation_type no_root (root_node file)
 
 -- the roots between braces
 abbrev pub roots : FileId → ℕ → Piece (List (NodeView (OperationType × NameView)))
@@ -167,7 +172,7 @@ parts file t.Object depth = fielded file depth
 parts file t.Interface depth = fielded file depth
 parts file t.Union depth = mapped union_parts (seq (directives file true depth) (names_behind file k.Equals k.Pipe))
 parts file t.Enum depth = mapped enum_parts (seq (directives file true depth) (enum_values file depth))
-parts file t.InputObject depth = mapped input_parts (seq (directives file true depth) (input_fields file depth))
+parts file t.InputObject depth = mapped input_parts (seq (directives file true depth) (input_values file k.LeftBrace k.RightBrace depth))
 
 -- the word of a kind of types
 abbrev pub keyword : TypeKind → Kind
@@ -222,7 +227,7 @@ directive_of x = λ description location. d.DirectiveDefinition (record {
 -- DirectiveDefinition, behind the description: section 3.13
 unfoldable pub directive_body : FileId → ℕ → Piece Described
 directive_body file depth =
-    mapped directive_of (seq (sign k.Directive) (seq (sign k.At) (seq (name file) (seq (argument_definitions file depth) (seq (optional (sign k.Repeatable)) (seq (sign k.On) (separated k.Pipe location)))))))
+    mapped directive_of (seq (sign k.Directive) (seq (sign k.At) (seq (name file) (seq (input_values file k.LeftParen k.RightParen depth) (seq (optional (sign k.Repeatable)) (seq (sign k.On) (separated k.Pipe location)))))))
 
 -- what no description may stand before
 abbrev pub is_undescribed : Kinds

@@ -1,0 +1,242 @@
+//! Reading input values: GraphQL specification of October 2021, section 2.9.
+ghost use Rattle.std.specs.Prelude.{◌≡◌, ◌-◌};
+ghost use Rattle.graphql_grammar.specs.Pieces.{Adds, Gives, many};
+ghost use Rattle.graphql_grammar.specs.Standing.{standing};
+ghost use Rattle.graphql_grammar.specs.Words.{begins};
+ghost use Rattle.graphql_text.specs.Values.{block_value, enum_value, false_value, float_value, group, int_value, is_value, list_of, member, nested_group, null_value, object_of, quoted_value, true_value, value, value_node, variable, variable_value};
+
+use crate::reading::target::{Target, sign};
+use graphql_ast::value::Value;
+use graphql_grammar::fault::{FaultKind, Item, ReadError};
+use graphql_grammar::kind::{Kind, Names};
+use graphql_grammar::words::Words;
+use graphql_nodes::collections::items::Items;
+use graphql_nodes::collections::text::Text;
+use graphql_nodes::name::Name;
+use graphql_nodes::node::Node;
+use graphql_tokens::values::{block_string_value, string_value};
+
+/// A value was expected.
+const NO_VALUE: FaultKind = FaultKind::Expected(Item::Value);
+
+#[tactic(auto, unfolding(crate::specs::Values::int_value))]
+fn int_value(target: Target, words: &mut Words<'_>) -> Result<Value, ReadError>
+    ensures { Gives result (standing words.new) (int_value.read (standing words.old)) }
+{
+    let word = words.expect_word(Kind::Int, NO_VALUE)?;
+    Ok(Value::Int(Text::from_str(target.alloc, word.text)?))
+}
+
+#[tactic(auto, unfolding(crate::specs::Values::float_value))]
+fn float_value(target: Target, words: &mut Words<'_>) -> Result<Value, ReadError>
+    ensures { Gives result (standing words.new) (float_value.read (standing words.old)) }
+{
+    let word = words.expect_word(Kind::Float, NO_VALUE)?;
+    Ok(Value::Float(Text::from_str(target.alloc, word.text)?))
+}
+
+#[tactic(auto, unfolding(crate::specs::Values::quoted_value))]
+fn quoted_value(target: Target, words: &mut Words<'_>) -> Result<Value, ReadError>
+    ensures { Gives result (standing words.new) (quoted_value.read (standing words.old)) }
+{
+    let word = words.expect_word(Kind::String, NO_VALUE)?;
+    Ok(Value::String(string_value(target.alloc, word.text)?))
+}
+
+#[tactic(auto, unfolding(crate::specs::Values::block_value))]
+fn block_value(target: Target, words: &mut Words<'_>) -> Result<Value, ReadError>
+    ensures { Gives result (standing words.new) (block_value.read (standing words.old)) }
+{
+    let word = words.expect_word(Kind::BlockString, NO_VALUE)?;
+    Ok(Value::String(block_string_value(target.alloc, word.text)?))
+}
+
+#[tactic(auto, unfolding(crate::specs::Values::true_value))]
+fn true_value(words: &mut Words<'_>) -> Result<Value, ReadError>
+    ensures { Gives result (standing words.new) (true_value.read (standing words.old)) }
+{
+    sign(words, Kind::True)?;
+    Ok(Value::Boolean(true))
+}
+
+#[tactic(auto, unfolding(crate::specs::Values::false_value))]
+fn false_value(words: &mut Words<'_>) -> Result<Value, ReadError>
+    ensures { Gives result (standing words.new) (false_value.read (standing words.old)) }
+{
+    sign(words, Kind::False)?;
+    Ok(Value::Boolean(false))
+}
+
+#[tactic(auto, unfolding(crate::specs::Values::null_value))]
+fn null_value(words: &mut Words<'_>) -> Result<Value, ReadError>
+    ensures { Gives result (standing words.new) (null_value.read (standing words.old)) }
+{
+    sign(words, Kind::Null)?;
+    Ok(Value::Null)
+}
+
+#[tactic(auto, unfolding(crate::specs::Values::enum_value))]
+fn enum_value(target: Target, words: &mut Words<'_>) -> Result<Value, ReadError>
+    ensures { Gives result (standing words.new) ((enum_value target.file).read (standing words.old)) }
+{
+    Ok(Value::Enum(target.name(words)?))
+}
+
+/// Reads a variable.
+#[tactic(auto, unfolding(crate::specs::Values::variable))]
+pub(crate) fn variable(target: Target, words: &mut Words<'_>) -> Result<Name, ReadError>
+    ensures { Gives result (standing words.new) ((variable target.file).read (standing words.old)) }
+{
+    sign(words, Kind::Dollar)?;
+    target.name(words)
+}
+
+/// Reads a variable, where the value isn't constant.
+#[tactic(auto, unfolding(crate::specs::Values::variable_or_none))]
+fn variable_value(target: Target, words: &mut Words<'_>) -> Result<Value, ReadError>
+    ensures { Gives result (standing words.new) ((variable_value target.file target.constant).read (standing words.old)) }
+{
+    if target.constant {
+        return Err(ReadError::Fault(FaultKind::VariableInConstant));
+    }
+    Ok(Value::Variable(variable(target, words)?))
+}
+
+/// Whether a value comes next.
+fn is_value(kind: Kind) -> bool
+    ensures { result ≡ is_value kind }
+{
+    kind.is_name()
+        || kind.is(Kind::Int)
+        || kind.is(Kind::Float)
+        || kind.is(Kind::String)
+        || kind.is(Kind::BlockString)
+        || kind.is(Kind::Dollar)
+        || kind.is(Kind::LeftBracket)
+        || kind.is(Kind::LeftBrace)
+}
+
+/// Whether a value comes next.
+fn next_is_value(words: &Words<'_>) -> bool
+    ensures { result ≡ begins is_value (standing words.now).left }
+{
+    match words.next_kind() {
+        Some(kind) => is_value(kind),
+        None => false,
+    }
+}
+
+/// Reads a value, by its first word.
+#[cycle(value)]
+fn value(target: Target, words: &mut Words<'_>) -> Result<Value, ReadError>
+    ensures { Gives result (standing words.new) ((value target.file target.constant target.depth).read (standing words.old)) }
+{
+    match words.next_kind() {
+        Some(Kind::Int) => int_value(target, words),
+        Some(Kind::Float) => float_value(target, words),
+        Some(Kind::String) => quoted_value(target, words),
+        Some(Kind::BlockString) => block_value(target, words),
+        Some(Kind::True) => true_value(words),
+        Some(Kind::False) => false_value(words),
+        Some(Kind::Null) => null_value(words),
+        Some(Kind::Dollar) => variable_value(target, words),
+        Some(Kind::LeftBracket | Kind::LeftBrace) => nested_group(target, words),
+        Some(kind) if kind.is_name() => enum_value(target, words),
+        _ => Err(ReadError::Fault(NO_VALUE)),
+    }
+}
+
+/// Reads a list or an object.
+#[cycle(value)]
+#[tactic(auto, using(crate::proofs::NestedLemmas::no_group, crate::proofs::NestedLemmas::one_group))]
+fn nested_group(target: Target, words: &mut Words<'_>) -> Result<Value, ReadError>
+    ensures { Gives result (standing words.new) ((nested_group target.file target.constant target.depth).read (standing words.old)) }
+{
+    if target.depth == 0 {
+        return Err(ReadError::Fault(FaultKind::TooDeep));
+    }
+    let inside = Target {
+        depth: target.depth - 1,
+        ..target
+    };
+    group(inside, words)
+}
+
+/// Reads a list or an object, whose values may be such.
+#[cycle(value)]
+fn group(target: Target, words: &mut Words<'_>) -> Result<Value, ReadError>
+    ensures { Gives result (standing words.new) ((group target.file (value_node target.file target.constant target.depth)).read (standing words.old)) }
+{
+    match words.next_kind() {
+        Some(Kind::LeftBracket) => list(target, words),
+        Some(Kind::LeftBrace) => object(target, words),
+        _ => Err(ReadError::Fault(NO_VALUE)),
+    }
+}
+
+#[cycle(value)]
+#[tactic(auto, unfolding(crate::specs::Values::list_of))]
+fn list(target: Target, words: &mut Words<'_>) -> Result<Value, ReadError>
+    ensures { Gives result (standing words.new) ((list_of (value_node target.file target.constant target.depth)).read (standing words.old)) }
+{
+    sign(words, Kind::LeftBracket)?;
+    let values = values(target, words)?;
+    words.expect(Kind::RightBracket, NO_VALUE)?;
+    Ok(Value::List(values))
+}
+
+#[cycle(value)]
+fn values(target: Target, words: &mut Words<'_>) -> Result<Items<Node<Value>>, ReadError>
+    ensures { Gives result (standing words.new) ((many (value_node target.file target.constant target.depth)).read (standing words.old)) }
+{
+    let mut values = Items::new(target.alloc);
+    'values: while next_is_value(words) {
+        let node = value_node(target, words)?;
+        values.push(node)?;
+    }
+    Ok(values)
+}
+
+#[cycle(value)]
+#[tactic(auto, unfolding(crate::specs::Values::object_of))]
+fn object(target: Target, words: &mut Words<'_>) -> Result<Value, ReadError>
+    ensures { Gives result (standing words.new) ((object_of target.file (value_node target.file target.constant target.depth)).read (standing words.old)) }
+{
+    sign(words, Kind::LeftBrace)?;
+    let members = members(target, words)?;
+    words.expect(Kind::RightBrace, FaultKind::Expected(Item::ObjectField))?;
+    Ok(Value::Object(members))
+}
+
+#[cycle(value)]
+fn members(target: Target, words: &mut Words<'_>) -> Result<Items<(Name, Node<Value>)>, ReadError>
+    ensures { Gives result (standing words.new) ((many (member target.file (value_node target.file target.constant target.depth))).read (standing words.old)) }
+{
+    let mut members = Items::new(target.alloc);
+    'members: while words.next_is_name(Names::Any) {
+        let next = member(target, words)?;
+        members.push(next)?;
+    }
+    Ok(members)
+}
+
+#[cycle(value)]
+#[tactic(auto, unfolding(crate::specs::Values::member))]
+fn member(target: Target, words: &mut Words<'_>) -> Result<(Name, Node<Value>), ReadError>
+    ensures { Gives result (standing words.new) ((member target.file (value_node target.file target.constant target.depth)).read (standing words.old)) }
+{
+    let name = target.name(words)?;
+    sign(words, Kind::Colon)?;
+    let value = value_node(target, words)?;
+    Ok((name, value))
+}
+
+/// Reads a value, at its location.
+#[cycle(value)]
+pub(crate) fn value_node(target: Target, words: &mut Words<'_>) -> Result<Node<Value>, ReadError>
+    ensures { Gives result (standing words.new) ((value_node target.file target.constant target.depth).read (standing words.old)) }
+{
+    let start = words.start();
+    let value = value(target, words)?;
+    Ok(target.node(value, start, words.last)?)
+}
