@@ -1,5 +1,9 @@
+mod CutLemmas
 mod EndLemmas
 pub mod FirstLemmas
 mod HexLemmas
+mod LineLemmas
 mod PieceLemmas
+mod SaidLemmas
+mod StringLemmas
 mod TokenLemmas

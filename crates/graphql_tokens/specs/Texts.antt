@@ -1,0 +1,7 @@
+-- Texts that are borrowed.
+use Rattle.std.specs.Prelude.{ℕ, List, map}
+use Rattle.std.specs.Borrow.{Bor}
+
+-- the bytes of borrowed texts
+abbrev pub texts_of : List (Bor (List ℕ)) → List (List ℕ)
+texts_of texts = map (λ text. text.now) texts
