@@ -1,3 +1,4 @@
+mod AloneLemmas
 mod CutLemmas
 mod EndLemmas
 pub mod FirstLemmas
@@ -7,3 +8,4 @@ mod PieceLemmas
 mod SaidLemmas
 mod StringLemmas
 mod TokenLemmas
+mod WholeLemmas

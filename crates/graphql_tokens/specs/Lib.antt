@@ -10,3 +10,4 @@ pub mod StringValues
 pub mod Strings
 pub mod Texts
 pub mod Tokens
+pub mod WholeTexts
