@@ -113,6 +113,6 @@ joined (line ∷ more) = line ++ behind_feeds more
 abbrev pub dedented : List ℕ → List ℕ
 dedented text = joined (without_blank_end (without_blank_start (without_indent (lines text))))
 
--- the value of a block string token, of its bytes with the quotes
+-- the value of a block string token, of its bytes with the quotes; what bytes say that are none means nothing
 abbrev pub block_string_value : List ℕ → List ℕ
 block_string_value token = dedented (block_characters_say (behind_quotes token))

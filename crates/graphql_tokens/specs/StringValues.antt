@@ -1,14 +1,13 @@
 -- What strings say: GraphQL specification of October 2021, section 2.9.4. (`\u{..}` is of the edition of September 2025.)
-use Rattle.std.specs.Prelude.{ℕ, zero, suc, Bool, ◌||◌, not, List, [], ◌∷◌, ◌++◌, ◌+◌, ◌-◌, ◌*◌, drop, length, nat_eq, take, if◌then◌else◌, Option, None, Some}
-use Rattle.std.specs.Borrow.{Bor}
+use Rattle.std.specs.Prelude.{ℕ, zero, suc, Bool, ◌||◌, not, List, [], ◌∷◌, ◌++◌, ◌+◌, ◌-◌, ◌*◌, drop, nat_eq, take, if◌then◌else◌, Option, None, Some}
 use Rattle.std.specs.Char.{encode_utf8}
 use Rattle.std.specs.List.{prefix_len}
 use Rattle.std.specs.Option.{option_map_or}
 use Rattle.graphql_tokens.specs.Bytes.{is_control, is_hex, is_line_end}
 use Rattle.graphql_tokens.specs.Strings.{character_size, hex_number, is_escaped, is_leading, is_scalar, is_trailing, unit_at}
 
--- what characters say, one after the other, where this says how many bytes the character at the front takes, and that what it says;
--- so many bytes are still of the character before; where no character stands at the front, they end
+-- what the characters of a text say, one after the other, up to where none stands: `size` gives the bytes of the character at the
+-- front, 0 for none, and `says` what it says; `left` bytes are still of the character before
 abbrev pub said : (List ℕ → ℕ) → (List ℕ → List ℕ) → ℕ → List ℕ → List ℕ
 said size says left [] = []
 said size says (suc left) (c ∷ cs) = said size says left cs
@@ -72,16 +71,6 @@ characters_say text = said character_size character_says 0 text
 abbrev pub is_plain : ℕ → Bool
 is_plain c = not (nat_eq c 34 || (nat_eq c 92 || (is_line_end c || is_control c)))
 
--- how many bytes are left, and one more; 0 if nothing is left
-abbrev pub bytes_left : Option (Bor (List ℕ)) → ℕ
-bytes_left None = 0
-bytes_left (Some text) = length text.now + 1
-
--- what the rest of a text says, by this, if there is one
-abbrev pub left_says : (List ℕ → List ℕ) → Option (Bor (List ℕ)) → List ℕ
-left_says say None = []
-left_says say (Some text) = say text.now
-
--- the value of a string token, of its bytes with the quotes
+-- the value of a string token, of its bytes with the quotes; what bytes say that are no string token means nothing
 abbrev pub string_value : List ℕ → List ℕ
 string_value token = characters_say (behind_quote token)

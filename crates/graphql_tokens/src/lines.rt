@@ -2,8 +2,7 @@
 ghost use Rattle.std.specs.Prelude.{◌≡◌, ◌++◌, ◌∷◌, ◌≤◌, None, length, map, string_bytes, unwrap_or, IfOk, OnOk};
 ghost use Rattle.std.specs.List.{prefix_len};
 ghost use Rattle.graphql_tokens.specs.BlockStringValues.{behind_feeds, common_indent, dedented, indent, is_blank_line, is_in_line, is_white, joined, least_indent, line_end, lines, lines_left, unindented, without_blank_end, without_blank_start, without_indent};
-ghost use Rattle.graphql_tokens.specs.StringValues.{bytes_left};
-ghost use Rattle.graphql_tokens.specs.Texts.{texts_of};
+ghost use Rattle.graphql_tokens.specs.Texts.{bytes_left, texts_of};
 
 use crate::ignored::is_line_end;
 use std::alloc::{AllocError, Global};

@@ -1,6 +1,6 @@
 //! What characters say, one after the other.
 ghost use Rattle.std.specs.Prelude.{◌≡◌, ◌++◌, ◌≤◌, ℕ, List, length, string_bytes, IfOk};
-ghost use Rattle.graphql_tokens.specs.StringValues.{bytes_left, left_says};
+ghost use Rattle.graphql_tokens.specs.Texts.{bytes_left, left_says};
 
 use std::alloc::{AllocError, Global};
 

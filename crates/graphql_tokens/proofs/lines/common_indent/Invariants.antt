@@ -1,7 +1,7 @@
 use Rattle.std.proofs.Common.{◌≡◌}
 use Rattle.std.specs.Prelude.{None}
 use Rattle.graphql_tokens.specs.BlockStringValues.{common_indent, lines_left}
-use Rattle.graphql_tokens.specs.StringValues.{bytes_left}
+use Rattle.graphql_tokens.specs.Texts.{bytes_left}
 use Rattle.graphql_tokens.proofs.lines.common_indent.Given as goal
 
 abbrev pub invariant-lines : goal.invariant-lines

@@ -1,7 +1,6 @@
 use Rattle.std.proofs.Common.{◌≡◌, ◌++◌, map}
 use Rattle.graphql_tokens.specs.BlockStringValues.{lines_left, unindented}
-use Rattle.graphql_tokens.specs.StringValues.{bytes_left}
-use Rattle.graphql_tokens.specs.Texts.{texts_of}
+use Rattle.graphql_tokens.specs.Texts.{bytes_left, texts_of}
 use Rattle.graphql_tokens.proofs.lines.push_unindented.Given as goal
 
 abbrev pub invariant-lines : goal.invariant-lines

@@ -1,6 +1,6 @@
 use Rattle.std.proofs.Common.{◌≡◌, ◌++◌}
 use Rattle.std.specs.Prelude.{string_bytes}
-use Rattle.graphql_tokens.specs.StringValues.{bytes_left, left_says}
+use Rattle.graphql_tokens.specs.Texts.{bytes_left, left_says}
 use Rattle.graphql_tokens.proofs.spoken.spoken.Given as goal
 
 abbrev pub invariant-characters : goal.invariant-characters
