@@ -22,17 +22,17 @@ pub record EndsAt (xs : List ℕ) (n : ℕ) : Type 0 where
   pub ascii : get_or xs (n - 1) 255 < 128
 
 -- what holds either way
-choose : {A : Type 0} (P : A → Type 0) (b : Bool) (x y : A) → (b ≡ true → P x) → (b ≡ false → P y) → P (cond b x y)
+pub choose : {A : Type 0} (P : A → Type 0) (b : Bool) (x y : A) → (b ≡ true → P x) → (b ≡ false → P y) → P (cond b x y)
 choose P true x y holds fails = holds refl
 choose P false x y holds fails = fails refl
 
-behind : (xs : List ℕ) (n m : ℕ) → get_or xs n 255 < 128 → m ≡ n + 1 → EndsAt xs m
+pub behind : (xs : List ℕ) (n m : ℕ) → get_or xs n 255 < 128 → m ≡ n + 1 → EndsAt xs m
 behind xs n m ascii is =
     let same : n ≡ m - 1 = omega (arith, is) in
     record { some = omega (arith, is); ascii = subst (λ (k : ℕ). get_or xs k 255 < 128) same ascii }
 
 -- the same, in a text of which this is the rest
-further : (n : ℕ) (xs : List ℕ) (k : ℕ) → EndsAt (drop n xs) k → EndsAt xs (n + k)
+pub further : (n : ℕ) (xs : List ℕ) (k : ℕ) → EndsAt (drop n xs) k → EndsAt xs (n + k)
 further n xs k ends =
     let same : n + (k - 1) ≡ (n + k) - 1 = omega (arith, ends.some) in
     record {
@@ -40,11 +40,11 @@ further n xs k ends =
       ascii = subst (λ (i : ℕ). get_or xs i 255 < 128) same (subst (λ (c : ℕ). c < 128) (get_or-drop n xs (k - 1) 255) ends.ascii);
     }
 
-first_passes : (p : ℕ → Bool) (xs : List ℕ) → begins p xs ≡ true → p (get_or xs 0 255) ≡ true
+pub first_passes : (p : ℕ → Bool) (xs : List ℕ) → begins p xs ≡ true → p (get_or xs 0 255) ≡ true
 first_passes p [] h = absurd cc
 first_passes p (c ∷ cs) h = h
 
-at_passes : (p : ℕ → Bool) (n : ℕ) (xs : List ℕ) → begins p (drop n xs) ≡ true → p (get_or xs n 255) ≡ true
+pub at_passes : (p : ℕ → Bool) (n : ℕ) (xs : List ℕ) → begins p (drop n xs) ≡ true → p (get_or xs n 255) ≡ true
 at_passes p n xs h =
     let place : n + 0 ≡ n = omega arith in
     subst (λ (c : ℕ). p c ≡ true) (get_or-drop n xs 0 255 ∙ ap (λ (i : ℕ). get_or xs i 255) place) (first_passes p (drop n xs) h)
@@ -70,7 +70,7 @@ start_is_byte c h = grind (arith, h)
 number_start_is_ascii : (c : ℕ) → is_number_start c ≡ true → c < 128
 number_start_is_ascii c h = grind (arith, h)
 
-is_is_ascii : (n c : ℕ) → n < 128 → nat_eq n c ≡ true → c < 128
+pub is_is_ascii : (n c : ℕ) → n < 128 → nat_eq n c ≡ true → c < 128
 is_is_ascii n c small h = grind (arith, small, h)
 
 -- where such bytes begin, there is one
@@ -165,7 +165,7 @@ quote_first (a ∷ []) h = absurd cc
 quote_first (a ∷ b ∷ []) h = absurd cc
 quote_first (a ∷ b ∷ c ∷ rest) h = grind (arith, h)
 
-quote_last : (xs : List ℕ) → begins_with_quotes xs ≡ true → EndsAt xs 3
+pub quote_last : (xs : List ℕ) → begins_with_quotes xs ≡ true → EndsAt xs 3
 quote_last [] h = absurd cc
 quote_last (a ∷ []) h = absurd cc
 quote_last (a ∷ b ∷ []) h = absurd cc

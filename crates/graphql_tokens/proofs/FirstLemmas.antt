@@ -59,7 +59,7 @@ first_found text at l token rest is some read same behind =
     ∙ ap (found (take l.size (drop at text))) (behind ∙ past)
     ∙ sym (first_read text at is some ∙ ap (read_behind at (drop at text)) read)
 
-ignored_within : (text : List ℕ) → ignored text ≤ length text
+pub ignored_within : (text : List ℕ) → ignored text ≤ length text
 ignored_within text = pieces_within one_ignored 0 text
 
 -- a token at its place in the text that has it, where the text before it begins at this place
@@ -90,17 +90,19 @@ step at passed (c ∷ cs) none = by (lexeme (c ∷ cs)) refl
 pub by_first : (at : ℕ) (text : List ℕ) → tokens_from 0 at text ≡ tokens_by at (first_of text)
 by_first at text = behind_ignored at text ∙ step at (ignored text) (drop (ignored text) text) (nothing_ignored text)
 
--- the lengths of a token that comes first, of what stands before it and of what stands behind it
+-- a token that comes first, what stands before it and what stands behind it are the text
 pub record Parts (text : List ℕ) (f : First) : Type 0 where
+  pub passed : f.passed ≡ ignored text
   pub some : 0 < length f.text
+  pub behind : f.rest ≡ drop (f.passed + length f.text) text
   pub whole : f.passed + length f.text + length f.rest ≡ length text
 
 pub parts : (text : List ℕ) (f : First) → first_of text ≡ Ok (Some f) → Parts text f
-parts text f is = by (drop (ignored text) text) is (length-drop (ignored text) text) (ignored_within text)
+parts text f is = by (drop (ignored text) text) refl is (length-drop (ignored text) text) (ignored_within text)
   where
-    by : (xs : List ℕ) → first_behind (ignored text) xs ≡ Ok (Some f) → length xs ≡ length text - ignored text → ignored text ≤ length text → Parts text f
-    by [] is long within = absurd cc
-    by (c ∷ cs) is long within = read (lexeme (c ∷ cs)) refl is
+    by : (xs : List ℕ) → drop (ignored text) text ≡ xs → first_behind (ignored text) xs ≡ Ok (Some f) → length xs ≡ length text - ignored text → ignored text ≤ length text → Parts text f
+    by [] here is long within = absurd cc
+    by (c ∷ cs) here is long within = read (lexeme (c ∷ cs)) refl is
       where
         read : (r : Reading) → lexeme (c ∷ cs) ≡ r → read_behind (ignored text) (c ∷ cs) r ≡ Ok (Some f) → Parts text f
         read (Ok l) stands is =
@@ -111,10 +113,28 @@ parts text f is = by (drop (ignored text) text) is (length-drop (ignored text) t
             let back = length-drop l.size (c ∷ cs) in
             let made : First = record { passed = ignored text; kind = l.kind; text = take l.size (c ∷ cs); rest = drop l.size (c ∷ cs) } in
             let same : made ≡ f = cc is in
-            let lengths : Parts text made = record { some = omega (arith, front, some); whole = omega (arith, front, back, fits, long, within) } in
+            let lengths : Parts text made = record {
+              passed = refl;
+              some = omega (arith, front, some);
+              behind =
+                  ap (drop l.size) (sym here) ∙ drop-drop l.size (ignored text) text ∙ ap (λ (n : ℕ). drop (ignored text + n) text) (sym front);
+              whole = omega (arith, front, back, fits, long, within);
+            } in
             subst (Parts text) same lengths
         read (Err e) stands is = absurd cc
 
 -- what stands behind it is shorter than the text
 pub shorter : (text : List ℕ) (f : First) → first_of text ≡ Ok (Some f) → length f.rest < length text
 shorter text f is = let p = parts text f is in omega (arith, p.some, p.whole)
+
+-- where none comes, all says nothing
+pub nothing_left : (text : List ℕ) → first_of text ≡ Ok None → ignored text ≡ length text
+nothing_left text none = by (drop (ignored text) text) none (length-drop (ignored text) text) (ignored_within text)
+  where
+    by : (xs : List ℕ) → first_behind (ignored text) xs ≡ Ok None → length xs ≡ length text - ignored text → ignored text ≤ length text → ignored text ≡ length text
+    by [] is long within = omega (arith, long, within)
+    by (c ∷ cs) is long within = read (lexeme (c ∷ cs)) is
+      where
+        read : (r : Reading) → read_behind (ignored text) (c ∷ cs) r ≡ Ok None → ignored text ≡ length text
+        read (Ok l) is = absurd cc
+        read (Err e) is = absurd cc

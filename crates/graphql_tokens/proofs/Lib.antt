@@ -1,5 +1,11 @@
+mod AloneLemmas
+mod CutLemmas
 mod EndLemmas
 pub mod FirstLemmas
 mod HexLemmas
+mod LineLemmas
 mod PieceLemmas
+mod SaidLemmas
+mod StringLemmas
 mod TokenLemmas
+mod WholeLemmas

@@ -12,6 +12,10 @@ module _ (size : List ℕ → ℕ) where
   passed (suc k) [] within = absurd (omega (arith, within))
   passed (suc k) (c ∷ cs) within = let more = passed k cs (omega (arith, within)) in omega (arith, more)
 
+  -- it is counted
+  pub pieces_of_before : (k : ℕ) (xs : List ℕ) → k ≤ length xs → k ≤ pieces size k xs
+  pieces_of_before k xs within = let whole = passed k xs within in omega (arith, whole)
+
   -- a piece, and those behind it
   pub first_piece : (xs : List ℕ) → 0 < size xs → size xs ≤ length xs → pieces size 0 xs ≡ size xs + pieces size 0 (drop (size xs) xs)
   first_piece [] some within = absurd (omega (arith, some, within))

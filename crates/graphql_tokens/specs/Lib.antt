@@ -1,3 +1,4 @@
+pub mod BlockStringValues
 pub mod Bytes
 pub mod First
 pub mod Ignored
@@ -5,5 +6,8 @@ pub mod Lexemes
 pub mod Numbers
 pub mod Pieces
 pub mod Refusals
+pub mod StringValues
 pub mod Strings
+pub mod Texts
 pub mod Tokens
+pub mod WholeTexts

@@ -1,6 +1,7 @@
 //! Laws of tokens and of errors.
 ghost use Rattle.graphql_nodes.specs.Clones.{IsExact};
 ghost use Rattle.graphql_nodes.specs.Comparing.{ComparesBy};
+ghost use Rattle.graphql_tokens.specs.WholeTexts.{TextsAreMadeOfTokens};
 
 use crate::token::{Token, TokenError, TokenErrorKind, TokenKind};
 use crate::tokens_error::TokensError;
@@ -21,4 +22,10 @@ pub fn clones_are_exact()
     ensures error_kind { IsExact ⟦<TokenErrorKind as Clone>⟧.is_clone }
     ensures token_error { IsExact ⟦<TokenError as Clone>⟧.is_clone }
     ensures tokens_error { IsExact ⟦<TokensError as Clone>⟧.is_clone }
+{}
+
+/// The tokens of a text and what says nothing make up the whole text: the tokens stand in order, each has a byte at least, and all
+/// before, between and behind them says nothing.
+pub fn tokens_make_up_the_text()
+    ensures { TextsAreMadeOfTokens }
 {}

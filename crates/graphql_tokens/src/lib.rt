@@ -1,14 +1,18 @@
 //! Texts as tokens: the lexical grammar of the GraphQL specification of October 2021, section 2.1 and appendix B.
 #![tactic(auto)]
 
+mod escapes;
 pub mod first;
 mod ignored;
 pub mod laws;
 mod lexemes;
 pub mod lexing;
+mod lines;
 mod numbers;
 mod pieces;
 mod runs;
+mod spoken;
 mod strings;
 pub mod token;
 pub mod tokens_error;
+pub mod values;

@@ -27,7 +27,7 @@ fn hex_digit(byte: u8) -> u32
 }
 
 /// The number of hexadecimal digits, if it is at most [`BEYOND`], or else that.
-fn hex_number(digits: &[u8]) -> u32
+pub(crate) fn hex_number(digits: &[u8]) -> u32
     ensures { result ≡ min (hex_number 0 digits.now) 1114112 }
 {
     let mut number = 0;
@@ -38,7 +38,7 @@ fn hex_number(digits: &[u8]) -> u32
 }
 
 /// The code unit of four hexadecimal digits, if `\u` and such digits stand at the front.
-fn unit_at(text: &[u8]) -> Option<u32>
+pub(crate) fn unit_at(text: &[u8]) -> Option<u32>
     ensures same { result ≡ unit_at text.now }
     ensures long { IfSome result (λ _. 6 ≤ length text.now) }
 {
@@ -53,14 +53,14 @@ fn unit_at(text: &[u8]) -> Option<u32>
 }
 
 /// Whether a number is of a leading surrogate.
-fn is_leading(number: u32) -> bool
+pub(crate) fn is_leading(number: u32) -> bool
     ensures { result ≡ is_leading number }
 {
     0xD800 <= number && number < 0xDC00
 }
 
 /// Whether a number is of a trailing surrogate.
-fn is_trailing(number: u32) -> bool
+pub(crate) fn is_trailing(number: u32) -> bool
     ensures { result ≡ is_trailing number }
 {
     0xDC00 <= number && number < 0xE000
@@ -88,7 +88,7 @@ fn unit_size(unit: u32, behind: &[u8]) -> usize
 }
 
 /// Whether a byte stands for a character behind a `\`.
-fn is_escaped(byte: u8) -> bool
+pub(crate) fn is_escaped(byte: u8) -> bool
     ensures { result ≡ is_escaped byte }
 {
     matches!(byte, b'"' | b'\\' | b'/' | b'b' | b'f' | b'n' | b'r' | b't')
@@ -177,7 +177,7 @@ fn escape_size(text: &[u8]) -> usize
 }
 
 /// The characters of a string.
-struct Characters;
+pub(crate) struct Characters;
 
 impl Piece for Characters {
     ghost size = { character_size };
@@ -201,7 +201,7 @@ pub(crate) fn character_bytes(text: &[u8]) -> usize
 }
 
 /// The characters of a block string.
-struct BlockCharacters;
+pub(crate) struct BlockCharacters;
 
 impl Piece for BlockCharacters {
     ghost size = { block_character_size };

@@ -1,0 +1,134 @@
+//! The values of strings and block strings: GraphQL specification of October 2021, section 2.9.4.
+ghost use Rattle.std.specs.Prelude.{◌≡◌, ◌++◌, ◌≤◌, length, string_bytes, IfOk, OnOk};
+ghost use Rattle.std.specs.List.{prefix_len};
+ghost use Rattle.graphql_tokens.specs.BlockStringValues.{behind_quotes, block_characters_say, block_says, block_string_value, is_plain_in_block};
+ghost use Rattle.graphql_tokens.specs.StringValues.{behind_quote, characters_say, is_plain, string_value};
+
+use crate::escapes::push_escaped;
+use crate::ignored::{is_control, is_line_end};
+use crate::lines::dedented;
+use crate::numbers::begins;
+use crate::pieces::Piece;
+use crate::spoken::{Says, spoken};
+use crate::strings::{BlockCharacters, Characters, begins_with_quotes};
+use graphql_nodes::collections::text::Text;
+use std::alloc::{AllocError, Global};
+
+/// Whether a byte of a string says itself.
+fn is_plain(byte: u8) -> bool
+    ensures { result ≡ is_plain byte }
+{
+    byte != b'"' && byte != b'\\' && !is_line_end(byte) && !is_control(byte)
+}
+
+/// How many bytes at the front of a string say themselves.
+fn plain_bytes(text: &[u8]) -> usize
+    ensures same { result ≡ prefix_len is_plain text.now }
+    ensures within { result ≤ length text.now }
+{
+    text.iter().take_while(|byte| is_plain(**byte)).count()
+}
+
+impl Says for Characters {
+    ghost say = { characters_say };
+
+    fn push<'a>(value: &mut String, text: &'a str) -> Result<Option<&'a str>, AllocError> {
+        let plain = plain_bytes(text.as_bytes());
+        if plain > 0 {
+            value.push_str(&text[..plain])?;
+            return Ok(Some(&text[plain..]));
+        }
+        let size = Characters::size(text.as_bytes());
+        if size == 0 {
+            return Ok(None);
+        }
+        push_escaped(value, text.as_bytes())?;
+        Ok(Some(&text[size..]))
+    }
+}
+
+/// Whether a byte of a block string says itself, whatever follows it.
+fn is_plain_in_block(byte: u8) -> bool
+    ensures { result ≡ is_plain_in_block byte }
+{
+    byte != b'"' && byte != b'\\' && !is_control(byte)
+}
+
+/// How many bytes at the front of a block string say themselves, whatever follows them.
+fn plain_block_bytes(text: &[u8]) -> usize
+    ensures same { result ≡ prefix_len is_plain_in_block text.now }
+    ensures within { result ≤ length text.now }
+{
+    text.iter()
+        .take_while(|byte| is_plain_in_block(**byte))
+        .count()
+}
+
+/// Adds what a character of a block string says. The error is want of memory.
+fn push_block_character(value: &mut String, character: &str) -> Result<(), AllocError>
+    ensures { OnOk result (string_bytes value.new ≡ string_bytes value.old ++ block_says character.now) }
+{
+    value.push_str(if character.len() == 4 {
+        "\"\"\""
+    } else {
+        character
+    })
+}
+
+impl Says for BlockCharacters {
+    ghost say = { block_characters_say };
+
+    fn push<'a>(value: &mut String, text: &'a str) -> Result<Option<&'a str>, AllocError> {
+        let plain = plain_block_bytes(text.as_bytes());
+        if plain > 0 {
+            value.push_str(&text[..plain])?;
+            return Ok(Some(&text[plain..]));
+        }
+        let size = BlockCharacters::size(text.as_bytes());
+        if size == 0 {
+            return Ok(None);
+        }
+        let (character, rest) = text.split_at(size);
+        push_block_character(value, character)?;
+        Ok(Some(rest))
+    }
+}
+
+/// What stands behind a string's first quote.
+fn behind_quote<'a>(token: &'a str) -> &'a str
+    ensures { result.now ≡ behind_quote token.now }
+{
+    if begins(token.as_bytes(), b'"') {
+        &token[1..]
+    } else {
+        ""
+    }
+}
+
+/// What stands behind a block string's first quotes.
+fn behind_quotes<'a>(token: &'a str) -> &'a str
+    ensures { result.now ≡ behind_quotes token.now }
+{
+    if begins_with_quotes(token.as_bytes()) {
+        &token[3..]
+    } else {
+        ""
+    }
+}
+
+/// The value of a string token, of its bytes with the quotes. The error is want of memory.
+pub fn string_value(alloc: Global, token: &str) -> Result<Text, AllocError>
+    ensures { IfOk result (λ value. value ≡ string_value token.now) }
+{
+    let value = spoken::<Characters>(alloc, behind_quote(token))?;
+    Ok(Text::from_string(value))
+}
+
+/// The value of a block string token, of its bytes with the quotes. The error is want of memory.
+pub fn block_string_value(alloc: Global, token: &str) -> Result<Text, AllocError>
+    ensures { IfOk result (λ value. value ≡ block_string_value token.now) }
+{
+    let text = spoken::<BlockCharacters>(alloc, behind_quotes(token))?;
+    let value = dedented(alloc, text.as_str())?;
+    Ok(Text::from_string(value))
+}
