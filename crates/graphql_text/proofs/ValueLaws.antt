@@ -14,8 +14,9 @@ use Rattle.graphql_grammar.proofs.BranchLaws.{branch_law, either_law}
 use Rattle.graphql_grammar.proofs.ManyLaws.{many_law}
 use Rattle.graphql_grammar.proofs.PieceLaws.{Lawful, apart, headed_law, mapped_law, nothing_law, seq_law, sign_law, word_law}
 use Rattle.graphql_text.specs.Nodes.{behind, between, name, node}
-use Rattle.graphql_text.specs.StringsStub.{block_string_value, string_value}
-use Rattle.graphql_text.specs.Values.{block_value, enum_value, false_value, float_value, group, group_pick, int_value, is_group, is_value, list_of, member, member_of, nested_group, no_member, no_value, null_value, object_of, quoted_value, true_value, value, value_by, value_node, value_pick, variable, variable_or_none, variable_value}
+use Rattle.graphql_tokens.specs.BlockStringValues.{block_string_value}
+use Rattle.graphql_tokens.specs.StringValues.{string_value}
+use Rattle.graphql_text.specs.Values.{block_value, enum_value, false_value, float_value, group, group_pick, int_value, is_group, is_value, list_of, member, member_body, member_of, nested_group, no_member, no_value, null_value, object_of, quoted_value, true_value, value, value_by, value_node, value_pick, variable, variable_or_none, variable_value}
 use Rattle.graphql_text.proofs.NodeLaws.{between_law, name_law, node_law}
 
 int_law : Lawful int_value
@@ -96,13 +97,15 @@ module _ (file : FileId) (constant : Bool) (p : Piece Value) (pl : Lawful (heade
       mapped_law (λ items. roll-Value (Value-F.List items)) (between k.LeftBracket k.RightBracket no_value (many n)) (between_law k.LeftBracket k.RightBracket no_value (many n) ml (apart (many n).more (only k.RightBracket) refl))
 
   member_law : Lawful (member file (node file (value_by file constant (headed is_group p))))
-  unfolding member name
+  unfolding member_body name
   member_law =
       let n : Piece (NodeView Value) = node file (value_by file constant (headed is_group p)) in
-      mapped_law member_of (seq (name file) (seq (sign k.Colon) n)) (seq_law (name file) (seq (sign k.Colon) n) (name_law file) (seq_law (sign k.Colon) n (sign_law k.Colon) item_law (λ kind h. refl)) (λ kind h. refl))
+      let s : Piece (NameView × (Unit {0} × NodeView Value)) = seq (name file) (seq (sign k.Colon) n) in
+      let sl : Lawful s = seq_law (name file) (seq (sign k.Colon) n) (name_law file) (seq_law (sign k.Colon) n (sign_law k.Colon) item_law (λ kind h. refl)) (λ kind h. refl) in
+      headed_law is_name (member_body file n) (mapped_law member_of s sl) refl refl refl
 
   object_law : Lawful (object_of file (node file (value_by file constant (headed is_group p))))
-  unfolding object_of member name
+  unfolding object_of
   object_law =
       let m : Piece (NameView × NodeView Value) = member file (node file (value_by file constant (headed is_group p))) in
       let ml : Lawful (many m) = many_law m member_law refl (apart m.more m.first refl) in
@@ -130,3 +133,7 @@ value_law file constant depth = value_by_law file constant (nested_group file co
 
 pub value_node_law : (file : FileId) (constant : Bool) (depth : ℕ) → Lawful (value_node file constant depth)
 value_node_law file constant depth = node_law file (value file constant depth) (value_law file constant depth) refl
+
+pub member_node_law : (file : FileId) (constant : Bool) (depth : ℕ) → Lawful (member file (value_node file constant depth))
+member_node_law file constant depth = member_law file constant (nested_group file constant depth) (nested_group_law file constant depth)
+

@@ -7,4 +7,3 @@ pub mod Selections
 pub mod Types
 pub mod TypeSystem
 pub mod Values
-pub mod StringsStub

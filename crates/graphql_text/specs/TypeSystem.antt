@@ -18,7 +18,8 @@ use Rattle.graphql_ast.specs.declared.type_system.EnumValueDefinition.{EnumValue
 use Rattle.graphql_ast.specs.declared.type_system.FieldDefinition.{FieldDefinition}
 use Rattle.graphql_ast.specs.declared.type_system.InputValueDefinition.{InputValueDefinition}
 use Rattle.graphql_ast.specs.declared.value.Value.{Value}
-use Rattle.graphql_text.specs.StringsStub.{block_string_value, string_value}
+use Rattle.graphql_tokens.specs.BlockStringValues.{block_string_value}
+use Rattle.graphql_tokens.specs.StringValues.{string_value}
 use Rattle.graphql_grammar.specs.declared.fault.FaultKind.TheVariants.{DescriptionNotAllowed, Expected, ReservedName, UnknownDirectiveLocation}
 use Rattle.graphql_grammar.specs.declared.fault.Item.{Item}
 use Rattle.graphql_grammar.specs.declared.fault.Item.TheVariants as i

@@ -5,7 +5,8 @@ use Rattle.graphql_nodes.specs.NameView.{NameView}
 use Rattle.graphql_nodes.specs.NodeView.{NodeView}
 use Rattle.graphql_ast.specs.declared.value.Value.{Value, roll-Value}
 use Rattle.graphql_ast.specs.declared.value.Value.TheOpen.{Value-F}
-use Rattle.graphql_text.specs.StringsStub.{block_string_value, string_value as value_of_string}
+use Rattle.graphql_tokens.specs.BlockStringValues.{block_string_value}
+use Rattle.graphql_tokens.specs.StringValues.{string_value as value_of_string}
 use Rattle.graphql_grammar.specs.declared.fault.FaultKind.{FaultKind}
 use Rattle.graphql_grammar.specs.declared.fault.FaultKind.TheVariants.{Expected, VariableInConstant}
 use Rattle.graphql_grammar.specs.declared.fault.Item.TheVariants as i
@@ -72,8 +73,11 @@ abbrev pub member_of : NameView × (Unit {0} × NodeView Value) → NameView × 
 member_of x = (x.0, x.1.1)
 
 -- ObjectField
-unfoldable pub member : FileId → Piece (NodeView Value) → Piece (NameView × NodeView Value)
-member file item = mapped member_of (seq (name file) (seq (sign k.Colon) item))
+unfoldable pub member_body : FileId → Piece (NodeView Value) → Piece (NameView × NodeView Value)
+member_body file item = mapped member_of (seq (name file) (seq (sign k.Colon) item))
+
+abbrev pub member : FileId → Piece (NodeView Value) → Piece (NameView × NodeView Value)
+member file item = headed is_name (member_body file item)
 
 abbrev pub no_member : Wrong
 no_member = λ _. Expected i.ObjectField

@@ -102,7 +102,7 @@ fn variable_value(target: Target, words: &mut Words<'_>) -> Result<Value, ReadEr
     Ok(Value::Variable(variable(target, words)?))
 }
 
-/// Whether a value comes next.
+/// Whether a value begins with words of a kind.
 fn is_value(kind: Kind) -> bool
     ensures { result ≡ is_value kind }
 {
@@ -221,7 +221,7 @@ fn members(target: Target, words: &mut Words<'_>) -> Result<Items<(Name, Node<Va
 }
 
 #[cycle(value)]
-#[tactic(auto, unfolding(crate::specs::Values::member))]
+#[tactic(auto, unfolding(crate::specs::Values::member_body))]
 fn member(target: Target, words: &mut Words<'_>) -> Result<(Name, Node<Value>), ReadError>
     ensures { Gives result (standing words.new) ((member target.file (value_node target.file target.constant target.depth)).read (standing words.old)) }
 {
