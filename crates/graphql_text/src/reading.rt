@@ -1,5 +1,8 @@
 //! Reading trees from words, one function a production.
 
+mod directives;
 mod lists;
+mod selections;
 mod target;
+mod types;
 mod values;

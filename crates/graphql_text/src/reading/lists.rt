@@ -6,7 +6,7 @@ ghost use Rattle.graphql_grammar.specs.Pieces.{Adds, Gives, Piece, Wrong, item, 
 ghost use Rattle.graphql_grammar.specs.Standing.{standing};
 ghost use Rattle.graphql_grammar.specs.Words.{begins};
 ghost use Rattle.graphql_grammar.proofs.PieceLaws.{Lawful};
-ghost use Rattle.graphql_text.specs.Nodes.{between, enclosed, or_none};
+ghost use Rattle.graphql_productions.specs.Nodes.{between, enclosed, or_none};
 
 use crate::reading::target::{Target, sign};
 use graphql_grammar::fault::{FaultKind, ReadError};
@@ -106,7 +106,7 @@ fn between_items<R: Read>(
 }
 
 /// Reads one item or more between two signs.
-#[tactic(auto, using(crate::proofs::NestedLemmas::none_nested, crate::proofs::NestedLemmas::one_nested))]
+#[tactic(auto, using(graphql_productions::proofs::NestedLemmas::none_nested, graphql_productions::proofs::NestedLemmas::one_nested))]
 pub(crate) fn enclosed_items<R: Read>(
     target: Target,
     words: &mut Words<'_>,

@@ -3,7 +3,7 @@ ghost use Rattle.std.specs.Prelude.{◌≡◌, true, IfOk};
 ghost use Rattle.graphql_grammar.specs.Pieces.{Gives, sign};
 ghost use Rattle.graphql_grammar.specs.Standing.{standing};
 ghost use Rattle.graphql_grammar.specs.Words.{word_view};
-ghost use Rattle.graphql_text.specs.Nodes.{name, name_of, node_of};
+ghost use Rattle.graphql_productions.specs.Nodes.{name, name_of, node_of};
 
 use graphql_grammar::fault::{FaultKind, Item, ReadError};
 use graphql_grammar::kind::{Kind, Names};
@@ -62,7 +62,7 @@ impl Target {
     }
 
     /// Reads a name.
-    #[tactic(auto, unfolding(crate::specs::Nodes::name))]
+    #[tactic(auto, unfolding(graphql_productions::specs::Nodes::name))]
     pub(crate) fn name(self, words: &mut Words<'_>) -> Result<Name, ReadError>
         ensures { Gives result (standing words.new) ((name self.file).read (standing words.old)) }
     {

@@ -3,7 +3,7 @@ ghost use Rattle.std.specs.Prelude.{◌≡◌, ◌-◌};
 ghost use Rattle.graphql_grammar.specs.Pieces.{Adds, Gives, many};
 ghost use Rattle.graphql_grammar.specs.Standing.{standing};
 ghost use Rattle.graphql_grammar.specs.Words.{begins};
-ghost use Rattle.graphql_text.specs.Values.{block_value, enum_value, false_value, float_value, group, int_value, is_value, list_of, member, nested_group, null_value, object_of, quoted_value, true_value, value, value_node, variable, variable_value};
+ghost use Rattle.graphql_productions.specs.Values.{block_value, enum_value, false_value, float_value, group, int_value, is_value, list_of, member, nested_group, null_value, object_of, quoted_value, true_value, value, value_node, variable, variable_value};
 
 use crate::reading::target::{Target, sign};
 use graphql_ast::value::Value;
@@ -19,7 +19,7 @@ use graphql_tokens::values::{block_string_value, string_value};
 /// A value was expected.
 const NO_VALUE: FaultKind = FaultKind::Expected(Item::Value);
 
-#[tactic(auto, unfolding(crate::specs::Values::int_value))]
+#[tactic(auto, unfolding(graphql_productions::specs::Values::int_value))]
 fn int_value(target: Target, words: &mut Words<'_>) -> Result<Value, ReadError>
     ensures { Gives result (standing words.new) (int_value.read (standing words.old)) }
 {
@@ -27,7 +27,7 @@ fn int_value(target: Target, words: &mut Words<'_>) -> Result<Value, ReadError>
     Ok(Value::Int(Text::from_str(target.alloc, word.text)?))
 }
 
-#[tactic(auto, unfolding(crate::specs::Values::float_value))]
+#[tactic(auto, unfolding(graphql_productions::specs::Values::float_value))]
 fn float_value(target: Target, words: &mut Words<'_>) -> Result<Value, ReadError>
     ensures { Gives result (standing words.new) (float_value.read (standing words.old)) }
 {
@@ -35,7 +35,7 @@ fn float_value(target: Target, words: &mut Words<'_>) -> Result<Value, ReadError
     Ok(Value::Float(Text::from_str(target.alloc, word.text)?))
 }
 
-#[tactic(auto, unfolding(crate::specs::Values::quoted_value))]
+#[tactic(auto, unfolding(graphql_productions::specs::Values::quoted_value))]
 fn quoted_value(target: Target, words: &mut Words<'_>) -> Result<Value, ReadError>
     ensures { Gives result (standing words.new) (quoted_value.read (standing words.old)) }
 {
@@ -43,7 +43,7 @@ fn quoted_value(target: Target, words: &mut Words<'_>) -> Result<Value, ReadErro
     Ok(Value::String(string_value(target.alloc, word.text)?))
 }
 
-#[tactic(auto, unfolding(crate::specs::Values::block_value))]
+#[tactic(auto, unfolding(graphql_productions::specs::Values::block_value))]
 fn block_value(target: Target, words: &mut Words<'_>) -> Result<Value, ReadError>
     ensures { Gives result (standing words.new) (block_value.read (standing words.old)) }
 {
@@ -51,7 +51,7 @@ fn block_value(target: Target, words: &mut Words<'_>) -> Result<Value, ReadError
     Ok(Value::String(block_string_value(target.alloc, word.text)?))
 }
 
-#[tactic(auto, unfolding(crate::specs::Values::true_value))]
+#[tactic(auto, unfolding(graphql_productions::specs::Values::true_value))]
 fn true_value(words: &mut Words<'_>) -> Result<Value, ReadError>
     ensures { Gives result (standing words.new) (true_value.read (standing words.old)) }
 {
@@ -59,7 +59,7 @@ fn true_value(words: &mut Words<'_>) -> Result<Value, ReadError>
     Ok(Value::Boolean(true))
 }
 
-#[tactic(auto, unfolding(crate::specs::Values::false_value))]
+#[tactic(auto, unfolding(graphql_productions::specs::Values::false_value))]
 fn false_value(words: &mut Words<'_>) -> Result<Value, ReadError>
     ensures { Gives result (standing words.new) (false_value.read (standing words.old)) }
 {
@@ -67,7 +67,7 @@ fn false_value(words: &mut Words<'_>) -> Result<Value, ReadError>
     Ok(Value::Boolean(false))
 }
 
-#[tactic(auto, unfolding(crate::specs::Values::null_value))]
+#[tactic(auto, unfolding(graphql_productions::specs::Values::null_value))]
 fn null_value(words: &mut Words<'_>) -> Result<Value, ReadError>
     ensures { Gives result (standing words.new) (null_value.read (standing words.old)) }
 {
@@ -75,7 +75,7 @@ fn null_value(words: &mut Words<'_>) -> Result<Value, ReadError>
     Ok(Value::Null)
 }
 
-#[tactic(auto, unfolding(crate::specs::Values::enum_value))]
+#[tactic(auto, unfolding(graphql_productions::specs::Values::enum_value))]
 fn enum_value(target: Target, words: &mut Words<'_>) -> Result<Value, ReadError>
     ensures { Gives result (standing words.new) ((enum_value target.file).read (standing words.old)) }
 {
@@ -83,7 +83,7 @@ fn enum_value(target: Target, words: &mut Words<'_>) -> Result<Value, ReadError>
 }
 
 /// Reads a variable.
-#[tactic(auto, unfolding(crate::specs::Values::variable))]
+#[tactic(auto, unfolding(graphql_productions::specs::Values::variable))]
 pub(crate) fn variable(target: Target, words: &mut Words<'_>) -> Result<Name, ReadError>
     ensures { Gives result (standing words.new) ((variable target.file).read (standing words.old)) }
 {
@@ -92,7 +92,7 @@ pub(crate) fn variable(target: Target, words: &mut Words<'_>) -> Result<Name, Re
 }
 
 /// Reads a variable, where the value isn't constant.
-#[tactic(auto, unfolding(crate::specs::Values::variable_or_none))]
+#[tactic(auto, unfolding(graphql_productions::specs::Values::variable_or_none))]
 fn variable_value(target: Target, words: &mut Words<'_>) -> Result<Value, ReadError>
     ensures { Gives result (standing words.new) ((variable_value target.file target.constant).read (standing words.old)) }
 {
@@ -148,7 +148,7 @@ fn value(target: Target, words: &mut Words<'_>) -> Result<Value, ReadError>
 
 /// Reads a list or an object.
 #[cycle(value)]
-#[tactic(auto, using(crate::proofs::NestedLemmas::no_group, crate::proofs::NestedLemmas::one_group))]
+#[tactic(auto, using(graphql_productions::proofs::NestedLemmas::no_group, graphql_productions::proofs::NestedLemmas::one_group))]
 fn nested_group(target: Target, words: &mut Words<'_>) -> Result<Value, ReadError>
     ensures { Gives result (standing words.new) ((nested_group target.file target.constant target.depth).read (standing words.old)) }
 {
@@ -175,7 +175,7 @@ fn group(target: Target, words: &mut Words<'_>) -> Result<Value, ReadError>
 }
 
 #[cycle(value)]
-#[tactic(auto, unfolding(crate::specs::Values::list_of))]
+#[tactic(auto, unfolding(graphql_productions::specs::Values::list_of))]
 fn list(target: Target, words: &mut Words<'_>) -> Result<Value, ReadError>
     ensures { Gives result (standing words.new) ((list_of (value_node target.file target.constant target.depth)).read (standing words.old)) }
 {
@@ -198,7 +198,7 @@ fn values(target: Target, words: &mut Words<'_>) -> Result<Items<Node<Value>>, R
 }
 
 #[cycle(value)]
-#[tactic(auto, unfolding(crate::specs::Values::object_of))]
+#[tactic(auto, unfolding(graphql_productions::specs::Values::object_of))]
 fn object(target: Target, words: &mut Words<'_>) -> Result<Value, ReadError>
     ensures { Gives result (standing words.new) ((object_of target.file (value_node target.file target.constant target.depth)).read (standing words.old)) }
 {
@@ -221,7 +221,7 @@ fn members(target: Target, words: &mut Words<'_>) -> Result<Items<(Name, Node<Va
 }
 
 #[cycle(value)]
-#[tactic(auto, unfolding(crate::specs::Values::member_body))]
+#[tactic(auto, unfolding(graphql_productions::specs::Values::member_body))]
 fn member(target: Target, words: &mut Words<'_>) -> Result<(Name, Node<Value>), ReadError>
     ensures { Gives result (standing words.new) ((member target.file (value_node target.file target.constant target.depth)).read (standing words.old)) }
 {

@@ -1,8 +1,8 @@
 -- What may nest stands between the signs.
 use Rattle.graphql_grammar.specs.Pieces.{item, some}
 use Rattle.graphql_grammar.specs.Standing.{standing}
-use Rattle.graphql_text.specs.Nodes.{between}
-use Rattle.graphql_text.proofs.NestedLemmas.{one_nested}
+use Rattle.graphql_productions.specs.Nodes.{between}
+use Rattle.graphql_productions.proofs.NestedLemmas.{one_nested}
 use Rattle.graphql_text.proofs.reading.lists.enclosed_items.Goals as goal
 
 pub returns : goal.returns

@@ -7,8 +7,8 @@ use Rattle.graphql_grammar.specs.Pieces.{Piece, many}
 use Rattle.graphql_grammar.specs.Standing.{standing}
 use Rattle.graphql_grammar.proofs.LoopLaws.{goes_on}
 use Rattle.graphql_grammar.proofs.ManyLaws.{shorter}
-use Rattle.graphql_text.specs.Values.{member, value_node}
-use Rattle.graphql_text.proofs.ValueLaws.{member_node_law, value_node_law}
+use Rattle.graphql_productions.specs.Values.{member, value_node}
+use Rattle.graphql_productions.proofs.ValueLaws.{member_node_law, value_node_law}
 use Rattle.graphql_text.proofs.reading.values.+value.Goals as goal
 
 pub values-values-smaller : goal.values-values-smaller

@@ -1,7 +1,7 @@
 use Rattle.std.proofs.Common.{◌≡◌, ◌+◌, ◌*◌, length}
 use Rattle.graphql_grammar.specs.Pieces.{many, with_front}
 use Rattle.graphql_grammar.specs.Standing.{standing}
-use Rattle.graphql_text.specs.Values.{member, value_node}
+use Rattle.graphql_productions.specs.Values.{member, value_node}
 use Rattle.graphql_text.proofs.reading.values.+value.Given as goal
 
 abbrev pub decreases-value_node : goal.decreases-value_node

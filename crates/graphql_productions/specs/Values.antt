@@ -14,7 +14,7 @@ use Rattle.graphql_grammar.specs.declared.kind.Kind.{Kind}
 use Rattle.graphql_grammar.specs.declared.kind.Kind.TheVariants as k
 use Rattle.graphql_grammar.specs.Kinds.{Kinds, is_name, none, only, tag}
 use Rattle.graphql_grammar.specs.Pieces.{Piece, Wrong, branch, choose, headed, many, mapped, nothing, seq, sign, too_deep, word}
-use Rattle.graphql_text.specs.Nodes.{behind, between, name, name_of, node}
+use Rattle.graphql_productions.specs.Nodes.{behind, between, name, name_of, node}
 
 -- a value was expected
 abbrev pub no_value : Wrong

@@ -13,11 +13,11 @@ use Rattle.graphql_grammar.specs.Pieces.{Piece, choose, headed, many, mapped, no
 use Rattle.graphql_grammar.proofs.BranchLaws.{branch_law, either_law}
 use Rattle.graphql_grammar.proofs.ManyLaws.{many_law}
 use Rattle.graphql_grammar.proofs.PieceLaws.{Lawful, apart, headed_law, mapped_law, nothing_law, seq_law, sign_law, word_law}
-use Rattle.graphql_text.specs.Nodes.{behind, between, name, node}
+use Rattle.graphql_productions.specs.Nodes.{behind, between, name, node}
 use Rattle.graphql_tokens.specs.BlockStringValues.{block_string_value}
 use Rattle.graphql_tokens.specs.StringValues.{string_value}
-use Rattle.graphql_text.specs.Values.{block_value, enum_value, false_value, float_value, group, group_pick, int_value, is_group, is_value, list_of, member, member_body, member_of, nested_group, no_member, no_value, null_value, object_of, quoted_value, true_value, value, value_by, value_node, value_pick, variable, variable_or_none, variable_value}
-use Rattle.graphql_text.proofs.NodeLaws.{between_law, name_law, node_law}
+use Rattle.graphql_productions.specs.Values.{block_value, enum_value, false_value, float_value, group, group_pick, int_value, is_group, is_value, list_of, member, member_body, member_of, nested_group, no_member, no_value, null_value, object_of, quoted_value, true_value, value, value_by, value_node, value_pick, variable, variable_or_none, variable_value}
+use Rattle.graphql_productions.proofs.NodeLaws.{between_law, name_law, node_law}
 
 int_law : Lawful int_value
 unfolding int_value

@@ -18,8 +18,8 @@ use Rattle.graphql_grammar.specs.declared.kind.Names.TheVariants as names
 use Rattle.graphql_grammar.specs.Kinds.{Kinds, is_name, names_of, only}
 use Rattle.graphql_grammar.specs.Pieces.{Piece, Wrong, branch, choose, headed, located, mapped, nothing, optional, seq, sign, some, too_deep, word}
 use Rattle.graphql_grammar.specs.Words.{begins}
-use Rattle.graphql_text.specs.Directives.{arguments, directives}
-use Rattle.graphql_text.specs.Nodes.{behind, between, name, name_of, node, or_none, span_at}
+use Rattle.graphql_productions.specs.Directives.{arguments, directives}
+use Rattle.graphql_productions.specs.Nodes.{behind, between, name, name_of, node, or_none, span_at}
 
 -- a selection was expected
 abbrev pub no_selection : Wrong

@@ -11,7 +11,7 @@ use Rattle.graphql_grammar.specs.declared.kind.Kind.TheVariants as k
 use Rattle.graphql_grammar.specs.Kinds.{Kinds, is_name, only}
 use Rattle.graphql_grammar.specs.Pieces.{Piece, Wrong, branch, choose, mapped, nothing, optional, seq, sign, too_deep}
 use Rattle.graphql_grammar.specs.Pieces.{headed}
-use Rattle.graphql_text.specs.Nodes.{between, name}
+use Rattle.graphql_productions.specs.Nodes.{between, name}
 
 -- a type was expected
 abbrev pub no_type : Wrong

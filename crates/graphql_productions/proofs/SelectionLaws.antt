@@ -19,11 +19,11 @@ use Rattle.graphql_grammar.specs.Pieces.{Piece, choose, headed, located, mapped,
 use Rattle.graphql_grammar.proofs.BranchLaws.{branch_law, either_law}
 use Rattle.graphql_grammar.proofs.ManyLaws.{some_law}
 use Rattle.graphql_grammar.proofs.PieceLaws.{Lawful, apart, headed_law, located_law, mapped_law, nothing_law, optional_law, seq_law, sign_law, word_law}
-use Rattle.graphql_text.specs.Directives.{arguments, directive_node, directives}
-use Rattle.graphql_text.specs.Nodes.{behind, between, name, name_of, node}
-use Rattle.graphql_text.specs.Selections.{alias, alias_body, bare_selections, condition_body, field, field_made, field_selection, fragment, fragment_body, fragment_name, fragment_pick, goes_on_selection, inline_at, inline_body, inline_of, is_fragment, is_of_directives, is_selection, nested_set, no_fragment_name, no_selection, placed_fragment, selection, selection_pick, selection_set, selections_of, spread_at, spread_body, spread_of, type_condition}
-use Rattle.graphql_text.proofs.DirectiveLaws.{arguments_law, directives_law}
-use Rattle.graphql_text.proofs.NodeLaws.{between_law, name_law, node_law}
+use Rattle.graphql_productions.specs.Directives.{arguments, directive_node, directives}
+use Rattle.graphql_productions.specs.Nodes.{behind, between, name, name_of, node}
+use Rattle.graphql_productions.specs.Selections.{alias, alias_body, bare_selections, condition_body, field, field_made, field_selection, fragment, fragment_body, fragment_name, fragment_pick, goes_on_selection, inline_at, inline_body, inline_of, is_fragment, is_of_directives, is_selection, nested_set, no_fragment_name, no_selection, placed_fragment, selection, selection_pick, selection_set, selections_of, spread_at, spread_body, spread_of, type_condition}
+use Rattle.graphql_productions.proofs.DirectiveLaws.{arguments_law, directives_law}
+use Rattle.graphql_productions.proofs.NodeLaws.{between_law, name_law, node_law}
 
 alias_law : (file : FileId) → Lawful (alias file)
 unfolding alias_body name

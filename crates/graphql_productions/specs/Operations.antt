@@ -18,11 +18,11 @@ use Rattle.graphql_grammar.specs.declared.kind.Kind.{Kind}
 use Rattle.graphql_grammar.specs.declared.kind.Kind.TheVariants as k
 use Rattle.graphql_grammar.specs.Kinds.{Kinds, none, only}
 use Rattle.graphql_grammar.specs.Pieces.{Piece, Wrong, branch, choose, headed, item, mapped, nothing, optional, seq, sign, some}
-use Rattle.graphql_text.specs.Directives.{directives}
-use Rattle.graphql_text.specs.Nodes.{behind, enclosed, name, node, or_none}
-use Rattle.graphql_text.specs.Selections.{fragment_name, selection_set, type_condition}
-use Rattle.graphql_text.specs.Types.{type}
-use Rattle.graphql_text.specs.Values.{value_node, variable}
+use Rattle.graphql_productions.specs.Directives.{directives}
+use Rattle.graphql_productions.specs.Nodes.{behind, enclosed, name, node, or_none}
+use Rattle.graphql_productions.specs.Selections.{fragment_name, selection_set, type_condition}
+use Rattle.graphql_productions.specs.Types.{type}
+use Rattle.graphql_productions.specs.Values.{value_node, variable}
 
 -- what an operation type begins with
 abbrev pub is_operation_type : Kinds

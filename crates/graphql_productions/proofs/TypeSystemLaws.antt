@@ -23,15 +23,15 @@ use Rattle.graphql_grammar.specs.Kinds.{names_of, only}
 use Rattle.graphql_grammar.specs.Pieces.{Piece, many, mapped, optional, separated, separated_of, seq, sign, some, too_deep, word}
 use Rattle.graphql_grammar.proofs.ManyLaws.{many_law, some_law}
 use Rattle.graphql_grammar.proofs.PieceLaws.{Lawful, apart, headed_law, item_law, mapped_law, nothing_law, optional_law, seq_law, sign_law, word_law}
-use Rattle.graphql_text.specs.Directives.{arguments, directive_node, directives}
-use Rattle.graphql_text.specs.Nodes.{behind, between, enclosed, name, name_of, node, or_none}
-use Rattle.graphql_text.specs.Operations.{is_operation_type, no_root, operation_type, typed}
-use Rattle.graphql_text.specs.Types.{type}
-use Rattle.graphql_text.specs.TypeSystem.{description, description_of, enum_parts, enum_value_definition, enum_value_name, enum_value_node, enum_value_of, enum_values, expecting, field_definition, field_node, field_of, fielded, fielded_parts, fields, input_node, input_of, input_parts, input_value, input_values, is_described_name, is_description, is_enum_value, names_behind, names_body, no_enum_value, parts, root, root_node, root_of, roots, scalar_parts, union_parts}
-use Rattle.graphql_text.proofs.DirectiveLaws.{directives_law}
-use Rattle.graphql_text.proofs.NodeLaws.{between_law, name_law, node_law}
-use Rattle.graphql_text.proofs.OperationLaws.{operation_type_law, typed_law}
-use Rattle.graphql_text.proofs.TypeLaws.{type_law}
+use Rattle.graphql_productions.specs.Directives.{arguments, directive_node, directives}
+use Rattle.graphql_productions.specs.Nodes.{behind, between, enclosed, name, name_of, node, or_none}
+use Rattle.graphql_productions.specs.Operations.{is_operation_type, no_root, operation_type, typed}
+use Rattle.graphql_productions.specs.Types.{type}
+use Rattle.graphql_productions.specs.TypeSystem.{description, description_of, enum_parts, enum_value_definition, enum_value_name, enum_value_node, enum_value_of, enum_values, expecting, field_definition, field_node, field_of, fielded, fielded_parts, fields, input_node, input_of, input_parts, input_value, input_values, is_described_name, is_description, is_enum_value, names_behind, names_body, no_enum_value, parts, root, root_node, root_of, roots, scalar_parts, union_parts}
+use Rattle.graphql_productions.proofs.DirectiveLaws.{directives_law}
+use Rattle.graphql_productions.proofs.NodeLaws.{between_law, name_law, node_law}
+use Rattle.graphql_productions.proofs.OperationLaws.{operation_type_law, typed_law}
+use Rattle.graphql_productions.proofs.TypeLaws.{type_law}
 
 pub description_law : (file : FileId) → Lawful (description file)
 unfolding description

@@ -10,9 +10,9 @@ use Rattle.graphql_grammar.specs.Kinds.{is_name, only}
 use Rattle.graphql_grammar.specs.Pieces.{Piece, branch, choose, headed, mapped, nothing, optional, seq, sign, too_deep}
 use Rattle.graphql_grammar.proofs.BranchLaws.{branch_law, either_law}
 use Rattle.graphql_grammar.proofs.PieceLaws.{Lawful, apart, headed_law, mapped_law, nothing_law, optional_law, seq_law, sign_law}
-use Rattle.graphql_text.specs.Nodes.{between, name}
-use Rattle.graphql_text.specs.Types.{is_type, list_type_of, named_type, nested_list_type, no_type, required_where, type, type_by, type_pick}
-use Rattle.graphql_text.proofs.NodeLaws.{between_law, name_law}
+use Rattle.graphql_productions.specs.Nodes.{between, name}
+use Rattle.graphql_productions.specs.Types.{is_type, list_type_of, named_type, nested_list_type, no_type, required_where, type, type_by, type_pick}
+use Rattle.graphql_productions.proofs.NodeLaws.{between_law, name_law}
 
 named_law : (file : FileId) → Lawful (named_type file)
 unfolding named_type

@@ -9,9 +9,9 @@ use Rattle.graphql_grammar.specs.declared.kind.Kind.{Kind}
 use Rattle.graphql_grammar.specs.declared.kind.Kind.TheVariants as k
 use Rattle.graphql_grammar.specs.Kinds.{Kinds, is_name, only}
 use Rattle.graphql_grammar.specs.Pieces.{Piece, branch, choose, mapped, nothing}
-use Rattle.graphql_text.specs.Nodes.{node}
-use Rattle.graphql_text.specs.Operations.{fragment_definition, is_operation_type, operation, shorthand}
-use Rattle.graphql_text.specs.TypeSystem.{expecting, extension, goes_on_type, is_described, is_description, system_definition}
+use Rattle.graphql_productions.specs.Nodes.{node}
+use Rattle.graphql_productions.specs.Operations.{fragment_definition, is_operation_type, operation, shorthand}
+use Rattle.graphql_productions.specs.TypeSystem.{expecting, extension, goes_on_type, is_described, is_description, system_definition}
 
 unfoldable pub operation_definition : FileId → ℕ → Piece Definition
 operation_definition file depth = mapped (λ x. d.OperationDefinition x) (node file (operation file depth))

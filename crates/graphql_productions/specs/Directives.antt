@@ -12,8 +12,8 @@ use Rattle.graphql_grammar.specs.declared.fault.Item.TheVariants as i
 use Rattle.graphql_grammar.specs.declared.kind.Kind.TheVariants as k
 use Rattle.graphql_grammar.specs.Kinds.{is_name, only}
 use Rattle.graphql_grammar.specs.Pieces.{Piece, Wrong, item, many, mapped, optional, seq, sign, some}
-use Rattle.graphql_text.specs.Nodes.{enclosed, name, node, or_none}
-use Rattle.graphql_text.specs.Values.{value_node}
+use Rattle.graphql_productions.specs.Nodes.{enclosed, name, node, or_none}
+use Rattle.graphql_productions.specs.Values.{value_node}
 
 abbrev pub argument_of : NameView × (Unit {0} × NodeView Value) → Argument
 argument_of x = record { name = x.0; value = x.1.1 }

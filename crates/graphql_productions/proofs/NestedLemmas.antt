@@ -3,9 +3,9 @@ use Rattle.std.proofs.Common.{◌≡◌, ◌≢◌, ℕ, zero, suc, ◌-◌, Boo
 use Rattle.graphql_nodes.specs.declared.source.FileId.{FileId}
 use Rattle.graphql_grammar.specs.declared.fault.FaultKind.TheVariants.{TooDeep}
 use Rattle.graphql_grammar.specs.Pieces.{Piece, State, nested, refused}
-use Rattle.graphql_text.specs.Selections.{nested_set, selection, selection_set, selections_of}
-use Rattle.graphql_text.specs.Types.{list_type_of, nested_list_type, type}
-use Rattle.graphql_text.specs.Values.{group, nested_group, value_node}
+use Rattle.graphql_productions.specs.Selections.{nested_set, selection, selection_set, selections_of}
+use Rattle.graphql_productions.specs.Types.{list_type_of, nested_list_type, type}
+use Rattle.graphql_productions.specs.Values.{group, nested_group, value_node}
 
 pub none_nested : {A : Type 0} (depth : ℕ) (p : ℕ → Piece A) (s : State) → depth ≡ 0 → (nested depth p).read s ≡ refused TooDeep s.left
 none_nested zero p s e = refl

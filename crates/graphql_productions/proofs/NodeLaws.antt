@@ -7,7 +7,7 @@ use Rattle.graphql_grammar.specs.declared.kind.Kind.{Kind}
 use Rattle.graphql_grammar.specs.Kinds.{is_name, only}
 use Rattle.graphql_grammar.specs.Pieces.{Piece, Wrong, located, mapped, seq, sign, sign_or, word}
 use Rattle.graphql_grammar.proofs.PieceLaws.{Apart, Lawful, located_law, mapped_law, seq_law, sign_law, sign_or_law, word_law}
-use Rattle.graphql_text.specs.Nodes.{between, inner, name, name_of, node, node_of}
+use Rattle.graphql_productions.specs.Nodes.{between, inner, name, name_of, node, node_of}
 
 pub node_law : {A : Type 0} (file : FileId) (p : Piece A) → Lawful p → p.may_be_empty ≡ false → Lawful (node file p)
 node_law file p pl solid = mapped_law (node_of file) (located p) (located_law p pl solid)

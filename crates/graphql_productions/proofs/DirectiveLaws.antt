@@ -12,11 +12,11 @@ use Rattle.graphql_grammar.specs.Kinds.{is_name, only}
 use Rattle.graphql_grammar.specs.Pieces.{Piece, many, mapped, optional, seq, sign, some, too_deep}
 use Rattle.graphql_grammar.proofs.ManyLaws.{many_law, some_law}
 use Rattle.graphql_grammar.proofs.PieceLaws.{Lawful, apart, headed_law, item_law, mapped_law, nothing_law, optional_law, seq_law, sign_law}
-use Rattle.graphql_text.specs.Directives.{argument, argument_list, argument_node, argument_of, arguments, directive, directive_node, directive_of, directives, no_argument, no_directive}
-use Rattle.graphql_text.specs.Nodes.{between, name, node, or_none}
-use Rattle.graphql_text.specs.Values.{value_node}
-use Rattle.graphql_text.proofs.NodeLaws.{between_law, name_law, node_law}
-use Rattle.graphql_text.proofs.ValueLaws.{value_node_law}
+use Rattle.graphql_productions.specs.Directives.{argument, argument_list, argument_node, argument_of, arguments, directive, directive_node, directive_of, directives, no_argument, no_directive}
+use Rattle.graphql_productions.specs.Nodes.{between, name, node, or_none}
+use Rattle.graphql_productions.specs.Values.{value_node}
+use Rattle.graphql_productions.proofs.NodeLaws.{between_law, name_law, node_law}
+use Rattle.graphql_productions.proofs.ValueLaws.{value_node_law}
 
 pub argument_law : (file : FileId) (constant : Bool) (depth : ℕ) → Lawful (argument file constant depth)
 unfolding argument_node name

@@ -22,17 +22,17 @@ use Rattle.graphql_grammar.specs.Words.{WordView}
 use Rattle.graphql_grammar.proofs.BranchLaws.{branch_law, either_law}
 use Rattle.graphql_grammar.proofs.ManyLaws.{many_law}
 use Rattle.graphql_grammar.proofs.PieceLaws.{Lawful, apart, filtered_law, located_law, mapped_law, nothing_law, optional_law, picked_law, seq_law, sign_law}
-use Rattle.graphql_text.specs.Directives.{arguments, directive_node, directives}
-use Rattle.graphql_text.specs.Documents.{definition, definition_pick, fragment, is_definition, operation_definition, shorthand_definition}
-use Rattle.graphql_text.specs.Locations.{location_of}
-use Rattle.graphql_text.specs.Nodes.{name, node}
-use Rattle.graphql_text.specs.Operations.{fragment_definition, is_operation_type, operation, shorthand, variables}
-use Rattle.graphql_text.specs.Selections.{fragment_name}
-use Rattle.graphql_text.specs.TypeSystem.{Described, definition_made, described, described_pick, description, directive_body, directive_of, enum_values, expecting, extended, extended_pick, extended_schema_parts, extension, extension_body, extension_made, extension_of, fielded, fields, goes_on_type, has_part, input_values, is_described, is_description, is_extended, keyword, location, location_word, names_behind, no_described, no_location, parts, roots, schema_body, schema_extension_body, schema_extension_of, schema_of, system_definition, type_body, type_of}
-use Rattle.graphql_text.proofs.DirectiveLaws.{directives_law}
-use Rattle.graphql_text.proofs.NodeLaws.{name_law, node_law}
-use Rattle.graphql_text.proofs.OperationLaws.{fragment_definition_law, operation_law, shorthand_law}
-use Rattle.graphql_text.proofs.TypeSystemLaws.{argument_definitions_law, optional_description_law, parts_law, roots_law}
+use Rattle.graphql_productions.specs.Directives.{arguments, directive_node, directives}
+use Rattle.graphql_productions.specs.Documents.{definition, definition_pick, fragment, is_definition, operation_definition, shorthand_definition}
+use Rattle.graphql_productions.specs.Locations.{location_of}
+use Rattle.graphql_productions.specs.Nodes.{name, node}
+use Rattle.graphql_productions.specs.Operations.{fragment_definition, is_operation_type, operation, shorthand, variables}
+use Rattle.graphql_productions.specs.Selections.{fragment_name}
+use Rattle.graphql_productions.specs.TypeSystem.{Described, definition_made, described, described_pick, description, directive_body, directive_of, enum_values, expecting, extended, extended_pick, extended_schema_parts, extension, extension_body, extension_made, extension_of, fielded, fields, goes_on_type, has_part, input_values, is_described, is_description, is_extended, keyword, location, location_word, names_behind, no_described, no_location, parts, roots, schema_body, schema_extension_body, schema_extension_of, schema_of, system_definition, type_body, type_of}
+use Rattle.graphql_productions.proofs.DirectiveLaws.{directives_law}
+use Rattle.graphql_productions.proofs.NodeLaws.{name_law, node_law}
+use Rattle.graphql_productions.proofs.OperationLaws.{fragment_definition_law, operation_law, shorthand_law}
+use Rattle.graphql_productions.proofs.TypeSystemLaws.{argument_definitions_law, optional_description_law, parts_law, roots_law}
 
 -- ---- definitions of the type system
 

@@ -18,17 +18,17 @@ use Rattle.graphql_grammar.specs.Pieces.{Piece, choose, mapped, nothing, optiona
 use Rattle.graphql_grammar.proofs.BranchLaws.{branch_law, either_law}
 use Rattle.graphql_grammar.proofs.ManyLaws.{some_law}
 use Rattle.graphql_grammar.proofs.PieceLaws.{Lawful, apart, headed_law, item_law, mapped_law, nothing_law, optional_law, seq_law, sign_law}
-use Rattle.graphql_text.specs.Directives.{arguments, directive_node, directives}
-use Rattle.graphql_text.specs.Nodes.{behind, between, enclosed, name, node, or_none}
-use Rattle.graphql_text.specs.Operations.{default_body, default_value, fragment_definition, fragment_of, is_operation_type, no_root, no_variable, operation, operation_of, operation_type, operation_type_pick, shorthand, shorthand_of, typed, variable_definition, variable_node, variable_of, variables}
-use Rattle.graphql_text.specs.Selections.{fragment_name, selection_set, type_condition}
-use Rattle.graphql_text.specs.Types.{type}
-use Rattle.graphql_text.specs.Values.{value_node, variable}
-use Rattle.graphql_text.proofs.DirectiveLaws.{directives_law}
-use Rattle.graphql_text.proofs.NodeLaws.{between_law, name_law, node_law}
-use Rattle.graphql_text.proofs.SelectionLaws.{condition_law, fragment_name_law, selection_set_law}
-use Rattle.graphql_text.proofs.TypeLaws.{type_law}
-use Rattle.graphql_text.proofs.ValueLaws.{value_node_law, variable_law}
+use Rattle.graphql_productions.specs.Directives.{arguments, directive_node, directives}
+use Rattle.graphql_productions.specs.Nodes.{behind, between, enclosed, name, node, or_none}
+use Rattle.graphql_productions.specs.Operations.{default_body, default_value, fragment_definition, fragment_of, is_operation_type, no_root, no_variable, operation, operation_of, operation_type, operation_type_pick, shorthand, shorthand_of, typed, variable_definition, variable_node, variable_of, variables}
+use Rattle.graphql_productions.specs.Selections.{fragment_name, selection_set, type_condition}
+use Rattle.graphql_productions.specs.Types.{type}
+use Rattle.graphql_productions.specs.Values.{value_node, variable}
+use Rattle.graphql_productions.proofs.DirectiveLaws.{directives_law}
+use Rattle.graphql_productions.proofs.NodeLaws.{between_law, name_law, node_law}
+use Rattle.graphql_productions.proofs.SelectionLaws.{condition_law, fragment_name_law, selection_set_law}
+use Rattle.graphql_productions.proofs.TypeLaws.{type_law}
+use Rattle.graphql_productions.proofs.ValueLaws.{value_node_law, variable_law}
 
 pub operation_type_law : Lawful operation_type
 operation_type_law =

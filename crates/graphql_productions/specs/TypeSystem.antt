@@ -29,11 +29,11 @@ use Rattle.graphql_grammar.specs.declared.kind.Names.TheVariants as names
 use Rattle.graphql_grammar.specs.Kinds.{Kinds, is_name, names_of, none, only}
 use Rattle.graphql_grammar.specs.Pieces.{Piece, Wrong, branch, choose, empty, filtered, headed, item, located, mapped, nothing, optional, picked, separated, seq, sign, some, word}
 use Rattle.graphql_grammar.specs.Words.{WordView, begins}
-use Rattle.graphql_text.specs.Directives.{directives}
-use Rattle.graphql_text.specs.Locations.{location_of}
-use Rattle.graphql_text.specs.Nodes.{behind, enclosed, name, name_of, node, or_none, span_at}
-use Rattle.graphql_text.specs.Operations.{is_operation_type, no_root, operation_type, typed}
-use Rattle.graphql_text.specs.Types.{type}
+use Rattle.graphql_productions.specs.Directives.{directives}
+use Rattle.graphql_productions.specs.Locations.{location_of}
+use Rattle.graphql_productions.specs.Nodes.{behind, enclosed, name, name_of, node, or_none, span_at}
+use Rattle.graphql_productions.specs.Operations.{is_operation_type, no_root, operation_type, typed}
+use Rattle.graphql_productions.specs.Types.{type}
 
 -- ---- descriptions: section 3.2
 

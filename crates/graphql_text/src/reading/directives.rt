@@ -1,0 +1,84 @@
+//! Reading arguments and directives: GraphQL specification of October 2021, sections 2.6 and 2.12.
+ghost use Rattle.std.specs.Prelude.{◌≡◌};
+ghost use Rattle.graphql_grammar.specs.Kinds.{is_name, only};
+ghost use Rattle.graphql_grammar.specs.Pieces.{Gives};
+ghost use Rattle.graphql_grammar.specs.Standing.{standing};
+ghost use Rattle.graphql_grammar.specs.declared.kind.Kind.TheVariants.{At};
+ghost use Rattle.graphql_productions.specs.Directives.{argument_node, arguments, directive_node, directives, no_argument, no_directive};
+ghost use Rattle.graphql_productions.proofs.DirectiveLaws.{argument_law, directive_law};
+
+use crate::reading::lists::{Read, optional_items, push_items};
+use crate::reading::target::{Target, sign};
+use crate::reading::values::value_node;
+use graphql_ast::directive::{Argument, Directive, DirectiveList};
+use graphql_grammar::fault::{FaultKind, Item, ReadError};
+use graphql_grammar::kind::Kind;
+use graphql_grammar::words::Words;
+use graphql_nodes::collections::items::Items;
+use graphql_nodes::node::Node;
+
+impl Read for Node<Argument> {
+    ghost piece = { argument_node };
+    ghost first = { is_name };
+    ghost wrong = { no_argument };
+    ghost law = { argument_law };
+
+    fn begins(kind: Kind) -> bool {
+        kind.is_name()
+    }
+
+    fn fault(_words: &Words<'_>) -> FaultKind {
+        FaultKind::Expected(Item::Argument)
+    }
+
+    #[tactic(auto, unfolding(graphql_productions::specs::Directives::argument_node))]
+    fn read(target: Target, words: &mut Words<'_>) -> Result<Node<Argument>, ReadError> {
+        let start = words.start();
+        let name = target.name(words)?;
+        sign(words, Kind::Colon)?;
+        let value = value_node(target, words)?;
+        Ok(target.node(Argument { name, value }, start, words.last)?)
+    }
+}
+
+/// Reads arguments between parentheses, if there are any.
+#[tactic(auto, unfolding(graphql_productions::specs::Directives::arguments))]
+pub(crate) fn arguments(target: Target, words: &mut Words<'_>) -> Result<Items<Node<Argument>>, ReadError>
+    ensures { Gives result (standing words.new) ((arguments target.file target.constant target.depth).read (standing words.old)) }
+{
+    optional_items(target, words, Kind::LeftParen, Kind::RightParen)
+}
+
+impl Read for Node<Directive> {
+    ghost piece = { directive_node };
+    ghost first = { only At };
+    ghost wrong = { no_directive };
+    ghost law = { directive_law };
+
+    fn begins(kind: Kind) -> bool {
+        kind.is(Kind::At)
+    }
+
+    fn fault(_words: &Words<'_>) -> FaultKind {
+        FaultKind::Expected(Item::Word(Kind::At))
+    }
+
+    #[tactic(auto, unfolding(graphql_productions::specs::Directives::directive_node))]
+    fn read(target: Target, words: &mut Words<'_>) -> Result<Node<Directive>, ReadError> {
+        let start = words.start();
+        sign(words, Kind::At)?;
+        let name = target.name(words)?;
+        let arguments = arguments(target, words)?;
+        Ok(target.node(Directive { name, arguments }, start, words.last)?)
+    }
+}
+
+/// Reads directives, if there are any.
+#[tactic(auto, unfolding(graphql_productions::specs::Directives::directives), using(graphql_grammar::proofs::LoopLaws::no_front))]
+pub(crate) fn directives(target: Target, words: &mut Words<'_>) -> Result<DirectiveList, ReadError>
+    ensures { Gives result (standing words.new) ((directives target.file target.constant target.depth).read (standing words.old)) }
+{
+    let mut directives = Items::new(target.alloc);
+    push_items(target, words, &mut directives)?;
+    Ok(DirectiveList(directives))
+}
