@@ -2,6 +2,7 @@
 
 mod directives;
 mod lists;
+mod operations;
 mod selections;
 mod target;
 mod types;
