@@ -111,7 +111,7 @@ unfolding schema_body type_body directive_body parts fielded names_behind fields
 described_law file depth = branch_law is_described goes_on_type (described_pick file depth) no_described (described_pick_law file depth) refl refl refl
 
 pub system_definition_law : (file : FileId) (depth : ℕ) → Lawful (system_definition file depth)
-unfolding system_definition description
+unfolding system_definition
 system_definition_law file depth =
     let o : Piece (Option NameView) = optional (description file) in
     let b : Piece Described = described file depth in
@@ -187,7 +187,7 @@ fragment_law file depth =
     mapped_law (λ x. d.FragmentDefinition x) (node file (fragment_definition file depth)) (node_law file (fragment_definition file depth) (fragment_definition_law file depth) refl)
 
 pub definition_law : (file : FileId) (depth : ℕ) → Lawful (definition file depth)
-unfolding operation_definition operation shorthand_definition shorthand fragment fragment_definition extension system_definition description variables directives fragment_name name
+unfolding operation_definition operation shorthand_definition shorthand fragment fragment_definition extension system_definition variables directives fragment_name name
 definition_law file depth =
     let p0 : Piece Definition = nothing (expecting i.Definition) in
     let pick_law : (kind : Kind) → Lawful (definition_pick file depth kind) = λ kind.

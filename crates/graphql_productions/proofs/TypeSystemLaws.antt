@@ -27,24 +27,24 @@ use Rattle.graphql_productions.specs.Directives.{arguments, directive_node, dire
 use Rattle.graphql_productions.specs.Nodes.{behind, between, enclosed, name, name_of, node, or_none}
 use Rattle.graphql_productions.specs.Operations.{is_operation_type, no_root, operation_type, typed}
 use Rattle.graphql_productions.specs.Types.{type}
-use Rattle.graphql_productions.specs.TypeSystem.{description, description_of, enum_parts, enum_value_definition, enum_value_name, enum_value_node, enum_value_of, enum_values, expecting, field_definition, field_node, field_of, fielded, fielded_parts, fields, input_node, input_of, input_parts, input_value, input_values, is_described_name, is_description, is_enum_value, names_behind, names_body, no_enum_value, parts, root, root_node, root_of, roots, scalar_parts, union_parts}
+use Rattle.graphql_productions.specs.TypeSystem.{description, description_body, description_of, enum_parts, enum_value_definition, enum_value_name, enum_value_node, enum_value_of, enum_values, expecting, field_definition, field_node, field_of, fielded, fielded_parts, fields, input_node, input_of, input_parts, input_value, input_values, is_described_name, is_description, is_enum_value, names_behind, names_body, no_enum_value, parts, root, root_node, root_of, roots, scalar_parts, union_parts}
 use Rattle.graphql_productions.proofs.DirectiveLaws.{directives_law}
 use Rattle.graphql_productions.proofs.NodeLaws.{between_law, name_law, node_law}
 use Rattle.graphql_productions.proofs.OperationLaws.{operation_type_law, typed_law}
 use Rattle.graphql_productions.proofs.TypeLaws.{type_law}
 
 pub description_law : (file : FileId) → Lawful (description file)
-unfolding description
-description_law file = mapped_law (description_of file) (word is_description (λ _. Expected i.Definition)) (word_law is_description (λ _. Expected i.Definition))
+unfolding description_body
+description_law file =
+    headed_law is_description (description_body file) (mapped_law (description_of file) (word is_description (λ _. Expected i.Definition)) (word_law is_description (λ _. Expected i.Definition))) refl refl refl
 
 pub optional_description_law : (file : FileId) → Lawful (optional (description file))
-unfolding description
 optional_description_law file = optional_law (description file) (description_law file) refl
 
 -- ---- input values
 
 pub input_value_law : (file : FileId) (depth : ℕ) → Lawful (input_value file depth)
-unfolding input_node description name
+unfolding input_node name
 input_value_law file depth =
     let c : Piece (Unit {0} × (NodeView TypeReference × (Option (NodeView Value) × DirectiveList))) = typed file depth in
     let n : Piece (NameView × (Unit {0} × (NodeView TypeReference × (Option (NodeView Value) × DirectiveList)))) = seq (name file) c in
@@ -55,7 +55,7 @@ input_value_law file depth =
     item_law is_described_name (expecting i.InputValue) (node file m) (node_law file m (mapped_law input_of (seq o n) ol) refl) refl refl
 
 some_inputs_law : (file : FileId) (depth : ℕ) → Lawful (some (input_value file depth))
-unfolding input_node typed directives directive_node arguments description name
+unfolding input_node typed directives directive_node arguments name
 some_inputs_law file depth =
     let v : Piece (NodeView InputValueDefinition) = input_value file depth in
     some_law v (input_value_law file depth) refl (apart v.more v.first refl)
@@ -91,7 +91,7 @@ input_fields_law file depth =
 -- ---- fields
 
 pub field_definition_law : (file : FileId) (depth : ℕ) → Lawful (field_definition file depth)
-unfolding field_node input_values directives directive_node arguments description name
+unfolding field_node input_values directives directive_node arguments name
 field_definition_law file depth =
     let d : Piece DirectiveList = directives file true depth in
     let t : Piece TypeReference = type file depth in
@@ -157,7 +157,7 @@ members_law file =
 -- ---- enum values
 
 pub enum_value_law : (file : FileId) (depth : ℕ) → Lawful (enum_value_definition file depth)
-unfolding enum_value_node enum_value_name directives description directive_node arguments name
+unfolding enum_value_node enum_value_name directives directive_node arguments name
 enum_value_law file depth =
     let d : Piece DirectiveList = directives file true depth in
     let n : Piece NameView = enum_value_name file in

@@ -44,9 +44,12 @@ description_of file w = record { text = (if only k.BlockString w.kind then block
 abbrev pub is_description : Kinds
 is_description kind = only k.String kind || only k.BlockString kind
 
+unfoldable pub description_body : FileId → Piece NameView
+description_body file = mapped (description_of file) (word is_description (λ _. Expected i.Definition))
+
 -- Description
-unfoldable pub description : FileId → Piece NameView
-description file = mapped (description_of file) (word is_description (λ _. Expected i.Definition))
+abbrev pub description : FileId → Piece NameView
+description file = headed is_description (description_body file)
 
 -- what may begin with a description, and begins with a name without one
 abbrev pub is_described_name : Kinds

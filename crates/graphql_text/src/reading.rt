@@ -1,8 +1,10 @@
 //! Reading trees from words, one function a production.
 
+mod descriptions;
 mod directives;
 mod lists;
 mod operations;
+mod parts;
 mod selections;
 mod target;
 mod types;

@@ -4,8 +4,7 @@ ghost use Rattle.graphql_grammar.specs.Kinds.{only};
 ghost use Rattle.graphql_grammar.specs.Pieces.{Gives, GivesSeen, optional};
 ghost use Rattle.graphql_grammar.specs.Standing.{standing};
 ghost use Rattle.graphql_grammar.specs.declared.kind.Kind.TheVariants.{Dollar};
-ghost use Rattle.graphql_productions.specs.Nodes.{name};
-ghost use Rattle.graphql_productions.specs.Operations.{default_value, fragment_definition, no_variable, operation, operation_type, shorthand, typed, variable_node, variables};
+ghost use Rattle.graphql_productions.specs.Operations.{default_value, fragment_definition, no_variable, operation, operation_name, operation_type, shorthand, typed, variable_node, variables};
 ghost use Rattle.graphql_text.specs.Seen.{seen_typed};
 ghost use Rattle.graphql_productions.proofs.OperationLaws.{variable_definition_law};
 
@@ -69,7 +68,7 @@ fn optional_default(target: Target, words: &mut Words<'_>) -> Result<Option<Node
 }
 
 /// What stands behind the name of a variable or an input value.
-pub(crate) struct Typed {
+pub(crate) struct AfterName {
     pub(crate) ty: Node<Type>,
     pub(crate) default_value: Option<Node<Value>>,
     pub(crate) directives: DirectiveList,
@@ -77,7 +76,7 @@ pub(crate) struct Typed {
 
 /// Reads a type behind `:`, with a default value, if there is one, and directives.
 #[tactic(auto, unfolding(graphql_productions::specs::Operations::typed))]
-pub(crate) fn typed(target: Target, words: &mut Words<'_>) -> Result<Typed, ReadError>
+pub(crate) fn typed(target: Target, words: &mut Words<'_>) -> Result<AfterName, ReadError>
     requires { target.constant ≡ true }
     ensures { GivesSeen seen_typed result (standing words.new) ((typed target.file target.depth).read (standing words.old)) }
 {
@@ -85,7 +84,7 @@ pub(crate) fn typed(target: Target, words: &mut Words<'_>) -> Result<Typed, Read
     let ty = type_node(target, words)?;
     let default_value = optional_default(target, words)?;
     let directives = directives(target, words)?;
-    Ok(Typed {
+    Ok(AfterName {
         ty,
         default_value,
         directives,
@@ -110,7 +109,7 @@ impl Read for Node<VariableDefinition> {
     fn read(target: Target, words: &mut Words<'_>) -> Result<Node<VariableDefinition>, ReadError> {
         let start = words.start();
         let name = variable(target, words)?;
-        let Typed {
+        let AfterName {
             ty,
             default_value,
             directives,
@@ -132,8 +131,9 @@ fn variables(target: Target, words: &mut Words<'_>) -> Result<Items<Node<Variabl
     optional_items(target, words, Kind::LeftParen, Kind::RightParen)
 }
 
+#[tactic(auto, unfolding(graphql_productions::specs::Nodes::name))]
 fn optional_name(target: Target, words: &mut Words<'_>) -> Result<Option<Name>, ReadError>
-    ensures { Gives result (standing words.new) ((optional (name target.file)).read (standing words.old)) }
+    ensures { Gives result (standing words.new) ((optional (operation_name target.file)).read (standing words.old)) }
 {
     if words.next_is_name(Names::Any) {
         Ok(Some(target.name(words)?))
