@@ -266,8 +266,11 @@ item kinds wrong p = record {
 abbrev pub separated_of : {A : Type 0} → Option (Unit {0}) × (A × List A) → List A
 separated_of x = x.1.0 ∷ x.1.1
 
+abbrev pub behind_sign : {A : Type 0} → Unit {0} × A → A
+behind_sign x = x.1
+
 abbrev pub separated : {A : Type 0} → Kind → Piece A → Piece (List A)
-separated kind p = mapped separated_of (seq (optional (sign kind)) (seq p (many (mapped (λ x. x.1) (seq (sign kind) p)))))
+separated kind p = mapped separated_of (seq (optional (sign kind)) (seq p (many (mapped behind_sign (seq (sign kind) p)))))
 
 -- ---- what is nested too deep
 

@@ -17,7 +17,7 @@ use Rattle.graphql_grammar.specs.declared.fault.Item.TheVariants as i
 use Rattle.graphql_grammar.specs.declared.kind.Kind.{Kind}
 use Rattle.graphql_grammar.specs.declared.kind.Kind.TheVariants as k
 use Rattle.graphql_grammar.specs.Kinds.{is_name, only}
-use Rattle.graphql_grammar.specs.Pieces.{Piece, choose, filtered, located, many, mapped, nothing, optional, separated, separated_of, seq, sign}
+use Rattle.graphql_grammar.specs.Pieces.{Piece, behind_sign, choose, filtered, located, many, mapped, nothing, optional, separated, separated_of, seq, sign}
 use Rattle.graphql_grammar.specs.Words.{WordView}
 use Rattle.graphql_grammar.proofs.BranchLaws.{branch_law, either_law}
 use Rattle.graphql_grammar.proofs.ManyLaws.{many_law}
@@ -65,8 +65,8 @@ locations_law =
     let o : Piece (Option (Unit {0})) = optional (sign k.Pipe) in
     let s : Piece (Unit {0} × DirectiveLocation) = seq (sign k.Pipe) location in
     let sl : Lawful s = seq_law (sign k.Pipe) location (sign_law k.Pipe) location_law (λ kind h. refl) in
-    let b : Piece DirectiveLocation = mapped (λ x. x.1) s in
-    let ml : Lawful (many b) = many_law b (mapped_law (λ x. x.1) s sl) refl (apart b.more b.first refl) in
+    let b : Piece DirectiveLocation = mapped behind_sign s in
+    let ml : Lawful (many b) = many_law b (mapped_law behind_sign s sl) refl (apart b.more b.first refl) in
     let nl : Lawful (seq location (many b)) = seq_law location (many b) location_law ml (λ kind h. refl) in
     let w : Piece (Option (Unit {0}) × (DirectiveLocation × List DirectiveLocation)) = seq o (seq location (many b)) in
     mapped_law separated_of w (seq_law o (seq location (many b)) (optional_law (sign k.Pipe) (sign_law k.Pipe) refl) nl (apart o.more location.first refl))

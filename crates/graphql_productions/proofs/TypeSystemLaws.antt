@@ -20,7 +20,7 @@ use Rattle.graphql_grammar.specs.declared.kind.Kind.{Kind}
 use Rattle.graphql_grammar.specs.declared.kind.Kind.TheVariants as k
 use Rattle.graphql_grammar.specs.declared.kind.Names.TheVariants as names
 use Rattle.graphql_grammar.specs.Kinds.{names_of, only}
-use Rattle.graphql_grammar.specs.Pieces.{Piece, many, mapped, optional, separated, separated_of, seq, sign, some, too_deep, word}
+use Rattle.graphql_grammar.specs.Pieces.{Piece, behind_sign, many, mapped, optional, separated, separated_of, seq, sign, some, too_deep, word}
 use Rattle.graphql_grammar.proofs.ManyLaws.{many_law, some_law}
 use Rattle.graphql_grammar.proofs.PieceLaws.{Lawful, apart, headed_law, item_law, mapped_law, nothing_law, optional_law, seq_law, sign_law, word_law}
 use Rattle.graphql_productions.specs.Directives.{arguments, directive_node, directives}
@@ -130,8 +130,8 @@ implementing_law file =
     let o : Piece (Option (Unit {0})) = optional (sign k.Ampersand) in
     let s : Piece (Unit {0} × NameView) = seq (sign k.Ampersand) (name file) in
     let sl : Lawful s = seq_law (sign k.Ampersand) (name file) (sign_law k.Ampersand) (name_law file) (λ kind h. refl) in
-    let b : Piece NameView = mapped behind s in
-    let ml : Lawful (many b) = many_law b (mapped_law behind s sl) refl (apart b.more b.first refl) in
+    let b : Piece NameView = mapped behind_sign s in
+    let ml : Lawful (many b) = many_law b (mapped_law behind_sign s sl) refl (apart b.more b.first refl) in
     let nl : Lawful (seq (name file) (many b)) = seq_law (name file) (many b) (name_law file) ml (λ kind h. refl) in
     let w : Piece (Option (Unit {0}) × (NameView × List NameView)) = seq o (seq (name file) (many b)) in
     let wl : Lawful w = seq_law o (seq (name file) (many b)) (optional_law (sign k.Ampersand) (sign_law k.Ampersand) refl) nl (apart o.more (name file).first refl) in
@@ -145,8 +145,8 @@ members_law file =
     let o : Piece (Option (Unit {0})) = optional (sign k.Pipe) in
     let s : Piece (Unit {0} × NameView) = seq (sign k.Pipe) (name file) in
     let sl : Lawful s = seq_law (sign k.Pipe) (name file) (sign_law k.Pipe) (name_law file) (λ kind h. refl) in
-    let b : Piece NameView = mapped behind s in
-    let ml : Lawful (many b) = many_law b (mapped_law behind s sl) refl (apart b.more b.first refl) in
+    let b : Piece NameView = mapped behind_sign s in
+    let ml : Lawful (many b) = many_law b (mapped_law behind_sign s sl) refl (apart b.more b.first refl) in
     let nl : Lawful (seq (name file) (many b)) = seq_law (name file) (many b) (name_law file) ml (λ kind h. refl) in
     let w : Piece (Option (Unit {0}) × (NameView × List NameView)) = seq o (seq (name file) (many b)) in
     let wl : Lawful w = seq_law o (seq (name file) (many b)) (optional_law (sign k.Pipe) (sign_law k.Pipe) refl) nl (apart o.more (name file).first refl) in

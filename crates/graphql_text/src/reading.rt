@@ -6,6 +6,7 @@ mod lists;
 mod operations;
 mod parts;
 mod selections;
+mod separated;
 mod target;
 mod types;
 mod values;
