@@ -25,10 +25,10 @@ use Rattle.graphql_grammar.proofs.PieceLaws.{Lawful, apart, filtered_law, locate
 use Rattle.graphql_productions.specs.Directives.{arguments, directive_node, directives}
 use Rattle.graphql_productions.specs.Documents.{definition, definition_pick, fragment, is_definition, operation_definition, shorthand_definition}
 use Rattle.graphql_productions.specs.Locations.{location_of}
-use Rattle.graphql_productions.specs.Nodes.{name, node}
+use Rattle.graphql_productions.specs.Nodes.{name, node, or_none}
 use Rattle.graphql_productions.specs.Operations.{fragment_definition, is_operation_type, operation, shorthand, variables}
 use Rattle.graphql_productions.specs.Selections.{fragment_name}
-use Rattle.graphql_productions.specs.TypeSystem.{Described, definition_made, described, described_pick, description, directive_body, directive_of, enum_values, expecting, extended, extended_pick, extended_schema_parts, extension, extension_body, extension_made, extension_of, fielded, fields, goes_on_type, has_part, input_values, is_described, is_description, is_extended, keyword, location, location_word, names_behind, no_described, no_location, parts, roots, schema_body, schema_extension_body, schema_extension_of, schema_of, system_definition, type_body, type_of}
+use Rattle.graphql_productions.specs.TypeSystem.{Described, definition_made, described, described_pick, description, directive_body, directive_of, enum_values, expecting, extended, extended_pick, extension, extension_body, extension_made, extension_of, fielded, fields, goes_on_type, has_part, input_values, is_described, is_description, is_extended, keyword, location, location_word, names_behind, no_described, no_location, optional_roots, parts, roots, schema_body, schema_extension_body, schema_extension_of, schema_of, schema_parts, system_definition, type_body, type_of}
 use Rattle.graphql_productions.proofs.DirectiveLaws.{directives_law}
 use Rattle.graphql_productions.proofs.NodeLaws.{name_law, node_law}
 use Rattle.graphql_productions.proofs.OperationLaws.{fragment_definition_law, operation_law, shorthand_law}
@@ -55,7 +55,7 @@ named_where : (flag : Bool) (found : Option DirectiveLocation) (x : DirectiveLoc
 named_where true found x e = refl
 named_where false found x e = absurd cc
 
-location_law : Lawful location
+pub location_law : Lawful location
 unfolding location
 location_law = picked_law location_word is_name no_location (λ w x e. named_where (is_name w.kind) (location_of w.text) x e)
 
@@ -133,11 +133,12 @@ schema_extension_body_law : (file : FileId) (depth : ℕ) → Lawful (schema_ext
 unfolding schema_extension_body directives directive_node arguments name
 schema_extension_body_law file depth =
     let d : Piece DirectiveList = directives file true depth in
-    let r : Piece (Option (List (NodeView (OperationType × NameView)))) = optional (roots file depth) in
-    let dl : Lawful (seq d r) = seq_law d r (directives_law file true depth) (optional_law (roots file depth) (roots_law file depth) refl) (apart d.more r.first refl) in
-    let p : Piece DefinitionParts = mapped extended_schema_parts (seq d r) in
+    let r : Piece (List (NodeView (OperationType × NameView))) = optional_roots file depth in
+    let rl : Lawful r = mapped_law or_none (optional (roots file depth)) (optional_law (roots file depth) (roots_law file depth) refl) in
+    let dl : Lawful (seq d r) = seq_law d r (directives_law file true depth) rl (apart d.more r.first refl) in
+    let p : Piece DefinitionParts = mapped schema_parts (seq d r) in
     let f : Piece DefinitionParts = filtered has_part (expecting i.ExtensionPart) p in
-    let fl : Lawful f = filtered_law has_part (expecting i.ExtensionPart) p (mapped_law extended_schema_parts (seq d r) dl) in
+    let fl : Lawful f = filtered_law has_part (expecting i.ExtensionPart) p (mapped_law schema_parts (seq d r) dl) in
     mapped_law schema_extension_of (seq (sign k.Schema) f) (seq_law (sign k.Schema) f (sign_law k.Schema) fl (λ kind h. refl))
 
 extended_pick_law : (file : FileId) (depth : ℕ) (kind : Kind) → Lawful (extended_pick file depth kind)

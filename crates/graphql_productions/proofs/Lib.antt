@@ -1,5 +1,6 @@
 pub mod DefinitionLaws
 pub mod DirectiveLaws
+pub mod LocationLemmas
 pub mod NestedLemmas
 pub mod NodeLaws
 pub mod OperationLaws

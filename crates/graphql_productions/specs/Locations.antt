@@ -15,5 +15,5 @@ named_among [] text = None
 named_among (location ∷ locations) text = if pointwise nat_eq (location_text location) text then Some location else named_among locations text
 
 -- the location of this name, if there is one
-abbrev pub location_of : List ℕ → Option DirectiveLocation
+unfoldable pub location_of : List ℕ → Option DirectiveLocation
 location_of text = named_among all_locations text

@@ -288,8 +288,9 @@ unfoldable pub extension_body : FileId → TypeKind → ℕ → Piece (Option So
 extension_body file kind depth =
     mapped (extension_of kind) (seq (sign (keyword kind)) (seq (name file) (filtered has_part (expecting i.ExtensionPart) (parts file kind depth))))
 
-abbrev pub extended_schema_parts : DirectiveList × Option (List (NodeView (OperationType × NameView))) → DefinitionParts
-extended_schema_parts x = schema_parts (x.0, or_none x.1)
+-- the roots between braces, if they are there
+abbrev pub optional_roots : FileId → ℕ → Piece (List (NodeView (OperationType × NameView)))
+optional_roots file depth = mapped or_none (optional (roots file depth))
 
 abbrev pub schema_extension_of : Unit {0} × DefinitionParts → Option SourceSpan → Definition
 schema_extension_of x location = schema_extension x.1 location
@@ -297,7 +298,7 @@ schema_extension_of x location = schema_extension x.1 location
 -- SchemaExtension, behind `extend`: section 3.3.2
 unfoldable pub schema_extension_body : FileId → ℕ → Piece (Option SourceSpan → Definition)
 schema_extension_body file depth =
-    mapped schema_extension_of (seq (sign k.Schema) (filtered has_part (expecting i.ExtensionPart) (mapped extended_schema_parts (seq (directives file true depth) (optional (roots file depth))))))
+    mapped schema_extension_of (seq (sign k.Schema) (filtered has_part (expecting i.ExtensionPart) (mapped schema_parts (seq (directives file true depth) (optional_roots file depth)))))
 
 abbrev pub extended_pick : FileId → ℕ → Kind → Piece (Option SourceSpan → Definition)
 extended_pick file depth kind =

@@ -15,7 +15,6 @@ use crate::reading::lists::{Read, enclosed_items, optional_items};
 use crate::reading::operations::{AfterName, operation_type, typed};
 use crate::reading::target::{Target, sign};
 use crate::reading::types::type_reference;
-use graphql_ast::definition_parts::DefinitionParts;
 use graphql_ast::type_system::{EnumValueDefinition, FieldDefinition, InputValueDefinition};
 use graphql_grammar::fault::{FaultKind, Item, ReadError};
 use graphql_grammar::kind::{Kind, Names};
@@ -24,7 +23,6 @@ use graphql_nodes::collections::items::Items;
 use graphql_nodes::name::{Name, NamedType};
 use graphql_nodes::node::Node;
 use graphql_nodes::operation_type::OperationType;
-use graphql_nodes::type_kind::TypeKind;
 
 /// Whether what has a name behind a description, or without one, begins with words of a kind.
 fn is_described_name(kind: Kind) -> bool
@@ -116,7 +114,7 @@ impl Read for Node<FieldDefinition> {
 }
 
 #[tactic(auto, unfolding(graphql_productions::specs::TypeSystem::fields))]
-fn fields(target: Target, words: &mut Words<'_>) -> Result<Items<Node<FieldDefinition>>, ReadError>
+pub(crate) fn fields(target: Target, words: &mut Words<'_>) -> Result<Items<Node<FieldDefinition>>, ReadError>
     ensures { Gives result (standing words.new) ((fields target.file target.depth).read (standing words.old)) }
 {
     optional_items(target, words, Kind::LeftBrace, Kind::RightBrace)
@@ -172,7 +170,7 @@ impl Read for Node<EnumValueDefinition> {
 }
 
 #[tactic(auto, unfolding(graphql_productions::specs::TypeSystem::enum_values))]
-fn enum_values(target: Target, words: &mut Words<'_>) -> Result<Items<Node<EnumValueDefinition>>, ReadError>
+pub(crate) fn enum_values(target: Target, words: &mut Words<'_>) -> Result<Items<Node<EnumValueDefinition>>, ReadError>
     ensures { Gives result (standing words.new) ((enum_values target.file target.depth).read (standing words.old)) }
 {
     optional_items(target, words, Kind::LeftBrace, Kind::RightBrace)
