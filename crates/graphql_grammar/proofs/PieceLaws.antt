@@ -164,7 +164,7 @@ begun_both p q true f [] (t ∷ ts) h g = or_right (p t.kind) (q t.kind) g
 begun_both p q false f [] tail h g = absurd cc
 
 module _ {A B : Type 0} (p : Piece A) (q : Piece B) (pl : Lawful p) (ql : Lawful q) where
-  seq_sound : (s : State) (x : A × B) (then : State) → (seq p q).read s ≡ Ok (x, then) → Took (seq p q).spells s x then
+  pub seq_sound : (s : State) (x : A × B) (then : State) → (seq p q).read s ≡ Ok (x, then) → Took (seq p q).spells s x then
   seq_sound s x then e =
       let b = bind_ok (p.read s) (λ y. q.read y.1 >>= λ z. Ok ((y.0, z.0), z.1)) (x, then) e in
       let y : A × State = b.0 in

@@ -317,3 +317,9 @@ all_read x (w ∷ ws) = refused (Expected i.End) (w ∷ ws)
 -- a piece, and nothing behind it
 abbrev pub read_all : {A : Type 0} → Piece A → List WordView → Result A Refusal
 read_all p left = p.read (record { last = 0; left = left }) >>= λ x. all_read x.0 x.1.left
+
+-- what a function returned and left is what reading all gives, unless memory ran out
+abbrev pub GivesAll : {A : Type 0} → Result A ReadError → List WordView → Result A Refusal → Type 0
+GivesAll (Ok x) left reading = reading ≡ Ok x
+GivesAll (Err errors.Memory) left reading = Unit {0}
+GivesAll (Err (errors.Fault kind)) left reading = reading ≡ refused kind left

@@ -1,5 +1,6 @@
 pub mod DefinitionLaws
 pub mod DirectiveLaws
+pub mod DocumentLaws
 pub mod LocationLemmas
 pub mod NestedLemmas
 pub mod NodeLaws

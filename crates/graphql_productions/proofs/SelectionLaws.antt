@@ -20,6 +20,7 @@ use Rattle.graphql_grammar.proofs.BranchLaws.{branch_law, either_law}
 use Rattle.graphql_grammar.proofs.ManyLaws.{some_law}
 use Rattle.graphql_grammar.proofs.PieceLaws.{Lawful, apart, headed_law, located_law, mapped_law, nothing_law, optional_law, seq_law, sign_law, word_law}
 use Rattle.graphql_productions.specs.Directives.{arguments, directive_node, directives}
+use Rattle.graphql_productions.specs.Documents.{any_kind, selections, selections_pick}
 use Rattle.graphql_productions.specs.Nodes.{behind, between, name, name_of, node}
 use Rattle.graphql_productions.specs.Selections.{alias, alias_body, bare_selections, condition_body, field, field_made, field_selection, fragment, fragment_body, fragment_name, fragment_pick, goes_on_selection, inline_at, inline_body, inline_of, is_fragment, is_of_directives, is_selection, nested_set, no_fragment_name, no_selection, placed_fragment, selection, selection_pick, selection_set, selections_of, spread_at, spread_body, spread_of, type_condition}
 use Rattle.graphql_productions.proofs.DirectiveLaws.{arguments_law, directives_law}
@@ -128,3 +129,10 @@ selection_set_law file (suc depth) =
 pub bare_selections_law : (file : FileId) (depth : ℕ) → Lawful (bare_selections file depth)
 unfolding bare_selections
 bare_selections_law file depth = some_selections_law file depth (nested_set file depth) (selection_set_law file depth)
+
+pub whole_selections_law : (file : FileId) (depth : ℕ) → Lawful (selections file depth)
+unfolding bare_selections
+whole_selections_law file depth =
+    let pick_law : (kind : Kind) → Lawful (selections_pick file depth kind) = λ kind.
+        either_law (only k.LeftBrace kind) (selection_set file depth) (bare_selections file depth) (selection_set_law file depth) (bare_selections_law file depth) in
+    branch_law any_kind any_kind (selections_pick file depth) no_selection pick_law refl refl refl

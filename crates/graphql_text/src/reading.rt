@@ -11,6 +11,7 @@ mod operations;
 mod parts;
 mod selections;
 mod separated;
-mod target;
+pub(crate) mod target;
 mod types;
 mod values;
+pub(crate) mod whole;

@@ -67,7 +67,7 @@ fn extension(target: Target, words: &mut Words<'_>) -> Result<Definition, ReadEr
 }
 
 /// Reads a definition, by its first word.
-fn definition(target: Target, words: &mut Words<'_>) -> Result<Definition, ReadError>
+pub(crate) fn definition(target: Target, words: &mut Words<'_>) -> Result<Definition, ReadError>
     requires { target.constant ≡ false }
     ensures { Gives result (standing words.new) ((definition target.file target.depth).read (standing words.old)) }
 {
