@@ -314,9 +314,13 @@ abbrev pub all_read : {A : Type 0} → A → List WordView → Result A Refusal
 all_read x [] = Ok x
 all_read x (w ∷ ws) = refused (Expected i.End) (w ∷ ws)
 
--- a piece, and nothing behind it
+-- a piece, from here on, and nothing behind it
+abbrev pub read_whole : {A : Type 0} → Piece A → State → Result A Refusal
+read_whole p s = p.read s >>= λ x. all_read x.0 x.1.left
+
+-- the same of some words
 abbrev pub read_all : {A : Type 0} → Piece A → List WordView → Result A Refusal
-read_all p left = p.read (record { last = 0; left = left }) >>= λ x. all_read x.0 x.1.left
+read_all p left = read_whole p (record { last = 0; left = left })
 
 -- what a function returned and left is what reading all gives, unless memory ran out
 abbrev pub GivesAll : {A : Type 0} → Result A ReadError → List WordView → Result A Refusal → Type 0

@@ -62,18 +62,6 @@ fn built_in_file() -> ParseError {
     }
 }
 
-/// What is read into at first.
-fn target(alloc: Global, file: FileId, constant: bool, options: ParseOptions) -> Target
-    ensures { result ≡ record { alloc = alloc; file = file; constant = constant; depth = options.max_depth } }
-{
-    Target {
-        alloc,
-        file,
-        constant,
-        depth: options.max_depth,
-    }
-}
-
 /// The type that a text is (section 2.11), at locations in this file.
 ///
 /// [`ParseErrorKind::BuiltInFile`] refuses the file number 0, before the text is looked at. [`ParseErrorKind::Memory`] says nothing of the
@@ -88,7 +76,13 @@ pub fn parse_type(alloc: Global, file: FileId, text: &str, options: ParseOptions
         return Err(built_in_file());
     }
     let mut words = Words::new(text, options.max_tokens);
-    let read = whole::type_reference(target(alloc, file, true, options), &mut words);
+    let target = Target {
+        alloc,
+        file,
+        constant: true,
+        depth: options.max_depth,
+    };
+    let read = whole::type_reference(target, &mut words);
     parsed(alloc, file, &words, text.len(), read)
 }
 
@@ -103,7 +97,13 @@ pub fn parse_value(alloc: Global, file: FileId, text: &str, options: ParseOption
         return Err(built_in_file());
     }
     let mut words = Words::new(text, options.max_tokens);
-    let read = whole::value(target(alloc, file, true, options), &mut words);
+    let target = Target {
+        alloc,
+        file,
+        constant: true,
+        depth: options.max_depth,
+    };
+    let read = whole::value(target, &mut words);
     parsed(alloc, file, &words, text.len(), read)
 }
 
@@ -118,7 +118,13 @@ pub fn parse_selections(alloc: Global, file: FileId, text: &str, options: ParseO
         return Err(built_in_file());
     }
     let mut words = Words::new(text, options.max_tokens);
-    let read = whole::selections(target(alloc, file, false, options), &mut words);
+    let target = Target {
+        alloc,
+        file,
+        constant: false,
+        depth: options.max_depth,
+    };
+    let read = whole::selections(target, &mut words);
     parsed(alloc, file, &words, text.len(), read)
 }
 
@@ -134,7 +140,13 @@ pub fn parse_definitions(alloc: Global, file: FileId, text: &str, options: Parse
         return Err(built_in_file());
     }
     let mut words = Words::new(text, options.max_tokens);
-    let read = whole::document(target(alloc, file, false, options), &mut words);
+    let target = Target {
+        alloc,
+        file,
+        constant: false,
+        depth: options.max_depth,
+    };
+    let read = whole::document(target, &mut words);
     parsed(alloc, file, &words, text.len(), read)
 }
 
@@ -168,6 +180,8 @@ pub fn parse_document(
     ensures sources { IfOk result (λ read. read.sources ≡ (file, source.now) ∷ []) }
     ensures only { (first : DefinitionOf) (others : List DefinitionOf) → file.0 ≢ 0 → spells_in_turn file options.max_depth (first ∷ others) (words_of options.max_tokens source.now.text) → MatchResult result (λ read. read.definitions ≡ first ∷ others) (λ e. e.kind ≡ Memory) }
 {
-    let definitions = parse_definitions(alloc, file, source.text.as_str(), options)?;
-    Ok(held(alloc, file, source, definitions)?)
+    match parse_definitions(alloc, file, source.text.as_str(), options) {
+        Ok(definitions) => Ok(held(alloc, file, source, definitions)?),
+        Err(error) => Err(error),
+    }
 }

@@ -1,6 +1,6 @@
 //! Reading all words of a text.
 ghost use Rattle.std.specs.Prelude.{◌≡◌, false, true};
-ghost use Rattle.graphql_grammar.specs.Pieces.{Gives, GivesAll, ◌>>=◌, all_read};
+ghost use Rattle.graphql_grammar.specs.Pieces.{Gives, GivesAll, read_whole};
 ghost use Rattle.graphql_grammar.specs.Standing.{standing};
 ghost use Rattle.graphql_grammar.specs.declared.fault.Item.TheVariants.{Definition as DefinitionItem};
 ghost use Rattle.graphql_productions.specs.Documents.{any_kind, definition, document, selections};
@@ -30,7 +30,7 @@ const MORE: ReadError = ReadError::Fault(FaultKind::Expected(Item::End));
 
 /// Reads a type, and nothing behind it.
 pub(crate) fn type_reference(target: Target, words: &mut Words<'_>) -> Result<Type, ReadError>
-    ensures { GivesAll result (standing words.new).left ((type target.file target.depth).read (standing words.old) >>= λ x. all_read x.0 x.1.left) }
+    ensures { GivesAll result (standing words.new).left (read_whole (type target.file target.depth) (standing words.old)) }
 {
     let read = types::type_reference(target, words)?;
     match words.next_kind() {
@@ -41,7 +41,7 @@ pub(crate) fn type_reference(target: Target, words: &mut Words<'_>) -> Result<Ty
 
 /// Reads a value, and nothing behind it.
 pub(crate) fn value(target: Target, words: &mut Words<'_>) -> Result<Node<Value>, ReadError>
-    ensures { GivesAll result (standing words.new).left ((value_node target.file target.constant target.depth).read (standing words.old) >>= λ x. all_read x.0 x.1.left) }
+    ensures { GivesAll result (standing words.new).left (read_whole (value_node target.file target.constant target.depth) (standing words.old)) }
 {
     let read = value_node(target, words)?;
     match words.next_kind() {
@@ -66,7 +66,7 @@ fn braced_or_bare(target: Target, words: &mut Words<'_>) -> Result<Items<Selecti
 /// Reads selections, with braces or without, and nothing behind them.
 pub(crate) fn selections(target: Target, words: &mut Words<'_>) -> Result<Items<Selection>, ReadError>
     requires { target.constant ≡ false }
-    ensures { GivesAll result (standing words.new).left ((selections target.file target.depth).read (standing words.old) >>= λ x. all_read x.0 x.1.left) }
+    ensures { GivesAll result (standing words.new).left (read_whole (selections target.file target.depth) (standing words.old)) }
 {
     let read = braced_or_bare(target, words)?;
     match words.next_kind() {
@@ -100,7 +100,7 @@ impl Read for Definition {
 
 /// Reads definitions up to the last word.
 pub(crate) fn document(target: Target, words: &mut Words<'_>) -> Result<Items<Definition>, ReadError>
-    ensures { GivesAll result (standing words.new).left ((document target.file target.depth).read (standing words.old) >>= λ x. all_read x.0 x.1.left) }
+    ensures { GivesAll result (standing words.new).left (read_whole (document target.file target.depth) (standing words.old)) }
 {
     let read = some_items(target, words)?;
     match words.next_kind() {
