@@ -83,7 +83,7 @@ pub fn parse_type(alloc: Global, file: FileId, text: &str, options: ParseOptions
         depth: options.max_depth,
     };
     let read = whole::type_reference(target, &mut words);
-    parsed(alloc, file, &words, text.len(), read)
+    parsed(alloc, file, text, &words, read)
 }
 
 /// The constant value that a text is (section 2.9), at locations in this file. A variable in it is refused.
@@ -104,7 +104,7 @@ pub fn parse_value(alloc: Global, file: FileId, text: &str, options: ParseOption
         depth: options.max_depth,
     };
     let read = whole::value(target, &mut words);
-    parsed(alloc, file, &words, text.len(), read)
+    parsed(alloc, file, text, &words, read)
 }
 
 /// The selections that a text is, with braces or without (section 2.4), at locations in this file.
@@ -125,7 +125,7 @@ pub fn parse_selections(alloc: Global, file: FileId, text: &str, options: ParseO
         depth: options.max_depth,
     };
     let read = whole::selections(target, &mut words);
-    parsed(alloc, file, &words, text.len(), read)
+    parsed(alloc, file, text, &words, read)
 }
 
 /// The definitions that a text is (section 2.2), at locations in this file.
@@ -147,7 +147,7 @@ pub fn parse_definitions(alloc: Global, file: FileId, text: &str, options: Parse
         depth: options.max_depth,
     };
     let read = whole::document(target, &mut words);
-    parsed(alloc, file, &words, text.len(), read)
+    parsed(alloc, file, text, &words, read)
 }
 
 /// The document of these definitions, whose sources hold the file under this number.

@@ -1,7 +1,8 @@
 //! What a text is refused with.
-ghost use Rattle.std.specs.Prelude.{◌≡◌};
+ghost use Rattle.std.specs.Prelude.{◌≡◌, length};
 ghost use Rattle.graphql_grammar.specs.declared.fault.ReadError.TheVariants.{Memory as OutOfMemory};
-ghost use Rattle.graphql_text.specs.Parses.{Parsed};
+ghost use Rattle.graphql_grammar.specs.Standing.{standing};
+ghost use Rattle.graphql_text.specs.Parses.{Parsed, span_of};
 ghost use Rattle.graphql_text.specs.declared.parse_error.ParseErrorKind.TheVariants.{Memory};
 
 use crate::parse_error::{ParseError, ParseErrorKind};
@@ -83,16 +84,52 @@ fn word_text<'a>(word: Option<Word<'a>>) -> &'a str {
     }
 }
 
-/// What is wrong where a text stops being tokens.
-fn wrong_kind(words: &Words<'_>) -> ParseErrorKind {
-    let Some(error) = words.error() else {
-        return ParseErrorKind::UnexpectedCharacter;
-    };
-    match error.kind {
-        TokenErrorKind::UnexpectedCharacter => ParseErrorKind::UnexpectedCharacter,
-        TokenErrorKind::UnterminatedString => ParseErrorKind::UnterminatedString,
-        TokenErrorKind::InvalidEscape => ParseErrorKind::InvalidEscape,
-        TokenErrorKind::InvalidNumber => ParseErrorKind::InvalidNumber,
+/// The character that stands at a byte of a text, and U+FFFD where none does.
+fn character_at(text: &str, at: usize) -> char {
+    let mut place: usize = 0;
+    for character in text.chars() {
+        if place >= at {
+            return character;
+        }
+        place = place.saturating_add(character.len_utf8());
+    }
+    '\u{fffd}'
+}
+
+/// A hexadecimal digit of these four bits.
+fn hex_digit(bits: u32) -> char {
+    char::from_digit(bits % 16, 16).unwrap_or('0').to_ascii_uppercase()
+}
+
+/// A character in backquotes, or, of a control character, its number.
+fn shown(alloc: Global, character: char) -> Result<Text, AllocError> {
+    let mut text = String::new(alloc);
+    let number = u32::from(character);
+    if number < 32 {
+        text.push_str("U+00")?;
+        text.push(hex_digit(number / 16))?;
+        text.push(hex_digit(number))?;
+    } else {
+        text.push('`')?;
+        text.push(character)?;
+        text.push('`')?;
+    }
+    Ok(Text::from_string(text))
+}
+
+/// What is wrong where a text stops being tokens, at this byte.
+fn wrong_kind(alloc: Global, text: &str, error: Option<TokenErrorKind>, at: usize) -> Result<ParseErrorKind, AllocError> {
+    match error {
+        Some(TokenErrorKind::UnterminatedString) => Ok(ParseErrorKind::UnterminatedString),
+        Some(TokenErrorKind::InvalidEscape) => Ok(ParseErrorKind::InvalidEscape),
+        Some(TokenErrorKind::InvalidNumber) => Ok(ParseErrorKind::InvalidNumber),
+        Some(TokenErrorKind::UnexpectedCharacter) | None => {
+            let character = character_at(text, at);
+            Ok(ParseErrorKind::UnexpectedCharacter {
+                character,
+                shown: shown(alloc, character)?,
+            })
+        }
     }
 }
 
@@ -127,16 +164,18 @@ fn fault_kind(alloc: Global, words: &Words<'_>, fault: FaultKind) -> Result<Pars
 }
 
 /// What is wrong with the next word, or with the text there.
-fn refused_kind(alloc: Global, words: &Words<'_>, fault: FaultKind) -> Result<ParseErrorKind, AllocError> {
+fn refused_kind(alloc: Global, text: &str, words: &Words<'_>, fault: FaultKind) -> Result<ParseErrorKind, AllocError> {
     match words.next_kind() {
-        Some(Kind::Wrong) => Ok(wrong_kind(words)),
+        Some(Kind::Wrong) => wrong_kind(alloc, text, words.error(), words.start()),
         Some(Kind::TooMany) => Ok(ParseErrorKind::TooManyTokens),
         _ => fault_kind(alloc, words, fault),
     }
 }
 
 /// Where the next word stands, in a text of so many bytes.
-fn next_span(file: FileId, words: &Words<'_>, total: usize) -> SourceSpan {
+fn next_span(file: FileId, words: &Words<'_>, total: usize) -> SourceSpan
+    ensures { result ≡ span_of file total (standing words.now).left }
+{
     match words.next() {
         Some(word) => SourceSpan {
             file,
@@ -151,35 +190,36 @@ fn next_span(file: FileId, words: &Words<'_>, total: usize) -> SourceSpan {
     }
 }
 
-/// What a text of so many bytes is refused with, by what its reader met.
-fn refusal(alloc: Global, file: FileId, words: &Words<'_>, total: usize, error: ReadError) -> ParseError
-    ensures { error ≡ OutOfMemory → result.kind ≡ Memory }
+/// What a text is refused with, by what its reader met.
+fn refusal(alloc: Global, file: FileId, text: &str, words: &Words<'_>, error: ReadError) -> ParseError
+    ensures memory { error ≡ OutOfMemory → result.kind ≡ Memory }
+    ensures location { result.location ≡ span_of file (length text.now) (standing words.now).left }
 {
     let kind = match error {
         ReadError::Memory => ParseErrorKind::Memory,
-        ReadError::Fault(fault) => match refused_kind(alloc, words, fault) {
+        ReadError::Fault(fault) => match refused_kind(alloc, text, words, fault) {
             Ok(kind) => kind,
             Err(_) => ParseErrorKind::Memory,
         },
     };
     ParseError {
-        location: next_span(file, words, total),
+        location: next_span(file, words, text.len()),
         kind,
     }
 }
 
-/// What was read of a text of so many bytes, or what it is refused with.
+/// What was read of a text, or what it is refused with.
 pub(crate) fn parsed<T: Drop>(
     alloc: Global,
     file: FileId,
+    text: &str,
     words: &Words<'_>,
-    total: usize,
     read: Result<T, ReadError>,
 ) -> Result<T, ParseError>
-    ensures { Parsed read result }
+    ensures { Parsed file (length text.now) (standing words.now).left read result }
 {
     match read {
         Ok(value) => Ok(value),
-        Err(error) => Err(refusal(alloc, file, words, total, error)),
+        Err(error) => Err(refusal(alloc, file, text, words, error)),
     }
 }
