@@ -130,4 +130,3 @@ module _ {A : Type 0} (p : Piece A) (pl : Lawful p) (solid : p.may_be_empty ≡ 
 
 pub some_law : {A : Type 0} (p : Piece A) → Lawful p → p.may_be_empty ≡ false → Apart p.more p.first → Lawful (some p)
 some_law p pl solid far = mapped_law listed (seq p (many p)) (seq_law p (many p) pl (many_law p pl solid far) far)
-

@@ -356,7 +356,7 @@ item_law {A} kinds wrong p pl first solid = record {
   ];
   complete = λ x front rest last h stops.
       ap (λ (b : Bool). cond b (p.read (record { last = last; left = front ++ rest })) (refused (wrong (front ++ rest)) (front ++ rest)))
-          (is_begun kinds false front rest refl (begun_within p.first kinds p.may_be_empty first solid front (pl.begun x front h)))
+      (is_begun kinds false front rest refl (begun_within p.first kinds p.may_be_empty first solid front (pl.begun x front h)))
       ∙ pl.complete x front rest last h stops;
   begun = λ x front h. begun_within p.first kinds p.may_be_empty first solid front (pl.begun x front h);
 }

@@ -98,7 +98,9 @@ fn character_at(text: &str, at: usize) -> char {
 
 /// A hexadecimal digit of these four bits.
 fn hex_digit(bits: u32) -> char {
-    char::from_digit(bits % 16, 16).unwrap_or('0').to_ascii_uppercase()
+    char::from_digit(bits % 16, 16)
+        .unwrap_or('0')
+        .to_ascii_uppercase()
 }
 
 /// A character in backquotes, or, of a control character, its number.
@@ -118,7 +120,12 @@ fn shown(alloc: Global, character: char) -> Result<Text, AllocError> {
 }
 
 /// What is wrong where a text stops being tokens, at this byte.
-fn wrong_kind(alloc: Global, text: &str, error: Option<TokenErrorKind>, at: usize) -> Result<ParseErrorKind, AllocError> {
+fn wrong_kind(
+    alloc: Global,
+    text: &str,
+    error: Option<TokenErrorKind>,
+    at: usize,
+) -> Result<ParseErrorKind, AllocError> {
     match error {
         Some(TokenErrorKind::UnterminatedString) => Ok(ParseErrorKind::UnterminatedString),
         Some(TokenErrorKind::InvalidEscape) => Ok(ParseErrorKind::InvalidEscape),
@@ -136,7 +143,9 @@ fn wrong_kind(alloc: Global, text: &str, error: Option<TokenErrorKind>, at: usiz
 /// What is wrong with a variable where values are constant: its name, if it has one, or its `$`.
 fn variable_kind(alloc: Global, words: &Words<'_>) -> Result<ParseErrorKind, AllocError> {
     match words.second() {
-        Some(word) if word.kind.is_name() => Ok(ParseErrorKind::VariableInConstant(Text::from_str(alloc, word.text)?)),
+        Some(word) if word.kind.is_name() => Ok(ParseErrorKind::VariableInConstant(Text::from_str(
+            alloc, word.text,
+        )?)),
         _ => Ok(ParseErrorKind::Unexpected {
             expected: Text::from_str(alloc, item_text(Item::Value))?,
             found: found_text(alloc, words.next())?,
@@ -145,26 +154,37 @@ fn variable_kind(alloc: Global, words: &Words<'_>) -> Result<ParseErrorKind, All
 }
 
 /// What is wrong with the next word.
-fn fault_kind(alloc: Global, words: &Words<'_>, fault: FaultKind) -> Result<ParseErrorKind, AllocError> {
+fn fault_kind(
+    alloc: Global,
+    words: &Words<'_>,
+    fault: FaultKind,
+) -> Result<ParseErrorKind, AllocError> {
     let next = words.next();
     match fault {
         FaultKind::Expected(item) => Ok(ParseErrorKind::Unexpected {
             expected: Text::from_str(alloc, item_text(item))?,
             found: found_text(alloc, next)?,
         }),
-        FaultKind::ReservedName => Ok(ParseErrorKind::ReservedName(Text::from_str(alloc, word_text(next))?)),
-        FaultKind::VariableInConstant => variable_kind(alloc, words),
-        FaultKind::UnknownDirectiveLocation => Ok(ParseErrorKind::UnknownDirectiveLocation(Text::from_str(
+        FaultKind::ReservedName => Ok(ParseErrorKind::ReservedName(Text::from_str(
             alloc,
             word_text(next),
         )?)),
+        FaultKind::VariableInConstant => variable_kind(alloc, words),
+        FaultKind::UnknownDirectiveLocation => Ok(ParseErrorKind::UnknownDirectiveLocation(
+            Text::from_str(alloc, word_text(next))?,
+        )),
         FaultKind::DescriptionNotAllowed => Ok(ParseErrorKind::DescriptionNotAllowed),
         FaultKind::TooDeep => Ok(ParseErrorKind::TooDeep),
     }
 }
 
 /// What is wrong with the next word, or with the text there.
-fn refused_kind(alloc: Global, text: &str, words: &Words<'_>, fault: FaultKind) -> Result<ParseErrorKind, AllocError> {
+fn refused_kind(
+    alloc: Global,
+    text: &str,
+    words: &Words<'_>,
+    fault: FaultKind,
+) -> Result<ParseErrorKind, AllocError> {
     match words.next_kind() {
         Some(Kind::Wrong) => wrong_kind(alloc, text, words.error(), words.start()),
         Some(Kind::TooMany) => Ok(ParseErrorKind::TooManyTokens),
@@ -191,7 +211,13 @@ fn next_span(file: FileId, words: &Words<'_>, total: usize) -> SourceSpan
 }
 
 /// What a text is refused with, by what its reader met.
-fn refusal(alloc: Global, file: FileId, text: &str, words: &Words<'_>, error: ReadError) -> ParseError
+fn refusal(
+    alloc: Global,
+    file: FileId,
+    text: &str,
+    words: &Words<'_>,
+    error: ReadError,
+) -> ParseError
     ensures memory { error ≡ OutOfMemory → result.kind ≡ Memory }
     ensures location { result.location ≡ span_of file (length text.now) (standing words.now).left }
 {
