@@ -10,7 +10,7 @@ use Rattle.graphql_grammar.specs.Words.{WordView, begins, ended}
 use Rattle.graphql_grammar.proofs.ManyLaws.{longer, many_sound}
 use Rattle.graphql_grammar.proofs.PieceLaws.{Lawful, Stops, Took, item_law}
 use Rattle.graphql_grammar.proofs.ReadingLemmas.{bind_ok, ended_append, ok_is}
-use Rattle.graphql_productions.specs.Documents.{any_kind, definition, document, spells_in_turn}
+use Rattle.graphql_productions.specs.Documents.{any_kind, definition, document, spells_in_turn, spells_plainly}
 use Rattle.graphql_productions.specs.TypeSystem.{expecting, goes_on_type}
 use Rattle.graphql_productions.proofs.DefinitionLaws.{definition_law}
 
@@ -84,12 +84,16 @@ abbrev to_the_end : {A : Type 0} → Reading (List A) → Result (List A) Refusa
 to_the_end r = r >>= λ w. all_read w.0 w.1.left
 
 -- a document that is spelled in turn is read, and nothing is left
-pub document_again : (file : FileId) (depth : ℕ) (x : Definition) (xs : List Definition) (words : List WordView) → spells_in_turn file depth (x ∷ xs) words → read_all (document file depth) words ≡ Ok (x ∷ xs)
+document_again : (file : FileId) (depth : ℕ) (x : Definition) (xs : List Definition) (words : List WordView) → spells_in_turn file depth (x ∷ xs) words → read_all (document file depth) words ≡ Ok (x ∷ xs)
 document_again file depth x xs words h =
     let p : Piece Definition = one file depth in
     ap (λ (l : List WordView). read_all (document file depth) l) h.whole
     ∙ ap (λ (r : Reading Definition). to_the_end (as_list (with_rest p r))) ((one_law file depth).complete x h.head h.tail 0 h.first (stops_where h.tail h.second.1))
     ∙ ap (λ (r : Reading (List Definition)). to_the_end (as_list (with_first x r))) (in_turn file depth xs h.tail (ended 0 h.head) (length h.tail) (omega arith) h.second.0)
+
+pub plainly_again : (file : FileId) (depth : ℕ) (xs : List Definition) (words : List WordView) → spells_plainly file depth xs words → read_all (document file depth) words ≡ Ok xs
+plainly_again file depth [] words h = absurd h
+plainly_again file depth (x ∷ xs) words h = document_again file depth x xs words h
 
 all_done : {A : Type 0} (x y : A) (left : List WordView) → all_read x left ≡ Ok y → (left ≡ []) × (x ≡ y)
 all_done x y [] e = (refl, ok_is x y e)

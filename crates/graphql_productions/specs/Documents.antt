@@ -56,6 +56,11 @@ abbrev pub spells_in_turn : FileId → ℕ → List Definition → List WordView
 spells_in_turn file depth [] words = words ≡ []
 spells_in_turn file depth (x ∷ xs) words = Parts ((definition file depth).spells x) (λ tail. spells_in_turn file depth xs tail × (begins goes_on_type tail ≡ false)) words
 
+-- these definitions, one or more, so spelled
+abbrev pub spells_plainly : FileId → ℕ → List Definition → List WordView → Type 0
+spells_plainly file depth [] words = ⊥
+spells_plainly file depth (x ∷ xs) words = spells_in_turn file depth (x ∷ xs) words
+
 abbrev pub selections_pick : FileId → ℕ → Kind → Piece (List Selection)
 selections_pick file depth kind = choose (only k.LeftBrace kind) (selection_set file depth) (bare_selections file depth)
 

@@ -1,12 +1,14 @@
 -- What calls that read a text answer.
-use Rattle.std.specs.Prelude.{◌≡◌, ℕ, List, [], ◌∷◌, Result, Ok, Err, MatchResult}
+use Rattle.std.specs.Prelude.{◌≡◌, ℕ, List, [], ◌∷◌, Result, Ok, Err, MatchResult, ◌⊎◌}
 use Rattle.graphql_nodes.specs.declared.source.FileId.{FileId}
 use Rattle.graphql_nodes.specs.declared.source.SourceSpan.{SourceSpan}
+use Rattle.graphql_grammar.specs.Pieces.{Refusal}
+use Rattle.graphql_grammar.specs.Refusals.{RefusedWith}
 use Rattle.graphql_grammar.specs.Words.{WordView}
 use Rattle.graphql_grammar.specs.declared.fault.ReadError.{ReadError}
 use Rattle.graphql_grammar.specs.declared.fault.ReadError.TheVariants as errors
 use Rattle.graphql_text.specs.declared.parse_error.ParseError.{ParseError}
-use Rattle.graphql_text.specs.declared.parse_error.ParseErrorKind.TheVariants.{Memory}
+use Rattle.graphql_text.specs.declared.parse_error.ParseErrorKind.TheVariants.{BuiltInFile, Memory}
 
 -- where the first of these words stands; where there is none, the end of a text of so many bytes
 abbrev pub span_of : FileId → ℕ → List WordView → SourceSpan
@@ -25,3 +27,8 @@ Parsed file total left (Err (errors.Fault kind)) (Err e) = e.location ≡ span_o
 -- this is answered, unless memory runs out
 abbrev pub Answers : {A : Type 0} → A → Result A ParseError → Type 0
 Answers x result = MatchResult result (λ y. y ≡ x) (λ e. e.kind ≡ Memory)
+
+-- why a text is refused: memory ran out, its file has the number 0, or the words stop being such where the error stands, whatever follows
+-- the word there
+abbrev pub IsRefused : {A : Type 0} → (A → List WordView → Type 0) → FileId → ℕ → List WordView → ParseError → Type 0
+IsRefused spells file total words e = (e.kind ≡ Memory) ⊎ ((e.kind ≡ BuiltInFile) ⊎ ((r : Refusal) × RefusedWith spells words r × (e.location ≡ span_of file total r.left)))

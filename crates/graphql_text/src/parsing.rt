@@ -1,16 +1,16 @@
 //! GraphQL text as trees: GraphQL specification of October 2021, section 2 and appendix B.
-ghost use Rattle.std.specs.Prelude.{◌≡◌, ◌≢◌, List, [], ◌∷◌, IfOk, MatchResult, true};
+ghost use Rattle.std.specs.Prelude.{◌≡◌, ◌≢◌, List, [], ◌∷◌, length, IfOk, IfErr, MatchResult, true};
 ghost use Rattle.graphql_nodes.specs.NodeView.{NodeView};
 ghost use Rattle.graphql_ast.specs.declared.definition.Definition.{Definition as DefinitionOf};
 ghost use Rattle.graphql_ast.specs.declared.selection.Selection.{Selection as SelectionOf};
 ghost use Rattle.graphql_ast.specs.declared.type_reference.Type.{«Type» as TypeOf};
 ghost use Rattle.graphql_ast.specs.declared.value.Value.{Value as ValueOf};
 ghost use Rattle.graphql_grammar.specs.WordsOfText.{words_of};
-ghost use Rattle.graphql_productions.specs.Documents.{document, selections, spells_in_turn};
+ghost use Rattle.graphql_productions.specs.Documents.{document, selections, spells_plainly};
 ghost use Rattle.graphql_productions.specs.Types.{type};
 ghost use Rattle.graphql_productions.specs.Values.{value_node};
-ghost use Rattle.graphql_text.specs.Parses.{Answers};
-ghost use Rattle.graphql_text.specs.declared.parse_error.ParseErrorKind.TheVariants.{Memory};
+ghost use Rattle.graphql_text.specs.Parses.{Answers, IsRefused};
+ghost use Rattle.graphql_text.specs.declared.parse_error.ParseErrorKind.TheVariants.{BuiltInFile, Memory};
 
 use crate::parse_error::{ParseError, ParseErrorKind};
 use crate::reading::target::Target;
@@ -51,7 +51,9 @@ impl ParseOptions {
 }
 
 /// The refusal of file number 0.
-fn built_in_file() -> ParseError {
+fn built_in_file() -> ParseError
+    ensures { result.kind ≡ BuiltInFile }
+{
     ParseError {
         location: SourceSpan {
             file: FileId::BUILT_IN,
@@ -76,6 +78,7 @@ pub fn parse_type(
     ensures found { IfOk result (λ read. (type file options.max_depth).spells read (words_of options.max_tokens text.now)) }
     // What they spell is answered.
     ensures only { (read : TypeOf) → file.0 ≢ 0 → (type file options.max_depth).spells read (words_of options.max_tokens text.now) → Answers read result }
+    ensures refused { IfErr result (IsRefused (type file options.max_depth).spells file (length text.now) (words_of options.max_tokens text.now)) }
 {
     if file.0 == 0 {
         return Err(built_in_file());
@@ -102,6 +105,7 @@ pub fn parse_value(
 ) -> Result<Node<Value>, ParseError>
     ensures found { IfOk result (λ read. (value_node file true options.max_depth).spells read (words_of options.max_tokens text.now)) }
     ensures only { (read : NodeView ValueOf) → file.0 ≢ 0 → (value_node file true options.max_depth).spells read (words_of options.max_tokens text.now) → Answers read result }
+    ensures refused { IfErr result (IsRefused (value_node file true options.max_depth).spells file (length text.now) (words_of options.max_tokens text.now)) }
 {
     if file.0 == 0 {
         return Err(built_in_file());
@@ -128,6 +132,7 @@ pub fn parse_selections(
 ) -> Result<Items<Selection>, ParseError>
     ensures found { IfOk result (λ read. (selections file options.max_depth).spells read (words_of options.max_tokens text.now)) }
     ensures only { (read : List SelectionOf) → file.0 ≢ 0 → (selections file options.max_depth).spells read (words_of options.max_tokens text.now) → Answers read result }
+    ensures refused { IfErr result (IsRefused (selections file options.max_depth).spells file (length text.now) (words_of options.max_tokens text.now)) }
 {
     if file.0 == 0 {
         return Err(built_in_file());
@@ -154,7 +159,8 @@ pub fn parse_definitions(
 ) -> Result<Items<Definition>, ParseError>
     ensures found { IfOk result (λ read. (document file options.max_depth).spells read (words_of options.max_tokens text.now)) }
     // Definitions that the words spell, none of which but the first begins with `{`, are answered.
-    ensures only { (first : DefinitionOf) (others : List DefinitionOf) → file.0 ≢ 0 → spells_in_turn file options.max_depth (first ∷ others) (words_of options.max_tokens text.now) → Answers (first ∷ others) result }
+    ensures only { (read : List DefinitionOf) → file.0 ≢ 0 → spells_plainly file options.max_depth read (words_of options.max_tokens text.now) → Answers read result }
+    ensures refused { IfErr result (IsRefused (spells_plainly file options.max_depth) file (length text.now) (words_of options.max_tokens text.now)) }
 {
     if file.0 == 0 {
         return Err(built_in_file());
@@ -198,7 +204,8 @@ pub fn parse_document(
 ) -> Result<Document, ParseError>
     ensures found { IfOk result (λ read. (document file options.max_depth).spells read.definitions (words_of options.max_tokens source.now.text)) }
     ensures sources { IfOk result (λ read. read.sources ≡ (file, source.now) ∷ []) }
-    ensures only { (first : DefinitionOf) (others : List DefinitionOf) → file.0 ≢ 0 → spells_in_turn file options.max_depth (first ∷ others) (words_of options.max_tokens source.now.text) → MatchResult result (λ read. read.definitions ≡ first ∷ others) (λ e. e.kind ≡ Memory) }
+    ensures only { (definitions : List DefinitionOf) → file.0 ≢ 0 → spells_plainly file options.max_depth definitions (words_of options.max_tokens source.now.text) → MatchResult result (λ read. read.definitions ≡ definitions) (λ e. e.kind ≡ Memory) }
+    ensures refused { IfErr result (IsRefused (spells_plainly file options.max_depth) file (length source.now.text) (words_of options.max_tokens source.now.text)) }
 {
     match parse_definitions(alloc, file, source.text.as_str(), options) {
         Ok(definitions) => Ok(held(alloc, file, source, definitions)?),

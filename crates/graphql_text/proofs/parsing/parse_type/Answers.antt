@@ -5,7 +5,8 @@ use Rattle.graphql_grammar.specs.Standing.{standing}
 use Rattle.graphql_grammar.specs.WordsOfText.{words_of}
 use Rattle.graphql_productions.specs.Types.{type}
 use Rattle.graphql_productions.proofs.TypeLaws.{type_law}
-use Rattle.graphql_text.proofs.Answered.{found, only}
+use Rattle.graphql_productions.proofs.BlindTypes.{type_blind}
+use Rattle.graphql_text.proofs.Answered.{found, only, refused}
 use Rattle.graphql_text.proofs.parsing.parse_type.Goals as goal
 
 pub returns-clause-found : goal.returns-clause-found
@@ -21,3 +22,10 @@ returns-clause-only c = λ read real h.
     let p = type c.args.file c.args.options.max_depth in
     only p c.args.file (length c.args.text.now) (words_of c.args.options.max_tokens c.args.text.now) left (type_law c.args.file c.args.options.max_depth) c.type_reference-read.result c.parsed.result
     (subst (λ (s : State). GivesAll c.type_reference-read.result left (read_whole p s)) c.new-words.ensures c.type_reference-read.ensures) c.parsed.ensures read h
+
+pub returns-clause-refused : goal.returns-clause-refused
+returns-clause-refused c =
+    let left = (standing c.type_reference-read.new.words).left in
+    let p = type c.args.file c.args.options.max_depth in
+    refused p c.args.file (length c.args.text.now) (words_of c.args.options.max_tokens c.args.text.now) left (type_law c.args.file c.args.options.max_depth) (type_blind c.args.file c.args.options.max_depth) c.type_reference-read.result c.parsed.result
+    (subst (λ (s : State). GivesAll c.type_reference-read.result left (read_whole p s)) c.new-words.ensures c.type_reference-read.ensures) c.parsed.ensures

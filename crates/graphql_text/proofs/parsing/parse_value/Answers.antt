@@ -5,7 +5,8 @@ use Rattle.graphql_grammar.specs.Standing.{standing}
 use Rattle.graphql_grammar.specs.WordsOfText.{words_of}
 use Rattle.graphql_productions.specs.Values.{value_node}
 use Rattle.graphql_productions.proofs.ValueLaws.{value_node_law}
-use Rattle.graphql_text.proofs.Answered.{found, only}
+use Rattle.graphql_productions.proofs.BlindValues.{value_node_blind}
+use Rattle.graphql_text.proofs.Answered.{found, only, refused}
 use Rattle.graphql_text.proofs.parsing.parse_value.Goals as goal
 
 pub returns-clause-found : goal.returns-clause-found
@@ -21,3 +22,10 @@ returns-clause-only c = λ read real h.
     let p = value_node c.args.file true c.args.options.max_depth in
     only p c.args.file (length c.args.text.now) (words_of c.args.options.max_tokens c.args.text.now) left (value_node_law c.args.file true c.args.options.max_depth) c.value-read.result c.parsed.result
     (subst (λ (s : State). GivesAll c.value-read.result left (read_whole p s)) c.new-words.ensures c.value-read.ensures) c.parsed.ensures read h
+
+pub returns-clause-refused : goal.returns-clause-refused
+returns-clause-refused c =
+    let left = (standing c.value-read.new.words).left in
+    let p = value_node c.args.file true c.args.options.max_depth in
+    refused p c.args.file (length c.args.text.now) (words_of c.args.options.max_tokens c.args.text.now) left (value_node_law c.args.file true c.args.options.max_depth) (value_node_blind c.args.file true c.args.options.max_depth) c.value-read.result c.parsed.result
+    (subst (λ (s : State). GivesAll c.value-read.result left (read_whole p s)) c.new-words.ensures c.value-read.ensures) c.parsed.ensures
