@@ -8,12 +8,9 @@ use Rattle.graphql_grammar.specs.declared.kind.Kind.{Kind}
 use Rattle.graphql_grammar.specs.Kinds.{Kinds, only}
 use Rattle.graphql_grammar.specs.Words.{WordView, begins, starting}
 use Rattle.graphql_grammar.specs.Pieces.{Piece, Reading, State, Wrong, ◌>>=◌, branch, choose, close, empty, filtered, headed, item, listed, located, many, many_at, mapped, nested, nothing, optional, picked, read_first, refused, separated, separated_of, seq, sign, sign_or, some, take_picked, take_word, tested, word}
+use Rattle.graphql_grammar.specs.Refusals.{EndOf}
 use Rattle.graphql_grammar.proofs.ManyLaws.{shorter}
 use Rattle.graphql_grammar.proofs.PieceLaws.{Lawful, mapped_law, seq_law, sign_law}
-
--- the first words are the end of the others
-abbrev pub EndOf : List WordView → List WordView → Type 0
-EndOf part whole = (front : List WordView) × (whole ≡ front ++ part)
 
 -- a word, and two lists of words that may stand behind it
 pub record Fork : Type 0 where

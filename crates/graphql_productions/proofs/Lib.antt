@@ -1,3 +1,4 @@
+pub mod BlindTypes
 pub mod DefinitionLaws
 pub mod DirectiveLaws
 pub mod NestedLemmas
