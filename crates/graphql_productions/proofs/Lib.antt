@@ -1,4 +1,6 @@
+pub mod BlindNodes
 pub mod BlindTypes
+pub mod BlindValues
 pub mod DefinitionLaws
 pub mod DirectiveLaws
 pub mod NestedLemmas
