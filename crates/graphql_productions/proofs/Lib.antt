@@ -1,4 +1,7 @@
+pub mod BlindDirectives
 pub mod BlindNodes
+pub mod BlindOperations
+pub mod BlindSelections
 pub mod BlindTypes
 pub mod BlindValues
 pub mod DefinitionLaws
