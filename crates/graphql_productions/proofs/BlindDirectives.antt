@@ -17,7 +17,6 @@ argument_blind file constant depth =
     item_blind is_name no_argument (node_blind file (mapped_blind argument_of (seq_blind (name_blind file) (seq_blind (sign_blind k.Colon) (value_node_blind file constant depth)))))
 
 argument_list_blind : (file : FileId) (constant : Bool) (depth : ℕ) → Blind (argument_list file constant depth)
-unfolding argument_node
 argument_list_blind file constant depth =
     enclosed_blind k.LeftParen k.RightParen no_argument depth (λ inside. some (argument file constant inside))
     (λ inside. some_blind (argument_law file constant inside) refl (argument_blind file constant inside))
@@ -32,5 +31,5 @@ directive_blind file constant depth =
     item_blind (only k.At) no_directive (node_blind file (mapped_blind directive_of (seq_blind (sign_blind k.At) (seq_blind (name_blind file) (arguments_blind file constant depth)))))
 
 pub directives_blind : (file : FileId) (constant : Bool) (depth : ℕ) → Blind (directives file constant depth)
-unfolding directives directive_node
+unfolding directives
 directives_blind file constant depth = mapped_blind (λ x. record { 0 = x }) (many_blind (directive_law file constant depth) refl (directive_blind file constant depth))

@@ -55,7 +55,7 @@ named_where : (flag : Bool) (found : Option DirectiveLocation) (x : DirectiveLoc
 named_where true found x e = refl
 named_where false found x e = absurd cc
 
-location_law : Lawful location
+pub location_law : Lawful location
 unfolding location
 location_law = picked_law location_word is_name no_location (λ w x e. named_where (is_name w.kind) (location_of w.text) x e)
 

@@ -1,8 +1,10 @@
+pub mod BlindDefinitions
 pub mod BlindDirectives
 pub mod BlindNodes
 pub mod BlindOperations
 pub mod BlindSelections
 pub mod BlindTypes
+pub mod BlindTypeSystem
 pub mod BlindValues
 pub mod DefinitionLaws
 pub mod DirectiveLaws
