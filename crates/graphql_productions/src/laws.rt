@@ -1,12 +1,15 @@
 //! Laws of productions.
-ghost use Rattle.std.specs.Prelude.{◌≡◌, ℕ, Bool, List};
+ghost use Rattle.std.specs.Prelude.{◌≡◌, ℕ, Bool, List, Err};
 ghost use Rattle.graphql_nodes.specs.declared.source.FileId.{FileId};
 ghost use Rattle.graphql_ast.specs.declared.definition.Definition.{Definition};
 ghost use Rattle.graphql_ast.specs.declared.selection.Selection.{Selection};
 ghost use Rattle.graphql_ast.specs.declared.value.Value.{Value};
+ghost use Rattle.graphql_grammar.specs.Pieces.{Refusal, read_all, some};
+ghost use Rattle.graphql_grammar.specs.Refusals.{RefusedWith, reads};
 ghost use Rattle.graphql_grammar.specs.Words.{WordView};
 ghost use Rattle.graphql_productions.specs.Documents.{definition};
-ghost use Rattle.graphql_productions.specs.Selections.{selection_set};
+ghost use Rattle.graphql_productions.specs.Selections.{bare_selections, selection_set};
+ghost use Rattle.graphql_productions.specs.Types.{type};
 ghost use Rattle.graphql_productions.specs.Values.{value};
 
 /// Words spell one tree at most: one definition, one selection set, one value.
@@ -14,4 +17,16 @@ pub fn words_spell_one_tree()
     ensures definition { (file : FileId) (depth : ℕ) (words : List WordView) (a b : Definition) → (definition file depth).spells a words → (definition file depth).spells b words → a ≡ b }
     ensures selections { (file : FileId) (depth : ℕ) (words : List WordView) (a b : List Selection) → (selection_set file depth).spells a words → (selection_set file depth).spells b words → a ≡ b }
     ensures value { (file : FileId) (constant : Bool) (depth : ℕ) (words : List WordView) (a b : Value) → (value file constant depth).spells a words → (value file constant depth).spells b words → a ≡ b }
+{}
+
+/// Words are refused at the first one that can't go on: no words that begin with those before it and with it spell a definition, a
+/// selection set, selections without braces, a type or a value, whatever stands behind. Of a document the same is said of reading, since
+/// a `{` behind `type T` always opens its fields.
+pub fn refusals_are_of_all_words_so_far()
+    ensures definition { (file : FileId) (depth : ℕ) (words : List WordView) (e : Refusal) → read_all (definition file depth) words ≡ Err e → RefusedWith (definition file depth).spells words e }
+    ensures document { (file : FileId) (depth : ℕ) (words : List WordView) (e : Refusal) → read_all (some (definition file depth)) words ≡ Err e → RefusedWith (reads (some (definition file depth))) words e }
+    ensures selections { (file : FileId) (depth : ℕ) (words : List WordView) (e : Refusal) → read_all (selection_set file depth) words ≡ Err e → RefusedWith (selection_set file depth).spells words e }
+    ensures bare_selections { (file : FileId) (depth : ℕ) (words : List WordView) (e : Refusal) → read_all (bare_selections file depth) words ≡ Err e → RefusedWith (bare_selections file depth).spells words e }
+    ensures type_reference { (file : FileId) (depth : ℕ) (words : List WordView) (e : Refusal) → read_all (type file depth) words ≡ Err e → RefusedWith (type file depth).spells words e }
+    ensures value { (file : FileId) (constant : Bool) (depth : ℕ) (words : List WordView) (e : Refusal) → read_all (value file constant depth) words ≡ Err e → RefusedWith (value file constant depth).spells words e }
 {}
