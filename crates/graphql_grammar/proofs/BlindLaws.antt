@@ -344,6 +344,7 @@ module _ {A : Type 0} {p : Piece A} (pb : Blind p) where
     within = λ s. bind_within {B = A × (ℕ × ℕ)} (p.read s) (λ x. Ok ((x.0, (starting s.left, x.1.last)), x.1)) s.left (pb.within s) (λ x. nothing_taken x.1.left);
     same = located_same;
   }
+
 -- ---- what begins with one of these, items, and what is nested
 
 pub headed_blind : {A : Type 0} (kinds : Kinds) {p : Piece A} → Blind p → Blind (headed kinds p)

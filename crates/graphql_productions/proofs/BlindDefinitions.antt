@@ -1,11 +1,10 @@
 -- Definitions and extensions look at one word ahead only.
-use Rattle.std.proofs.Common.{ℕ, ◌||◌, Bool, true, refl}
+use Rattle.std.proofs.Common.{ℕ, ◌||◌, true, refl}
 use Rattle.graphql_nodes.specs.declared.source.FileId.{FileId}
 use Rattle.graphql_nodes.specs.declared.type_kind.TypeKind.{TypeKind}
 use Rattle.graphql_nodes.specs.declared.type_kind.TypeKind.TheVariants as t
 use Rattle.graphql_ast.specs.declared.definition.Definition.TheVariants as d
 use Rattle.graphql_grammar.specs.declared.fault.Item.TheVariants as i
-use Rattle.graphql_grammar.specs.declared.kind.Kind.{Kind}
 use Rattle.graphql_grammar.specs.declared.kind.Kind.TheVariants as k
 use Rattle.graphql_grammar.specs.Kinds.{is_name, only}
 use Rattle.graphql_grammar.specs.Pieces.{some}

@@ -1,5 +1,5 @@
 -- Operations and fragments look at one word ahead only.
-use Rattle.std.proofs.Common.{ℕ, Bool, true, false, refl}
+use Rattle.std.proofs.Common.{ℕ, true, false, refl}
 use Rattle.graphql_nodes.specs.declared.operation_type.OperationType.TheVariants as o
 use Rattle.graphql_nodes.specs.declared.source.FileId.{FileId}
 use Rattle.graphql_grammar.specs.declared.kind.Kind.TheVariants as k

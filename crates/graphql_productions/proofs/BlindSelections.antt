@@ -1,5 +1,5 @@
 -- Selections look at one word ahead only.
-use Rattle.std.proofs.Common.{ℕ, zero, suc, ◌||◌, Bool, false, List, refl}
+use Rattle.std.proofs.Common.{ℕ, zero, suc, ◌||◌, false, List, refl}
 use Rattle.graphql_nodes.specs.declared.source.FileId.{FileId}
 use Rattle.graphql_ast.specs.declared.selection.Selection.{Selection}
 use Rattle.graphql_ast.specs.declared.selection.Selection as s

@@ -1,5 +1,5 @@
 -- What definitions and extensions of the type system hold looks at one word ahead only.
-use Rattle.std.proofs.Common.{ℕ, Bool, true, refl}
+use Rattle.std.proofs.Common.{ℕ, true, refl}
 use Rattle.graphql_nodes.specs.declared.source.FileId.{FileId}
 use Rattle.graphql_nodes.specs.declared.type_kind.TypeKind.{TypeKind}
 use Rattle.graphql_nodes.specs.declared.type_kind.TypeKind.TheVariants as t

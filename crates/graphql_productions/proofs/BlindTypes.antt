@@ -22,8 +22,8 @@ list_blind pb = mapped_blind ListOf (between_blind k.LeftBracket k.RightBracket 
 type_by_blind : (file : FileId) (list : Piece TypeReference) → Blind list → Blind (type_by file list)
 type_by_blind file list pb =
     mapped_blind required_where (seq_blind
-        (branch_blind (type_pick file list) no_type (λ kind. choose_blind (only k.LeftBracket kind) pb (choose_blind (is_name kind) (named_blind file) (nothing_blind no_type))))
-        (optional_blind (sign_blind k.Bang)))
+    (branch_blind (type_pick file list) no_type (λ kind. choose_blind (only k.LeftBracket kind) pb (choose_blind (is_name kind) (named_blind file) (nothing_blind no_type))))
+    (optional_blind (sign_blind k.Bang)))
 
 nested_list_blind : (file : FileId) (depth : ℕ) → Blind (nested_list_type file depth)
 unfolding nested_list_type
