@@ -19,3 +19,11 @@ RefusedWith spells words e = (front : List WordView) × (words ≡ front ++ e.le
 -- all words of a value, as reading has it
 abbrev pub reads : {A : Type 0} → Piece A → A → List WordView → Type 0
 reads p x words = read_all p words ≡ Ok x
+
+-- the words before what is left begin some that are such
+pub record Viable {A : Type 0} (spells : A → List WordView → Type 0) (words left : List WordView) : Type 0 where
+  pub front : List WordView
+  pub more : List WordView
+  pub value : A
+  pub whole : words ≡ front ++ left
+  pub spelled : spells value (front ++ more)
