@@ -15,3 +15,6 @@ pub mod SelectionLaws
 pub mod TypeLaws
 pub mod TypeSystemLaws
 pub mod ValueLaws
+pub mod ViableNodes
+pub mod ViableTypes
+pub mod ViableValues

@@ -73,14 +73,19 @@ variable_definition_law file depth =
     let m : Piece VariableDefinition = mapped variable_of s in
     item_law (only k.Dollar) no_variable (node file m) (node_law file m (mapped_law variable_of s sl) refl) refl refl
 
+pub some_variables_law : (file : FileId) (depth : ℕ) → Lawful (some (variable_definition file depth))
+unfolding variable_node typed directives directive_node arguments name
+some_variables_law file depth =
+    let v : Piece (NodeView VariableDefinition) = variable_definition file depth in
+    some_law v (variable_definition_law file depth) refl (apart v.more v.first refl)
+
 variable_list_law : (file : FileId) (depth : ℕ) → Lawful (enclosed k.LeftParen k.RightParen no_variable depth (λ inside. some (variable_definition file inside)))
 unfolding variable_node typed directives directive_node arguments name
 variable_list_law file zero = headed_law (only k.LeftParen) too_deep (nothing_law (λ _. TooDeep)) refl refl refl
 variable_list_law file (suc depth) =
     let v : Piece (NodeView VariableDefinition) = variable_definition file depth in
-    let sl : Lawful (some v) = some_law v (variable_definition_law file depth) refl (apart v.more v.first refl) in
     let b : Piece (List (NodeView VariableDefinition)) = between k.LeftParen k.RightParen no_variable (some v) in
-    headed_law (only k.LeftParen) b (between_law k.LeftParen k.RightParen no_variable (some v) sl (apart (some v).more (only k.RightParen) refl)) refl refl refl
+    headed_law (only k.LeftParen) b (between_law k.LeftParen k.RightParen no_variable (some v) (some_variables_law file depth) (apart (some v).more (only k.RightParen) refl)) refl refl refl
 
 pub variables_law : (file : FileId) (depth : ℕ) → Lawful (variables file depth)
 unfolding variables

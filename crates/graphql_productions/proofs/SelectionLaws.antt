@@ -25,7 +25,7 @@ use Rattle.graphql_productions.specs.Selections.{alias, alias_body, bare_selecti
 use Rattle.graphql_productions.proofs.DirectiveLaws.{arguments_law, directives_law}
 use Rattle.graphql_productions.proofs.NodeLaws.{between_law, name_law, node_law}
 
-alias_law : (file : FileId) → Lawful (alias file)
+pub alias_law : (file : FileId) → Lawful (alias file)
 unfolding alias_body name
 alias_law file =
     let p : Piece (Unit {0} × NameView) = seq (sign k.Colon) (name file) in
@@ -71,7 +71,7 @@ module _ (file : FileId) (depth : ℕ) (p : Piece (List Selection)) (pl : Lawful
       let o : Piece (Option NameView) = optional (type_condition file) in
       mapped_law inline_of (seq o (seq d set)) (seq_law o (seq d set) (optional_law (type_condition file) (condition_law file) refl) dl (apart o.more (seq d set).first refl))
 
-  body_law : Lawful (fragment_body file depth (headed (only k.LeftBrace) p))
+  pub body_law : Lawful (fragment_body file depth (headed (only k.LeftBrace) p))
   unfolding spread_body fragment_name inline_body directives directive_node arguments name
   body_law =
       let set : Piece (List Selection) = headed (only k.LeftBrace) p in

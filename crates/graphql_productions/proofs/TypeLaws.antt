@@ -18,17 +18,23 @@ named_law : (file : FileId) → Lawful (named_type file)
 unfolding named_type
 named_law file = mapped_law Named (name file) (name_law file)
 
-type_by_law : (file : FileId) (p : Piece TypeReference) → Lawful (headed (only k.LeftBracket) p) → Lawful (type_by file (headed (only k.LeftBracket) p))
+-- a name or a list
+pub name_or_list_law : (file : FileId) (p : Piece TypeReference) → Lawful (headed (only k.LeftBracket) p) → Lawful (branch is_type (λ _. false) (type_pick file (headed (only k.LeftBracket) p)) no_type)
 unfolding named_type name
-type_by_law file p pl =
+name_or_list_law file p pl =
     let list : Piece TypeReference = headed (only k.LeftBracket) p in
     let p0 : Piece TypeReference = nothing no_type in
     let pick_law : (kind : Kind) → Lawful (type_pick file list kind) = λ kind.
         either_law (only k.LeftBracket kind) list (choose (is_name kind) (named_type file) p0) pl (either_law (is_name kind) (named_type file) p0 (named_law file) (nothing_law no_type)) in
+    branch_law is_type (λ _. false) (type_pick file list) no_type pick_law refl refl refl
+
+pub type_by_law : (file : FileId) (p : Piece TypeReference) → Lawful (headed (only k.LeftBracket) p) → Lawful (type_by file (headed (only k.LeftBracket) p))
+unfolding named_type name
+type_by_law file p pl =
+    let list : Piece TypeReference = headed (only k.LeftBracket) p in
     let b : Piece TypeReference = branch is_type (λ _. false) (type_pick file list) no_type in
-    let bl : Lawful b = branch_law is_type (λ _. false) (type_pick file list) no_type pick_law refl refl refl in
     let o : Piece (Option (Unit {0})) = optional (sign k.Bang) in
-    mapped_law required_where (seq b o) (seq_law b o bl (optional_law (sign k.Bang) (sign_law k.Bang) refl) (λ kind h. refl))
+    mapped_law required_where (seq b o) (seq_law b o (name_or_list_law file p pl) (optional_law (sign k.Bang) (sign_law k.Bang) refl) (λ kind h. refl))
 
 pub list_type_law : (file : FileId) (depth : ℕ) → Lawful (headed (only k.LeftBracket) (nested_list_type file depth))
 unfolding nested_list_type list_type_of
