@@ -15,6 +15,8 @@ pub mod SelectionLaws
 pub mod TypeLaws
 pub mod TypeSystemLaws
 pub mod ValueLaws
+pub mod ViableDirectives
 pub mod ViableNodes
+pub mod ViableSelections
 pub mod ViableTypes
 pub mod ViableValues

@@ -71,7 +71,7 @@ module _ (file : FileId) (depth : ℕ) (p : Piece (List Selection)) (pl : Lawful
       let o : Piece (Option NameView) = optional (type_condition file) in
       mapped_law inline_of (seq o (seq d set)) (seq_law o (seq d set) (optional_law (type_condition file) (condition_law file) refl) dl (apart o.more (seq d set).first refl))
 
-  pub body_law : Lawful (fragment_body file depth (headed (only k.LeftBrace) p))
+  body_law : Lawful (fragment_body file depth (headed (only k.LeftBrace) p))
   unfolding spread_body fragment_name inline_body directives directive_node arguments name
   body_law =
       let set : Piece (List Selection) = headed (only k.LeftBrace) p in
