@@ -17,6 +17,8 @@ pub mod TypeSystemLaws
 pub mod ValueLaws
 pub mod ViableDirectives
 pub mod ViableNodes
+pub mod ViableOperations
 pub mod ViableSelections
 pub mod ViableTypes
+pub mod ViableTypeSystem
 pub mod ViableValues

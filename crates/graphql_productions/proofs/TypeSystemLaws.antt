@@ -129,7 +129,7 @@ fields_law file depth =
 
 -- ---- names with a sign between them
 
-implementing_law : (file : FileId) → Lawful (names_behind file k.Implements k.Ampersand)
+pub implementing_law : (file : FileId) → Lawful (names_behind file k.Implements k.Ampersand)
 unfolding names_behind name
 implementing_law file =
     let o : Piece (Option (Unit {0})) = optional (sign k.Ampersand) in
@@ -161,12 +161,16 @@ members_law file =
 
 -- ---- enum values
 
+pub enum_value_name_law : (file : FileId) → Lawful (enum_value_name file)
+unfolding enum_value_name
+enum_value_name_law file = mapped_law (name_of file) (word (names_of names.EnumValue) no_enum_value) (word_law (names_of names.EnumValue) no_enum_value)
+
 pub enum_value_law : (file : FileId) (depth : ℕ) → Lawful (enum_value_definition file depth)
 unfolding enum_value_node enum_value_name directives description directive_node arguments name
 enum_value_law file depth =
     let d : Piece DirectiveList = directives file true depth in
     let n : Piece NameView = enum_value_name file in
-    let nl : Lawful (seq n d) = seq_law n d (mapped_law (name_of file) (word (names_of names.EnumValue) no_enum_value) (word_law (names_of names.EnumValue) no_enum_value)) (directives_law file true depth) (λ kind h. refl) in
+    let nl : Lawful (seq n d) = seq_law n d (enum_value_name_law file) (directives_law file true depth) (λ kind h. refl) in
     let o : Piece (Option NameView) = optional (description file) in
     let ol : Lawful (seq o (seq n d)) = seq_law o (seq n d) (optional_description_law file) nl (apart o.more n.first refl) in
     let m : Piece EnumValueDefinition = mapped enum_value_of (seq o (seq n d)) in
