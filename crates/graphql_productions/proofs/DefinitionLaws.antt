@@ -36,7 +36,7 @@ use Rattle.graphql_productions.proofs.TypeSystemLaws.{argument_definitions_law, 
 
 -- ---- definitions of the type system
 
-type_body_law : (file : FileId) (kind : TypeKind) (depth : ℕ) → Lawful (type_body file kind depth)
+pub type_body_law : (file : FileId) (kind : TypeKind) (depth : ℕ) → Lawful (type_body file kind depth)
 unfolding type_body name
 type_body_law file kind depth =
     let n : Piece (NameView × DefinitionParts) = seq (name file) (parts file kind depth) in
@@ -120,7 +120,7 @@ system_definition_law file depth =
 
 -- ---- extensions
 
-extension_body_law : (file : FileId) (kind : TypeKind) (depth : ℕ) → Lawful (extension_body file kind depth)
+pub extension_body_law : (file : FileId) (kind : TypeKind) (depth : ℕ) → Lawful (extension_body file kind depth)
 unfolding extension_body name
 extension_body_law file kind depth =
     let p : Piece DefinitionParts = filtered has_part (expecting i.ExtensionPart) (parts file kind depth) in
@@ -129,15 +129,20 @@ extension_body_law file kind depth =
     let nl : Lawful n = seq_law (name file) p (name_law file) pl (λ other h. refl) in
     mapped_law (extension_of kind) (seq (sign (keyword kind)) n) (seq_law (sign (keyword kind)) n (sign_law (keyword kind)) nl (λ other h. refl))
 
-schema_extension_body_law : (file : FileId) (depth : ℕ) → Lawful (schema_extension_body file depth)
-unfolding schema_extension_body directives directive_node arguments name
-schema_extension_body_law file depth =
+pub schema_extension_parts_law : (file : FileId) (depth : ℕ) → Lawful (mapped extended_schema_parts (seq (directives file true depth) (optional (roots file depth))))
+unfolding directives directive_node arguments name
+schema_extension_parts_law file depth =
     let d : Piece DirectiveList = directives file true depth in
     let r : Piece (Option (List (NodeView (OperationType × NameView)))) = optional (roots file depth) in
     let dl : Lawful (seq d r) = seq_law d r (directives_law file true depth) (optional_law (roots file depth) (roots_law file depth) refl) (apart d.more r.first refl) in
-    let p : Piece DefinitionParts = mapped extended_schema_parts (seq d r) in
+    mapped_law extended_schema_parts (seq d r) dl
+
+schema_extension_body_law : (file : FileId) (depth : ℕ) → Lawful (schema_extension_body file depth)
+unfolding schema_extension_body
+schema_extension_body_law file depth =
+    let p : Piece DefinitionParts = mapped extended_schema_parts (seq (directives file true depth) (optional (roots file depth))) in
     let f : Piece DefinitionParts = filtered has_part (expecting i.ExtensionPart) p in
-    let fl : Lawful f = filtered_law has_part (expecting i.ExtensionPart) p (mapped_law extended_schema_parts (seq d r) dl) in
+    let fl : Lawful f = filtered_law has_part (expecting i.ExtensionPart) p (schema_extension_parts_law file depth) in
     mapped_law schema_extension_of (seq (sign k.Schema) f) (seq_law (sign k.Schema) f (sign_law k.Schema) fl (λ kind h. refl))
 
 extended_pick_law : (file : FileId) (depth : ℕ) (kind : Kind) → Lawful (extended_pick file depth kind)

@@ -8,6 +8,7 @@ pub mod BlindTypeSystem
 pub mod BlindValues
 pub mod DefinitionLaws
 pub mod DirectiveLaws
+pub mod ExtensionParts
 pub mod NestedLemmas
 pub mod NodeLaws
 pub mod OperationLaws
@@ -15,6 +16,7 @@ pub mod SelectionLaws
 pub mod TypeLaws
 pub mod TypeSystemLaws
 pub mod ValueLaws
+pub mod ViableDefinitions
 pub mod ViableDirectives
 pub mod ViableNodes
 pub mod ViableOperations
