@@ -1,11 +1,11 @@
 //! Laws of productions.
-ghost use Rattle.std.specs.Prelude.{◌≡◌, ℕ, Bool, List, Err};
+ghost use Rattle.std.specs.Prelude.{◌≡◌, ℕ, suc, Bool, List, Err};
 ghost use Rattle.graphql_nodes.specs.declared.source.FileId.{FileId};
 ghost use Rattle.graphql_ast.specs.declared.definition.Definition.{Definition};
 ghost use Rattle.graphql_ast.specs.declared.selection.Selection.{Selection};
 ghost use Rattle.graphql_ast.specs.declared.value.Value.{Value};
 ghost use Rattle.graphql_grammar.specs.Pieces.{Refusal, read_all, some};
-ghost use Rattle.graphql_grammar.specs.Refusals.{RefusedWith, reads};
+ghost use Rattle.graphql_grammar.specs.Refusals.{RefusedWith, Viable, reads};
 ghost use Rattle.graphql_grammar.specs.Words.{WordView};
 ghost use Rattle.graphql_productions.specs.Documents.{definition};
 ghost use Rattle.graphql_productions.specs.Selections.{bare_selections, selection_set};
@@ -29,4 +29,16 @@ pub fn refusals_are_of_all_words_so_far()
     ensures bare_selections { (file : FileId) (depth : ℕ) (words : List WordView) (e : Refusal) → read_all (bare_selections file depth) words ≡ Err e → RefusedWith (bare_selections file depth).spells words e }
     ensures type_reference { (file : FileId) (depth : ℕ) (words : List WordView) (e : Refusal) → read_all (type file depth) words ≡ Err e → RefusedWith (type file depth).spells words e }
     ensures value { (file : FileId) (constant : Bool) (depth : ℕ) (words : List WordView) (e : Refusal) → read_all (value file constant depth) words ≡ Err e → RefusedWith (value file constant depth).spells words e }
+{}
+
+/// The words before a refused one begin some that spell a definition, a document of one definition or more, a selection set, selections
+/// without braces, a type or a value, where one sign more may be open: so a refusal is never late, and where signs are open too deep the
+/// next depth goes on. Of a document the productions alone are meant, without what a `{` behind `type T` opens.
+pub fn words_before_a_refusal_go_on()
+    ensures definition { (file : FileId) (depth : ℕ) (words : List WordView) (e : Refusal) → read_all (definition file depth) words ≡ Err e → Viable (definition file (suc depth)).spells words e.left }
+    ensures document { (file : FileId) (depth : ℕ) (words : List WordView) (e : Refusal) → read_all (some (definition file depth)) words ≡ Err e → Viable (some (definition file (suc depth))).spells words e.left }
+    ensures selections { (file : FileId) (depth : ℕ) (words : List WordView) (e : Refusal) → read_all (selection_set file depth) words ≡ Err e → Viable (selection_set file (suc depth)).spells words e.left }
+    ensures bare_selections { (file : FileId) (depth : ℕ) (words : List WordView) (e : Refusal) → read_all (bare_selections file depth) words ≡ Err e → Viable (bare_selections file (suc depth)).spells words e.left }
+    ensures type_reference { (file : FileId) (depth : ℕ) (words : List WordView) (e : Refusal) → read_all (type file depth) words ≡ Err e → Viable (type file (suc depth)).spells words e.left }
+    ensures value { (file : FileId) (constant : Bool) (depth : ℕ) (words : List WordView) (e : Refusal) → read_all (value file constant depth) words ≡ Err e → Viable (value file constant (suc depth)).spells words e.left }
 {}
