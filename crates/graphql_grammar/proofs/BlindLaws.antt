@@ -7,7 +7,7 @@ use Rattle.graphql_grammar.specs.declared.fault.Item.TheVariants as i
 use Rattle.graphql_grammar.specs.declared.kind.Kind.{Kind}
 use Rattle.graphql_grammar.specs.Kinds.{Kinds, only}
 use Rattle.graphql_grammar.specs.Words.{WordView, begins, starting}
-use Rattle.graphql_grammar.specs.Pieces.{Piece, Reading, State, Wrong, ◌>>=◌, branch, choose, close, empty, filtered, headed, item, listed, located, many, many_at, mapped, nested, nothing, optional, picked, read_first, refused, separated, separated_of, seq, sign, sign_or, some, take_picked, take_word, tested, word}
+use Rattle.graphql_grammar.specs.Pieces.{Piece, Reading, State, Wrong, ◌>>=◌, branch, choose, filtered, headed, item, listed, located, many, many_at, mapped, nested, nothing, optional, picked, read_first, refused, separated, separated_of, seq, sign, sign_or, some, take_picked, take_word, tested, word}
 use Rattle.graphql_grammar.specs.Refusals.{EndOf}
 use Rattle.graphql_grammar.proofs.ManyLaws.{shorter}
 use Rattle.graphql_grammar.proofs.PieceLaws.{Lawful, mapped_law, seq_law, sign_law}
@@ -198,13 +198,7 @@ sign_or_blind kind wrong = record {
 pub sign_blind : (kind : Kind) → Blind (sign kind)
 sign_blind kind = sign_or_blind kind (λ _. Expected (i.Word kind))
 
-pub close_blind : (kind : Kind) (fault : FaultKind) → Blind (close kind fault)
-close_blind kind fault = sign_or_blind kind (λ _. fault)
-
 -- ---- nothing
-
-pub empty_blind : {A : Type 0} (x : A) → Blind (empty x)
-empty_blind x = record { within = λ s. nothing_taken s.left; same = λ f s t a. inr (refl, a) }
 
 pub nothing_blind : {A : Type 0} (wrong : Wrong) → Blind (nothing {A = A} wrong)
 nothing_blind wrong = record { within = λ s. nothing_taken s.left; same = λ f s t a. inr a.left }

@@ -10,7 +10,7 @@ use Rattle.graphql_grammar.specs.Kinds.{Kinds, only, tag}
 use Rattle.graphql_grammar.specs.Refusals.{Viable}
 use Rattle.graphql_grammar.specs.Spelling.{spells_by}
 use Rattle.graphql_grammar.specs.Words.{WordView, begins, ended, starting}
-use Rattle.graphql_grammar.specs.Pieces.{Piece, Reading, Refusal, State, Wrong, ◌>>=◌, branch, choose, close, empty, filtered, headed, item, listed, located, many, many_at, mapped, nested, nothing, optional, picked, read_first, refused, separated, separated_of, seq, sign, sign_or, some, take_picked, take_sign, take_word, tested, too_deep, word}
+use Rattle.graphql_grammar.specs.Pieces.{Piece, Reading, Refusal, State, Wrong, ◌>>=◌, branch, choose, filtered, headed, item, listed, located, many, many_at, mapped, nested, nothing, optional, picked, read_first, refused, separated, separated_of, seq, sign, sign_or, some, take_picked, take_sign, take_word, tested, word}
 use Rattle.graphql_grammar.proofs.BlindLaws.{another, another_law}
 use Rattle.graphql_grammar.proofs.KindLemmas.{only_kind}
 use Rattle.graphql_grammar.proofs.PieceLaws.{Begun, Lawful, Took, optional_law, sign_law}

@@ -1,10 +1,8 @@
 -- What extensions hold: where there is no part, there are no words; and a directive may always stand there.
 use Rattle.std.proofs.Common.{◌≡◌, ℕ, zero, suc, Bool, true, false, not, ◌&&◌, List, [], ◌∷◌, ◌++◌, Option, None, Some, refl, sym, ap, ◌∙◌}
 use Rattle.graphql_nodes.specs.declared.source.FileId.{FileId}
-use Rattle.graphql_nodes.specs.declared.operation_type.OperationType.{OperationType}
 use Rattle.graphql_nodes.specs.declared.type_kind.TypeKind.{TypeKind}
 use Rattle.graphql_nodes.specs.declared.type_kind.TypeKind.TheVariants as t
-use Rattle.graphql_nodes.specs.NameView.{NameView}
 use Rattle.graphql_nodes.specs.NodeView.{NodeView}
 use Rattle.graphql_ast.specs.declared.definition_parts.DefinitionParts.{DefinitionParts}
 use Rattle.graphql_ast.specs.declared.directive.DirectiveList.{DirectiveList}
@@ -16,7 +14,6 @@ use Rattle.graphql_grammar.specs.declared.kind.Kind.{Kind}
 use Rattle.graphql_grammar.specs.declared.kind.Kind.TheVariants as k
 use Rattle.graphql_grammar.specs.Pieces.{Piece, Wrong, filtered, many, mapped, optional, separated, seq, some}
 use Rattle.graphql_grammar.specs.Words.{WordView}
-use Rattle.graphql_grammar.proofs.PieceLaws.{Lawful}
 use Rattle.graphql_grammar.proofs.ViableLaws.{Begins, GoesOn, filtered_begins, mapped_begins, none_goes_on, optional_begins, seq_begins}
 use Rattle.graphql_productions.specs.Directives.{directive, directives}
 use Rattle.graphql_productions.specs.Nodes.{between, enclosed, name, or_none}
@@ -156,13 +153,17 @@ module _ (file : FileId) (depth : ℕ) where
   fielded_there = record {
     more = directive_front ++ [];
     value = fielded_parts ([], (one_directive, []));
-    spelled = (([], (one_directive, [])), refl, record {
-      head = [];
-      tail = directive_front ++ [];
-      whole = refl;
-      first = (None, refl, refl);
-      second = record { head = directive_front; tail = []; whole = refl; first = directive_spelled; second = (None, refl, refl) };
-    });
+    spelled = (
+      ([], (one_directive, [])),
+      refl,
+      record {
+        head = [];
+        tail = directive_front ++ [];
+        whole = refl;
+        first = (None, refl, refl);
+        second = record { head = directive_front; tail = []; whole = refl; first = directive_spelled; second = (None, refl, refl) };
+      },
+    );
     passes = refl;
   }
 

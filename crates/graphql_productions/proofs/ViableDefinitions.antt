@@ -1,5 +1,5 @@
 -- Definitions and extensions: the words before a refused one begin what is spelled.
-use Rattle.std.proofs.Common.{◌≡◌, ℕ, suc, ◌||◌, Bool, true, false, [], ◌∷◌, Option, None, Some, refl}
+use Rattle.std.proofs.Common.{ℕ, suc, ◌||◌, true, refl}
 use Rattle.graphql_nodes.specs.declared.directive_location.DirectiveLocation.TheVariants as l
 use Rattle.graphql_nodes.specs.LocationTexts.{location_text}
 use Rattle.graphql_nodes.specs.declared.source.FileId.{FileId}
@@ -7,7 +7,6 @@ use Rattle.graphql_nodes.specs.declared.type_kind.TypeKind.{TypeKind}
 use Rattle.graphql_nodes.specs.declared.type_kind.TypeKind.TheVariants as t
 use Rattle.graphql_ast.specs.declared.definition.Definition.TheVariants as d
 use Rattle.graphql_grammar.specs.declared.fault.Item.TheVariants as i
-use Rattle.graphql_grammar.specs.declared.kind.Kind.{Kind}
 use Rattle.graphql_grammar.specs.declared.kind.Kind.TheVariants as k
 use Rattle.graphql_grammar.specs.Kinds.{is_name, only}
 use Rattle.graphql_grammar.specs.Pieces.{sign}

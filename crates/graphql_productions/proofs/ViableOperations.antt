@@ -6,7 +6,7 @@ use Rattle.graphql_grammar.specs.declared.kind.Kind.TheVariants as k
 use Rattle.graphql_grammar.specs.Kinds.{only}
 use Rattle.graphql_grammar.specs.Pieces.{some}
 use Rattle.graphql_grammar.proofs.PieceLaws.{optional_law, sign_law}
-use Rattle.graphql_grammar.proofs.ViableLaws.{Begins, Leads, bare_word, begun_leads, branch_leads, choose_leads, headed_begins, item_begins, leads_begins, mapped_begins, nothing_leads, optional_begins, seq_begins, sign_begins, some_begins}
+use Rattle.graphql_grammar.proofs.ViableLaws.{Begins, bare_word, begun_leads, branch_leads, choose_leads, headed_begins, item_begins, leads_begins, mapped_begins, nothing_leads, optional_begins, seq_begins, sign_begins, some_begins}
 use Rattle.graphql_productions.specs.Nodes.{behind, name, or_none}
 use Rattle.graphql_productions.specs.Operations.{default_body, default_value, fragment_definition, fragment_of, no_root, no_variable, operation, operation_of, operation_type, operation_type_pick, shorthand, shorthand_of, typed, variable_definition, variable_node, variable_of, variables}
 use Rattle.graphql_productions.specs.Types.{type}

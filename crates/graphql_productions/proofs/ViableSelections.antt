@@ -1,5 +1,5 @@
 -- Selections: the words before a refused one begin what is spelled.
-use Rattle.std.proofs.Common.{ℕ, zero, suc, ◌||◌, Bool, false, List, [], ◌∷◌, Option, None, refl}
+use Rattle.std.proofs.Common.{ℕ, zero, suc, ◌||◌, false, List, [], ◌∷◌, Option, None, refl}
 use Rattle.graphql_nodes.specs.declared.source.FileId.{FileId}
 use Rattle.graphql_nodes.specs.NameView.{NameView}
 use Rattle.graphql_nodes.specs.NodeView.{NodeView}
@@ -15,7 +15,7 @@ use Rattle.graphql_grammar.specs.Kinds.{is_name, names_of, only}
 use Rattle.graphql_grammar.specs.Pieces.{Piece, headed, some}
 use Rattle.graphql_grammar.specs.Words.{WordView, ended, starting}
 use Rattle.graphql_grammar.proofs.PieceLaws.{Lawful, optional_law, sign_law}
-use Rattle.graphql_grammar.proofs.ViableLaws.{Begins, Leads, bare_word, begun_leads, branch_leads, choose_leads, headed_begins, headed_leads, leads_begins, located_begins, mapped_begins, nothing_leads, optional_begins, seq_begins, sign_begins, some_begins, word_begins}
+use Rattle.graphql_grammar.proofs.ViableLaws.{Begins, bare_word, begun_leads, branch_leads, choose_leads, headed_begins, headed_leads, leads_begins, located_begins, mapped_begins, nothing_leads, optional_begins, seq_begins, sign_begins, some_begins, word_begins}
 use Rattle.graphql_productions.specs.Directives.{arguments, directives}
 use Rattle.graphql_productions.specs.Nodes.{behind, name, name_of, node_of}
 use Rattle.graphql_productions.specs.Selections.{alias, alias_body, bare_selections, condition_body, field, field_made, field_selection, fragment, fragment_body, fragment_name, fragment_pick, inline_at, inline_body, inline_of, nested_set, no_fragment_name, no_selection, placed_fragment, selection, selection_pick, selection_set, selections_of, spread_at, spread_body, spread_of, type_condition}
@@ -69,38 +69,55 @@ spread_spelled file depth p =
 
 field_spelled : (file : FileId) (depth : ℕ) (p : Piece (List Selection)) → (selection file depth p).spells (field_alone file) one_name
 unfolding field_selection field name arguments directives
-field_spelled file depth p =
-    (node_of file (field_at file), refl, (field_at file, refl, ((a_field file, refl, record {
-      head = one_name;
-      tail = [];
-      whole = refl;
-      first = (bare_word k.Name, refl, (refl, refl));
-      second = record {
-        head = [];
-        tail = [];
-        whole = refl;
-        first = refl;
-        second = record { head = []; tail = []; whole = refl; first = (None, refl, refl); second = record { head = []; tail = []; whole = refl; first = ([], refl, refl); second = refl } };
-      };
-    }), refl)))
+field_spelled file depth p = (
+  node_of file (field_at file),
+  refl,
+  (
+    field_at file,
+    refl,
+    (
+      (
+        a_field file,
+        refl,
+        record {
+          head = one_name;
+          tail = [];
+          whole = refl;
+          first = (bare_word k.Name, refl, (refl, refl));
+          second = record {
+            head = [];
+            tail = [];
+            whole = refl;
+            first = refl;
+            second = record { head = []; tail = []; whole = refl; first = (None, refl, refl); second = record { head = []; tail = []; whole = refl; first = ([], refl, refl); second = refl } };
+          };
+        },
+      ),
+      refl,
+    ),
+  ),
+)
 
 -- a field between braces
 set_spelled : (file : FileId) (depth : ℕ) (p : Piece (List Selection)) → (selections_of (selection file depth p)).spells (field_alone file ∷ []) (bare_word k.LeftBrace ∷ bare_word k.Name ∷ bare_word k.RightBrace ∷ [])
 unfolding selections_of
-set_spelled file depth p =
-    ((tt, (field_alone file ∷ [], tt)), refl, record {
-      head = bare_word k.LeftBrace ∷ [];
-      tail = bare_word k.Name ∷ bare_word k.RightBrace ∷ [];
+set_spelled file depth p = (
+  (tt, (field_alone file ∷ [], tt)),
+  refl,
+  record {
+    head = bare_word k.LeftBrace ∷ [];
+    tail = bare_word k.Name ∷ bare_word k.RightBrace ∷ [];
+    whole = refl;
+    first = (bare_word k.LeftBrace, refl, refl);
+    second = record {
+      head = one_name;
+      tail = bare_word k.RightBrace ∷ [];
       whole = refl;
-      first = (bare_word k.LeftBrace, refl, refl);
-      second = record {
-        head = one_name;
-        tail = bare_word k.RightBrace ∷ [];
-        whole = refl;
-        first = ((field_alone file, []), refl, record { head = one_name; tail = []; whole = refl; first = field_spelled file depth p; second = refl });
-        second = (bare_word k.RightBrace, refl, refl);
-      };
-    })
+      first = ((field_alone file, []), refl, record { head = one_name; tail = []; whole = refl; first = field_spelled file depth p; second = refl });
+      second = (bare_word k.RightBrace, refl, refl);
+    };
+  },
+)
 
 -- ---- selections over sets
 

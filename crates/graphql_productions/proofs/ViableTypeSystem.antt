@@ -1,17 +1,17 @@
 -- What definitions and extensions of the type system hold: the words before a refused one begin what is spelled.
-use Rattle.std.proofs.Common.{ℕ, zero, suc, true, [], ◌∷◌, refl}
+use Rattle.std.proofs.Common.{ℕ, suc, true, refl}
 use Rattle.graphql_nodes.specs.declared.source.FileId.{FileId}
 use Rattle.graphql_nodes.specs.declared.type_kind.TypeKind.{TypeKind}
 use Rattle.graphql_nodes.specs.declared.type_kind.TypeKind.TheVariants as t
-use Rattle.graphql_grammar.specs.declared.fault.FaultKind.TheVariants.{Expected, TooDeep}
+use Rattle.graphql_grammar.specs.declared.fault.FaultKind.TheVariants.{Expected}
 use Rattle.graphql_grammar.specs.declared.fault.Item.TheVariants as i
 use Rattle.graphql_grammar.specs.declared.kind.Kind.{Kind}
 use Rattle.graphql_grammar.specs.declared.kind.Kind.TheVariants as k
 use Rattle.graphql_grammar.specs.declared.kind.Names.TheVariants as names
-use Rattle.graphql_grammar.specs.Kinds.{names_of, only}
+use Rattle.graphql_grammar.specs.Kinds.{names_of}
 use Rattle.graphql_grammar.specs.Pieces.{optional, some}
-use Rattle.graphql_grammar.proofs.PieceLaws.{Lawful, sign_law}
-use Rattle.graphql_grammar.proofs.ViableLaws.{Begins, Leads, begun_leads, headed_leads, item_begins, leads_begins, mapped_begins, nothing_leads, optional_begins, separated_begins, seq_begins, sign_begins, some_begins, word_begins}
+use Rattle.graphql_grammar.proofs.PieceLaws.{sign_law}
+use Rattle.graphql_grammar.proofs.ViableLaws.{Begins, Leads, begun_leads, item_begins, leads_begins, mapped_begins, optional_begins, separated_begins, seq_begins, sign_begins, some_begins, word_begins}
 use Rattle.graphql_productions.specs.Nodes.{behind, between, name_of, or_none}
 use Rattle.graphql_productions.specs.Operations.{is_operation_type, no_root}
 use Rattle.graphql_productions.specs.TypeSystem.{description, description_of, enum_parts, enum_value_definition, enum_value_name, enum_value_node, enum_value_of, enum_values, expecting, field_definition, field_node, field_of, fielded, fielded_parts, fields, input_node, input_of, input_parts, input_value, input_values, is_described_name, is_description, is_enum_value, names_behind, no_enum_value, parts, root, root_node, root_of, roots, scalar_parts, union_parts}
@@ -103,7 +103,7 @@ roots_leads file depth = enclosed_leads k.LeftBrace k.RightBrace no_root depth (
 pub roots_begins : (file : FileId) (depth : ℕ) → Begins (roots file depth) (roots file (suc depth))
 roots_begins file depth =
     let b : Begins (between k.LeftBrace k.RightBrace no_root (some (root file))) (between k.LeftBrace k.RightBrace no_root (some (root file))) =
-        between_begins k.LeftBrace k.RightBrace no_root (some_roots_law file) (some_roots_begin file) in
+    between_begins k.LeftBrace k.RightBrace no_root (some_roots_law file) (some_roots_begin file) in
     leads_begins (roots_leads file depth) b.value b.words b.some
 
 -- ---- what stands behind a name

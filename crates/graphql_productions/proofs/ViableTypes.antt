@@ -28,9 +28,9 @@ unfolding named_type name
 type_by_begins file p q pl leads =
     mapped_begins required_where (seq_begins (name_or_list_law file p pl)
     (leads_begins
-        (branch_leads (type_pick file (headed (only k.LeftBracket) p)) (type_pick file (headed (only k.LeftBracket) q)) no_type
-        (λ kind. choose_leads (only k.LeftBracket kind) leads (choose_leads (is_name kind) (begun_leads (named_begins file)) (nothing_leads no_type))))
-        (Named (name_of file (bare_word k.Name))) (bare_word k.Name ∷ []) (name_of file (bare_word k.Name), refl, (bare_word k.Name, refl, (refl, refl))))
+    (branch_leads (type_pick file (headed (only k.LeftBracket) p)) (type_pick file (headed (only k.LeftBracket) q)) no_type
+    (λ kind. choose_leads (only k.LeftBracket kind) leads (choose_leads (is_name kind) (begun_leads (named_begins file)) (nothing_leads no_type))))
+    (Named (name_of file (bare_word k.Name))) (bare_word k.Name ∷ []) (name_of file (bare_word k.Name), refl, (bare_word k.Name, refl, (refl, refl))))
     (optional_begins (begun_leads (sign_begins k.Bang))))
 
 list_leads : (file : FileId) (depth : ℕ) → Leads (headed (only k.LeftBracket) (nested_list_type file depth)) (headed (only k.LeftBracket) (nested_list_type file (suc depth)))

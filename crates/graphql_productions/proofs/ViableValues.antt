@@ -10,7 +10,7 @@ use Rattle.graphql_tokens.specs.StringValues.{string_value}
 use Rattle.graphql_grammar.specs.declared.fault.FaultKind.TheVariants.{TooDeep, VariableInConstant}
 use Rattle.graphql_grammar.specs.declared.kind.Kind.TheVariants as k
 use Rattle.graphql_grammar.specs.Kinds.{is_name, only}
-use Rattle.graphql_grammar.specs.Pieces.{Piece, headed, many}
+use Rattle.graphql_grammar.specs.Pieces.{Piece, headed}
 use Rattle.graphql_grammar.proofs.ManyLaws.{many_law}
 use Rattle.graphql_grammar.proofs.PieceLaws.{Lawful, apart, sign_law}
 use Rattle.graphql_grammar.proofs.ViableLaws.{Begins, Leads, bare_word, begun_leads, branch_leads, choose_leads, headed_begins, headed_leads, leads_begins, many_begins, mapped_begins, nothing_leads, seq_begins, sign_begins, word_begins}

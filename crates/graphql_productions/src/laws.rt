@@ -19,9 +19,9 @@ pub fn words_spell_one_tree()
     ensures value { (file : FileId) (constant : Bool) (depth : ℕ) (words : List WordView) (a b : Value) → (value file constant depth).spells a words → (value file constant depth).spells b words → a ≡ b }
 {}
 
-/// Words are refused at the first one that can't go on: no words that begin with those before it and with it spell a definition, a
-/// selection set, selections without braces, a type or a value, whatever stands behind. Of a document the same is said of reading, since
-/// a `{` behind `type T` always opens its fields.
+/// What stands behind a refused word doesn't matter: no words that begin with those before it and with it spell a definition, a selection
+/// set, selections without braces, a type or a value; and words that are refused at their end spell none. Of a document the same is said
+/// of reading, since a `{` behind `type T` is always read as the start of its fields.
 pub fn refusals_are_of_all_words_so_far()
     ensures definition { (file : FileId) (depth : ℕ) (words : List WordView) (e : Refusal) → read_all (definition file depth) words ≡ Err e → RefusedWith (definition file depth).spells words e }
     ensures document { (file : FileId) (depth : ℕ) (words : List WordView) (e : Refusal) → read_all (some (definition file depth)) words ≡ Err e → RefusedWith (reads (some (definition file depth))) words e }
@@ -31,9 +31,10 @@ pub fn refusals_are_of_all_words_so_far()
     ensures value { (file : FileId) (constant : Bool) (depth : ℕ) (words : List WordView) (e : Refusal) → read_all (value file constant depth) words ≡ Err e → RefusedWith (value file constant depth).spells words e }
 {}
 
-/// The words before a refused one begin some that spell a definition, a document of one definition or more, a selection set, selections
-/// without braces, a type or a value, where one sign more may be open: so a refusal is never late, and where signs are open too deep the
-/// next depth goes on. Of a document the productions alone are meant, without what a `{` behind `type T` opens.
+/// Words are refused no later than they have to be: those before the refused one begin some that spell a definition, one definition or
+/// more, a selection set, selections without braces, a type or a value. One sign more may be open in those, since what is refused for its
+/// depth alone goes on where more may be open. Of several definitions the productions alone are meant: they leave open what a `{` behind
+/// `type T` begins.
 pub fn words_before_a_refusal_go_on()
     ensures definition { (file : FileId) (depth : ℕ) (words : List WordView) (e : Refusal) → read_all (definition file depth) words ≡ Err e → Viable (definition file (suc depth)).spells words e.left }
     ensures document { (file : FileId) (depth : ℕ) (words : List WordView) (e : Refusal) → read_all (some (definition file depth)) words ≡ Err e → Viable (some (definition file (suc depth))).spells words e.left }
