@@ -7,7 +7,7 @@ use Rattle.graphql_grammar.specs.declared.fault.Item.TheVariants as i
 use Rattle.graphql_grammar.specs.declared.kind.Kind.{Kind}
 use Rattle.graphql_grammar.specs.Kinds.{Kinds, only}
 use Rattle.graphql_grammar.specs.Words.{WordView, begins, starting}
-use Rattle.graphql_grammar.specs.Pieces.{Piece, Reading, State, Wrong, ◌>>=◌, branch, choose, filtered, headed, item, listed, located, many, many_at, mapped, nested, nothing, optional, picked, read_first, refused, separated, separated_of, seq, sign, sign_or, some, take_picked, take_word, tested, word}
+use Rattle.graphql_grammar.specs.Pieces.{Piece, Reading, State, Wrong, ◌>>=◌, behind_sign, branch, choose, filtered, headed, item, listed, located, many, many_at, mapped, nested, nothing, optional, picked, read_first, refused, separated, separated_of, seq, sign, sign_or, some, take_picked, take_word, tested, word}
 use Rattle.graphql_grammar.specs.Refusals.{EndOf}
 use Rattle.graphql_grammar.proofs.ManyLaws.{shorter}
 use Rattle.graphql_grammar.proofs.PieceLaws.{Lawful, mapped_law, seq_law, sign_law}
@@ -360,13 +360,13 @@ nested_blind (suc depth) p pb = pb depth
 
 -- one behind the sign
 abbrev pub another : {A : Type 0} → Kind → Piece A → Piece A
-another kind p = mapped (λ x. x.1) (seq (sign kind) p)
+another kind p = mapped behind_sign (seq (sign kind) p)
 
 pub another_law : {A : Type 0} (kind : Kind) (p : Piece A) → Lawful p → Lawful (another kind p)
-another_law kind p pl = mapped_law (λ x. x.1) (seq (sign kind) p) (seq_law (sign kind) p (sign_law kind) pl (λ _ _. refl))
+another_law kind p pl = mapped_law behind_sign (seq (sign kind) p) (seq_law (sign kind) p (sign_law kind) pl (λ _ _. refl))
 
 another_blind : {A : Type 0} (kind : Kind) {p : Piece A} → Blind p → Blind (another kind p)
-another_blind kind pb = mapped_blind (λ x. x.1) (seq_blind (sign_blind kind) pb)
+another_blind kind pb = mapped_blind behind_sign (seq_blind (sign_blind kind) pb)
 
 pub separated_blind : {A : Type 0} (kind : Kind) {p : Piece A} → Lawful p → Blind p → Blind (separated kind p)
 separated_blind kind {p} pl pb =

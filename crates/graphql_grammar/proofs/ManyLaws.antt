@@ -1,14 +1,14 @@
 -- Any number of pieces: what is read is spelled so, and the other way round.
-use Rattle.std.proofs.Common.{◌≡◌, ℕ, zero, suc, ◌<◌, ◌≤◌, Bool, true, false, cond, List, [], ◌∷◌, ◌++◌, length, Result, Ok, Err, ◌⊎◌, inl, inr, refl, sym, ap, subst, ◌∙◌, append_assoc, arith}
+use Rattle.std.proofs.Common.{◌≡◌, ℕ, zero, suc, ◌<◌, ◌≤◌, Bool, true, false, cond, List, [], ◌∷◌, ◌++◌, length, Ok, Err, inl, inr, refl, sym, ap, subst, ◌∙◌, append_assoc, arith}
 use Rattle.std.proofs.lemmas.List.{length-append}
-use Rattle.graphql_grammar.specs.Kinds.{Kinds, either_of}
+use Rattle.graphql_grammar.specs.Kinds.{Kinds}
 use Rattle.graphql_grammar.specs.Words.{WordView, begins, ended}
 use Rattle.graphql_grammar.specs.Pieces.{Piece, Reading, Refusal, State, ◌>>=◌, listed, many, many_at, seq, some}
 use Rattle.graphql_grammar.proofs.PieceLaws.{Apart, Begun, Lawful, Stops, Took, is_begun, mapped_law, not_begun, seq_law, stops_left}
 use Rattle.graphql_grammar.proofs.ReadingLemmas.{bind_ok, chosen, ended_append, ok_is}
 
 module _ {A : Type 0} (p : Piece A) (pl : Lawful p) (solid : p.may_be_empty ≡ false) where
-  many_sound : (n : ℕ) (s : State) (xs : List A) (then : State) → many_at p.first p.read n s ≡ Ok (xs, then) → Took (many p).spells s xs then
+  pub many_sound : (n : ℕ) (s : State) (xs : List A) (then : State) → many_at p.first p.read n s ≡ Ok (xs, then) → Took (many p).spells s xs then
   many_sound zero s xs then e =
       let w : Took (many p).spells s [] s = record { front = []; left = refl; last = refl; spelled = refl } in
       subst (λ (v : List A × State). Took (many p).spells s v.0 v.1) (ok_is ([], s) (xs, then) e) w
@@ -151,4 +151,3 @@ module _ {A : Type 0} (p : Piece A) (pl : Lawful p) (solid : p.may_be_empty ≡ 
 
 pub some_law : {A : Type 0} (p : Piece A) → Lawful p → p.may_be_empty ≡ false → Apart p.more p.first → Lawful (some p)
 some_law p pl solid far = mapped_law listed (seq p (many p)) (seq_law p (many p) pl (many_law p pl solid far) far)
-

@@ -10,7 +10,7 @@ use Rattle.graphql_grammar.specs.Kinds.{Kinds, only, tag}
 use Rattle.graphql_grammar.specs.Refusals.{Viable}
 use Rattle.graphql_grammar.specs.Spelling.{spells_by}
 use Rattle.graphql_grammar.specs.Words.{WordView, begins, ended, starting}
-use Rattle.graphql_grammar.specs.Pieces.{Piece, Reading, Refusal, State, Wrong, ◌>>=◌, branch, choose, filtered, headed, item, listed, located, many, many_at, mapped, nested, nothing, optional, picked, read_first, refused, separated, separated_of, seq, sign, sign_or, some, take_picked, take_sign, take_word, tested, word}
+use Rattle.graphql_grammar.specs.Pieces.{Piece, Reading, Refusal, State, Wrong, ◌>>=◌, behind_sign, branch, choose, filtered, headed, item, listed, located, many, many_at, mapped, nested, nothing, optional, picked, read_first, refused, separated, separated_of, seq, sign, sign_or, some, take_picked, take_sign, take_word, tested, word}
 use Rattle.graphql_grammar.proofs.BlindLaws.{another, another_law}
 use Rattle.graphql_grammar.proofs.KindLemmas.{only_kind}
 use Rattle.graphql_grammar.proofs.PieceLaws.{Begun, Lawful, Took, optional_law, sign_law}
@@ -404,7 +404,7 @@ nested_leads (suc depth) p q deeper = begun_leads (deeper depth)
 -- ---- one or more with a sign between them
 
 another_begins : {A : Type 0} (kind : Kind) {p q : Piece A} → Begins p q → Begins (another kind p) (another kind q)
-another_begins kind pb = mapped_begins (λ x. x.1) (seq_begins (sign_law kind) (sign_begins kind) pb)
+another_begins kind pb = mapped_begins behind_sign (seq_begins (sign_law kind) (sign_begins kind) pb)
 
 pub separated_begins : {A : Type 0} (kind : Kind) {p q : Piece A} → Lawful p → Begins p q → Begins (separated kind p) (separated kind q)
 separated_begins kind {p} pl pb =

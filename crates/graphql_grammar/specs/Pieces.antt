@@ -266,8 +266,11 @@ item kinds wrong p = record {
 abbrev pub separated_of : {A : Type 0} → Option (Unit {0}) × (A × List A) → List A
 separated_of x = x.1.0 ∷ x.1.1
 
+abbrev pub behind_sign : {A : Type 0} → Unit {0} × A → A
+behind_sign x = x.1
+
 abbrev pub separated : {A : Type 0} → Kind → Piece A → Piece (List A)
-separated kind p = mapped separated_of (seq (optional (sign kind)) (seq p (many (mapped (λ x. x.1) (seq (sign kind) p)))))
+separated kind p = mapped separated_of (seq (optional (sign kind)) (seq p (many (mapped behind_sign (seq (sign kind) p)))))
 
 -- ---- what is nested too deep
 
@@ -311,6 +314,16 @@ abbrev pub all_read : {A : Type 0} → A → List WordView → Result A Refusal
 all_read x [] = Ok x
 all_read x (w ∷ ws) = refused (Expected i.End) (w ∷ ws)
 
--- a piece, and nothing behind it
+-- a piece, from here on, and nothing behind it
+abbrev pub read_whole : {A : Type 0} → Piece A → State → Result A Refusal
+read_whole p s = p.read s >>= λ x. all_read x.0 x.1.left
+
+-- the same of some words
 abbrev pub read_all : {A : Type 0} → Piece A → List WordView → Result A Refusal
-read_all p left = p.read (record { last = 0; left = left }) >>= λ x. all_read x.0 x.1.left
+read_all p left = read_whole p (record { last = 0; left = left })
+
+-- what a function returned and left is what reading all gives, unless memory ran out
+abbrev pub GivesAll : {A : Type 0} → Result A ReadError → List WordView → Result A Refusal → Type 0
+GivesAll (Ok x) left reading = reading ≡ Ok x
+GivesAll (Err errors.Memory) left reading = Unit {0}
+GivesAll (Err (errors.Fault kind)) left reading = reading ≡ refused kind left

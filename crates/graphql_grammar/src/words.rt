@@ -171,6 +171,14 @@ impl<'a> Words<'a> {
         self.next
     }
 
+    /// The word behind the next one, if there is one.
+    pub fn second(&self) -> Option<Word<'a>> {
+        match first_token_of(self.rest) {
+            Ok(Some(token)) => Some(word_of(self.total, token)),
+            _ => None,
+        }
+    }
+
     /// What is wrong where the text stops being tokens, if that was met.
     pub fn error(&self) -> Option<TokenError> {
         self.error

@@ -7,16 +7,17 @@ use Rattle.graphql_ast.specs.declared.definition.Definition.TheVariants as d
 use Rattle.graphql_grammar.specs.declared.fault.Item.TheVariants as i
 use Rattle.graphql_grammar.specs.declared.kind.Kind.TheVariants as k
 use Rattle.graphql_grammar.specs.Kinds.{is_name, only}
-use Rattle.graphql_grammar.specs.Pieces.{some}
-use Rattle.graphql_grammar.proofs.BlindLaws.{Blind, branch_blind, choose_blind, filtered_blind, located_blind, mapped_blind, nothing_blind, optional_blind, picked_blind, separated_blind, seq_blind, sign_blind, some_blind}
-use Rattle.graphql_productions.specs.Documents.{definition, definition_pick, fragment, operation_definition, shorthand_definition}
+use Rattle.graphql_grammar.proofs.BlindLaws.{Blind, branch_blind, choose_blind, filtered_blind, item_blind, located_blind, mapped_blind, nothing_blind, optional_blind, picked_blind, separated_blind, seq_blind, sign_blind, some_blind}
+use Rattle.graphql_productions.specs.Documents.{any_kind, definition, definition_pick, document, fragment, operation_definition, shorthand_definition}
+use Rattle.graphql_productions.specs.Nodes.{or_none}
 use Rattle.graphql_productions.specs.Operations.{is_operation_type}
-use Rattle.graphql_productions.specs.TypeSystem.{definition_made, described, described_pick, directive_body, directive_of, expecting, extended, extended_pick, extended_schema_parts, extension, extension_body, extension_made, extension_of, has_part, is_described, is_description, keyword, location, location_word, no_described, no_location, schema_body, schema_extension_body, schema_extension_of, schema_of, system_definition, type_body, type_of}
+use Rattle.graphql_productions.specs.TypeSystem.{definition_made, described, described_pick, directive_body, directive_of, expecting, extended, extended_pick, extension, extension_body, extension_made, extension_of, has_part, is_described, is_description, keyword, location, location_word, no_described, no_location, schema_body, schema_extension_body, schema_extension_of, schema_of, schema_parts, system_definition, type_body, type_of}
 use Rattle.graphql_productions.proofs.BlindDirectives.{directives_blind}
 use Rattle.graphql_productions.proofs.BlindNodes.{name_blind, node_blind}
 use Rattle.graphql_productions.proofs.BlindOperations.{fragment_definition_blind, operation_blind, shorthand_blind}
 use Rattle.graphql_productions.proofs.BlindTypeSystem.{description_blind, input_values_blind, parts_blind, roots_blind}
-use Rattle.graphql_productions.proofs.DefinitionLaws.{definition_law, location_law}
+use Rattle.graphql_productions.proofs.DefinitionLaws.{location_law}
+use Rattle.graphql_productions.proofs.DocumentLaws.{one_law}
 
 -- ---- definitions of the type system
 
@@ -66,7 +67,7 @@ schema_extension_body_blind : (file : FileId) (depth : ℕ) → Blind (schema_ex
 unfolding schema_extension_body
 schema_extension_body_blind file depth =
     mapped_blind schema_extension_of (seq_blind (sign_blind k.Schema)
-    (filtered_blind has_part (expecting i.ExtensionPart) (mapped_blind extended_schema_parts (seq_blind (directives_blind file true depth) (optional_blind (roots_blind file depth))))))
+    (filtered_blind has_part (expecting i.ExtensionPart) (mapped_blind schema_parts (seq_blind (directives_blind file true depth) (mapped_blind or_none (optional_blind (roots_blind file depth)))))))
 
 extended_blind : (file : FileId) (depth : ℕ) → Blind (extended file depth)
 extended_blind file depth =
@@ -106,6 +107,5 @@ definition_blind file depth =
     (choose_blind (is_operation_type kind) (operation_definition_blind file depth)
     (choose_blind (is_description kind || is_described kind) (system_definition_blind file depth) (nothing_blind (expecting i.Definition)))))))
 
--- one definition or more
-pub definitions_blind : (file : FileId) (depth : ℕ) → Blind (some (definition file depth))
-definitions_blind file depth = some_blind (definition_law file depth) refl (definition_blind file depth)
+pub document_blind : (file : FileId) (depth : ℕ) → Blind (document file depth)
+document_blind file depth = some_blind (one_law file depth) refl (item_blind any_kind (expecting i.Definition) (definition_blind file depth))

@@ -3,7 +3,7 @@ use Rattle.std.proofs.Common.{ℕ, true, false, refl}
 use Rattle.graphql_nodes.specs.declared.operation_type.OperationType.TheVariants as o
 use Rattle.graphql_nodes.specs.declared.source.FileId.{FileId}
 use Rattle.graphql_grammar.specs.declared.kind.Kind.TheVariants as k
-use Rattle.graphql_grammar.specs.Kinds.{only}
+use Rattle.graphql_grammar.specs.Kinds.{is_name, only}
 use Rattle.graphql_grammar.specs.Pieces.{some}
 use Rattle.graphql_grammar.proofs.BlindLaws.{Blind, branch_blind, choose_blind, headed_blind, item_blind, mapped_blind, nothing_blind, optional_blind, seq_blind, sign_blind, some_blind}
 use Rattle.graphql_productions.specs.Nodes.{behind, or_none}
@@ -46,7 +46,7 @@ pub operation_blind : (file : FileId) (depth : ℕ) → Blind (operation file de
 unfolding operation
 operation_blind file depth =
     mapped_blind operation_of (seq_blind operation_type_blind
-    (seq_blind (optional_blind (name_blind file)) (seq_blind (variables_blind file depth) (seq_blind (directives_blind file false depth) (selection_set_blind file depth)))))
+    (seq_blind (optional_blind (headed_blind is_name (name_blind file))) (seq_blind (variables_blind file depth) (seq_blind (directives_blind file false depth) (selection_set_blind file depth)))))
 
 pub shorthand_blind : (file : FileId) (depth : ℕ) → Blind (shorthand file depth)
 unfolding shorthand

@@ -10,6 +10,7 @@ use Rattle.graphql_grammar.specs.Kinds.{is_name, names_of, only}
 use Rattle.graphql_grammar.specs.Pieces.{Piece, headed, some}
 use Rattle.graphql_grammar.proofs.BlindLaws.{Blind, branch_blind, choose_blind, headed_blind, located_blind, mapped_blind, nothing_blind, optional_blind, seq_blind, sign_blind, some_blind, word_blind}
 use Rattle.graphql_grammar.proofs.PieceLaws.{Lawful}
+use Rattle.graphql_productions.specs.Documents.{selections, selections_pick}
 use Rattle.graphql_productions.specs.Nodes.{behind, name_of}
 use Rattle.graphql_productions.specs.Selections.{alias, alias_body, bare_selections, condition_body, field, field_made, field_selection, fragment, fragment_body, fragment_name, fragment_pick, inline_at, inline_body, inline_of, nested_set, no_fragment_name, no_selection, placed_fragment, selection, selection_pick, selection_set, selections_of, spread_at, spread_body, spread_of, type_condition}
 use Rattle.graphql_productions.proofs.BlindDirectives.{arguments_blind, directives_blind}
@@ -77,3 +78,8 @@ selection_set_blind file depth = headed_blind (only k.LeftBrace) (nested_set_bli
 pub bare_selections_blind : (file : FileId) (depth : ℕ) → Blind (bare_selections file depth)
 unfolding bare_selections
 bare_selections_blind file depth = some_selections_blind file depth (nested_set file depth) (selection_set_law file depth) (nested_set_blind file depth)
+
+-- between braces or without
+pub selections_blind : (file : FileId) (depth : ℕ) → Blind (selections file depth)
+selections_blind file depth =
+    branch_blind (selections_pick file depth) no_selection (λ kind. choose_blind (only k.LeftBrace kind) (selection_set_blind file depth) (bare_selections_blind file depth))

@@ -10,10 +10,10 @@ use Rattle.graphql_grammar.specs.declared.kind.Kind.TheVariants as k
 use Rattle.graphql_grammar.specs.declared.kind.Names.TheVariants as names
 use Rattle.graphql_grammar.specs.Kinds.{names_of}
 use Rattle.graphql_grammar.specs.Pieces.{some}
-use Rattle.graphql_grammar.proofs.BlindLaws.{Blind, item_blind, mapped_blind, optional_blind, separated_blind, seq_blind, sign_blind, some_blind, word_blind}
+use Rattle.graphql_grammar.proofs.BlindLaws.{Blind, headed_blind, item_blind, mapped_blind, optional_blind, separated_blind, seq_blind, sign_blind, some_blind, word_blind}
 use Rattle.graphql_productions.specs.Nodes.{behind, name_of, or_none}
 use Rattle.graphql_productions.specs.Operations.{is_operation_type, no_root}
-use Rattle.graphql_productions.specs.TypeSystem.{description, description_of, enum_parts, enum_value_definition, enum_value_name, enum_value_node, enum_value_of, enum_values, expecting, field_definition, field_node, field_of, fielded, fielded_parts, fields, input_node, input_of, input_parts, input_value, input_values, is_described_name, is_description, is_enum_value, names_behind, no_enum_value, parts, root, root_node, root_of, roots, scalar_parts, union_parts}
+use Rattle.graphql_productions.specs.TypeSystem.{description, description_body, description_of, enum_parts, enum_value_definition, enum_value_name, enum_value_node, enum_value_of, enum_values, expecting, field_definition, field_node, field_of, fielded, fielded_parts, fields, input_node, input_of, input_parts, input_value, input_values, is_described_name, is_description, is_enum_value, names_behind, no_enum_value, parts, root, root_node, root_of, roots, scalar_parts, union_parts}
 use Rattle.graphql_productions.proofs.BlindDirectives.{directives_blind}
 use Rattle.graphql_productions.proofs.BlindNodes.{enclosed_blind, name_blind, node_blind}
 use Rattle.graphql_productions.proofs.BlindOperations.{operation_type_blind, typed_blind}
@@ -22,8 +22,8 @@ use Rattle.graphql_productions.proofs.NodeLaws.{name_law}
 use Rattle.graphql_productions.proofs.TypeSystemLaws.{enum_value_law, field_definition_law, input_value_law, root_law}
 
 pub description_blind : (file : FileId) → Blind (description file)
-unfolding description
-description_blind file = mapped_blind (description_of file) (word_blind is_description (λ _. Expected i.Definition))
+unfolding description_body
+description_blind file = headed_blind is_description (mapped_blind (description_of file) (word_blind is_description (λ _. Expected i.Definition)))
 
 -- ---- input values
 

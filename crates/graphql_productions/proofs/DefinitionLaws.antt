@@ -17,18 +17,17 @@ use Rattle.graphql_grammar.specs.declared.fault.Item.TheVariants as i
 use Rattle.graphql_grammar.specs.declared.kind.Kind.{Kind}
 use Rattle.graphql_grammar.specs.declared.kind.Kind.TheVariants as k
 use Rattle.graphql_grammar.specs.Kinds.{is_name, only}
-use Rattle.graphql_grammar.specs.Pieces.{Piece, choose, filtered, located, many, mapped, nothing, optional, separated, separated_of, seq, sign}
-use Rattle.graphql_grammar.specs.Words.{WordView}
+use Rattle.graphql_grammar.specs.Pieces.{Piece, behind_sign, choose, filtered, located, many, mapped, nothing, optional, separated, separated_of, seq, sign}
 use Rattle.graphql_grammar.proofs.BranchLaws.{branch_law, either_law}
 use Rattle.graphql_grammar.proofs.ManyLaws.{many_law}
 use Rattle.graphql_grammar.proofs.PieceLaws.{Lawful, apart, filtered_law, located_law, mapped_law, nothing_law, optional_law, picked_law, seq_law, sign_law}
 use Rattle.graphql_productions.specs.Directives.{arguments, directive_node, directives}
 use Rattle.graphql_productions.specs.Documents.{definition, definition_pick, fragment, is_definition, operation_definition, shorthand_definition}
 use Rattle.graphql_productions.specs.Locations.{location_of}
-use Rattle.graphql_productions.specs.Nodes.{name, node}
+use Rattle.graphql_productions.specs.Nodes.{name, node, or_none}
 use Rattle.graphql_productions.specs.Operations.{fragment_definition, is_operation_type, operation, shorthand, variables}
 use Rattle.graphql_productions.specs.Selections.{fragment_name}
-use Rattle.graphql_productions.specs.TypeSystem.{Described, definition_made, described, described_pick, description, directive_body, directive_of, enum_values, expecting, extended, extended_pick, extended_schema_parts, extension, extension_body, extension_made, extension_of, fielded, fields, goes_on_type, has_part, input_values, is_described, is_description, is_extended, keyword, location, location_word, names_behind, no_described, no_location, parts, roots, schema_body, schema_extension_body, schema_extension_of, schema_of, system_definition, type_body, type_of}
+use Rattle.graphql_productions.specs.TypeSystem.{Described, definition_made, described, described_pick, description, directive_body, directive_of, enum_values, expecting, extended, extended_pick, extension, extension_body, extension_made, extension_of, fielded, fields, goes_on_type, has_part, input_values, is_described, is_description, is_extended, keyword, location, location_word, names_behind, no_described, no_location, optional_roots, parts, roots, schema_body, schema_extension_body, schema_extension_of, schema_of, schema_parts, system_definition, type_body, type_of}
 use Rattle.graphql_productions.proofs.DirectiveLaws.{directives_law}
 use Rattle.graphql_productions.proofs.NodeLaws.{name_law, node_law}
 use Rattle.graphql_productions.proofs.OperationLaws.{fragment_definition_law, operation_law, shorthand_law}
@@ -65,8 +64,8 @@ locations_law =
     let o : Piece (Option (Unit {0})) = optional (sign k.Pipe) in
     let s : Piece (Unit {0} × DirectiveLocation) = seq (sign k.Pipe) location in
     let sl : Lawful s = seq_law (sign k.Pipe) location (sign_law k.Pipe) location_law (λ kind h. refl) in
-    let b : Piece DirectiveLocation = mapped (λ x. x.1) s in
-    let ml : Lawful (many b) = many_law b (mapped_law (λ x. x.1) s sl) refl (apart b.more b.first refl) in
+    let b : Piece DirectiveLocation = mapped behind_sign s in
+    let ml : Lawful (many b) = many_law b (mapped_law behind_sign s sl) refl (apart b.more b.first refl) in
     let nl : Lawful (seq location (many b)) = seq_law location (many b) location_law ml (λ kind h. refl) in
     let w : Piece (Option (Unit {0}) × (DirectiveLocation × List DirectiveLocation)) = seq o (seq location (many b)) in
     mapped_law separated_of w (seq_law o (seq location (many b)) (optional_law (sign k.Pipe) (sign_law k.Pipe) refl) nl (apart o.more location.first refl))
@@ -111,7 +110,7 @@ unfolding schema_body type_body directive_body parts fielded names_behind fields
 described_law file depth = branch_law is_described goes_on_type (described_pick file depth) no_described (described_pick_law file depth) refl refl refl
 
 pub system_definition_law : (file : FileId) (depth : ℕ) → Lawful (system_definition file depth)
-unfolding system_definition description
+unfolding system_definition
 system_definition_law file depth =
     let o : Piece (Option NameView) = optional (description file) in
     let b : Piece Described = described file depth in
@@ -129,18 +128,18 @@ extension_body_law file kind depth =
     let nl : Lawful n = seq_law (name file) p (name_law file) pl (λ other h. refl) in
     mapped_law (extension_of kind) (seq (sign (keyword kind)) n) (seq_law (sign (keyword kind)) n (sign_law (keyword kind)) nl (λ other h. refl))
 
-pub schema_extension_parts_law : (file : FileId) (depth : ℕ) → Lawful (mapped extended_schema_parts (seq (directives file true depth) (optional (roots file depth))))
+pub schema_extension_parts_law : (file : FileId) (depth : ℕ) → Lawful (mapped schema_parts (seq (directives file true depth) (optional_roots file depth)))
 unfolding directives directive_node arguments name
 schema_extension_parts_law file depth =
     let d : Piece DirectiveList = directives file true depth in
-    let r : Piece (Option (List (NodeView (OperationType × NameView)))) = optional (roots file depth) in
-    let dl : Lawful (seq d r) = seq_law d r (directives_law file true depth) (optional_law (roots file depth) (roots_law file depth) refl) (apart d.more r.first refl) in
-    mapped_law extended_schema_parts (seq d r) dl
+    let r : Piece (List (NodeView (OperationType × NameView))) = optional_roots file depth in
+    let rl : Lawful r = mapped_law or_none (optional (roots file depth)) (optional_law (roots file depth) (roots_law file depth) refl) in
+    mapped_law schema_parts (seq d r) (seq_law d r (directives_law file true depth) rl (apart d.more r.first refl))
 
 schema_extension_body_law : (file : FileId) (depth : ℕ) → Lawful (schema_extension_body file depth)
 unfolding schema_extension_body
 schema_extension_body_law file depth =
-    let p : Piece DefinitionParts = mapped extended_schema_parts (seq (directives file true depth) (optional (roots file depth))) in
+    let p : Piece DefinitionParts = mapped schema_parts (seq (directives file true depth) (optional_roots file depth)) in
     let f : Piece DefinitionParts = filtered has_part (expecting i.ExtensionPart) p in
     let fl : Lawful f = filtered_law has_part (expecting i.ExtensionPart) p (schema_extension_parts_law file depth) in
     mapped_law schema_extension_of (seq (sign k.Schema) f) (seq_law (sign k.Schema) f (sign_law k.Schema) fl (λ kind h. refl))
@@ -192,17 +191,17 @@ fragment_law file depth =
     mapped_law (λ x. d.FragmentDefinition x) (node file (fragment_definition file depth)) (node_law file (fragment_definition file depth) (fragment_definition_law file depth) refl)
 
 pub definition_law : (file : FileId) (depth : ℕ) → Lawful (definition file depth)
-unfolding operation_definition operation shorthand_definition shorthand fragment fragment_definition extension system_definition description variables directives fragment_name name
+unfolding operation_definition operation shorthand_definition shorthand fragment fragment_definition extension system_definition variables directives fragment_name name
 definition_law file depth =
     let p0 : Piece Definition = nothing (expecting i.Definition) in
     let pick_law : (kind : Kind) → Lawful (definition_pick file depth kind) = λ kind.
-        let p1 : Piece Definition = choose (is_description kind || is_described kind) (system_definition file depth) p0 in
-        let p2 : Piece Definition = choose (is_operation_type kind) (operation_definition file depth) p1 in
-        let p3 : Piece Definition = choose (only k.Extend kind) (extension file depth) p2 in
-        let p4 : Piece Definition = choose (only k.Fragment kind) (fragment file depth) p3 in
-        either_law (only k.LeftBrace kind) (shorthand_definition file depth) p4 (shorthand_definition_law file depth)
-        (either_law (only k.Fragment kind) (fragment file depth) p3 (fragment_law file depth)
-        (either_law (only k.Extend kind) (extension file depth) p2 (extension_law file depth)
-        (either_law (is_operation_type kind) (operation_definition file depth) p1 (operation_definition_law file depth)
-        (either_law (is_description kind || is_described kind) (system_definition file depth) p0 (system_definition_law file depth) (nothing_law (expecting i.Definition)))))) in
+    let p1 : Piece Definition = choose (is_description kind || is_described kind) (system_definition file depth) p0 in
+    let p2 : Piece Definition = choose (is_operation_type kind) (operation_definition file depth) p1 in
+    let p3 : Piece Definition = choose (only k.Extend kind) (extension file depth) p2 in
+    let p4 : Piece Definition = choose (only k.Fragment kind) (fragment file depth) p3 in
+    either_law (only k.LeftBrace kind) (shorthand_definition file depth) p4 (shorthand_definition_law file depth)
+    (either_law (only k.Fragment kind) (fragment file depth) p3 (fragment_law file depth)
+    (either_law (only k.Extend kind) (extension file depth) p2 (extension_law file depth)
+    (either_law (is_operation_type kind) (operation_definition file depth) p1 (operation_definition_law file depth)
+    (either_law (is_description kind || is_described kind) (system_definition file depth) p0 (system_definition_law file depth) (nothing_law (expecting i.Definition)))))) in
     branch_law is_definition goes_on_type (definition_pick file depth) (expecting i.Definition) pick_law refl refl refl

@@ -18,7 +18,7 @@ use Rattle.graphql_grammar.proofs.ViableLaws.{Begins, GoesOn, filtered_begins, m
 use Rattle.graphql_productions.specs.Directives.{directive, directives}
 use Rattle.graphql_productions.specs.Nodes.{between, enclosed, name, or_none}
 use Rattle.graphql_productions.specs.Operations.{no_root}
-use Rattle.graphql_productions.specs.TypeSystem.{enum_parts, enum_value_definition, enum_values, expecting, extended_schema_parts, field_definition, fielded, fielded_parts, fields, has_part, input_parts, input_value, input_values, is_none, names_behind, names_body, no_enum_value, parts, root, roots, scalar_parts, union_parts}
+use Rattle.graphql_productions.specs.TypeSystem.{enum_parts, enum_value_definition, enum_values, expecting, field_definition, fielded, fielded_parts, fields, has_part, input_parts, input_value, input_values, is_none, names_behind, names_body, no_enum_value, optional_roots, parts, root, roots, scalar_parts, schema_parts, union_parts}
 use Rattle.graphql_productions.proofs.DefinitionLaws.{schema_extension_parts_law}
 use Rattle.graphql_productions.proofs.DirectiveLaws.{directives_law}
 use Rattle.graphql_productions.proofs.TypeSystemLaws.{parts_law}
@@ -27,7 +27,7 @@ use Rattle.graphql_productions.proofs.ViableTypeSystem.{parts_begins, roots_lead
 
 -- what stands behind `extend schema`
 abbrev schema_extension_parts : FileId → ℕ → Piece DefinitionParts
-schema_extension_parts file depth = mapped extended_schema_parts (seq (directives file true depth) (optional (roots file depth)))
+schema_extension_parts file depth = mapped schema_parts (seq (directives file true depth) (optional_roots file depth))
 
 -- ---- lists that are never empty
 
@@ -127,9 +127,9 @@ parts_words file t.InputObject depth x front h e =
 
 schema_parts_words : (file : FileId) (depth : ℕ) (x : DefinitionParts) (front : List WordView) → (schema_extension_parts file depth).spells x front → has_part x ≡ false → front ≡ []
 schema_parts_words file depth x front h e =
-    let f = both_flags (is_none h.0.0.0) (is_none (or_none h.0.1)) (sym (ap has_part h.1) ∙ e) in
+    let f = both_flags (is_none h.0.0.0) (is_none h.0.1) (sym (ap has_part h.1) ∙ e) in
     no_words front h.2.head h.2.tail h.2.whole (directive_words file depth h.0.0 h.2.head h.2.first f.0)
-    (nothing_left_out (roots file depth) (enclosed_filled k.LeftBrace k.RightBrace no_root depth (λ _. root file)) h.0.1 h.2.tail h.2.second f.1)
+    (list_words (roots file depth) (enclosed_filled k.LeftBrace k.RightBrace no_root depth (λ _. root file)) h.0.1 h.2.tail h.2.second f.1)
 
 -- ---- one directive
 
@@ -194,8 +194,8 @@ module _ (file : FileId) (depth : ℕ) where
   schema_parts_there : GoesOn has_part (schema_extension_parts file (suc depth)).spells []
   schema_parts_there = record {
     more = directive_front ++ [];
-    value = extended_schema_parts (one_directive, None);
-    spelled = ((one_directive, None), refl, record { head = directive_front; tail = []; whole = refl; first = directive_spelled; second = refl });
+    value = schema_parts (one_directive, []);
+    spelled = ((one_directive, []), refl, record { head = directive_front; tail = []; whole = refl; first = directive_spelled; second = (None, refl, refl) });
     passes = refl;
   }
 
@@ -211,5 +211,5 @@ module _ (file : FileId) (depth : ℕ) where
   schema_extension_parts_begins =
       let g : GoesOn has_part (schema_extension_parts file (suc depth)).spells [] = schema_parts_there in
       filtered_begins has_part (expecting i.ExtensionPart) (schema_extension_parts_law file depth)
-      (mapped_begins extended_schema_parts (seq_begins (directives_law file true depth) (directives_begins file true depth) (optional_begins (roots_leads file depth))))
+      (mapped_begins schema_parts (seq_begins (directives_law file true depth) (directives_begins file true depth) (mapped_begins or_none (optional_begins (roots_leads file depth)))))
       (none_goes_on has_part (schema_extension_parts file (suc depth)) g.value g.more g.spelled g.passes (schema_parts_words file (suc depth)))

@@ -8,7 +8,9 @@ pub mod BlindTypeSystem
 pub mod BlindValues
 pub mod DefinitionLaws
 pub mod DirectiveLaws
+pub mod DocumentLaws
 pub mod ExtensionParts
+pub mod LocationLemmas
 pub mod NestedLemmas
 pub mod NodeLaws
 pub mod OperationLaws

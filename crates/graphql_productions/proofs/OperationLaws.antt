@@ -1,5 +1,5 @@
 -- Operations and fragments: what is read is spelled so, and the other way round.
-use Rattle.std.proofs.Common.{◌≡◌, ℕ, zero, suc, Bool, true, false, List, Option, refl}
+use Rattle.std.proofs.Common.{ℕ, zero, suc, true, false, List, Option, refl}
 use Rattle.graphql_nodes.specs.declared.operation_type.OperationType.{OperationType}
 use Rattle.graphql_nodes.specs.declared.operation_type.OperationType.TheVariants as o
 use Rattle.graphql_nodes.specs.declared.source.FileId.{FileId}
@@ -13,14 +13,14 @@ use Rattle.graphql_ast.specs.declared.value.Value.{Value}
 use Rattle.graphql_grammar.specs.declared.fault.FaultKind.TheVariants.{TooDeep}
 use Rattle.graphql_grammar.specs.declared.kind.Kind.{Kind}
 use Rattle.graphql_grammar.specs.declared.kind.Kind.TheVariants as k
-use Rattle.graphql_grammar.specs.Kinds.{none, only}
+use Rattle.graphql_grammar.specs.Kinds.{is_name, none, only}
 use Rattle.graphql_grammar.specs.Pieces.{Piece, choose, mapped, nothing, optional, seq, sign, some, too_deep}
 use Rattle.graphql_grammar.proofs.BranchLaws.{branch_law, either_law}
 use Rattle.graphql_grammar.proofs.ManyLaws.{some_law}
 use Rattle.graphql_grammar.proofs.PieceLaws.{Lawful, apart, headed_law, item_law, mapped_law, nothing_law, optional_law, seq_law, sign_law}
 use Rattle.graphql_productions.specs.Directives.{arguments, directive_node, directives}
 use Rattle.graphql_productions.specs.Nodes.{behind, between, enclosed, name, node, or_none}
-use Rattle.graphql_productions.specs.Operations.{default_body, default_value, fragment_definition, fragment_of, is_operation_type, no_root, no_variable, operation, operation_of, operation_type, operation_type_pick, shorthand, shorthand_of, typed, variable_definition, variable_node, variable_of, variables}
+use Rattle.graphql_productions.specs.Operations.{default_body, default_value, fragment_definition, fragment_of, is_operation_type, no_root, no_variable, operation, operation_name, operation_of, operation_type, operation_type_pick, shorthand, shorthand_of, typed, variable_definition, variable_node, variable_of, variables}
 use Rattle.graphql_productions.specs.Selections.{fragment_name, selection_set, type_condition}
 use Rattle.graphql_productions.specs.Types.{type}
 use Rattle.graphql_productions.specs.Values.{value_node, variable}
@@ -37,9 +37,9 @@ operation_type_law =
     let s : Piece OperationType = mapped (λ _. o.Subscription) (sign k.Subscription) in
     let n : Piece OperationType = nothing no_root in
     let pick_law : (kind : Kind) → Lawful (operation_type_pick kind) = λ kind.
-        either_law (only k.Query kind) q (choose (only k.Mutation kind) m (choose (only k.Subscription kind) s n)) (mapped_law (λ _. o.Query) (sign k.Query) (sign_law k.Query))
-        (either_law (only k.Mutation kind) m (choose (only k.Subscription kind) s n) (mapped_law (λ _. o.Mutation) (sign k.Mutation) (sign_law k.Mutation))
-        (either_law (only k.Subscription kind) s n (mapped_law (λ _. o.Subscription) (sign k.Subscription) (sign_law k.Subscription)) (nothing_law no_root))) in
+    either_law (only k.Query kind) q (choose (only k.Mutation kind) m (choose (only k.Subscription kind) s n)) (mapped_law (λ _. o.Query) (sign k.Query) (sign_law k.Query))
+    (either_law (only k.Mutation kind) m (choose (only k.Subscription kind) s n) (mapped_law (λ _. o.Mutation) (sign k.Mutation) (sign_law k.Mutation))
+    (either_law (only k.Subscription kind) s n (mapped_law (λ _. o.Subscription) (sign k.Subscription) (sign_law k.Subscription)) (nothing_law no_root))) in
     branch_law is_operation_type none operation_type_pick no_root pick_law refl refl refl
 
 pub default_law : (file : FileId) (depth : ℕ) → Lawful (default_value file depth)
@@ -101,14 +101,18 @@ directed_law file depth =
     let set : Piece (List Selection) = selection_set file depth in
     seq_law d set (directives_law file false depth) (selection_set_law file depth) (apart d.more set.first refl)
 
+pub optional_name_law : (file : FileId) → Lawful (optional (operation_name file))
+unfolding name
+optional_name_law file = optional_law (operation_name file) (headed_law is_name (name file) (name_law file) refl refl refl) refl
+
 pub operation_law : (file : FileId) (depth : ℕ) → Lawful (operation file depth)
 unfolding operation variables directives name directive_node arguments
 operation_law file depth =
     let d : Piece (DirectiveList × List Selection) = seq (directives file false depth) (selection_set file depth) in
     let v : Piece (List (NodeView VariableDefinition)) = variables file depth in
     let vl : Lawful (seq v d) = seq_law v d (variables_law file depth) (directed_law file depth) (apart v.more d.first refl) in
-    let n : Piece (Option NameView) = optional (name file) in
-    let nl : Lawful (seq n (seq v d)) = seq_law n (seq v d) (optional_law (name file) (name_law file) refl) vl (apart n.more (seq v d).first refl) in
+    let n : Piece (Option NameView) = optional (operation_name file) in
+    let nl : Lawful (seq n (seq v d)) = seq_law n (seq v d) (optional_name_law file) vl (apart n.more (seq v d).first refl) in
     mapped_law operation_of (seq operation_type (seq n (seq v d))) (seq_law operation_type (seq n (seq v d)) operation_type_law nl (λ kind h. refl))
 
 pub shorthand_law : (file : FileId) (depth : ℕ) → Lawful (shorthand file depth)

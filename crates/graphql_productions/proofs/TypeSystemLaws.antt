@@ -1,12 +1,11 @@
 -- What definitions and extensions of the type system hold: what is read is spelled so, and the other way round.
-use Rattle.std.proofs.Common.{◌≡◌, ℕ, zero, suc, Bool, true, false, List, [], ◌∷◌, Option, None, Some, refl}
+use Rattle.std.proofs.Common.{ℕ, zero, suc, true, List, Option, refl}
 use Rattle.graphql_nodes.specs.declared.operation_type.OperationType.{OperationType}
 use Rattle.graphql_nodes.specs.declared.source.FileId.{FileId}
 use Rattle.graphql_nodes.specs.declared.type_kind.TypeKind.{TypeKind}
 use Rattle.graphql_nodes.specs.declared.type_kind.TypeKind.TheVariants as t
 use Rattle.graphql_nodes.specs.NameView.{NameView}
 use Rattle.graphql_nodes.specs.NodeView.{NodeView}
-use Rattle.graphql_ast.specs.declared.definition_parts.DefinitionParts.{DefinitionParts}
 use Rattle.graphql_ast.specs.declared.directive.DirectiveList.{DirectiveList}
 use Rattle.graphql_ast.specs.declared.type_reference.Type.{«Type» as TypeReference}
 use Rattle.graphql_ast.specs.declared.type_system.EnumValueDefinition.{EnumValueDefinition}
@@ -14,37 +13,35 @@ use Rattle.graphql_ast.specs.declared.type_system.FieldDefinition.{FieldDefiniti
 use Rattle.graphql_ast.specs.declared.type_system.InputValueDefinition.{InputValueDefinition}
 use Rattle.graphql_ast.specs.declared.value.Value.{Value}
 use Rattle.graphql_grammar.specs.declared.fault.FaultKind.TheVariants.{Expected, TooDeep}
-use Rattle.graphql_grammar.specs.declared.fault.Item.{Item}
 use Rattle.graphql_grammar.specs.declared.fault.Item.TheVariants as i
-use Rattle.graphql_grammar.specs.declared.kind.Kind.{Kind}
 use Rattle.graphql_grammar.specs.declared.kind.Kind.TheVariants as k
 use Rattle.graphql_grammar.specs.declared.kind.Names.TheVariants as names
 use Rattle.graphql_grammar.specs.Kinds.{names_of, only}
-use Rattle.graphql_grammar.specs.Pieces.{Piece, many, mapped, optional, separated, separated_of, seq, sign, some, too_deep, word}
+use Rattle.graphql_grammar.specs.Pieces.{Piece, behind_sign, many, mapped, optional, separated, separated_of, seq, sign, some, too_deep, word}
 use Rattle.graphql_grammar.proofs.ManyLaws.{many_law, some_law}
 use Rattle.graphql_grammar.proofs.PieceLaws.{Lawful, apart, headed_law, item_law, mapped_law, nothing_law, optional_law, seq_law, sign_law, word_law}
 use Rattle.graphql_productions.specs.Directives.{arguments, directive_node, directives}
 use Rattle.graphql_productions.specs.Nodes.{behind, between, enclosed, name, name_of, node, or_none}
 use Rattle.graphql_productions.specs.Operations.{is_operation_type, no_root, operation_type, typed}
 use Rattle.graphql_productions.specs.Types.{type}
-use Rattle.graphql_productions.specs.TypeSystem.{description, description_of, enum_parts, enum_value_definition, enum_value_name, enum_value_node, enum_value_of, enum_values, expecting, field_definition, field_node, field_of, fielded, fielded_parts, fields, input_node, input_of, input_parts, input_value, input_values, is_described_name, is_description, is_enum_value, names_behind, names_body, no_enum_value, parts, root, root_node, root_of, roots, scalar_parts, union_parts}
+use Rattle.graphql_productions.specs.TypeSystem.{description, description_body, description_of, enum_parts, enum_value_definition, enum_value_name, enum_value_node, enum_value_of, enum_values, expecting, field_definition, field_node, field_of, fielded, fielded_parts, fields, input_node, input_of, input_parts, input_value, input_values, is_described_name, is_description, is_enum_value, names_behind, names_body, no_enum_value, parts, root, root_node, root_of, roots, scalar_parts, union_parts}
 use Rattle.graphql_productions.proofs.DirectiveLaws.{directives_law}
 use Rattle.graphql_productions.proofs.NodeLaws.{between_law, name_law, node_law}
 use Rattle.graphql_productions.proofs.OperationLaws.{operation_type_law, typed_law}
 use Rattle.graphql_productions.proofs.TypeLaws.{type_law}
 
 pub description_law : (file : FileId) → Lawful (description file)
-unfolding description
-description_law file = mapped_law (description_of file) (word is_description (λ _. Expected i.Definition)) (word_law is_description (λ _. Expected i.Definition))
+unfolding description_body
+description_law file =
+    headed_law is_description (description_body file) (mapped_law (description_of file) (word is_description (λ _. Expected i.Definition)) (word_law is_description (λ _. Expected i.Definition))) refl refl refl
 
 pub optional_description_law : (file : FileId) → Lawful (optional (description file))
-unfolding description
 optional_description_law file = optional_law (description file) (description_law file) refl
 
 -- ---- input values
 
 pub input_value_law : (file : FileId) (depth : ℕ) → Lawful (input_value file depth)
-unfolding input_node description name
+unfolding input_node name
 input_value_law file depth =
     let c : Piece (Unit {0} × (NodeView TypeReference × (Option (NodeView Value) × DirectiveList))) = typed file depth in
     let n : Piece (NameView × (Unit {0} × (NodeView TypeReference × (Option (NodeView Value) × DirectiveList)))) = seq (name file) c in
@@ -55,7 +52,7 @@ input_value_law file depth =
     item_law is_described_name (expecting i.InputValue) (node file m) (node_law file m (mapped_law input_of (seq o n) ol) refl) refl refl
 
 pub some_inputs_law : (file : FileId) (depth : ℕ) → Lawful (some (input_value file depth))
-unfolding input_node typed directives directive_node arguments description name
+unfolding input_node typed directives directive_node arguments name
 some_inputs_law file depth =
     let v : Piece (NodeView InputValueDefinition) = input_value file depth in
     some_law v (input_value_law file depth) refl (apart v.more v.first refl)
@@ -91,7 +88,7 @@ input_fields_law file depth =
 -- ---- fields
 
 pub field_definition_law : (file : FileId) (depth : ℕ) → Lawful (field_definition file depth)
-unfolding field_node input_values directives directive_node arguments description name
+unfolding field_node input_values directives directive_node arguments name
 field_definition_law file depth =
     let d : Piece DirectiveList = directives file true depth in
     let t : Piece TypeReference = type file depth in
@@ -135,8 +132,8 @@ implementing_law file =
     let o : Piece (Option (Unit {0})) = optional (sign k.Ampersand) in
     let s : Piece (Unit {0} × NameView) = seq (sign k.Ampersand) (name file) in
     let sl : Lawful s = seq_law (sign k.Ampersand) (name file) (sign_law k.Ampersand) (name_law file) (λ kind h. refl) in
-    let b : Piece NameView = mapped behind s in
-    let ml : Lawful (many b) = many_law b (mapped_law behind s sl) refl (apart b.more b.first refl) in
+    let b : Piece NameView = mapped behind_sign s in
+    let ml : Lawful (many b) = many_law b (mapped_law behind_sign s sl) refl (apart b.more b.first refl) in
     let nl : Lawful (seq (name file) (many b)) = seq_law (name file) (many b) (name_law file) ml (λ kind h. refl) in
     let w : Piece (Option (Unit {0}) × (NameView × List NameView)) = seq o (seq (name file) (many b)) in
     let wl : Lawful w = seq_law o (seq (name file) (many b)) (optional_law (sign k.Ampersand) (sign_law k.Ampersand) refl) nl (apart o.more (name file).first refl) in
@@ -150,8 +147,8 @@ members_law file =
     let o : Piece (Option (Unit {0})) = optional (sign k.Pipe) in
     let s : Piece (Unit {0} × NameView) = seq (sign k.Pipe) (name file) in
     let sl : Lawful s = seq_law (sign k.Pipe) (name file) (sign_law k.Pipe) (name_law file) (λ kind h. refl) in
-    let b : Piece NameView = mapped behind s in
-    let ml : Lawful (many b) = many_law b (mapped_law behind s sl) refl (apart b.more b.first refl) in
+    let b : Piece NameView = mapped behind_sign s in
+    let ml : Lawful (many b) = many_law b (mapped_law behind_sign s sl) refl (apart b.more b.first refl) in
     let nl : Lawful (seq (name file) (many b)) = seq_law (name file) (many b) (name_law file) ml (λ kind h. refl) in
     let w : Piece (Option (Unit {0}) × (NameView × List NameView)) = seq o (seq (name file) (many b)) in
     let wl : Lawful w = seq_law o (seq (name file) (many b)) (optional_law (sign k.Pipe) (sign_law k.Pipe) refl) nl (apart o.more (name file).first refl) in
@@ -166,7 +163,7 @@ unfolding enum_value_name
 enum_value_name_law file = mapped_law (name_of file) (word (names_of names.EnumValue) no_enum_value) (word_law (names_of names.EnumValue) no_enum_value)
 
 pub enum_value_law : (file : FileId) (depth : ℕ) → Lawful (enum_value_definition file depth)
-unfolding enum_value_node enum_value_name directives description directive_node arguments name
+unfolding enum_value_node enum_value_name directives directive_node arguments name
 enum_value_law file depth =
     let d : Piece DirectiveList = directives file true depth in
     let n : Piece NameView = enum_value_name file in

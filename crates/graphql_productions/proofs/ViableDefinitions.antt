@@ -12,12 +12,14 @@ use Rattle.graphql_grammar.specs.Kinds.{is_name, only}
 use Rattle.graphql_grammar.specs.Pieces.{sign}
 use Rattle.graphql_grammar.specs.Words.{WordView}
 use Rattle.graphql_grammar.proofs.PieceLaws.{optional_law, sign_law}
-use Rattle.graphql_grammar.proofs.ViableLaws.{Begins, Leads, begun_leads, branch_leads, choose_leads, leads_begins, located_begins, mapped_begins, nothing_leads, optional_begins, picked_begins, picked_by, separated_begins, seq_begins, sign_begins}
-use Rattle.graphql_productions.specs.Documents.{definition, definition_pick, fragment, operation_definition, shorthand_definition}
+use Rattle.graphql_grammar.proofs.ViableLaws.{Begins, Leads, begun_leads, branch_leads, choose_leads, item_begins, leads_begins, located_begins, mapped_begins, nothing_leads, optional_begins, picked_begins, picked_by, separated_begins, seq_begins, sign_begins, some_begins}
+use Rattle.graphql_productions.specs.Documents.{any_kind, definition, definition_pick, document, fragment, operation_definition, shorthand_definition}
+use Rattle.graphql_productions.specs.Locations.{location_of}
 use Rattle.graphql_productions.specs.Operations.{is_operation_type}
 use Rattle.graphql_productions.specs.TypeSystem.{definition_made, described, described_pick, directive_body, directive_of, expecting, extended, extended_pick, extension, extension_body, extension_made, extension_of, is_described, is_description, keyword, location, location_word, no_described, no_location, schema_body, schema_extension_body, schema_extension_of, schema_of, system_definition, type_body, type_of}
 use Rattle.graphql_productions.proofs.DefinitionLaws.{extension_body_law, extension_law, location_law, type_body_law}
 use Rattle.graphql_productions.proofs.DirectiveLaws.{directives_law}
+use Rattle.graphql_productions.proofs.DocumentLaws.{one_law}
 use Rattle.graphql_productions.proofs.ExtensionParts.{extension_parts_begins, schema_extension_parts_begins}
 use Rattle.graphql_productions.proofs.NodeLaws.{name_law}
 use Rattle.graphql_productions.proofs.TypeSystemLaws.{argument_definitions_law, optional_description_law}
@@ -43,7 +45,7 @@ abbrev location_named : WordView
 location_named = record { kind = k.Name; text = location_text l.Query; start = 0; end = 0 }
 
 location_begins : Begins location location
-unfolding location
+unfolding location location_of
 location_begins = picked_begins location_word is_name no_location location_named l.Query refl
 
 directive_body_begins : (file : FileId) (depth : ℕ) → Begins (directive_body file depth) (directive_body file (suc depth))
@@ -142,3 +144,6 @@ definition_begins file depth =
     let b : Begins (extension file depth) (extension file (suc depth)) = extension_begins file depth in
     leads_begins (definition_leads file depth) b.value b.words
     (picked_by (definition_pick file (suc depth)) k.Extend b.value b.words ((extension_law file (suc depth)).begun b.value b.words b.some) b.some)
+
+pub document_begins : (file : FileId) (depth : ℕ) → Begins (document file depth) (document file (suc depth))
+document_begins file depth = some_begins (one_law file depth) (item_begins any_kind (expecting i.Definition) (definition_begins file depth))

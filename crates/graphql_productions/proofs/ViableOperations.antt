@@ -3,16 +3,16 @@ use Rattle.std.proofs.Common.{ℕ, suc, true, false, [], ◌∷◌, refl}
 use Rattle.graphql_nodes.specs.declared.operation_type.OperationType.TheVariants as o
 use Rattle.graphql_nodes.specs.declared.source.FileId.{FileId}
 use Rattle.graphql_grammar.specs.declared.kind.Kind.TheVariants as k
-use Rattle.graphql_grammar.specs.Kinds.{only}
+use Rattle.graphql_grammar.specs.Kinds.{is_name, only}
 use Rattle.graphql_grammar.specs.Pieces.{some}
 use Rattle.graphql_grammar.proofs.PieceLaws.{optional_law, sign_law}
 use Rattle.graphql_grammar.proofs.ViableLaws.{Begins, bare_word, begun_leads, branch_leads, choose_leads, headed_begins, item_begins, leads_begins, mapped_begins, nothing_leads, optional_begins, seq_begins, sign_begins, some_begins}
-use Rattle.graphql_productions.specs.Nodes.{behind, name, or_none}
+use Rattle.graphql_productions.specs.Nodes.{behind, or_none}
 use Rattle.graphql_productions.specs.Operations.{default_body, default_value, fragment_definition, fragment_of, no_root, no_variable, operation, operation_of, operation_type, operation_type_pick, shorthand, shorthand_of, typed, variable_definition, variable_node, variable_of, variables}
 use Rattle.graphql_productions.specs.Types.{type}
 use Rattle.graphql_productions.proofs.DirectiveLaws.{directives_law}
-use Rattle.graphql_productions.proofs.NodeLaws.{name_law, node_law}
-use Rattle.graphql_productions.proofs.OperationLaws.{default_law, operation_type_law, some_variables_law, variable_definition_law, variables_law}
+use Rattle.graphql_productions.proofs.NodeLaws.{node_law}
+use Rattle.graphql_productions.proofs.OperationLaws.{default_law, operation_type_law, optional_name_law, some_variables_law, variable_definition_law, variables_law}
 use Rattle.graphql_productions.proofs.SelectionLaws.{condition_law, fragment_name_law}
 use Rattle.graphql_productions.proofs.TypeLaws.{type_law}
 use Rattle.graphql_productions.proofs.ValueLaws.{variable_law}
@@ -54,10 +54,10 @@ variables_begins file depth =
     (λ inside. some_begins (variable_definition_law file inside) (variable_definition_begins file inside))))
 
 pub operation_begins : (file : FileId) (depth : ℕ) → Begins (operation file depth) (operation file (suc depth))
-unfolding operation name
+unfolding operation
 operation_begins file depth =
     mapped_begins operation_of (seq_begins operation_type_law operation_type_begins
-    (seq_begins (optional_law (name file) (name_law file) refl) (optional_begins (begun_leads (name_begins file)))
+    (seq_begins (optional_name_law file) (optional_begins (begun_leads (headed_begins is_name (name_begins file))))
     (seq_begins (variables_law file depth) (variables_begins file depth)
     (seq_begins (directives_law file false depth) (directives_begins file false depth) (selection_set_begins file depth)))))
 

@@ -15,8 +15,9 @@ use Rattle.graphql_grammar.specs.Kinds.{is_name, names_of, only}
 use Rattle.graphql_grammar.specs.Pieces.{Piece, headed, some}
 use Rattle.graphql_grammar.specs.Words.{WordView, ended, starting}
 use Rattle.graphql_grammar.proofs.PieceLaws.{Lawful, optional_law, sign_law}
-use Rattle.graphql_grammar.proofs.ViableLaws.{Begins, bare_word, begun_leads, branch_leads, choose_leads, headed_begins, headed_leads, leads_begins, located_begins, mapped_begins, nothing_leads, optional_begins, seq_begins, sign_begins, some_begins, word_begins}
+use Rattle.graphql_grammar.proofs.ViableLaws.{Begins, Leads, bare_word, begun_leads, branch_leads, choose_leads, headed_begins, headed_leads, leads_begins, located_begins, mapped_begins, nothing_leads, optional_begins, picked_by, seq_begins, sign_begins, some_begins, word_begins}
 use Rattle.graphql_productions.specs.Directives.{arguments, directives}
+use Rattle.graphql_productions.specs.Documents.{selections, selections_pick}
 use Rattle.graphql_productions.specs.Nodes.{behind, name, name_of, node_of}
 use Rattle.graphql_productions.specs.Selections.{alias, alias_body, bare_selections, condition_body, field, field_made, field_selection, fragment, fragment_body, fragment_name, fragment_pick, inline_at, inline_body, inline_of, nested_set, no_fragment_name, no_selection, placed_fragment, selection, selection_pick, selection_set, selections_of, spread_at, spread_body, spread_of, type_condition}
 use Rattle.graphql_productions.proofs.DirectiveLaws.{arguments_law, directives_law}
@@ -183,3 +184,16 @@ selection_set_begins file (suc depth) =
 pub bare_selections_begins : (file : FileId) (depth : ℕ) → Begins (bare_selections file depth) (bare_selections file (suc depth))
 unfolding bare_selections
 bare_selections_begins file depth = some_selections_begins file depth (nested_set file depth) (nested_set file (suc depth)) (selection_set_law file depth) (selection_set_begins file depth)
+
+-- between braces or without
+whole_selections_lead : (file : FileId) (depth : ℕ) → Leads (selections file depth) (selections file (suc depth))
+whole_selections_lead file depth =
+    branch_leads (selections_pick file depth) (selections_pick file (suc depth)) no_selection (λ kind.
+    choose_leads (only k.LeftBrace kind) (begun_leads (selection_set_begins file depth)) (begun_leads (bare_selections_begins file depth)))
+
+-- a selection set is one
+pub whole_selections_begin : (file : FileId) (depth : ℕ) → Begins (selections file depth) (selections file (suc depth))
+whole_selections_begin file depth =
+    let b : Begins (selection_set file depth) (selection_set file (suc depth)) = selection_set_begins file depth in
+    leads_begins (whole_selections_lead file depth) b.value b.words
+    (picked_by (selections_pick file (suc depth)) k.LeftBrace b.value b.words ((selection_set_law file (suc depth)).begun b.value b.words b.some) b.some)

@@ -11,10 +11,10 @@ use Rattle.graphql_grammar.specs.declared.kind.Names.TheVariants as names
 use Rattle.graphql_grammar.specs.Kinds.{names_of}
 use Rattle.graphql_grammar.specs.Pieces.{optional, some}
 use Rattle.graphql_grammar.proofs.PieceLaws.{sign_law}
-use Rattle.graphql_grammar.proofs.ViableLaws.{Begins, Leads, begun_leads, item_begins, leads_begins, mapped_begins, optional_begins, separated_begins, seq_begins, sign_begins, some_begins, word_begins}
+use Rattle.graphql_grammar.proofs.ViableLaws.{Begins, Leads, begun_leads, headed_begins, item_begins, leads_begins, mapped_begins, optional_begins, separated_begins, seq_begins, sign_begins, some_begins, word_begins}
 use Rattle.graphql_productions.specs.Nodes.{behind, between, name_of, or_none}
 use Rattle.graphql_productions.specs.Operations.{is_operation_type, no_root}
-use Rattle.graphql_productions.specs.TypeSystem.{description, description_of, enum_parts, enum_value_definition, enum_value_name, enum_value_node, enum_value_of, enum_values, expecting, field_definition, field_node, field_of, fielded, fielded_parts, fields, input_node, input_of, input_parts, input_value, input_values, is_described_name, is_description, is_enum_value, names_behind, no_enum_value, parts, root, root_node, root_of, roots, scalar_parts, union_parts}
+use Rattle.graphql_productions.specs.TypeSystem.{description, description_body, description_of, enum_parts, enum_value_definition, enum_value_name, enum_value_node, enum_value_of, enum_values, expecting, field_definition, field_node, field_of, fielded, fielded_parts, fields, input_node, input_of, input_parts, input_value, input_values, is_described_name, is_description, is_enum_value, names_behind, no_enum_value, parts, root, root_node, root_of, roots, scalar_parts, union_parts}
 use Rattle.graphql_productions.proofs.DirectiveLaws.{directives_law}
 use Rattle.graphql_productions.proofs.NodeLaws.{name_law}
 use Rattle.graphql_productions.proofs.OperationLaws.{operation_type_law}
@@ -26,8 +26,8 @@ use Rattle.graphql_productions.proofs.ViableOperations.{operation_type_begins, t
 use Rattle.graphql_productions.proofs.ViableTypes.{type_begins}
 
 description_begins : (file : FileId) → Begins (description file) (description file)
-unfolding description
-description_begins file = mapped_begins (description_of file) (word_begins is_description (λ _. Expected i.Definition) k.String refl)
+unfolding description_body
+description_begins file = headed_begins is_description (mapped_begins (description_of file) (word_begins is_description (λ _. Expected i.Definition) k.String refl))
 
 pub optional_description_begins : (file : FileId) → Begins (optional (description file)) (optional (description file))
 optional_description_begins file = optional_begins (begun_leads (description_begins file))

@@ -1,16 +1,19 @@
 -- Documents: GraphQL specification of October 2021, section 2.2.
-use Rattle.std.specs.Prelude.{◌≡◌, ℕ, List, [], ◌∷◌, Bool, true, false, ◌||◌, if◌then◌else◌}
+use Rattle.std.specs.Prelude.{◌≡◌, ℕ, List, [], ◌∷◌, true, false, ◌||◌}
 use Rattle.graphql_nodes.specs.declared.source.FileId.{FileId}
 use Rattle.graphql_ast.specs.declared.definition.Definition.{Definition}
 use Rattle.graphql_ast.specs.declared.definition.Definition.TheVariants as d
-use Rattle.graphql_grammar.specs.declared.fault.FaultKind.TheVariants.{Expected}
+use Rattle.graphql_ast.specs.declared.selection.Selection.{Selection}
 use Rattle.graphql_grammar.specs.declared.fault.Item.TheVariants as i
 use Rattle.graphql_grammar.specs.declared.kind.Kind.{Kind}
 use Rattle.graphql_grammar.specs.declared.kind.Kind.TheVariants as k
-use Rattle.graphql_grammar.specs.Kinds.{Kinds, is_name, only}
-use Rattle.graphql_grammar.specs.Pieces.{Piece, branch, choose, mapped, nothing}
+use Rattle.graphql_grammar.specs.Kinds.{Kinds, only}
+use Rattle.graphql_grammar.specs.Pieces.{Piece, branch, choose, item, mapped, nothing, some}
+use Rattle.graphql_grammar.specs.Spelling.{Parts}
+use Rattle.graphql_grammar.specs.Words.{WordView, begins}
 use Rattle.graphql_productions.specs.Nodes.{node}
 use Rattle.graphql_productions.specs.Operations.{fragment_definition, is_operation_type, operation, shorthand}
+use Rattle.graphql_productions.specs.Selections.{bare_selections, no_selection, selection_set}
 use Rattle.graphql_productions.specs.TypeSystem.{expecting, extension, goes_on_type, is_described, is_description, system_definition}
 
 unfoldable pub operation_definition : FileId → ℕ → Piece Definition
@@ -38,3 +41,23 @@ is_definition kind = only k.LeftBrace kind || (is_operation_type kind || (only k
 -- Definition, by its first word
 abbrev pub definition : FileId → ℕ → Piece Definition
 definition file depth = branch is_definition goes_on_type (definition_pick file depth) (expecting i.Definition)
+
+-- every kind
+abbrev pub any_kind : Kinds
+any_kind kind = true
+
+-- Document: one definition or more, up to the last word
+abbrev pub document : FileId → ℕ → Piece (List Definition)
+document file depth = some (item any_kind (expecting i.Definition) (definition file depth))
+
+-- these definitions, one after the other; none of them but the first begins with `{`, nor with what may go on with the one before
+abbrev pub spells_in_turn : FileId → ℕ → List Definition → List WordView → Type 0
+spells_in_turn file depth [] words = words ≡ []
+spells_in_turn file depth (x ∷ xs) words = Parts ((definition file depth).spells x) (λ tail. spells_in_turn file depth xs tail × (begins goes_on_type tail ≡ false)) words
+
+abbrev pub selections_pick : FileId → ℕ → Kind → Piece (List Selection)
+selections_pick file depth kind = choose (only k.LeftBrace kind) (selection_set file depth) (bare_selections file depth)
+
+-- selections, between braces or without
+abbrev pub selections : FileId → ℕ → Piece (List Selection)
+selections file depth = branch any_kind any_kind (selections_pick file depth) no_selection

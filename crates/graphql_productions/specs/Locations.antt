@@ -1,5 +1,5 @@
 -- The names of directive locations: GraphQL specification of October 2021, section 3.13.
-use Rattle.std.specs.Prelude.{ℕ, Bool, List, [], ◌∷◌, nat_eq, Option, None, Some, if◌then◌else◌}
+use Rattle.std.specs.Prelude.{ℕ, List, [], ◌∷◌, nat_eq, Option, None, Some, if◌then◌else◌}
 use lib.Pointwise.{pointwise}
 use Rattle.graphql_nodes.specs.declared.directive_location.DirectiveLocation.{DirectiveLocation}
 use Rattle.graphql_nodes.specs.declared.directive_location.DirectiveLocation.TheVariants as l
@@ -15,5 +15,5 @@ named_among [] text = None
 named_among (location ∷ locations) text = if pointwise nat_eq (location_text location) text then Some location else named_among locations text
 
 -- the location of this name, if there is one
-abbrev pub location_of : List ℕ → Option DirectiveLocation
+unfoldable pub location_of : List ℕ → Option DirectiveLocation
 location_of text = named_among all_locations text

@@ -1,5 +1,5 @@
 -- Operations and fragments: GraphQL specification of October 2021, sections 2.3, 2.8 and 2.10.
-use Rattle.std.specs.Prelude.{ℕ, List, [], Bool, true, false, ◌||◌, Option, None, Some}
+use Rattle.std.specs.Prelude.{ℕ, List, [], true, false, ◌||◌, Option, None}
 use Rattle.graphql_nodes.specs.declared.source.FileId.{FileId}
 use Rattle.graphql_nodes.specs.declared.operation_type.OperationType.{OperationType}
 use Rattle.graphql_nodes.specs.declared.operation_type.OperationType.TheVariants as o
@@ -16,7 +16,7 @@ use Rattle.graphql_grammar.specs.declared.fault.FaultKind.TheVariants.{Expected}
 use Rattle.graphql_grammar.specs.declared.fault.Item.TheVariants as i
 use Rattle.graphql_grammar.specs.declared.kind.Kind.{Kind}
 use Rattle.graphql_grammar.specs.declared.kind.Kind.TheVariants as k
-use Rattle.graphql_grammar.specs.Kinds.{Kinds, none, only}
+use Rattle.graphql_grammar.specs.Kinds.{Kinds, is_name, none, only}
 use Rattle.graphql_grammar.specs.Pieces.{Piece, Wrong, branch, choose, headed, item, mapped, nothing, optional, seq, sign, some}
 use Rattle.graphql_productions.specs.Directives.{directives}
 use Rattle.graphql_productions.specs.Nodes.{behind, enclosed, name, node, or_none}
@@ -73,10 +73,14 @@ variables file depth = mapped or_none (optional (enclosed k.LeftParen k.RightPar
 abbrev pub operation_of : OperationType × (Option NameView × (List (NodeView VariableDefinition) × (DirectiveList × List Selection))) → OperationDefinition
 operation_of x = record { operation_type = x.0; name = x.1.0; variables = x.1.1.0; directives = x.1.1.1.0; selection_set = x.1.1.1.1 }
 
+-- the name of an operation
+abbrev pub operation_name : FileId → Piece NameView
+operation_name file = headed is_name (name file)
+
 -- OperationDefinition: section 2.3
 unfoldable pub operation : FileId → ℕ → Piece OperationDefinition
 operation file depth =
-    mapped operation_of (seq operation_type (seq (optional (name file)) (seq (variables file depth) (seq (directives file false depth) (selection_set file depth)))))
+    mapped operation_of (seq operation_type (seq (optional (operation_name file)) (seq (variables file depth) (seq (directives file false depth) (selection_set file depth)))))
 
 abbrev pub shorthand_of : List Selection → OperationDefinition
 shorthand_of selections = record { operation_type = o.Query; name = None; variables = []; directives = record { 0 = [] }; selection_set = selections }

@@ -26,8 +26,8 @@ use Rattle.graphql_grammar.specs.declared.fault.Item.TheVariants as i
 use Rattle.graphql_grammar.specs.declared.kind.Kind.{Kind}
 use Rattle.graphql_grammar.specs.declared.kind.Kind.TheVariants as k
 use Rattle.graphql_grammar.specs.declared.kind.Names.TheVariants as names
-use Rattle.graphql_grammar.specs.Kinds.{Kinds, is_name, names_of, none, only}
-use Rattle.graphql_grammar.specs.Pieces.{Piece, Wrong, branch, choose, empty, filtered, headed, item, located, mapped, nothing, optional, picked, separated, seq, sign, some, word}
+use Rattle.graphql_grammar.specs.Kinds.{Kinds, is_name, names_of, only}
+use Rattle.graphql_grammar.specs.Pieces.{Piece, Wrong, branch, choose, filtered, headed, item, located, mapped, nothing, optional, picked, separated, seq, sign, some, word}
 use Rattle.graphql_grammar.specs.Words.{WordView, begins}
 use Rattle.graphql_productions.specs.Directives.{directives}
 use Rattle.graphql_productions.specs.Locations.{location_of}
@@ -44,9 +44,12 @@ description_of file w = record { text = (if only k.BlockString w.kind then block
 abbrev pub is_description : Kinds
 is_description kind = only k.String kind || only k.BlockString kind
 
+unfoldable pub description_body : FileId → Piece NameView
+description_body file = mapped (description_of file) (word is_description (λ _. Expected i.Definition))
+
 -- Description
-unfoldable pub description : FileId → Piece NameView
-description file = mapped (description_of file) (word is_description (λ _. Expected i.Definition))
+abbrev pub description : FileId → Piece NameView
+description file = headed is_description (description_body file)
 
 -- what may begin with a description, and begins with a name without one
 abbrev pub is_described_name : Kinds
@@ -285,8 +288,9 @@ unfoldable pub extension_body : FileId → TypeKind → ℕ → Piece (Option So
 extension_body file kind depth =
     mapped (extension_of kind) (seq (sign (keyword kind)) (seq (name file) (filtered has_part (expecting i.ExtensionPart) (parts file kind depth))))
 
-abbrev pub extended_schema_parts : DirectiveList × Option (List (NodeView (OperationType × NameView))) → DefinitionParts
-extended_schema_parts x = schema_parts (x.0, or_none x.1)
+-- the roots between braces, if they are there
+abbrev pub optional_roots : FileId → ℕ → Piece (List (NodeView (OperationType × NameView)))
+optional_roots file depth = mapped or_none (optional (roots file depth))
 
 abbrev pub schema_extension_of : Unit {0} × DefinitionParts → Option SourceSpan → Definition
 schema_extension_of x location = schema_extension x.1 location
@@ -294,7 +298,7 @@ schema_extension_of x location = schema_extension x.1 location
 -- SchemaExtension, behind `extend`: section 3.3.2
 unfoldable pub schema_extension_body : FileId → ℕ → Piece (Option SourceSpan → Definition)
 schema_extension_body file depth =
-    mapped schema_extension_of (seq (sign k.Schema) (filtered has_part (expecting i.ExtensionPart) (mapped extended_schema_parts (seq (directives file true depth) (optional (roots file depth))))))
+    mapped schema_extension_of (seq (sign k.Schema) (filtered has_part (expecting i.ExtensionPart) (mapped schema_parts (seq (directives file true depth) (optional_roots file depth)))))
 
 abbrev pub extended_pick : FileId → ℕ → Kind → Piece (Option SourceSpan → Definition)
 extended_pick file depth kind =

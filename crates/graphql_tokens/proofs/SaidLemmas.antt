@@ -25,11 +25,6 @@ module _ (size : List ℕ → ℕ) (says : List ℕ → List ℕ) where
           rw (ne_eqb (suc n) 0 (λ e. omega (arith, e)))
           (ap (λ (k : ℕ). says (c ∷ cs) ++ said size says k cs) one ∙ ap (λ (r : List ℕ). says (c ∷ cs) ++ r) (passed n cs (omega (arith, within))))
 
-  -- there is none
-  pub none_said : (xs : List ℕ) → size xs ≡ 0 → said size says 0 xs ≡ []
-  none_said [] none = refl
-  none_said (c ∷ cs) none = rw none refl
-
   -- bytes that say themselves
   module _ (p : ℕ → Bool) (itself : (c : ℕ) (cs : List ℕ) → p c ≡ true → size (c ∷ cs) ≡ 1) (says_itself : (c : ℕ) (cs : List ℕ) → p c ≡ true → says (c ∷ cs) ≡ c ∷ []) where
     one_plain : (c : ℕ) (cs : List ℕ) → p c ≡ true → said size says 0 (c ∷ cs) ≡ c ∷ said size says 0 cs

@@ -116,7 +116,8 @@ fn behind_quotes<'a>(token: &'a str) -> &'a str
     }
 }
 
-/// The value of a string token, of its bytes with the quotes. The error is want of memory.
+/// The value of a string token, of its bytes with the quotes. Of a text that is no such token it means nothing. The error is want of
+/// memory.
 pub fn string_value(alloc: Global, token: &str) -> Result<Text, AllocError>
     ensures { IfOk result (λ value. value ≡ string_value token.now) }
 {
@@ -124,7 +125,8 @@ pub fn string_value(alloc: Global, token: &str) -> Result<Text, AllocError>
     Ok(Text::from_string(value))
 }
 
-/// The value of a block string token, of its bytes with the quotes. The error is want of memory.
+/// The value of a block string token, of its bytes with the quotes. Of a text that is no such token it means nothing. The error is want
+/// of memory.
 pub fn block_string_value(alloc: Global, token: &str) -> Result<Text, AllocError>
     ensures { IfOk result (λ value. value ≡ block_string_value token.now) }
 {

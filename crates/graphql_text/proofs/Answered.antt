@@ -1,0 +1,48 @@
+-- What calls that read a text answer, by what their readers returned.
+use Rattle.std.proofs.Common.{◌≡◌, List, ◌∷◌, Result, Ok, Err, IfOk, refl, sym, subst, ◌∙◌}
+use Rattle.graphql_nodes.specs.declared.source.FileId.{FileId}
+use Rattle.std.proofs.Common.{ℕ}
+use Rattle.graphql_ast.specs.declared.definition.Definition.{Definition}
+use Rattle.graphql_grammar.specs.declared.fault.ReadError.{ReadError}
+use Rattle.graphql_grammar.specs.declared.fault.ReadError.TheVariants as errors
+use Rattle.graphql_grammar.specs.Pieces.{GivesAll, Piece, read_all}
+use Rattle.graphql_grammar.specs.Words.{WordView}
+use Rattle.graphql_grammar.proofs.PieceLaws.{Lawful}
+use Rattle.graphql_grammar.proofs.ReadingLemmas.{ok_is}
+use Rattle.graphql_grammar.proofs.WholeLaws.{all_again, all_sound}
+use Rattle.graphql_productions.specs.Documents.{document, spells_in_turn}
+use Rattle.graphql_productions.proofs.DocumentLaws.{document_again, document_found}
+use Rattle.graphql_text.specs.Parses.{Answers, Parsed}
+use Rattle.graphql_text.specs.declared.parse_error.ParseError.{ParseError}
+
+module _ {A : Type 0} (p : Piece A) (words left : List WordView) where
+  -- where reading gives a value that is what was answered
+  read_so : (r : Result A ReadError) (answer : Result A ParseError) (P : A → Type 0) → GivesAll r left (read_all p words) → Parsed r answer → ((x : A) → read_all p words ≡ Ok x → P x) → IfOk answer P
+  read_so (Ok x) (Ok y) P gives parsed holds = subst P (sym parsed) (holds x gives)
+  read_so (Ok x) (Err e) P gives parsed holds = tt
+  read_so (Err error) (Ok y) P gives parsed holds = absurd parsed
+  read_so (Err error) (Err e) P gives parsed holds = tt
+
+  -- where reading gives this value it is answered
+  pub given : (r : Result A ReadError) (answer : Result A ParseError) (x : A) → GivesAll r left (read_all p words) → Parsed r answer → read_all p words ≡ Ok x → Answers x answer
+  given (Ok y) (Ok z) x gives parsed e = parsed ∙ ok_is y x (sym gives ∙ e)
+  given (Ok y) (Err f) x gives parsed e = absurd parsed
+  given (Err error) (Ok z) x gives parsed e = absurd parsed
+  given (Err errors.Memory) (Err f) x gives parsed e = parsed
+  given (Err (errors.Fault kind)) (Err f) x gives parsed e = absurd (let w = sym gives ∙ e in cc)
+
+  pub found : Lawful p → (r : Result A ReadError) (answer : Result A ParseError) → GivesAll r left (read_all p words) → Parsed r answer → IfOk answer (λ x. p.spells x words)
+  found pl r answer gives parsed = read_so r answer (λ x. p.spells x words) gives parsed (λ x e. all_sound p pl words x e)
+
+  pub only : Lawful p → (r : Result A ReadError) (answer : Result A ParseError) → GivesAll r left (read_all p words) → Parsed r answer → (x : A) → p.spells x words → Answers x answer
+  only pl r answer gives parsed x h = given r answer x gives parsed (all_again p pl words x h)
+
+-- the same of documents
+pub document_is : (file : FileId) (depth : ℕ) (words left : List WordView) (r : Result (List Definition) ReadError) (answer : Result (List Definition) ParseError)
+    → GivesAll r left (read_all (document file depth) words) → Parsed r answer → IfOk answer (λ xs. (document file depth).spells xs words)
+document_is file depth words left r answer gives parsed =
+    read_so (document file depth) words left r answer (λ xs. (document file depth).spells xs words) gives parsed (λ xs e. document_found file depth words xs e)
+
+pub document_only : (file : FileId) (depth : ℕ) (words left : List WordView) (r : Result (List Definition) ReadError) (answer : Result (List Definition) ParseError)
+    → GivesAll r left (read_all (document file depth) words) → Parsed r answer → (x : Definition) (xs : List Definition) → spells_in_turn file depth (x ∷ xs) words → Answers (x ∷ xs) answer
+document_only file depth words left r answer gives parsed x xs h = given (document file depth) words left r answer (x ∷ xs) gives parsed (document_again file depth x xs words h)

@@ -1,0 +1,23 @@
+-- What is read of all words is answered.
+use Rattle.std.proofs.Common.{true, subst}
+use Rattle.graphql_grammar.specs.Pieces.{GivesAll, State, read_whole}
+use Rattle.graphql_grammar.specs.Standing.{standing}
+use Rattle.graphql_grammar.specs.WordsOfText.{words_of}
+use Rattle.graphql_productions.specs.Values.{value_node}
+use Rattle.graphql_productions.proofs.ValueLaws.{value_node_law}
+use Rattle.graphql_text.proofs.Answered.{found, only}
+use Rattle.graphql_text.proofs.parsing.parse_value.Goals as goal
+
+pub returns-clause-found : goal.returns-clause-found
+returns-clause-found c =
+    let left = (standing c.value-read.new.words).left in
+    let p = value_node c.args.file true c.args.options.max_depth in
+    found p (words_of c.args.options.max_tokens c.args.text.now) left (value_node_law c.args.file true c.args.options.max_depth) c.value-read.result c.parsed.result
+    (subst (λ (s : State). GivesAll c.value-read.result left (read_whole p s)) c.new-words.ensures c.value-read.ensures) c.parsed.ensures
+
+pub returns-clause-only : goal.returns-clause-only
+returns-clause-only c = λ read real h.
+    let left = (standing c.value-read.new.words).left in
+    let p = value_node c.args.file true c.args.options.max_depth in
+    only p (words_of c.args.options.max_tokens c.args.text.now) left (value_node_law c.args.file true c.args.options.max_depth) c.value-read.result c.parsed.result
+    (subst (λ (s : State). GivesAll c.value-read.result left (read_whole p s)) c.new-words.ensures c.value-read.ensures) c.parsed.ensures read h

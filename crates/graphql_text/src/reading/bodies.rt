@@ -1,0 +1,224 @@
+//! Reading definitions and extensions of the type system, behind their descriptions and behind `extend`: GraphQL specification of October
+//! 2021, sections 3.3 to 3.13.
+ghost use Rattle.std.specs.Prelude.{◌≡◌, true, IfOk};
+ghost use Rattle.graphql_grammar.specs.Pieces.{Gives, GivesSeen, mapped, seq};
+ghost use Rattle.graphql_productions.specs.Directives.{directives};
+ghost use Rattle.graphql_grammar.specs.Standing.{standing};
+ghost use Rattle.graphql_productions.specs.TypeSystem.{described, directive_body, extended, extension_body, no_described, optional_roots, schema_body, schema_extension_body, schema_parts, type_body};
+ghost use Rattle.graphql_text.specs.Seen.{seen_body, seen_extension};
+
+use crate::reading::directives::directives;
+use crate::reading::kinds::{has_part, keyword, parts};
+use crate::reading::parts::{input_values, roots};
+use crate::reading::separated::{optional_sign, separated};
+use crate::reading::target::{Target, sign};
+use graphql_ast::definition::Definition;
+use graphql_ast::definition_parts::DefinitionParts;
+use graphql_ast::type_system::{DirectiveDefinition, InputValueDefinition};
+use graphql_grammar::fault::{FaultKind, Item, ReadError};
+use graphql_grammar::kind::Kind;
+use graphql_grammar::words::Words;
+use graphql_nodes::collections::items::Items;
+use graphql_nodes::directive_location::DirectiveLocation;
+use graphql_nodes::name::{Name, NamedType};
+use graphql_nodes::node::Node;
+use graphql_nodes::node_str::NodeStr;
+use graphql_nodes::operation_type::OperationType;
+use graphql_nodes::source::SourceSpan;
+use graphql_nodes::type_kind::TypeKind;
+use std::alloc::{AllocError, Global};
+
+/// A definition of the type system, but its description and its location.
+#[derive(Drop)]
+pub(crate) enum Body {
+    Schema(DefinitionParts),
+    Type(TypeKind, Name, DefinitionParts),
+    Directive(Name, Items<Node<InputValueDefinition>>, bool, Items<DirectiveLocation>),
+}
+
+impl Body {
+    /// The definition with this description, at this location.
+    pub(crate) fn into_definition(
+        self,
+        alloc: Global,
+        description: Option<NodeStr>,
+        location: Option<SourceSpan>,
+    ) -> Result<Definition, AllocError>
+        ensures { IfOk result (λ made. made ≡ seen_body self description location) }
+    {
+        match self {
+            Body::Schema(parts) => parts.into_schema_definition(alloc, description, location),
+            Body::Type(kind, name, parts) => {
+                parts.into_definition(alloc, kind, description, name, location)
+            }
+            Body::Directive(name, arguments, repeatable, locations) => {
+                let definition = DirectiveDefinition {
+                    description,
+                    name,
+                    arguments,
+                    repeatable,
+                    locations,
+                };
+                Ok(Definition::DirectiveDefinition(Node::new_opt_location(
+                    alloc, definition, location,
+                )?))
+            }
+        }
+    }
+}
+
+/// An extension, but its location.
+#[derive(Drop)]
+pub(crate) enum Extension {
+    Schema(DefinitionParts),
+    Type(TypeKind, Name, DefinitionParts),
+}
+
+impl Extension {
+    /// The extension at this location.
+    pub(crate) fn into_definition(self, alloc: Global, location: Option<SourceSpan>) -> Result<Definition, AllocError>
+        ensures { IfOk result (λ made. made ≡ seen_extension self location) }
+    {
+        match self {
+            Extension::Schema(parts) => parts.into_schema_extension(alloc, location),
+            Extension::Type(kind, name, parts) => parts.into_extension(alloc, kind, name, location),
+        }
+    }
+}
+
+#[tactic(auto, unfolding(graphql_productions::specs::TypeSystem::type_body))]
+fn type_body(target: Target, words: &mut Words<'_>, kind: TypeKind) -> Result<Body, ReadError>
+    requires { target.constant ≡ true }
+    ensures { GivesSeen seen_body result (standing words.new) ((type_body target.file kind target.depth).read (standing words.old)) }
+{
+    sign(words, keyword(kind))?;
+    let name = target.name(words)?;
+    let parts = parts(target, words, kind)?;
+    Ok(Body::Type(kind, name, parts))
+}
+
+#[tactic(auto, unfolding(graphql_productions::specs::TypeSystem::schema_body))]
+fn schema_body(target: Target, words: &mut Words<'_>) -> Result<Body, ReadError>
+    requires { target.constant ≡ true }
+    ensures { GivesSeen seen_body result (standing words.new) ((schema_body target.file target.depth).read (standing words.old)) }
+{
+    sign(words, Kind::Schema)?;
+    let mut parts = DefinitionParts::new(target.alloc);
+    parts.directives = directives(target, words)?;
+    parts.roots = roots(target, words)?;
+    Ok(Body::Schema(parts))
+}
+
+#[tactic(auto, unfolding(graphql_productions::specs::TypeSystem::directive_body))]
+fn directive_body(target: Target, words: &mut Words<'_>) -> Result<Body, ReadError>
+    requires { target.constant ≡ true }
+    ensures { GivesSeen seen_body result (standing words.new) ((directive_body target.file target.depth).read (standing words.old)) }
+{
+    sign(words, Kind::Directive)?;
+    sign(words, Kind::At)?;
+    let name = target.name(words)?;
+    let arguments = input_values(target, words, Kind::LeftParen, Kind::RightParen)?;
+    let repeatable = optional_sign(words, Kind::Repeatable)?;
+    sign(words, Kind::On)?;
+    let locations = separated(target, words, Kind::Pipe)?;
+    Ok(Body::Directive(name, arguments, repeatable, locations))
+}
+
+/// What is wrong where no definition follows a description.
+fn no_described(words: &Words<'_>) -> FaultKind
+    ensures { result ≡ no_described (standing words.now).left }
+{
+    match words.next_kind() {
+        Some(
+            Kind::LeftBrace
+            | Kind::Query
+            | Kind::Mutation
+            | Kind::Subscription
+            | Kind::Fragment
+            | Kind::Extend,
+        ) => FaultKind::DescriptionNotAllowed,
+        _ => FaultKind::Expected(Item::Definition),
+    }
+}
+
+/// Reads a definition of the type system behind its description.
+pub(crate) fn described(target: Target, words: &mut Words<'_>) -> Result<Body, ReadError>
+    requires { target.constant ≡ true }
+    ensures { GivesSeen seen_body result (standing words.new) ((described target.file target.depth).read (standing words.old)) }
+{
+    match words.next_kind() {
+        Some(Kind::Schema) => schema_body(target, words),
+        Some(Kind::Scalar) => type_body(target, words, TypeKind::Scalar),
+        Some(Kind::Type) => type_body(target, words, TypeKind::Object),
+        Some(Kind::Interface) => type_body(target, words, TypeKind::Interface),
+        Some(Kind::Union) => type_body(target, words, TypeKind::Union),
+        Some(Kind::Enum) => type_body(target, words, TypeKind::Enum),
+        Some(Kind::Input) => type_body(target, words, TypeKind::InputObject),
+        Some(Kind::Directive) => directive_body(target, words),
+        _ => Err(ReadError::Fault(no_described(words))),
+    }
+}
+
+#[tactic(auto, unfolding(graphql_productions::specs::TypeSystem::extension_body))]
+fn extension_body(target: Target, words: &mut Words<'_>, kind: TypeKind) -> Result<Extension, ReadError>
+    requires { target.constant ≡ true }
+    ensures { GivesSeen seen_extension result (standing words.new) ((extension_body target.file kind target.depth).read (standing words.old)) }
+{
+    sign(words, keyword(kind))?;
+    let name = target.name(words)?;
+    let parts = parts(target, words, kind)?;
+    if !has_part(&parts) {
+        return Err(ReadError::Fault(FaultKind::Expected(Item::ExtensionPart)));
+    }
+    Ok(Extension::Type(kind, name, parts))
+}
+
+fn optional_roots(target: Target, words: &mut Words<'_>) -> Result<Items<Node<(OperationType, NamedType)>>, ReadError>
+    ensures { Gives result (standing words.new) ((optional_roots target.file target.depth).read (standing words.old)) }
+{
+    if words.next_is(Kind::LeftBrace) {
+        roots(target, words)
+    } else {
+        Ok(Items::new(target.alloc))
+    }
+}
+
+fn schema_parts(target: Target, words: &mut Words<'_>) -> Result<DefinitionParts, ReadError>
+    requires { target.constant ≡ true }
+    ensures { Gives result (standing words.new) ((mapped schema_parts (seq (directives target.file true target.depth) (optional_roots target.file target.depth))).read (standing words.old)) }
+{
+    let mut parts = DefinitionParts::new(target.alloc);
+    parts.directives = directives(target, words)?;
+    parts.roots = optional_roots(target, words)?;
+    Ok(parts)
+}
+
+#[tactic(auto, unfolding(graphql_productions::specs::TypeSystem::schema_extension_body))]
+fn schema_extension_body(target: Target, words: &mut Words<'_>) -> Result<Extension, ReadError>
+    requires { target.constant ≡ true }
+    ensures { GivesSeen seen_extension result (standing words.new) ((schema_extension_body target.file target.depth).read (standing words.old)) }
+{
+    sign(words, Kind::Schema)?;
+    let parts = schema_parts(target, words)?;
+    if !has_part(&parts) {
+        return Err(ReadError::Fault(FaultKind::Expected(Item::ExtensionPart)));
+    }
+    Ok(Extension::Schema(parts))
+}
+
+/// Reads an extension behind `extend`.
+pub(crate) fn extended(target: Target, words: &mut Words<'_>) -> Result<Extension, ReadError>
+    requires { target.constant ≡ true }
+    ensures { GivesSeen seen_extension result (standing words.new) ((extended target.file target.depth).read (standing words.old)) }
+{
+    match words.next_kind() {
+        Some(Kind::Schema) => schema_extension_body(target, words),
+        Some(Kind::Scalar) => extension_body(target, words, TypeKind::Scalar),
+        Some(Kind::Type) => extension_body(target, words, TypeKind::Object),
+        Some(Kind::Interface) => extension_body(target, words, TypeKind::Interface),
+        Some(Kind::Union) => extension_body(target, words, TypeKind::Union),
+        Some(Kind::Enum) => extension_body(target, words, TypeKind::Enum),
+        Some(Kind::Input) => extension_body(target, words, TypeKind::InputObject),
+        _ => Err(ReadError::Fault(FaultKind::Expected(Item::Extended))),
+    }
+}

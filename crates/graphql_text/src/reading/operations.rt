@@ -1,0 +1,198 @@
+//! Reading operations and fragments: GraphQL specification of October 2021, sections 2.3, 2.8 and 2.10.
+ghost use Rattle.std.specs.Prelude.{◌≡◌, false, true};
+ghost use Rattle.graphql_grammar.specs.Kinds.{only};
+ghost use Rattle.graphql_grammar.specs.Pieces.{Gives, GivesSeen, optional};
+ghost use Rattle.graphql_grammar.specs.Standing.{standing};
+ghost use Rattle.graphql_grammar.specs.declared.kind.Kind.TheVariants.{Dollar};
+ghost use Rattle.graphql_productions.specs.Operations.{default_value, fragment_definition, no_variable, operation, operation_name, operation_type, shorthand, typed, variable_node, variables};
+ghost use Rattle.graphql_text.specs.Seen.{seen_typed};
+ghost use Rattle.graphql_productions.proofs.OperationLaws.{variable_definition_law};
+
+use crate::reading::directives::directives;
+use crate::reading::lists::{Read, optional_items};
+use crate::reading::selections::{fragment_name, selection_set, type_condition};
+use crate::reading::target::{Target, sign};
+use crate::reading::types::type_node;
+use crate::reading::values::{value_node, variable};
+use graphql_ast::directive::DirectiveList;
+use graphql_ast::operation::{FragmentDefinition, OperationDefinition, VariableDefinition};
+use graphql_ast::type_reference::Type;
+use graphql_ast::value::Value;
+use graphql_grammar::fault::{FaultKind, Item, ReadError};
+use graphql_grammar::kind::{Kind, Names};
+use graphql_grammar::words::Words;
+use graphql_nodes::collections::items::Items;
+use graphql_nodes::name::Name;
+use graphql_nodes::node::Node;
+use graphql_nodes::operation_type::OperationType;
+
+/// Reads an operation type.
+pub(crate) fn operation_type(words: &mut Words<'_>) -> Result<OperationType, ReadError>
+    ensures { Gives result (standing words.new) (operation_type.read (standing words.old)) }
+{
+    match words.next_kind() {
+        Some(Kind::Query) => {
+            sign(words, Kind::Query)?;
+            Ok(OperationType::Query)
+        }
+        Some(Kind::Mutation) => {
+            sign(words, Kind::Mutation)?;
+            Ok(OperationType::Mutation)
+        }
+        Some(Kind::Subscription) => {
+            sign(words, Kind::Subscription)?;
+            Ok(OperationType::Subscription)
+        }
+        _ => Err(ReadError::Fault(FaultKind::Expected(Item::RootOperation))),
+    }
+}
+
+#[tactic(auto, unfolding(graphql_productions::specs::Operations::default_body))]
+fn default_value(target: Target, words: &mut Words<'_>) -> Result<Node<Value>, ReadError>
+    requires { target.constant ≡ true }
+    ensures { Gives result (standing words.new) ((default_value target.file target.depth).read (standing words.old)) }
+{
+    sign(words, Kind::Equals)?;
+    value_node(target, words)
+}
+
+fn optional_default(target: Target, words: &mut Words<'_>) -> Result<Option<Node<Value>>, ReadError>
+    requires { target.constant ≡ true }
+    ensures { Gives result (standing words.new) ((optional (default_value target.file target.depth)).read (standing words.old)) }
+{
+    if words.next_is(Kind::Equals) {
+        Ok(Some(default_value(target, words)?))
+    } else {
+        Ok(None)
+    }
+}
+
+/// What stands behind the name of a variable or an input value.
+pub(crate) struct AfterName {
+    pub(crate) ty: Node<Type>,
+    pub(crate) default_value: Option<Node<Value>>,
+    pub(crate) directives: DirectiveList,
+}
+
+/// Reads a type behind `:`, with a default value, if there is one, and directives.
+#[tactic(auto, unfolding(graphql_productions::specs::Operations::typed))]
+pub(crate) fn typed(target: Target, words: &mut Words<'_>) -> Result<AfterName, ReadError>
+    requires { target.constant ≡ true }
+    ensures { GivesSeen seen_typed result (standing words.new) ((typed target.file target.depth).read (standing words.old)) }
+{
+    sign(words, Kind::Colon)?;
+    let ty = type_node(target, words)?;
+    let default_value = optional_default(target, words)?;
+    let directives = directives(target, words)?;
+    Ok(AfterName {
+        ty,
+        default_value,
+        directives,
+    })
+}
+
+impl Read for Node<VariableDefinition> {
+    ghost piece = { λ file _ depth. variable_node file depth };
+    ghost first = { only Dollar };
+    ghost wrong = { no_variable };
+    ghost law = { λ file _ depth. variable_definition_law file depth };
+
+    fn begins(kind: Kind) -> bool {
+        kind.is(Kind::Dollar)
+    }
+
+    fn fault(_words: &Words<'_>) -> FaultKind {
+        FaultKind::Expected(Item::VariableDefinition)
+    }
+
+    #[tactic(auto, unfolding(graphql_productions::specs::Operations::variable_node))]
+    fn read(target: Target, words: &mut Words<'_>) -> Result<Node<VariableDefinition>, ReadError> {
+        let start = words.start();
+        let name = variable(target, words)?;
+        let AfterName {
+            ty,
+            default_value,
+            directives,
+        } = typed(target.constant(), words)?;
+        let definition = VariableDefinition {
+            name,
+            ty,
+            default_value,
+            directives,
+        };
+        Ok(target.node(definition, start, words.last)?)
+    }
+}
+
+#[tactic(auto, unfolding(graphql_productions::specs::Operations::variables))]
+fn variables(target: Target, words: &mut Words<'_>) -> Result<Items<Node<VariableDefinition>>, ReadError>
+    ensures { Gives result (standing words.new) ((variables target.file target.depth).read (standing words.old)) }
+{
+    optional_items(target, words, Kind::LeftParen, Kind::RightParen)
+}
+
+#[tactic(auto, unfolding(graphql_productions::specs::Nodes::name))]
+fn optional_name(target: Target, words: &mut Words<'_>) -> Result<Option<Name>, ReadError>
+    ensures { Gives result (standing words.new) ((optional (operation_name target.file)).read (standing words.old)) }
+{
+    if words.next_is_name(Names::Any) {
+        Ok(Some(target.name(words)?))
+    } else {
+        Ok(None)
+    }
+}
+
+/// Reads an operation.
+#[tactic(auto, unfolding(graphql_productions::specs::Operations::operation))]
+pub(crate) fn operation(target: Target, words: &mut Words<'_>) -> Result<OperationDefinition, ReadError>
+    requires { target.constant ≡ false }
+    ensures { Gives result (standing words.new) ((operation target.file target.depth).read (standing words.old)) }
+{
+    let operation_type = operation_type(words)?;
+    let name = optional_name(target, words)?;
+    let variables = variables(target, words)?;
+    let directives = directives(target, words)?;
+    let selection_set = selection_set(target, words)?;
+    Ok(OperationDefinition {
+        operation_type,
+        name,
+        variables,
+        directives,
+        selection_set,
+    })
+}
+
+/// Reads a selection set, which is a query.
+#[tactic(auto, unfolding(graphql_productions::specs::Operations::shorthand))]
+pub(crate) fn shorthand(target: Target, words: &mut Words<'_>) -> Result<OperationDefinition, ReadError>
+    requires { target.constant ≡ false }
+    ensures { Gives result (standing words.new) ((shorthand target.file target.depth).read (standing words.old)) }
+{
+    let selection_set = selection_set(target, words)?;
+    Ok(OperationDefinition {
+        operation_type: OperationType::Query,
+        name: None,
+        variables: Items::new(target.alloc),
+        directives: DirectiveList::new(target.alloc),
+        selection_set,
+    })
+}
+
+/// Reads a fragment.
+#[tactic(auto, unfolding(graphql_productions::specs::Operations::fragment_definition))]
+pub(crate) fn fragment_definition(target: Target, words: &mut Words<'_>) -> Result<FragmentDefinition, ReadError>
+    requires { target.constant ≡ false }
+    ensures { Gives result (standing words.new) ((fragment_definition target.file target.depth).read (standing words.old)) }
+{
+    sign(words, Kind::Fragment)?;
+    let name = fragment_name(target, words)?;
+    let type_condition = type_condition(target, words)?;
+    let directives = directives(target, words)?;
+    let selection_set = selection_set(target, words)?;
+    Ok(FragmentDefinition {
+        name,
+        type_condition,
+        directives,
+        selection_set,
+    })
+}

@@ -1,0 +1,119 @@
+//! Reading items with a sign between them, and one before the first or not.
+ghost use Rattle.std.specs.Prelude.{◌≡◌};
+ghost use Rattle.graphql_nodes.specs.declared.source.FileId.{FileId as File};
+ghost use Rattle.graphql_grammar.specs.Pieces.{Adds, Gives, GivesSeen, Piece, behind_sign, many, mapped, optional, separated, seq, sign};
+ghost use Rattle.graphql_grammar.specs.Standing.{standing};
+ghost use Rattle.graphql_grammar.proofs.PieceLaws.{Lawful};
+ghost use Rattle.graphql_productions.specs.Nodes.{name};
+ghost use Rattle.graphql_productions.specs.TypeSystem.{names_behind, names_body};
+ghost use Rattle.graphql_productions.proofs.NodeLaws.{name_law};
+ghost use Rattle.graphql_text.specs.Seen.{seen_flag};
+
+use crate::reading::target::{Target, sign};
+use graphql_grammar::fault::ReadError;
+use graphql_grammar::kind::Kind;
+use graphql_grammar::words::Words;
+use graphql_nodes::collections::items::Items;
+use graphql_nodes::name::Name;
+
+/// What stands between signs.
+pub(crate) trait Single: Drop {
+    /// What spells one, and how it is read.
+    ghost piece: { File → Piece Self };
+
+    /// Reads one.
+    fn read(target: Target, words: &mut Words<'_>) -> Result<Self, ReadError>
+        ensures { Gives result (standing words.new) ((piece target.file).read (standing words.old)) };
+
+    /// What is read is spelled so, and the other way round.
+    ghost law: { (file : File) → Lawful (piece file) };
+}
+
+impl Single for Name {
+    ghost piece = { name };
+    ghost law = { name_law };
+
+    fn read(target: Target, words: &mut Words<'_>) -> Result<Name, ReadError> {
+        target.name(words)
+    }
+}
+
+/// Takes a sign, if it is there; whether it was.
+pub(crate) fn optional_sign(words: &mut Words<'_>, kind: Kind) -> Result<bool, ReadError>
+    ensures { GivesSeen seen_flag result (standing words.new) ((optional (sign kind)).read (standing words.old)) }
+{
+    if !words.next_is(kind) {
+        return Ok(false);
+    }
+    sign(words, kind)?;
+    Ok(true)
+}
+
+/// Reads what stands behind a sign.
+fn behind<S: Single>(target: Target, words: &mut Words<'_>, separator: Kind) -> Result<S, ReadError>
+    ensures { Gives result (standing words.new) ((mapped behind_sign (seq (sign separator) (S.piece target.file))).read (standing words.old)) }
+{
+    sign(words, separator)?;
+    S::read(target, words)
+}
+
+/// Reads what stands behind further signs, and adds it.
+fn push_separated<S: Single>(
+    target: Target,
+    words: &mut Words<'_>,
+    separator: Kind,
+    items: &mut Items<S>,
+) -> Result<(), ReadError>
+    ensures { Adds result items.old items.new (standing words.new) ((many (mapped behind_sign (seq (sign separator) (S.piece target.file)))).read (standing words.old)) }
+{
+    'items: while words.next_is(separator) {
+        let next = behind::<S>(target, words, separator)?;
+        items.push(next)?;
+    }
+    Ok(())
+}
+
+/// Reads one or more, with a sign between them, and one before the first or not.
+pub(crate) fn separated<S: Single>(
+    target: Target,
+    words: &mut Words<'_>,
+    separator: Kind,
+) -> Result<Items<S>, ReadError>
+    ensures { Gives result (standing words.new) ((separated separator (S.piece target.file)).read (standing words.old)) }
+{
+    optional_sign(words, separator)?;
+    let first = S::read(target, words)?;
+    let mut items = Items::new(target.alloc);
+    items.push(first)?;
+    push_separated(target, words, separator, &mut items)?;
+    Ok(items)
+}
+
+fn names_body(
+    target: Target,
+    words: &mut Words<'_>,
+    opening: Kind,
+    separator: Kind,
+) -> Result<Items<Name>, ReadError>
+    ensures { Gives result (standing words.new) ((names_body target.file opening separator).read (standing words.old)) }
+{
+    sign(words, opening)?;
+    separated(target, words, separator)
+}
+
+/// Reads names behind a word, if it is there.
+#[tactic(auto, unfolding(graphql_productions::specs::TypeSystem::names_behind))]
+pub(crate) fn names_behind(
+    target: Target,
+    words: &mut Words<'_>,
+    opening: Kind,
+    separator: Kind,
+) -> Result<Items<Name>, ReadError>
+    ensures { Gives result (standing words.new) ((names_behind target.file opening separator).read (standing words.old)) }
+{
+    if words.next_is(opening) {
+        names_body(target, words, opening, separator)
+    } else {
+        Ok(Items::new(target.alloc))
+    }
+}
