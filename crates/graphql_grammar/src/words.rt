@@ -11,7 +11,7 @@ use crate::fault::{FaultKind, ReadError};
 use crate::kind::{Kind, Names};
 use crate::word::Word;
 use graphql_tokens::first::{FirstToken, first_token_of};
-use graphql_tokens::token::{TokenError, TokenKind};
+use graphql_tokens::token::{TokenError, TokenErrorKind, TokenKind};
 
 /// The words of a text that are left, and where the last one before them ended.
 #[derive(Drop)]
@@ -180,8 +180,11 @@ impl<'a> Words<'a> {
     }
 
     /// What is wrong where the text stops being tokens, if that was met.
-    pub fn error(&self) -> Option<TokenError> {
-        self.error
+    pub fn error(&self) -> Option<TokenErrorKind> {
+        match &self.error {
+            Some(error) => Some(error.kind),
+            None => None,
+        }
     }
 
     /// The kind of the next word, if there is one.

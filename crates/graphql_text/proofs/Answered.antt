@@ -15,34 +15,34 @@ use Rattle.graphql_productions.proofs.DocumentLaws.{document_again, document_fou
 use Rattle.graphql_text.specs.Parses.{Answers, Parsed}
 use Rattle.graphql_text.specs.declared.parse_error.ParseError.{ParseError}
 
-module _ {A : Type 0} (p : Piece A) (words left : List WordView) where
+module _ {A : Type 0} (p : Piece A) (file : FileId) (total : ℕ) (words left : List WordView) where
   -- where reading gives a value that is what was answered
-  read_so : (r : Result A ReadError) (answer : Result A ParseError) (P : A → Type 0) → GivesAll r left (read_all p words) → Parsed r answer → ((x : A) → read_all p words ≡ Ok x → P x) → IfOk answer P
+  read_so : (r : Result A ReadError) (answer : Result A ParseError) (P : A → Type 0) → GivesAll r left (read_all p words) → Parsed file total left r answer → ((x : A) → read_all p words ≡ Ok x → P x) → IfOk answer P
   read_so (Ok x) (Ok y) P gives parsed holds = subst P (sym parsed) (holds x gives)
   read_so (Ok x) (Err e) P gives parsed holds = tt
   read_so (Err error) (Ok y) P gives parsed holds = absurd parsed
   read_so (Err error) (Err e) P gives parsed holds = tt
 
   -- where reading gives this value it is answered
-  pub given : (r : Result A ReadError) (answer : Result A ParseError) (x : A) → GivesAll r left (read_all p words) → Parsed r answer → read_all p words ≡ Ok x → Answers x answer
+  pub given : (r : Result A ReadError) (answer : Result A ParseError) (x : A) → GivesAll r left (read_all p words) → Parsed file total left r answer → read_all p words ≡ Ok x → Answers x answer
   given (Ok y) (Ok z) x gives parsed e = parsed ∙ ok_is y x (sym gives ∙ e)
   given (Ok y) (Err f) x gives parsed e = absurd parsed
   given (Err error) (Ok z) x gives parsed e = absurd parsed
   given (Err errors.Memory) (Err f) x gives parsed e = parsed
   given (Err (errors.Fault kind)) (Err f) x gives parsed e = absurd (let w = sym gives ∙ e in cc)
 
-  pub found : Lawful p → (r : Result A ReadError) (answer : Result A ParseError) → GivesAll r left (read_all p words) → Parsed r answer → IfOk answer (λ x. p.spells x words)
+  pub found : Lawful p → (r : Result A ReadError) (answer : Result A ParseError) → GivesAll r left (read_all p words) → Parsed file total left r answer → IfOk answer (λ x. p.spells x words)
   found pl r answer gives parsed = read_so r answer (λ x. p.spells x words) gives parsed (λ x e. all_sound p pl words x e)
 
-  pub only : Lawful p → (r : Result A ReadError) (answer : Result A ParseError) → GivesAll r left (read_all p words) → Parsed r answer → (x : A) → p.spells x words → Answers x answer
+  pub only : Lawful p → (r : Result A ReadError) (answer : Result A ParseError) → GivesAll r left (read_all p words) → Parsed file total left r answer → (x : A) → p.spells x words → Answers x answer
   only pl r answer gives parsed x h = given r answer x gives parsed (all_again p pl words x h)
 
 -- the same of documents
-pub document_is : (file : FileId) (depth : ℕ) (words left : List WordView) (r : Result (List Definition) ReadError) (answer : Result (List Definition) ParseError)
-    → GivesAll r left (read_all (document file depth) words) → Parsed r answer → IfOk answer (λ xs. (document file depth).spells xs words)
-document_is file depth words left r answer gives parsed =
-    read_so (document file depth) words left r answer (λ xs. (document file depth).spells xs words) gives parsed (λ xs e. document_found file depth words xs e)
+pub document_is : (file : FileId) (depth total : ℕ) (words left : List WordView) (r : Result (List Definition) ReadError) (answer : Result (List Definition) ParseError)
+    → GivesAll r left (read_all (document file depth) words) → Parsed file total left r answer → IfOk answer (λ xs. (document file depth).spells xs words)
+document_is file depth total words left r answer gives parsed =
+    read_so (document file depth) file total words left r answer (λ xs. (document file depth).spells xs words) gives parsed (λ xs e. document_found file depth words xs e)
 
-pub document_only : (file : FileId) (depth : ℕ) (words left : List WordView) (r : Result (List Definition) ReadError) (answer : Result (List Definition) ParseError)
-    → GivesAll r left (read_all (document file depth) words) → Parsed r answer → (x : Definition) (xs : List Definition) → spells_in_turn file depth (x ∷ xs) words → Answers (x ∷ xs) answer
-document_only file depth words left r answer gives parsed x xs h = given (document file depth) words left r answer (x ∷ xs) gives parsed (document_again file depth x xs words h)
+pub document_only : (file : FileId) (depth total : ℕ) (words left : List WordView) (r : Result (List Definition) ReadError) (answer : Result (List Definition) ParseError)
+    → GivesAll r left (read_all (document file depth) words) → Parsed file total left r answer → (x : Definition) (xs : List Definition) → spells_in_turn file depth (x ∷ xs) words → Answers (x ∷ xs) answer
+document_only file depth total words left r answer gives parsed x xs h = given (document file depth) file total words left r answer (x ∷ xs) gives parsed (document_again file depth x xs words h)

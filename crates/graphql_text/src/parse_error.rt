@@ -37,8 +37,9 @@ impl From<AllocError> for ParseError {
 #[derive(Debug, Drop, PartialEq, Eq, Clone, Error)]
 pub enum ParseErrorKind {
     /// A character that begins no token, or that stands nowhere in a text.
-    #[error("unexpected character")]
-    UnexpectedCharacter,
+    /// `shown` is the character in backquotes, or, of a control character, its number, as `U+0007`.
+    #[error("unexpected character {shown}")]
+    UnexpectedCharacter { character: char, shown: Text },
     /// A string without its closing quote in its line, or a block string without its closing quotes.
     #[error("unterminated string")]
     UnterminatedString,

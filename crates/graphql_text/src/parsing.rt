@@ -66,7 +66,12 @@ fn built_in_file() -> ParseError {
 ///
 /// [`ParseErrorKind::BuiltInFile`] refuses the file number 0, before the text is looked at. [`ParseErrorKind::Memory`] says nothing of the
 /// text. Every other refusal says what is wrong with it first, from the left, and where, in bytes.
-pub fn parse_type(alloc: Global, file: FileId, text: &str, options: ParseOptions) -> Result<Type, ParseError>
+pub fn parse_type(
+    alloc: Global,
+    file: FileId,
+    text: &str,
+    options: ParseOptions,
+) -> Result<Type, ParseError>
     // What is answered is spelled by all words of the text.
     ensures found { IfOk result (λ read. (type file options.max_depth).spells read (words_of options.max_tokens text.now)) }
     // What they spell is answered.
@@ -83,13 +88,18 @@ pub fn parse_type(alloc: Global, file: FileId, text: &str, options: ParseOptions
         depth: options.max_depth,
     };
     let read = whole::type_reference(target, &mut words);
-    parsed(alloc, file, &words, text.len(), read)
+    parsed(alloc, file, text, &words, read)
 }
 
 /// The constant value that a text is (section 2.9), at locations in this file. A variable in it is refused.
 ///
 /// The refusals are those of [`parse_type`].
-pub fn parse_value(alloc: Global, file: FileId, text: &str, options: ParseOptions) -> Result<Node<Value>, ParseError>
+pub fn parse_value(
+    alloc: Global,
+    file: FileId,
+    text: &str,
+    options: ParseOptions,
+) -> Result<Node<Value>, ParseError>
     ensures found { IfOk result (λ read. (value_node file true options.max_depth).spells read (words_of options.max_tokens text.now)) }
     ensures only { (read : NodeView ValueOf) → file.0 ≢ 0 → (value_node file true options.max_depth).spells read (words_of options.max_tokens text.now) → Answers read result }
 {
@@ -104,13 +114,18 @@ pub fn parse_value(alloc: Global, file: FileId, text: &str, options: ParseOption
         depth: options.max_depth,
     };
     let read = whole::value(target, &mut words);
-    parsed(alloc, file, &words, text.len(), read)
+    parsed(alloc, file, text, &words, read)
 }
 
 /// The selections that a text is, with braces or without (section 2.4), at locations in this file.
 ///
 /// The refusals are those of [`parse_type`].
-pub fn parse_selections(alloc: Global, file: FileId, text: &str, options: ParseOptions) -> Result<Items<Selection>, ParseError>
+pub fn parse_selections(
+    alloc: Global,
+    file: FileId,
+    text: &str,
+    options: ParseOptions,
+) -> Result<Items<Selection>, ParseError>
     ensures found { IfOk result (λ read. (selections file options.max_depth).spells read (words_of options.max_tokens text.now)) }
     ensures only { (read : List SelectionOf) → file.0 ≢ 0 → (selections file options.max_depth).spells read (words_of options.max_tokens text.now) → Answers read result }
 {
@@ -125,13 +140,18 @@ pub fn parse_selections(alloc: Global, file: FileId, text: &str, options: ParseO
         depth: options.max_depth,
     };
     let read = whole::selections(target, &mut words);
-    parsed(alloc, file, &words, text.len(), read)
+    parsed(alloc, file, text, &words, read)
 }
 
 /// The definitions that a text is (section 2.2), at locations in this file.
 ///
 /// The refusals are those of [`parse_type`].
-pub fn parse_definitions(alloc: Global, file: FileId, text: &str, options: ParseOptions) -> Result<Items<Definition>, ParseError>
+pub fn parse_definitions(
+    alloc: Global,
+    file: FileId,
+    text: &str,
+    options: ParseOptions,
+) -> Result<Items<Definition>, ParseError>
     ensures found { IfOk result (λ read. (document file options.max_depth).spells read (words_of options.max_tokens text.now)) }
     // Definitions that the words spell, none of which but the first begins with `{`, are answered.
     ensures only { (first : DefinitionOf) (others : List DefinitionOf) → file.0 ≢ 0 → spells_in_turn file options.max_depth (first ∷ others) (words_of options.max_tokens text.now) → Answers (first ∷ others) result }
@@ -147,7 +167,7 @@ pub fn parse_definitions(alloc: Global, file: FileId, text: &str, options: Parse
         depth: options.max_depth,
     };
     let read = whole::document(target, &mut words);
-    parsed(alloc, file, &words, text.len(), read)
+    parsed(alloc, file, text, &words, read)
 }
 
 /// The document of these definitions, whose sources hold the file under this number.

@@ -1,7 +1,8 @@
 //! What a text is refused with.
-ghost use Rattle.std.specs.Prelude.{◌≡◌};
+ghost use Rattle.std.specs.Prelude.{◌≡◌, length};
 ghost use Rattle.graphql_grammar.specs.declared.fault.ReadError.TheVariants.{Memory as OutOfMemory};
-ghost use Rattle.graphql_text.specs.Parses.{Parsed};
+ghost use Rattle.graphql_grammar.specs.Standing.{standing};
+ghost use Rattle.graphql_text.specs.Parses.{Parsed, span_of};
 ghost use Rattle.graphql_text.specs.declared.parse_error.ParseErrorKind.TheVariants.{Memory};
 
 use crate::parse_error::{ParseError, ParseErrorKind};
@@ -83,23 +84,68 @@ fn word_text<'a>(word: Option<Word<'a>>) -> &'a str {
     }
 }
 
-/// What is wrong where a text stops being tokens.
-fn wrong_kind(words: &Words<'_>) -> ParseErrorKind {
-    let Some(error) = words.error() else {
-        return ParseErrorKind::UnexpectedCharacter;
-    };
-    match error.kind {
-        TokenErrorKind::UnexpectedCharacter => ParseErrorKind::UnexpectedCharacter,
-        TokenErrorKind::UnterminatedString => ParseErrorKind::UnterminatedString,
-        TokenErrorKind::InvalidEscape => ParseErrorKind::InvalidEscape,
-        TokenErrorKind::InvalidNumber => ParseErrorKind::InvalidNumber,
+/// The character that stands at a byte of a text, and U+FFFD where none does.
+fn character_at(text: &str, at: usize) -> char {
+    let mut place: usize = 0;
+    for character in text.chars() {
+        if place >= at {
+            return character;
+        }
+        place = place.saturating_add(character.len_utf8());
+    }
+    '\u{fffd}'
+}
+
+/// A hexadecimal digit of these four bits.
+fn hex_digit(bits: u32) -> char {
+    char::from_digit(bits % 16, 16)
+        .unwrap_or('0')
+        .to_ascii_uppercase()
+}
+
+/// A character in backquotes, or, of a control character, its number.
+fn shown(alloc: Global, character: char) -> Result<Text, AllocError> {
+    let mut text = String::new(alloc);
+    let number = u32::from(character);
+    if number < 32 {
+        text.push_str("U+00")?;
+        text.push(hex_digit(number / 16))?;
+        text.push(hex_digit(number))?;
+    } else {
+        text.push('`')?;
+        text.push(character)?;
+        text.push('`')?;
+    }
+    Ok(Text::from_string(text))
+}
+
+/// What is wrong where a text stops being tokens, at this byte.
+fn wrong_kind(
+    alloc: Global,
+    text: &str,
+    error: Option<TokenErrorKind>,
+    at: usize,
+) -> Result<ParseErrorKind, AllocError> {
+    match error {
+        Some(TokenErrorKind::UnterminatedString) => Ok(ParseErrorKind::UnterminatedString),
+        Some(TokenErrorKind::InvalidEscape) => Ok(ParseErrorKind::InvalidEscape),
+        Some(TokenErrorKind::InvalidNumber) => Ok(ParseErrorKind::InvalidNumber),
+        Some(TokenErrorKind::UnexpectedCharacter) | None => {
+            let character = character_at(text, at);
+            Ok(ParseErrorKind::UnexpectedCharacter {
+                character,
+                shown: shown(alloc, character)?,
+            })
+        }
     }
 }
 
 /// What is wrong with a variable where values are constant: its name, if it has one, or its `$`.
 fn variable_kind(alloc: Global, words: &Words<'_>) -> Result<ParseErrorKind, AllocError> {
     match words.second() {
-        Some(word) if word.kind.is_name() => Ok(ParseErrorKind::VariableInConstant(Text::from_str(alloc, word.text)?)),
+        Some(word) if word.kind.is_name() => Ok(ParseErrorKind::VariableInConstant(Text::from_str(
+            alloc, word.text,
+        )?)),
         _ => Ok(ParseErrorKind::Unexpected {
             expected: Text::from_str(alloc, item_text(Item::Value))?,
             found: found_text(alloc, words.next())?,
@@ -108,35 +154,48 @@ fn variable_kind(alloc: Global, words: &Words<'_>) -> Result<ParseErrorKind, All
 }
 
 /// What is wrong with the next word.
-fn fault_kind(alloc: Global, words: &Words<'_>, fault: FaultKind) -> Result<ParseErrorKind, AllocError> {
+fn fault_kind(
+    alloc: Global,
+    words: &Words<'_>,
+    fault: FaultKind,
+) -> Result<ParseErrorKind, AllocError> {
     let next = words.next();
     match fault {
         FaultKind::Expected(item) => Ok(ParseErrorKind::Unexpected {
             expected: Text::from_str(alloc, item_text(item))?,
             found: found_text(alloc, next)?,
         }),
-        FaultKind::ReservedName => Ok(ParseErrorKind::ReservedName(Text::from_str(alloc, word_text(next))?)),
-        FaultKind::VariableInConstant => variable_kind(alloc, words),
-        FaultKind::UnknownDirectiveLocation => Ok(ParseErrorKind::UnknownDirectiveLocation(Text::from_str(
+        FaultKind::ReservedName => Ok(ParseErrorKind::ReservedName(Text::from_str(
             alloc,
             word_text(next),
         )?)),
+        FaultKind::VariableInConstant => variable_kind(alloc, words),
+        FaultKind::UnknownDirectiveLocation => Ok(ParseErrorKind::UnknownDirectiveLocation(
+            Text::from_str(alloc, word_text(next))?,
+        )),
         FaultKind::DescriptionNotAllowed => Ok(ParseErrorKind::DescriptionNotAllowed),
         FaultKind::TooDeep => Ok(ParseErrorKind::TooDeep),
     }
 }
 
 /// What is wrong with the next word, or with the text there.
-fn refused_kind(alloc: Global, words: &Words<'_>, fault: FaultKind) -> Result<ParseErrorKind, AllocError> {
+fn refused_kind(
+    alloc: Global,
+    text: &str,
+    words: &Words<'_>,
+    fault: FaultKind,
+) -> Result<ParseErrorKind, AllocError> {
     match words.next_kind() {
-        Some(Kind::Wrong) => Ok(wrong_kind(words)),
+        Some(Kind::Wrong) => wrong_kind(alloc, text, words.error(), words.start()),
         Some(Kind::TooMany) => Ok(ParseErrorKind::TooManyTokens),
         _ => fault_kind(alloc, words, fault),
     }
 }
 
 /// Where the next word stands, in a text of so many bytes.
-fn next_span(file: FileId, words: &Words<'_>, total: usize) -> SourceSpan {
+fn next_span(file: FileId, words: &Words<'_>, total: usize) -> SourceSpan
+    ensures { result ≡ span_of file total (standing words.now).left }
+{
     match words.next() {
         Some(word) => SourceSpan {
             file,
@@ -151,35 +210,42 @@ fn next_span(file: FileId, words: &Words<'_>, total: usize) -> SourceSpan {
     }
 }
 
-/// What a text of so many bytes is refused with, by what its reader met.
-fn refusal(alloc: Global, file: FileId, words: &Words<'_>, total: usize, error: ReadError) -> ParseError
-    ensures { error ≡ OutOfMemory → result.kind ≡ Memory }
+/// What a text is refused with, by what its reader met.
+fn refusal(
+    alloc: Global,
+    file: FileId,
+    text: &str,
+    words: &Words<'_>,
+    error: ReadError,
+) -> ParseError
+    ensures memory { error ≡ OutOfMemory → result.kind ≡ Memory }
+    ensures location { result.location ≡ span_of file (length text.now) (standing words.now).left }
 {
     let kind = match error {
         ReadError::Memory => ParseErrorKind::Memory,
-        ReadError::Fault(fault) => match refused_kind(alloc, words, fault) {
+        ReadError::Fault(fault) => match refused_kind(alloc, text, words, fault) {
             Ok(kind) => kind,
             Err(_) => ParseErrorKind::Memory,
         },
     };
     ParseError {
-        location: next_span(file, words, total),
+        location: next_span(file, words, text.len()),
         kind,
     }
 }
 
-/// What was read of a text of so many bytes, or what it is refused with.
+/// What was read of a text, or what it is refused with.
 pub(crate) fn parsed<T: Drop>(
     alloc: Global,
     file: FileId,
+    text: &str,
     words: &Words<'_>,
-    total: usize,
     read: Result<T, ReadError>,
 ) -> Result<T, ParseError>
-    ensures { Parsed read result }
+    ensures { Parsed file (length text.now) (standing words.now).left read result }
 {
     match read {
         Ok(value) => Ok(value),
-        Err(error) => Err(refusal(alloc, file, words, total, error)),
+        Err(error) => Err(refusal(alloc, file, text, words, error)),
     }
 }

@@ -76,7 +76,11 @@ pub(crate) enum Extension {
 
 impl Extension {
     /// The extension at this location.
-    pub(crate) fn into_definition(self, alloc: Global, location: Option<SourceSpan>) -> Result<Definition, AllocError>
+    pub(crate) fn into_definition(
+        self,
+        alloc: Global,
+        location: Option<SourceSpan>,
+    ) -> Result<Definition, AllocError>
         ensures { IfOk result (λ made. made ≡ seen_extension self location) }
     {
         match self {
@@ -160,7 +164,11 @@ pub(crate) fn described(target: Target, words: &mut Words<'_>) -> Result<Body, R
 }
 
 #[tactic(auto, unfolding(graphql_productions::specs::TypeSystem::extension_body))]
-fn extension_body(target: Target, words: &mut Words<'_>, kind: TypeKind) -> Result<Extension, ReadError>
+fn extension_body(
+    target: Target,
+    words: &mut Words<'_>,
+    kind: TypeKind,
+) -> Result<Extension, ReadError>
     requires { target.constant ≡ true }
     ensures { GivesSeen seen_extension result (standing words.new) ((extension_body target.file kind target.depth).read (standing words.old)) }
 {
@@ -173,7 +181,10 @@ fn extension_body(target: Target, words: &mut Words<'_>, kind: TypeKind) -> Resu
     Ok(Extension::Type(kind, name, parts))
 }
 
-fn optional_roots(target: Target, words: &mut Words<'_>) -> Result<Items<Node<(OperationType, NamedType)>>, ReadError>
+fn optional_roots(
+    target: Target,
+    words: &mut Words<'_>,
+) -> Result<Items<Node<(OperationType, NamedType)>>, ReadError>
     ensures { Gives result (standing words.new) ((optional_roots target.file target.depth).read (standing words.old)) }
 {
     if words.next_is(Kind::LeftBrace) {

@@ -52,7 +52,11 @@ fn system_definition(target: Target, words: &mut Words<'_>) -> Result<Definition
     let start = words.start();
     let description = optional_description(target, words)?;
     let body = described(target, words)?;
-    Ok(body.into_definition(target.alloc, description, Some(target.span(start, words.last)))?)
+    Ok(body.into_definition(
+        target.alloc,
+        description,
+        Some(target.span(start, words.last)),
+    )?)
 }
 
 #[tactic(auto, unfolding(graphql_productions::specs::TypeSystem::extension))]

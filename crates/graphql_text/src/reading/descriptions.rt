@@ -62,7 +62,10 @@ fn description(target: Target, words: &mut Words<'_>) -> Result<NodeStr, ReadErr
 }
 
 /// Reads a description, if there is one.
-pub(crate) fn optional_description(target: Target, words: &mut Words<'_>) -> Result<Option<NodeStr>, ReadError>
+pub(crate) fn optional_description(
+    target: Target,
+    words: &mut Words<'_>,
+) -> Result<Option<NodeStr>, ReadError>
     ensures { Gives result (standing words.new) ((optional (description target.file)).read (standing words.old)) }
 {
     if next_is_description(words) {

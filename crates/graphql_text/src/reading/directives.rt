@@ -19,8 +19,11 @@ use graphql_nodes::node::Node;
 
 impl Read for Node<Argument> {
     ghost piece = { argument_node };
+
     ghost first = { is_name };
+
     ghost wrong = { no_argument };
+
     ghost law = { argument_law };
 
     fn begins(kind: Kind) -> bool {
@@ -43,7 +46,10 @@ impl Read for Node<Argument> {
 
 /// Reads arguments between parentheses, if there are any.
 #[tactic(auto, unfolding(graphql_productions::specs::Directives::arguments))]
-pub(crate) fn arguments(target: Target, words: &mut Words<'_>) -> Result<Items<Node<Argument>>, ReadError>
+pub(crate) fn arguments(
+    target: Target,
+    words: &mut Words<'_>,
+) -> Result<Items<Node<Argument>>, ReadError>
     ensures { Gives result (standing words.new) ((arguments target.file target.constant target.depth).read (standing words.old)) }
 {
     optional_items(target, words, Kind::LeftParen, Kind::RightParen)
@@ -51,8 +57,11 @@ pub(crate) fn arguments(target: Target, words: &mut Words<'_>) -> Result<Items<N
 
 impl Read for Node<Directive> {
     ghost piece = { directive_node };
+
     ghost first = { only At };
+
     ghost wrong = { no_directive };
+
     ghost law = { directive_law };
 
     fn begins(kind: Kind) -> bool {

@@ -95,7 +95,11 @@ fn scalar_parts(target: Target, words: &mut Words<'_>) -> Result<DefinitionParts
 
 /// Reads what stands behind the name of a type of this kind.
 #[tactic(auto, unfolding(graphql_productions::specs::TypeSystem::parts))]
-pub(crate) fn parts(target: Target, words: &mut Words<'_>, kind: TypeKind) -> Result<DefinitionParts, ReadError>
+pub(crate) fn parts(
+    target: Target,
+    words: &mut Words<'_>,
+    kind: TypeKind,
+) -> Result<DefinitionParts, ReadError>
     requires { target.constant ≡ true }
     ensures { Gives result (standing words.new) ((parts target.file kind target.depth).read (standing words.old)) }
 {

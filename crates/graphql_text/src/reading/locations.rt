@@ -43,6 +43,7 @@ fn next_location(words: &Words<'_>) -> Option<DirectiveLocation>
 
 impl Single for DirectiveLocation {
     ghost piece = { λ _. location };
+
     ghost law = { λ _. location_law };
 
     #[tactic(auto, unfolding(graphql_productions::specs::TypeSystem::location))]

@@ -93,8 +93,11 @@ pub(crate) fn typed(target: Target, words: &mut Words<'_>) -> Result<AfterName, 
 
 impl Read for Node<VariableDefinition> {
     ghost piece = { λ file _ depth. variable_node file depth };
+
     ghost first = { only Dollar };
+
     ghost wrong = { no_variable };
+
     ghost law = { λ file _ depth. variable_definition_law file depth };
 
     fn begins(kind: Kind) -> bool {
@@ -125,7 +128,10 @@ impl Read for Node<VariableDefinition> {
 }
 
 #[tactic(auto, unfolding(graphql_productions::specs::Operations::variables))]
-fn variables(target: Target, words: &mut Words<'_>) -> Result<Items<Node<VariableDefinition>>, ReadError>
+fn variables(
+    target: Target,
+    words: &mut Words<'_>,
+) -> Result<Items<Node<VariableDefinition>>, ReadError>
     ensures { Gives result (standing words.new) ((variables target.file target.depth).read (standing words.old)) }
 {
     optional_items(target, words, Kind::LeftParen, Kind::RightParen)
@@ -144,7 +150,10 @@ fn optional_name(target: Target, words: &mut Words<'_>) -> Result<Option<Name>, 
 
 /// Reads an operation.
 #[tactic(auto, unfolding(graphql_productions::specs::Operations::operation))]
-pub(crate) fn operation(target: Target, words: &mut Words<'_>) -> Result<OperationDefinition, ReadError>
+pub(crate) fn operation(
+    target: Target,
+    words: &mut Words<'_>,
+) -> Result<OperationDefinition, ReadError>
     requires { target.constant ≡ false }
     ensures { Gives result (standing words.new) ((operation target.file target.depth).read (standing words.old)) }
 {
@@ -164,7 +173,10 @@ pub(crate) fn operation(target: Target, words: &mut Words<'_>) -> Result<Operati
 
 /// Reads a selection set, which is a query.
 #[tactic(auto, unfolding(graphql_productions::specs::Operations::shorthand))]
-pub(crate) fn shorthand(target: Target, words: &mut Words<'_>) -> Result<OperationDefinition, ReadError>
+pub(crate) fn shorthand(
+    target: Target,
+    words: &mut Words<'_>,
+) -> Result<OperationDefinition, ReadError>
     requires { target.constant ≡ false }
     ensures { Gives result (standing words.new) ((shorthand target.file target.depth).read (standing words.old)) }
 {
@@ -180,7 +192,10 @@ pub(crate) fn shorthand(target: Target, words: &mut Words<'_>) -> Result<Operati
 
 /// Reads a fragment.
 #[tactic(auto, unfolding(graphql_productions::specs::Operations::fragment_definition))]
-pub(crate) fn fragment_definition(target: Target, words: &mut Words<'_>) -> Result<FragmentDefinition, ReadError>
+pub(crate) fn fragment_definition(
+    target: Target,
+    words: &mut Words<'_>,
+) -> Result<FragmentDefinition, ReadError>
     requires { target.constant ≡ false }
     ensures { Gives result (standing words.new) ((fragment_definition target.file target.depth).read (standing words.old)) }
 {

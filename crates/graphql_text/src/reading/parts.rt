@@ -33,8 +33,11 @@ fn is_described_name(kind: Kind) -> bool
 
 impl Read for Node<InputValueDefinition> {
     ghost piece = { λ file _ depth. input_node file depth };
+
     ghost first = { is_described_name };
+
     ghost wrong = { expecting InputValue };
+
     ghost law = { λ file _ depth. input_value_law file depth };
 
     fn begins(kind: Kind) -> bool {
@@ -46,7 +49,10 @@ impl Read for Node<InputValueDefinition> {
     }
 
     #[tactic(auto, unfolding(graphql_productions::specs::TypeSystem::input_node))]
-    fn read(target: Target, words: &mut Words<'_>) -> Result<Node<InputValueDefinition>, ReadError> {
+    fn read(
+        target: Target,
+        words: &mut Words<'_>,
+    ) -> Result<Node<InputValueDefinition>, ReadError> {
         let start = words.start();
         let description = optional_description(target, words)?;
         let name = target.name(words)?;
@@ -81,8 +87,11 @@ pub(crate) fn input_values(
 
 impl Read for Node<FieldDefinition> {
     ghost piece = { λ file _ depth. field_node file depth };
+
     ghost first = { is_described_name };
+
     ghost wrong = { expecting FieldItem };
+
     ghost law = { λ file _ depth. field_definition_law file depth };
 
     fn begins(kind: Kind) -> bool {
@@ -114,7 +123,10 @@ impl Read for Node<FieldDefinition> {
 }
 
 #[tactic(auto, unfolding(graphql_productions::specs::TypeSystem::fields))]
-pub(crate) fn fields(target: Target, words: &mut Words<'_>) -> Result<Items<Node<FieldDefinition>>, ReadError>
+pub(crate) fn fields(
+    target: Target,
+    words: &mut Words<'_>,
+) -> Result<Items<Node<FieldDefinition>>, ReadError>
     ensures { Gives result (standing words.new) ((fields target.file target.depth).read (standing words.old)) }
 {
     optional_items(target, words, Kind::LeftBrace, Kind::RightBrace)
@@ -142,8 +154,11 @@ fn enum_value_name(target: Target, words: &mut Words<'_>) -> Result<Name, ReadEr
 
 impl Read for Node<EnumValueDefinition> {
     ghost piece = { λ file _ depth. enum_value_node file depth };
+
     ghost first = { is_enum_value };
+
     ghost wrong = { no_enum_value };
+
     ghost law = { λ file _ depth. enum_value_law file depth };
 
     fn begins(kind: Kind) -> bool {
@@ -170,7 +185,10 @@ impl Read for Node<EnumValueDefinition> {
 }
 
 #[tactic(auto, unfolding(graphql_productions::specs::TypeSystem::enum_values))]
-pub(crate) fn enum_values(target: Target, words: &mut Words<'_>) -> Result<Items<Node<EnumValueDefinition>>, ReadError>
+pub(crate) fn enum_values(
+    target: Target,
+    words: &mut Words<'_>,
+) -> Result<Items<Node<EnumValueDefinition>>, ReadError>
     ensures { Gives result (standing words.new) ((enum_values target.file target.depth).read (standing words.old)) }
 {
     optional_items(target, words, Kind::LeftBrace, Kind::RightBrace)
@@ -178,8 +196,11 @@ pub(crate) fn enum_values(target: Target, words: &mut Words<'_>) -> Result<Items
 
 impl Read for Node<(OperationType, NamedType)> {
     ghost piece = { λ file _ _. root_node file };
+
     ghost first = { is_operation_type };
+
     ghost wrong = { no_root };
+
     ghost law = { λ file _ _. root_law file };
 
     fn begins(kind: Kind) -> bool {
@@ -191,7 +212,10 @@ impl Read for Node<(OperationType, NamedType)> {
     }
 
     #[tactic(auto, unfolding(graphql_productions::specs::TypeSystem::root_node))]
-    fn read(target: Target, words: &mut Words<'_>) -> Result<Node<(OperationType, NamedType)>, ReadError> {
+    fn read(
+        target: Target,
+        words: &mut Words<'_>,
+    ) -> Result<Node<(OperationType, NamedType)>, ReadError> {
         let start = words.start();
         let operation_type = operation_type(words)?;
         sign(words, Kind::Colon)?;
@@ -201,7 +225,10 @@ impl Read for Node<(OperationType, NamedType)> {
 }
 
 /// Reads the roots of a schema between braces.
-pub(crate) fn roots(target: Target, words: &mut Words<'_>) -> Result<Items<Node<(OperationType, NamedType)>>, ReadError>
+pub(crate) fn roots(
+    target: Target,
+    words: &mut Words<'_>,
+) -> Result<Items<Node<(OperationType, NamedType)>>, ReadError>
     ensures { Gives result (standing words.new) ((roots target.file target.depth).read (standing words.old)) }
 {
     enclosed_items(target, words, Kind::LeftBrace, Kind::RightBrace)

@@ -130,7 +130,10 @@ fn next_is_selection(words: &Words<'_>) -> bool
 /// Reads a selection set.
 #[cycle(selections)]
 #[tactic(auto, using(graphql_productions::proofs::NestedLemmas::no_set, graphql_productions::proofs::NestedLemmas::one_set))]
-pub(crate) fn selection_set(target: Target, words: &mut Words<'_>) -> Result<Items<Selection>, ReadError>
+pub(crate) fn selection_set(
+    target: Target,
+    words: &mut Words<'_>,
+) -> Result<Items<Selection>, ReadError>
     requires { target.constant ≡ false }
     ensures { Gives result (standing words.new) ((selection_set target.file target.depth).read (standing words.old)) }
 {
@@ -158,7 +161,10 @@ fn selections(target: Target, words: &mut Words<'_>) -> Result<Items<Selection>,
 
 /// Reads one selection or more.
 #[cycle(selections)]
-pub(crate) fn some_selections(target: Target, words: &mut Words<'_>) -> Result<Items<Selection>, ReadError>
+pub(crate) fn some_selections(
+    target: Target,
+    words: &mut Words<'_>,
+) -> Result<Items<Selection>, ReadError>
     requires { target.constant ≡ false }
     ensures { Gives result (standing words.new) ((some (selection target.file target.depth (selection_set target.file target.depth))).read (standing words.old)) }
 {
@@ -231,7 +237,10 @@ fn field(target: Target, words: &mut Words<'_>) -> Result<Field, ReadError>
 }
 
 #[cycle(selections)]
-fn optional_set(target: Target, words: &mut Words<'_>) -> Result<Option<Items<Selection>>, ReadError>
+fn optional_set(
+    target: Target,
+    words: &mut Words<'_>,
+) -> Result<Option<Items<Selection>>, ReadError>
     requires { target.constant ≡ false }
     ensures { Gives result (standing words.new) ((optional (selection_set target.file target.depth)).read (standing words.old)) }
 {

@@ -31,6 +31,7 @@ pub(crate) trait Single: Drop {
 
 impl Single for Name {
     ghost piece = { name };
+
     ghost law = { name_law };
 
     fn read(target: Target, words: &mut Words<'_>) -> Result<Name, ReadError> {

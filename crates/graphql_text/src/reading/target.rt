@@ -47,7 +47,12 @@ impl Target {
     }
 
     /// A node at the words from a start on up to the last that was taken.
-    pub(crate) fn node<T: Drop>(self, value: T, start: usize, end: usize) -> Result<Node<T>, AllocError>
+    pub(crate) fn node<T: Drop>(
+        self,
+        value: T,
+        start: usize,
+        end: usize,
+    ) -> Result<Node<T>, AllocError>
         ensures { IfOk result (λ node. node ≡ node_of self.file (value, (start, end))) }
     {
         Node::new_opt_location(self.alloc, value, Some(self.span(start, end)))

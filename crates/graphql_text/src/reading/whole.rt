@@ -64,7 +64,10 @@ fn braced_or_bare(target: Target, words: &mut Words<'_>) -> Result<Items<Selecti
 }
 
 /// Reads selections, with braces or without, and nothing behind them.
-pub(crate) fn selections(target: Target, words: &mut Words<'_>) -> Result<Items<Selection>, ReadError>
+pub(crate) fn selections(
+    target: Target,
+    words: &mut Words<'_>,
+) -> Result<Items<Selection>, ReadError>
     requires { target.constant ≡ false }
     ensures { GivesAll result (standing words.new).left (read_whole (selections target.file target.depth) (standing words.old)) }
 {
@@ -77,8 +80,11 @@ pub(crate) fn selections(target: Target, words: &mut Words<'_>) -> Result<Items<
 
 impl Read for Definition {
     ghost piece = { λ file _ depth. definition file depth };
+
     ghost first = { any_kind };
+
     ghost wrong = { expecting DefinitionItem };
+
     ghost law = { λ file _ depth. one_law file depth };
 
     fn begins(_kind: Kind) -> bool {
@@ -99,7 +105,10 @@ impl Read for Definition {
 }
 
 /// Reads definitions up to the last word.
-pub(crate) fn document(target: Target, words: &mut Words<'_>) -> Result<Items<Definition>, ReadError>
+pub(crate) fn document(
+    target: Target,
+    words: &mut Words<'_>,
+) -> Result<Items<Definition>, ReadError>
     ensures { GivesAll result (standing words.new).left (read_whole (document target.file target.depth) (standing words.old)) }
 {
     let read = some_items(target, words)?;

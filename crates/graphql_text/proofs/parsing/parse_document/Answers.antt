@@ -1,9 +1,17 @@
 -- The definitions of the document are those that were read.
-use Rattle.std.proofs.Common.{◌∙◌}
+use Rattle.std.proofs.Common.{ℕ, List, ◌∷◌, ◌∙◌, ap, subst, sym}
+use Rattle.graphql_nodes.specs.declared.source.SourceFile.{SourceFile}
+use Rattle.graphql_grammar.specs.WordsOfText.{words_of}
+use Rattle.graphql_productions.specs.Documents.{spells_in_turn}
 use Rattle.graphql_text.proofs.parsing.parse_document.Goals as goal
 
 pub returns-in_ok-held-in-Ok-clause-only : goal.returns-in_ok-held-in-Ok-clause-only
-returns-in_ok-held-in-Ok-clause-only c = λ first others real h. c.in_ok-held-in-Ok.ensures.0 ∙ c.in-Ok.ensures.only first others real h
+returns-in_ok-held-in-Ok-clause-only c = λ first others real h.
+    let text = c.as_str.ensures ∙ ap (λ (f : SourceFile). f.text) c.deref.ensures in
+    c.in_ok-held-in-Ok.ensures.0
+    ∙ c.in-Ok.ensures.only first others real (subst (λ (t : List ℕ). spells_in_turn c.args.file c.args.options.max_depth (first ∷ others) (words_of c.args.options.max_tokens t)) (sym text) h)
 
 pub returns-in-Err-clause-only : goal.returns-in-Err-clause-only
-returns-in-Err-clause-only c = λ first others real h. c.in-Err.ensures.only first others real h
+returns-in-Err-clause-only c = λ first others real h.
+    let text = c.as_str.ensures ∙ ap (λ (f : SourceFile). f.text) c.deref.ensures in
+    c.in-Err.ensures.only first others real (subst (λ (t : List ℕ). spells_in_turn c.args.file c.args.options.max_depth (first ∷ others) (words_of c.args.options.max_tokens t)) (sym text) h)

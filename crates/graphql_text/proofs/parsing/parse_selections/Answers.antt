@@ -1,5 +1,5 @@
 -- What is read of all words is answered.
-use Rattle.std.proofs.Common.{true, subst}
+use Rattle.std.proofs.Common.{length, true, subst}
 use Rattle.graphql_grammar.specs.Pieces.{GivesAll, State, read_whole}
 use Rattle.graphql_grammar.specs.Standing.{standing}
 use Rattle.graphql_grammar.specs.WordsOfText.{words_of}
@@ -12,12 +12,12 @@ pub returns-clause-found : goal.returns-clause-found
 returns-clause-found c =
     let left = (standing c.selections-read.new.words).left in
     let p = selections c.args.file c.args.options.max_depth in
-    found p (words_of c.args.options.max_tokens c.args.text.now) left (whole_selections_law c.args.file c.args.options.max_depth) c.selections-read.result c.parsed.result
+    found p c.args.file (length c.args.text.now) (words_of c.args.options.max_tokens c.args.text.now) left (whole_selections_law c.args.file c.args.options.max_depth) c.selections-read.result c.parsed.result
     (subst (λ (s : State). GivesAll c.selections-read.result left (read_whole p s)) c.new-words.ensures c.selections-read.ensures) c.parsed.ensures
 
 pub returns-clause-only : goal.returns-clause-only
 returns-clause-only c = λ read real h.
     let left = (standing c.selections-read.new.words).left in
     let p = selections c.args.file c.args.options.max_depth in
-    only p (words_of c.args.options.max_tokens c.args.text.now) left (whole_selections_law c.args.file c.args.options.max_depth) c.selections-read.result c.parsed.result
+    only p c.args.file (length c.args.text.now) (words_of c.args.options.max_tokens c.args.text.now) left (whole_selections_law c.args.file c.args.options.max_depth) c.selections-read.result c.parsed.result
     (subst (λ (s : State). GivesAll c.selections-read.result left (read_whole p s)) c.new-words.ensures c.selections-read.ensures) c.parsed.ensures read h
