@@ -7,13 +7,10 @@ use Rattle.graphql_grammar.specs.declared.fault.Item.TheVariants as i
 use Rattle.graphql_grammar.specs.declared.kind.Kind.{Kind}
 use Rattle.graphql_grammar.specs.Kinds.{Kinds, only}
 use Rattle.graphql_grammar.specs.Words.{WordView, begins, starting}
-use Rattle.graphql_grammar.specs.Pieces.{Piece, Reading, State, Wrong, ◌>>=◌, branch, choose, close, empty, filtered, headed, item, listed, located, many, many_at, mapped, nested, nothing, optional, picked, read_first, refused, separated, separated_of, seq, sign, sign_or, some, take_picked, take_word, tested, word}
+use Rattle.graphql_grammar.specs.Pieces.{Piece, Reading, State, Wrong, ◌>>=◌, behind_sign, branch, choose, filtered, headed, item, listed, located, many, many_at, mapped, nested, nothing, optional, picked, read_first, refused, separated, separated_of, seq, sign, sign_or, some, take_picked, take_word, tested, word}
+use Rattle.graphql_grammar.specs.Refusals.{EndOf}
 use Rattle.graphql_grammar.proofs.ManyLaws.{shorter}
 use Rattle.graphql_grammar.proofs.PieceLaws.{Lawful, mapped_law, seq_law, sign_law}
-
--- the first words are the end of the others
-abbrev pub EndOf : List WordView → List WordView → Type 0
-EndOf part whole = (front : List WordView) × (whole ≡ front ++ part)
 
 -- a word, and two lists of words that may stand behind it
 pub record Fork : Type 0 where
@@ -201,20 +198,14 @@ sign_or_blind kind wrong = record {
 pub sign_blind : (kind : Kind) → Blind (sign kind)
 sign_blind kind = sign_or_blind kind (λ _. Expected (i.Word kind))
 
-pub close_blind : (kind : Kind) (fault : FaultKind) → Blind (close kind fault)
-close_blind kind fault = sign_or_blind kind (λ _. fault)
-
 -- ---- nothing
-
-pub empty_blind : {A : Type 0} (x : A) → Blind (empty x)
-empty_blind x = record { within = λ s. nothing_taken s.left; same = λ f s t a. inr (refl, a) }
 
 pub nothing_blind : {A : Type 0} (wrong : Wrong) → Blind (nothing {A = A} wrong)
 nothing_blind wrong = record { within = λ s. nothing_taken s.left; same = λ f s t a. inr a.left }
 
 -- ---- one after the other
 
-module _ {A B : Type 0} (p : Piece A) (q : Piece B) (pb : Blind p) (qb : Blind q) where
+module _ {A B : Type 0} {p : Piece A} {q : Piece B} (pb : Blind p) (qb : Blind q) where
   second_within : (x : A × State) → EndOf (rest_of {A = A × B} (q.read x.1 >>= λ y. Ok ((x.0, y.0), y.1))) x.1.left
   second_within x = bind_within {B = A × B} (q.read x.1) (λ y. Ok ((x.0, y.0), y.1)) x.1.left (qb.within x.1) (λ y. nothing_taken y.1.left)
 
@@ -232,8 +223,8 @@ module _ {A B : Type 0} (p : Piece A) (q : Piece B) (pb : Blind p) (qb : Blind q
 
 -- ---- the same, said otherwise
 
-pub mapped_blind : {A B : Type 0} (f : A → B) (p : Piece A) → Blind p → Blind (mapped f p)
-mapped_blind {A} {B} f p pb = record {
+pub mapped_blind : {A B : Type 0} (f : A → B) {p : Piece A} → Blind p → Blind (mapped f p)
+mapped_blind {A} {B} f {p} pb = record {
   within = λ s. bind_within {B = B} (p.read s) (λ x. Ok (f x.0, x.1)) s.left (pb.within s) (λ x. nothing_taken x.1.left);
   same = λ k s t a. bind_same {B = B} k (p.read s) (p.read t) (λ x. Ok (f x.0, x.1)) (λ x. Ok (f x.0, x.1)) (pb.same k s t a) (λ x. nothing_taken x.1.left) (λ x u v _ _ b. inr (refl, b));
 }
@@ -248,8 +239,8 @@ tested_same : {A : Type 0} (f : Fork) (b : Bool) (c d : FaultKind) (x : A) (s t 
 tested_same f true c d x s t a = inr (refl, a)
 tested_same f false c d x s t a = inr a.left
 
-pub filtered_blind : {A : Type 0} (test : A → Bool) (wrong : Wrong) (p : Piece A) → Blind p → Blind (filtered test wrong p)
-filtered_blind {A} test wrong p pb = record {
+pub filtered_blind : {A : Type 0} (test : A → Bool) (wrong : Wrong) {p : Piece A} → Blind p → Blind (filtered test wrong p)
+filtered_blind {A} test wrong {p} pb = record {
   within = λ s. bind_within {B = A} (p.read s) (tested test wrong) s.left (pb.within s) (λ x. tested_within (test x.0) (wrong x.1.left) x);
   same = λ f s t a.
       bind_same {B = A} f (p.read s) (p.read t) (tested test wrong) (tested test wrong) (pb.same f s t a) (λ x. tested_within (test x.0) (wrong x.1.left) x)
@@ -258,8 +249,8 @@ filtered_blind {A} test wrong p pb = record {
 
 -- ---- one or none
 
-pub optional_blind : {A : Type 0} (p : Piece A) → Blind p → Blind (optional p)
-optional_blind {A} p pb = record {
+pub optional_blind : {A : Type 0} {p : Piece A} → Blind p → Blind (optional p)
+optional_blind {A} {p} pb = record {
   within = λ s.
       chosen_within (begins p.first s.left) (p.read s >>= λ x. Ok (Some x.0, x.1)) (Ok (None, s)) s.left
       (bind_within {B = Option A} (p.read s) (λ x. Ok (Some x.0, x.1)) s.left (pb.within s) (λ x. nothing_taken x.1.left)) (nothing_taken s.left);
@@ -272,7 +263,7 @@ optional_blind {A} p pb = record {
 
 -- ---- any number
 
-module _ {A : Type 0} (p : Piece A) (pl : Lawful p) (solid : p.may_be_empty ≡ false) (pb : Blind p) where
+module _ {A : Type 0} {p : Piece A} (pl : Lawful p) (solid : p.may_be_empty ≡ false) (pb : Blind p) where
   -- one that was read, and those behind it
   abbrev and_others : ℕ → A × State → Reading (List A)
   and_others n x = many_at p.first p.read n x.1 >>= λ y. Ok (x.0 ∷ y.0, y.1)
@@ -303,12 +294,12 @@ module _ {A : Type 0} (p : Piece A) (pl : Lawful p) (solid : p.may_be_empty ≡ 
   pub many_blind : Blind (many p)
   many_blind = record { within = λ s. many_within (length s.left) s; same = λ f s t a. many_same f (length s.left) (length t.left) s t a (omega arith) (omega arith) }
 
-pub some_blind : {A : Type 0} (p : Piece A) → Lawful p → p.may_be_empty ≡ false → Blind p → Blind (some p)
-some_blind p pl solid pb = mapped_blind listed (seq p (many p)) (seq_blind p (many p) pb (many_blind p pl solid pb))
+pub some_blind : {A : Type 0} {p : Piece A} → Lawful p → p.may_be_empty ≡ false → Blind p → Blind (some p)
+some_blind pl solid pb = mapped_blind listed (seq_blind pb (many_blind pl solid pb))
 
 -- ---- one of several, by the kind of the first word
 
-module _ {A : Type 0} (first more : Kinds) (pick : Kind → Piece A) (wrong : Wrong) (blind : (kind : Kind) → Blind (pick kind)) where
+module _ {A : Type 0} (pick : Kind → Piece A) (wrong : Wrong) (blind : (kind : Kind) → Blind (pick kind)) where
   branch_within : (last : ℕ) (left : List WordView) → EndOf (rest_of (read_first pick wrong (record { last = last; left = left }) left)) left
   branch_within last [] = nothing_taken []
   branch_within last (v ∷ vs) = (blind v.kind).within (record { last = last; left = v ∷ vs })
@@ -326,7 +317,7 @@ module _ {A : Type 0} (first more : Kinds) (pick : Kind → Piece A) (wrong : Wr
       subst (λ (n : ℕ). Related f (read_first pick wrong s s.left) (read_first pick wrong (record { last = n; left = t.left }) t.left)) a.last
       (forked_is f (λ (l m : List WordView). Related f (read_first pick wrong (record { last = s.last; left = l }) l) (read_first pick wrong (record { last = s.last; left = m }) m)) (branch_at f s.last) s.left t.left a.left)
 
-  pub branch_blind : Blind (branch first more pick wrong)
+  pub branch_blind : {first more : Kinds} → Blind (branch first more pick wrong)
   branch_blind = record { within = λ s. branch_within s.last s.left; same = branch_same }
 
 -- ---- with where it stands
@@ -335,7 +326,7 @@ module _ {A : Type 0} (first more : Kinds) (pick : Kind → Piece A) (wrong : Wr
 abbrev placed : {A : Type 0} → A → ℕ → ℕ → A × (ℕ × ℕ)
 placed x start end = (x, (start, end))
 
-module _ {A : Type 0} (p : Piece A) (pb : Blind p) where
+module _ {A : Type 0} {p : Piece A} (pb : Blind p) where
   located_same : (f : Fork) (s t : State) → Alike f s t → Related f ((located p).read s) ((located p).read t)
   located_same f s t a =
       bind_same {B = A × (ℕ × ℕ)} f (p.read s) (p.read t) (λ x. Ok ((x.0, (starting s.left, x.1.last)), x.1)) (λ x. Ok ((x.0, (starting t.left, x.1.last)), x.1)) (pb.same f s t a)
@@ -347,13 +338,14 @@ module _ {A : Type 0} (p : Piece A) (pb : Blind p) where
     within = λ s. bind_within {B = A × (ℕ × ℕ)} (p.read s) (λ x. Ok ((x.0, (starting s.left, x.1.last)), x.1)) s.left (pb.within s) (λ x. nothing_taken x.1.left);
     same = located_same;
   }
-  -- ---- what begins with one of these, items, and what is nested
 
-pub headed_blind : {A : Type 0} (kinds : Kinds) (p : Piece A) → Blind p → Blind (headed kinds p)
-headed_blind kinds p pb = record { within = pb.within; same = pb.same }
+-- ---- what begins with one of these, items, and what is nested
 
-pub item_blind : {A : Type 0} (kinds : Kinds) (wrong : Wrong) (p : Piece A) → Blind p → Blind (item kinds wrong p)
-item_blind {A} kinds wrong p pb = record {
+pub headed_blind : {A : Type 0} (kinds : Kinds) {p : Piece A} → Blind p → Blind (headed kinds p)
+headed_blind kinds pb = record { within = pb.within; same = pb.same }
+
+pub item_blind : {A : Type 0} (kinds : Kinds) (wrong : Wrong) {p : Piece A} → Blind p → Blind (item kinds wrong p)
+item_blind {A} kinds wrong {p} pb = record {
   within = λ s. chosen_within (begins kinds s.left) (p.read s) (refused (wrong s.left) s.left) s.left (pb.within s) (nothing_taken s.left);
   same = λ f s t a.
       chosen_same f (begins kinds s.left) (begins kinds t.left) (p.read s) (p.read t) (refused (wrong s.left) s.left) (refused (wrong t.left) t.left) (begins_same f kinds s.left t.left a.left) (pb.same f s t a)
@@ -368,22 +360,20 @@ nested_blind (suc depth) p pb = pb depth
 
 -- one behind the sign
 abbrev pub another : {A : Type 0} → Kind → Piece A → Piece A
-another kind p = mapped (λ x. x.1) (seq (sign kind) p)
+another kind p = mapped behind_sign (seq (sign kind) p)
 
 pub another_law : {A : Type 0} (kind : Kind) (p : Piece A) → Lawful p → Lawful (another kind p)
-another_law kind p pl = mapped_law (λ x. x.1) (seq (sign kind) p) (seq_law (sign kind) p (sign_law kind) pl (λ _ _. refl))
+another_law kind p pl = mapped_law behind_sign (seq (sign kind) p) (seq_law (sign kind) p (sign_law kind) pl (λ _ _. refl))
 
-another_blind : {A : Type 0} (kind : Kind) (p : Piece A) → Blind p → Blind (another kind p)
-another_blind kind p pb = mapped_blind (λ x. x.1) (seq (sign kind) p) (seq_blind (sign kind) p (sign_blind kind) pb)
+another_blind : {A : Type 0} (kind : Kind) {p : Piece A} → Blind p → Blind (another kind p)
+another_blind kind pb = mapped_blind behind_sign (seq_blind (sign_blind kind) pb)
 
-pub separated_blind : {A : Type 0} (kind : Kind) (p : Piece A) → Lawful p → Blind p → Blind (separated kind p)
-separated_blind kind p pl pb =
-    mapped_blind separated_of (seq (optional (sign kind)) (seq p (many (another kind p))))
-    (seq_blind (optional (sign kind)) (seq p (many (another kind p))) (optional_blind (sign kind) (sign_blind kind))
-    (seq_blind p (many (another kind p)) pb (many_blind (another kind p) (another_law kind p pl) refl (another_blind kind p pb))))
+pub separated_blind : {A : Type 0} (kind : Kind) {p : Piece A} → Lawful p → Blind p → Blind (separated kind p)
+separated_blind kind {p} pl pb =
+    mapped_blind separated_of (seq_blind (optional_blind (sign_blind kind)) (seq_blind pb (many_blind (another_law kind p pl) refl (another_blind kind pb))))
 
 -- ---- one of two, by a flag
 
-pub choose_blind : {A : Type 0} (flag : Bool) (p q : Piece A) → Blind p → Blind q → Blind (choose flag p q)
-choose_blind true p q pb qb = pb
-choose_blind false p q pb qb = qb
+pub choose_blind : {A : Type 0} (flag : Bool) {p q : Piece A} → Blind p → Blind q → Blind (choose flag p q)
+choose_blind true pb qb = pb
+choose_blind false pb qb = qb

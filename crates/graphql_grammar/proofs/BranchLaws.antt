@@ -1,10 +1,10 @@
 -- One of several pieces, by the kind of the first word.
-use Rattle.std.proofs.Common.{◌≡◌, Bool, true, false, not, List, [], ◌∷◌, ◌++◌, Result, Ok, Err, ℕ, refl, sym, ap, subst, ◌∙◌}
+use Rattle.std.proofs.Common.{◌≡◌, Bool, true, false, not, List, [], ◌∷◌, ◌++◌, Ok, ℕ, refl, sym, ap, subst, ◌∙◌}
 use Rattle.graphql_grammar.specs.declared.kind.Kind.{Kind}
 use Rattle.graphql_grammar.specs.Kinds.{Kinds, each_kind}
 use Rattle.graphql_grammar.specs.Spelling.{spells_by}
 use Rattle.graphql_grammar.specs.Words.{WordView, ended}
-use Rattle.graphql_grammar.specs.Pieces.{Piece, Reading, State, Wrong, branch, choose, read_first}
+use Rattle.graphql_grammar.specs.Pieces.{Piece, State, Wrong, branch, choose, read_first}
 use Rattle.graphql_grammar.proofs.KindLemmas.{of_each}
 use Rattle.graphql_grammar.proofs.PieceLaws.{Begun, Lawful, Stops, Took, by_implied, by_not, implied}
 

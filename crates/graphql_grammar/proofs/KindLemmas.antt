@@ -1,8 +1,9 @@
 -- What holds of each kind in turn holds of all.
-use Rattle.std.proofs.Common.{◌≡◌, ℕ, zero, suc, Bool, true, false, ◌&&◌, List, [], ◌∷◌, Option, None, Some, refl, subst}
+use Rattle.std.proofs.Common.{◌≡◌, ℕ, zero, suc, Bool, true, false, ◌&&◌, List, [], ◌∷◌, Option, None, Some, refl, sym, ap, subst, ◌∙◌}
+use Rattle.std.proofs.lemmas.Bool.{eqb-true}
 use Rattle.graphql_grammar.specs.declared.kind.Kind.{Kind}
 use Rattle.graphql_grammar.specs.declared.kind.Kind.TheVariants as k
-use Rattle.graphql_grammar.specs.Kinds.{Kinds, all_kinds, each_kind, each_of, tag}
+use Rattle.graphql_grammar.specs.Kinds.{Kinds, all_kinds, each_kind, each_of, only, tag}
 
 and_both : (a b : Bool) → (a && b) ≡ true → (a ≡ true) × (b ≡ true)
 and_both true b e = (refl, e)
@@ -63,3 +64,12 @@ stands k.TooMany = refl
 
 pub of_each : (f : Kinds) → each_kind f ≡ true → (kind : Kind) → f kind ≡ true
 of_each f e kind = of_nth f all_kinds e (tag kind) kind (stands kind)
+
+some_of : (kind other : Kind) → Some kind ≡ Some other → kind ≡ other
+some_of kind other e = cc
+
+-- the kind alone is no other
+pub only_kind : (kind other : Kind) → only kind other ≡ true → other ≡ kind
+only_kind kind other e =
+    let same : tag other ≡ tag kind = eqb-true (tag other) (tag kind) e in
+    some_of other kind (sym (stands other) ∙ ap (λ (n : ℕ). nth n all_kinds) same ∙ stands kind)

@@ -1,10 +1,10 @@
 -- A loop that reads one piece after the other, as far as it has come.
-use Rattle.std.proofs.Common.{◌≡◌, Bool, true, false, List, [], ◌∷◌, ◌++◌, length, Result, Ok, Err, refl, sym, ap, ◌∙◌, append_assoc}
+use Rattle.std.proofs.Common.{◌≡◌, true, false, List, [], ◌∷◌, ◌++◌, length, Ok, Err, refl, sym, ap, ◌∙◌, append_assoc}
 use Rattle.std.proofs.lemmas.List.{append-nil}
 use Rattle.graphql_grammar.specs.declared.fault.ReadError.{ReadError}
 use Rattle.graphql_grammar.specs.declared.fault.ReadError.TheVariants as errors
 use Rattle.graphql_grammar.specs.Words.{WordView, begins}
-use Rattle.graphql_grammar.specs.Pieces.{Fails, Piece, Reading, Refusal, State, ◌>>=◌, listed, many, read_as, refused, some, with_front}
+use Rattle.graphql_grammar.specs.Pieces.{Fails, Piece, Reading, Refusal, State, ◌>>=◌, listed, many, read_as, some, with_front}
 use Rattle.graphql_grammar.proofs.ManyLaws.{many_err_at, many_more_at, many_none}
 use Rattle.graphql_grammar.proofs.PieceLaws.{Lawful}
 

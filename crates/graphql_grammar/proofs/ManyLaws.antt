@@ -1,7 +1,7 @@
 -- Any number of pieces: what is read is spelled so, and the other way round.
-use Rattle.std.proofs.Common.{◌≡◌, ℕ, zero, suc, ◌<◌, ◌≤◌, Bool, true, false, cond, List, [], ◌∷◌, ◌++◌, length, Result, Ok, Err, ◌⊎◌, inl, inr, refl, sym, ap, subst, ◌∙◌, append_assoc, arith}
+use Rattle.std.proofs.Common.{◌≡◌, ℕ, zero, suc, ◌<◌, ◌≤◌, Bool, true, false, cond, List, [], ◌∷◌, ◌++◌, length, Ok, Err, inl, inr, refl, sym, ap, subst, ◌∙◌, append_assoc, arith}
 use Rattle.std.proofs.lemmas.List.{length-append}
-use Rattle.graphql_grammar.specs.Kinds.{Kinds, either_of}
+use Rattle.graphql_grammar.specs.Kinds.{Kinds}
 use Rattle.graphql_grammar.specs.Words.{WordView, begins, ended}
 use Rattle.graphql_grammar.specs.Pieces.{Piece, Reading, Refusal, State, ◌>>=◌, listed, many, many_at, seq, some}
 use Rattle.graphql_grammar.proofs.PieceLaws.{Apart, Begun, Lawful, Stops, Took, is_begun, mapped_law, not_begun, seq_law, stops_left}
@@ -32,6 +32,27 @@ module _ {A : Type 0} (p : Piece A) (pl : Lawful p) (solid : p.may_be_empty ≡ 
             let w : Took (many p).spells s [] s = record { front = []; left = refl; last = refl; spelled = refl } in
             subst (λ (v : List A × State). Took (many p).spells s v.0 v.1) (ok_is ([], s) (xs, then) is) w
       ]
+
+  -- one or more that are read are spelled so, whatever may go on with one
+  pub some_sound : (s : State) (xs : List A) (then : State) → (some p).read s ≡ Ok (xs, then) → Took (some p).spells s xs then
+  some_sound s xs then e =
+      let l = bind_ok (p.read s >>= λ x. (many p).read x.1 >>= λ y. Ok ((x.0, y.0), y.1)) (λ x. Ok (listed x.0, x.1)) (xs, then) e in
+      let v : (A × List A) × State = l.0 in
+      let b = bind_ok (p.read s) (λ x. (many p).read x.1 >>= λ y. Ok ((x.0, y.0), y.1)) v l.1 in
+      let y : A × State = b.0 in
+      let d = bind_ok ((many p).read y.1) (λ z. Ok ((y.0, z.0), z.1)) v b.2 in
+      let z : List A × State = d.0 in
+      let t : Took p.spells s y.0 y.1 = pl.sound s y.0 y.1 b.1 in
+      let u : Took (many p).spells y.1 z.0 z.1 = many_sound (length y.1.left) y.1 z.0 z.1 d.1 in
+      let w : Took (some p).spells s (y.0 ∷ z.0) z.1 = record {
+        front = t.front ++ u.front;
+        left = t.left ∙ ap (λ (l : List WordView). t.front ++ l) u.left ∙ sym (append_assoc t.front u.front z.1.left);
+        last = u.last ∙ ap (λ (m : ℕ). ended m u.front) t.last ∙ sym (ended_append s.last t.front u.front);
+        spelled = ((y.0, z.0), refl, record { head = t.front; tail = u.front; whole = refl; first = t.spelled; second = u.spelled });
+      } in
+      let made : ((y.0, z.0), z.1) ≡ v = ok_is ((y.0, z.0), z.1) v d.2 in
+      let whole : (listed v.0, v.1) ≡ (xs, then) = ok_is (listed v.0, v.1) (xs, then) l.2 in
+      subst (λ (o : List A × State). Took (some p).spells s o.0 o.1) (ap (λ (o : (A × List A) × State). (listed o.0, o.1)) made ∙ whole) w
 
   pub many_none : (n : ℕ) (s : State) → begins p.first s.left ≡ false → many_at p.first p.read n s ≡ Ok ([], s)
   many_none zero s miss = refl

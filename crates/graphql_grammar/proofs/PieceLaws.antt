@@ -1,15 +1,14 @@
 -- What a piece reads is spelled so, and what is spelled so is read, whatever stands behind it that can't go on with it.
-use Rattle.std.proofs.Common.{◌≡◌, ℕ, zero, suc, Bool, true, false, not, ◌||◌, ◌&&◌, cond, List, [], ◌∷◌, ◌++◌, length, Option, Some, None, Result, Ok, Err, ◌⊎◌, inl, inr, refl, sym, ap, subst, ◌∙◌, append_assoc}
+use Rattle.std.proofs.Common.{◌≡◌, ℕ, zero, suc, Bool, true, false, not, ◌&&◌, cond, List, [], ◌∷◌, ◌++◌, Option, Some, None, Ok, inl, inr, refl, sym, ap, subst, ◌∙◌, append_assoc}
 use Rattle.graphql_grammar.specs.declared.fault.FaultKind.{FaultKind}
 use Rattle.graphql_grammar.specs.declared.fault.FaultKind.TheVariants.{Expected, TooDeep}
 use Rattle.graphql_grammar.specs.declared.fault.Item.TheVariants as i
 use Rattle.graphql_grammar.specs.declared.kind.Kind.{Kind}
 use Rattle.graphql_grammar.specs.Kinds.{Kinds, each_kind, either_of, none, only}
 use Rattle.graphql_grammar.specs.Words.{WordView, begins, ended, starting}
-use Rattle.graphql_grammar.specs.Spelling.{Parts}
-use Rattle.graphql_grammar.specs.Pieces.{Piece, Reading, State, Wrong, ◌>>=◌, close, empty, filtered, headed, item, located, mapped, nested, nothing, optional, picked, picked_at, refused, seq, sign, sign_or, take_picked, take_word, tested, too_deep, word}
+use Rattle.graphql_grammar.specs.Pieces.{Piece, Reading, State, Wrong, ◌>>=◌, close, empty, filtered, headed, item, located, mapped, nested, nothing, optional, picked, picked_at, refused, seq, sign, sign_or, take_picked, take_word, tested, word}
 use Rattle.graphql_grammar.proofs.KindLemmas.{of_each}
-use Rattle.graphql_grammar.proofs.ReadingLemmas.{and_right, and_true, bind_ok, chosen, ended_append, ok_is, or_false, or_left, or_right}
+use Rattle.graphql_grammar.proofs.ReadingLemmas.{bind_ok, chosen, ended_append, ok_is, or_false, or_left, or_right}
 
 -- reading took words from the front that spell the value
 pub record Took {A : Type 0} (spells : A → List WordView → Type 0) (s : State) (x : A) (then : State) : Type 0 where

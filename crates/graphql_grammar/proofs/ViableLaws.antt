@@ -7,20 +7,14 @@ use Rattle.graphql_grammar.specs.declared.fault.FaultKind.TheVariants.{Expected,
 use Rattle.graphql_grammar.specs.declared.fault.Item.TheVariants as i
 use Rattle.graphql_grammar.specs.declared.kind.Kind.{Kind}
 use Rattle.graphql_grammar.specs.Kinds.{Kinds, only, tag}
+use Rattle.graphql_grammar.specs.Refusals.{Viable}
 use Rattle.graphql_grammar.specs.Spelling.{spells_by}
 use Rattle.graphql_grammar.specs.Words.{WordView, begins, ended, starting}
-use Rattle.graphql_grammar.specs.Pieces.{Piece, Reading, Refusal, State, Wrong, ◌>>=◌, branch, choose, close, empty, filtered, headed, item, listed, located, many, many_at, mapped, nested, nothing, optional, picked, read_first, refused, separated, separated_of, seq, sign, sign_or, some, take_picked, take_sign, take_word, tested, too_deep, word}
+use Rattle.graphql_grammar.specs.Pieces.{Piece, Reading, Refusal, State, Wrong, ◌>>=◌, behind_sign, branch, choose, filtered, headed, item, listed, located, many, many_at, mapped, nested, nothing, optional, picked, read_first, refused, separated, separated_of, seq, sign, sign_or, some, take_picked, take_sign, take_word, tested, word}
 use Rattle.graphql_grammar.proofs.BlindLaws.{another, another_law}
-use Rattle.graphql_grammar.proofs.PieceLaws.{Lawful, Took, optional_law, sign_law}
+use Rattle.graphql_grammar.proofs.KindLemmas.{only_kind}
+use Rattle.graphql_grammar.proofs.PieceLaws.{Begun, Lawful, Took, optional_law, sign_law}
 use Rattle.graphql_grammar.proofs.ReadingLemmas.{chosen}
-
--- of these words those before what is left begin what is spelled
-pub record Viable {A : Type 0} (spells : A → List WordView → Type 0) (words left : List WordView) : Type 0 where
-  pub front : List WordView
-  pub more : List WordView
-  pub value : A
-  pub whole : words ≡ front ++ left
-  pub spelled : spells value (front ++ more)
 
 -- the second piece spells something, and what the first does; and the words before the one that the first refuses begin what the second spells
 pub record Begins {A : Type 0} (p q : Piece A) : Type 0 where
@@ -29,6 +23,36 @@ pub record Begins {A : Type 0} (p q : Piece A) : Type 0 where
   pub some : q.spells value words
   pub wider : (x : A) (front : List WordView) → p.spells x front → q.spells x front
   pub viable : (s : State) (e : Refusal) → p.read s ≡ Err e → Viable q.spells s.left e.left
+
+-- the second piece spells what the first does; what the first refuses it refuses at once, or the words before begin what the second spells
+pub record Leads {A : Type 0} (p q : Piece A) : Type 0 where
+  pub wider : (x : A) (front : List WordView) → p.spells x front → q.spells x front
+  pub viable : (s : State) (e : Refusal) → p.read s ≡ Err e → (s.left ≡ e.left) ⊎ Viable q.spells s.left e.left
+
+-- ---- from one to the other
+
+-- where nothing was taken, anything that is spelled goes on
+at_once : {A : Type 0} (spells : A → List WordView → Type 0) (words left : List WordView) (x : A) (others : List WordView) → words ≡ left → spells x others → Viable spells words left
+at_once spells words left x others same h = record { front = []; more = others; value = x; whole = same; spelled = h }
+
+pub begun_leads : {A : Type 0} {p q : Piece A} → Begins p q → Leads p q
+begun_leads pb = record { wider = pb.wider; viable = λ s e h. inr (pb.viable s e h) }
+
+at_once_or : {A : Type 0} (spells : A → List WordView → Type 0) (words left : List WordView) (x : A) (others : List WordView) → spells x others → (words ≡ left) ⊎ Viable spells words left → Viable spells words left
+at_once_or spells words left x others h o = elim o [
+  | inl same ↦ at_once spells words left x others same h
+  | inr v ↦ v
+]
+
+-- where something is spelled, what is refused at once may begin it
+pub leads_begins : {A : Type 0} {p q : Piece A} → Leads p q → (x : A) (words : List WordView) → q.spells x words → Begins p q
+leads_begins {A} {p} {q} leads x words h = record {
+  value = x;
+  words = words;
+  some = h;
+  wider = leads.wider;
+  viable = λ s e g. at_once_or q.spells s.left e.left x words h (leads.viable s e g);
+}
 
 -- ---- refusals
 
@@ -49,10 +73,6 @@ bind_err {A} (Err d) f e h = inl (let same : d ≡ e = cc in ap (λ (r : Refusal
 given_err : {A B : Type 0} (r : Reading A) (g : A × State → B × State) (e : Refusal) → (r >>= λ x. Ok (g x)) ≡ Err e → r ≡ Err e
 given_err (Ok x) g e h = absurd cc
 given_err {A} (Err d) g e h = let same : d ≡ e = cc in ap (λ (r : Refusal). failed {A = A × State} r) same
-
--- where nothing was taken, anything that is spelled goes on
-at_once : {A : Type 0} (spells : A → List WordView → Type 0) (words left : List WordView) (x : A) (others : List WordView) → words ≡ left → spells x others → Viable spells words left
-at_once spells words left x others same h = record { front = []; more = others; value = x; whole = same; spelled = h }
 
 -- ---- one word
 
@@ -111,31 +131,13 @@ sign_or_begins kind wrong = record {
 pub sign_begins : (kind : Kind) → Begins (sign kind) (sign kind)
 sign_begins kind = sign_or_begins kind (λ _. Expected (i.Word kind))
 
-pub close_begins : (kind : Kind) (fault : FaultKind) → Begins (close kind fault) (close kind fault)
-close_begins kind fault = sign_or_begins kind (λ _. fault)
-
--- ---- nothing
-
-pub empty_begins : {A : Type 0} (x : A) → Begins (empty x) (empty x)
-empty_begins x = record { value = x; words = []; some = (refl, refl); wider = λ y front g. g; viable = λ s e g. absurd cc }
-
--- what spells nothing, against what spells something
-pub nothing_begins : {A : Type 0} (wrong : Wrong) (q : Piece A) (x : A) (words : List WordView) → q.spells x words → Begins (nothing wrong) q
-nothing_begins {A} wrong q x words h = record {
-  value = x;
-  words = words;
-  some = h;
-  wider = λ y front g. absurd g;
-  viable = λ s e g. at_once q.spells s.left e.left x words (refused_left {A = A × State} (wrong s.left) s.left e g) h;
-}
-
 -- ---- one after the other
 
 -- what is left behind words is behind those and more
 behind : (words front then others left : List WordView) → words ≡ front ++ then → then ≡ others ++ left → words ≡ (front ++ others) ++ left
 behind words front then others left h g = h ∙ ap (λ (l : List WordView). front ++ l) g ∙ sym (append_assoc front others left)
 
-module _ {A B : Type 0} (p p2 : Piece A) (q q2 : Piece B) (pl : Lawful p) (pb : Begins p p2) (qb : Begins q q2) where
+module _ {A B : Type 0} {p p2 : Piece A} {q q2 : Piece B} (pl : Lawful p) (pb : Begins p p2) (qb : Begins q q2) where
   in_first : (s : State) (e : Refusal) → p.read s ≡ Err e → Viable (seq p2 q2).spells s.left e.left
   in_first s e h =
       let v : Viable p2.spells s.left e.left = pb.viable s e h in
@@ -176,8 +178,8 @@ module _ {A B : Type 0} (p p2 : Piece A) (q q2 : Piece B) (pl : Lawful p) (pb : 
 
 -- ---- the same, said otherwise
 
-pub mapped_begins : {A B : Type 0} (f : A → B) (p q : Piece A) → Begins p q → Begins (mapped f p) (mapped f q)
-mapped_begins {A} {B} f p q pb = record {
+pub mapped_begins : {A B : Type 0} (f : A → B) {p q : Piece A} → Begins p q → Begins (mapped f p) (mapped f q)
+mapped_begins {A} {B} f {p} {q} pb = record {
   value = f pb.value;
   words = pb.words;
   some = (pb.value, refl, pb.some);
@@ -201,7 +203,7 @@ pub none_goes_on : {A : Type 0} (test : A → Bool) (q : Piece A) (y : A) (words
     → (x : A) (front : List WordView) → q.spells x front → test x ≡ false → GoesOn test q.spells front
 none_goes_on test q y words h passes fails x front g e = record { more = words; value = y; spelled = subst (λ (l : List WordView). q.spells y (l ++ words)) (sym (fails x front g e)) h; passes = passes }
 
-module _ {A : Type 0} (test : A → Bool) (wrong : Wrong) (p q : Piece A) (pl : Lawful p) (pb : Begins p q)
+module _ {A : Type 0} (test : A → Bool) (wrong : Wrong) {p q : Piece A} (pl : Lawful p) (pb : Begins p q)
     (goes_on : (x : A) (front : List WordView) → q.spells x front → test x ≡ false → GoesOn test q.spells front) where
   passing : (x : A) (front : List WordView) (b : Bool) → q.spells x front → test x ≡ b → GoesOn test q.spells front
   passing x front true h e = record { more = []; value = x; spelled = subst (λ (l : List WordView). q.spells x l) (sym (append-nil front)) h; passes = e }
@@ -255,23 +257,28 @@ module _ {A : Type 0} (test : A → Bool) (wrong : Wrong) (p q : Piece A) (pl : 
 
 -- ---- one or none, and any number
 
-module _ {A : Type 0} (p q : Piece A) (pb : Begins p q) where
+module _ {A : Type 0} {p q : Piece A} (leads : Leads p q) where
   optional_wider : (x : Option A) (front : List WordView) → (optional p).spells x front → (optional q).spells x front
   optional_wider None front h = h
-  optional_wider (Some x) front h = pb.wider x front h
+  optional_wider (Some x) front h = leads.wider x front h
+
+  -- one that is refused at once is left out
+  none_or_one : (words left : List WordView) → (words ≡ left) ⊎ Viable q.spells words left → Viable (optional q).spells words left
+  none_or_one words left o = elim o [
+    | inl same ↦ at_once (optional q).spells words left None [] same refl
+    | inr v ↦ record { front = v.front; more = v.more; value = Some v.value; whole = v.whole; spelled = v.spelled }
+  ]
 
   optional_viable : (s : State) (e : Refusal) → (optional p).read s ≡ Err e → Viable (optional q).spells s.left e.left
   optional_viable s e h = elim (chosen (begins p.first s.left) (p.read s >>= λ y. Ok (Some y.0, y.1)) (Ok (None, s)) (Err e) h) [
-    | inl (hit, is) ↦
-        let v : Viable q.spells s.left e.left = pb.viable s e (given_err {B = Option A} (p.read s) (λ y. (Some y.0, y.1)) e is) in
-        record { front = v.front; more = v.more; value = Some v.value; whole = v.whole; spelled = v.spelled }
+    | inl (hit, is) ↦ none_or_one s.left e.left (leads.viable s e (given_err {B = Option A} (p.read s) (λ y. (Some y.0, y.1)) e is))
     | inr (miss, is) ↦ absurd cc
   ]
 
   pub optional_begins : Begins (optional p) (optional q)
   optional_begins = record { value = None; words = []; some = refl; wider = optional_wider; viable = optional_viable }
 
-module _ {A : Type 0} (p q : Piece A) (pl : Lawful p) (pb : Begins p q) where
+module _ {A : Type 0} {p q : Piece A} (pl : Lawful p) (pb : Begins p q) where
   many_wider : (xs : List A) (front : List WordView) → (many p).spells xs front → (many q).spells xs front
   many_wider [] front h = h
   many_wider (x ∷ xs) front h = record { head = h.head; tail = h.tail; whole = h.whole; first = pb.wider x h.head h.first; second = many_wider xs h.tail h.second }
@@ -317,46 +324,35 @@ module _ {A : Type 0} (p q : Piece A) (pl : Lawful p) (pb : Begins p q) where
   pub many_begins : Begins (many p) (many q)
   many_begins = record { value = []; words = []; some = refl; wider = many_wider; viable = λ s e h. many_viable (length s.left) s e h }
 
-pub some_begins : {A : Type 0} (p q : Piece A) → Lawful p → Begins p q → Begins (some p) (some q)
-some_begins p q pl pb = mapped_begins listed (seq p (many p)) (seq q (many q)) (seq_begins p q (many p) (many q) pl pb (many_begins p q pl pb))
+pub some_begins : {A : Type 0} {p q : Piece A} → Lawful p → Begins p q → Begins (some p) (some q)
+some_begins pl pb = mapped_begins listed (seq_begins pl pb (many_begins pl pb))
 
 -- ---- one of several, by the kind of the first word
 
--- the second piece spells what the first does; what the first refuses it refuses at once, or the words before begin what the second spells
-pub record Leads {A : Type 0} (p q : Piece A) : Type 0 where
-  pub wider : (x : A) (front : List WordView) → p.spells x front → q.spells x front
-  pub viable : (s : State) (e : Refusal) → p.read s ≡ Err e → (s.left ≡ e.left) ⊎ Viable q.spells s.left e.left
-
-pub begun_leads : {A : Type 0} (p q : Piece A) → Begins p q → Leads p q
-begun_leads p q pb = record { wider = pb.wider; viable = λ s e h. inr (pb.viable s e h) }
-
 -- what spells nothing
-pub nothing_leads : {A : Type 0} (wrong : Wrong) (q : Piece A) → Leads (nothing wrong) q
-nothing_leads {A} wrong q = record { wider = λ x front h. absurd h; viable = λ s e h. inl (refused_left {A = A × State} (wrong s.left) s.left e h) }
+pub nothing_leads : {A : Type 0} (wrong : Wrong) {q : Piece A} → Leads (nothing wrong) q
+nothing_leads {A} wrong {q} = record { wider = λ x front h. absurd h; viable = λ s e h. inl (refused_left {A = A × State} (wrong s.left) s.left e h) }
 
-pub headed_leads : {A : Type 0} (kinds : Kinds) (p q : Piece A) → Leads p q → Leads (headed kinds p) (headed kinds q)
-headed_leads kinds p q leads = record { wider = leads.wider; viable = leads.viable }
+pub headed_leads : {A : Type 0} (kinds : Kinds) {p q : Piece A} → Leads p q → Leads (headed kinds p) (headed kinds q)
+headed_leads kinds leads = record { wider = leads.wider; viable = leads.viable }
 
 -- one of two, by a flag
-pub choose_leads : {A : Type 0} (flag : Bool) (p p2 q q2 : Piece A) → Leads p p2 → Leads q q2 → Leads (choose flag p q) (choose flag p2 q2)
-choose_leads true p p2 q q2 pb qb = pb
-choose_leads false p p2 q q2 pb qb = qb
+pub choose_leads : {A : Type 0} (flag : Bool) {p p2 q q2 : Piece A} → Leads p p2 → Leads q q2 → Leads (choose flag p q) (choose flag p2 q2)
+choose_leads true pb qb = pb
+choose_leads false pb qb = qb
 
-module _ {A : Type 0} (first more : Kinds) (pick pick2 : Kind → Piece A) (wrong : Wrong) (leads : (kind : Kind) → Leads (pick kind) (pick2 kind))
-    (x : A) (words : List WordView) (spelled : spells_by (λ kind. (pick2 kind).spells) x words) where
-  any_at_once : (left rest : List WordView) → left ≡ rest → Viable (spells_by (λ kind. (pick2 kind).spells)) left rest
-  any_at_once left rest same = at_once (spells_by (λ kind. (pick2 kind).spells)) left rest x words same spelled
-
-  by_first : (w : WordView) (ws left : List WordView) (y : A) (front behind : List WordView) → w ∷ ws ≡ front ++ left → (pick2 w.kind).spells y (front ++ behind) → Viable (spells_by (λ kind. (pick2 kind).spells)) (w ∷ ws) left
-  by_first w ws left y [] behind whole h = any_at_once (w ∷ ws) left whole
+module _ {A : Type 0} (pick pick2 : Kind → Piece A) (wrong : Wrong) (leads : (kind : Kind) → Leads (pick kind) (pick2 kind)) where
+  by_first : (w : WordView) (ws left : List WordView) (y : A) (front behind : List WordView) → w ∷ ws ≡ front ++ left → (pick2 w.kind).spells y (front ++ behind)
+      → (w ∷ ws ≡ left) ⊎ Viable (spells_by (λ kind. (pick2 kind).spells)) (w ∷ ws) left
+  by_first w ws left y [] behind whole h = inl whole
   by_first w ws left y (f ∷ fs) behind whole h =
       let head : w ≡ f = cc in
-      record { front = f ∷ fs; more = behind; value = y; whole = whole; spelled = subst (λ (v : WordView). (pick2 v.kind).spells y (f ∷ (fs ++ behind))) head h }
+      inr (record { front = f ∷ fs; more = behind; value = y; whole = whole; spelled = subst (λ (v : WordView). (pick2 v.kind).spells y (f ∷ (fs ++ behind))) head h })
 
-  branch_viable : (last : ℕ) (left : List WordView) (e : Refusal) → read_first pick wrong (record { last = last; left = left }) left ≡ Err e → Viable (spells_by (λ kind. (pick2 kind).spells)) left e.left
-  branch_viable last [] e h = any_at_once [] e.left (refused_left {A = A × State} (wrong []) [] e h)
+  branch_viable : (last : ℕ) (left : List WordView) (e : Refusal) → read_first pick wrong (record { last = last; left = left }) left ≡ Err e → (left ≡ e.left) ⊎ Viable (spells_by (λ kind. (pick2 kind).spells)) left e.left
+  branch_viable last [] e h = inl (refused_left {A = A × State} (wrong []) [] e h)
   branch_viable last (w ∷ ws) e h = elim ((leads w.kind).viable (record { last = last; left = w ∷ ws }) e h) [
-    | inl same ↦ any_at_once (w ∷ ws) e.left same
+    | inl same ↦ inl same
     | inr v ↦ by_first w ws e.left v.value v.front v.more v.whole v.spelled
   ]
 
@@ -364,13 +360,18 @@ module _ {A : Type 0} (first more : Kinds) (pick pick2 : Kind → Piece A) (wron
   branch_wider y [] h = absurd h
   branch_wider y (w ∷ ws) h = (leads w.kind).wider y (w ∷ ws) h
 
-  pub branch_begins : Begins (branch first more pick wrong) (branch first more pick2 wrong)
-  branch_begins = record { value = x; words = words; some = spelled; wider = branch_wider; viable = λ s e h. branch_viable s.last s.left e h }
+  pub branch_leads : {first more : Kinds} → Leads (branch first more pick wrong) (branch first more pick2 wrong)
+  branch_leads = record { wider = branch_wider; viable = λ s e h. branch_viable s.last s.left e h }
+
+-- what is picked by the kind that its words begin with
+pub picked_by : {A : Type 0} (pick : Kind → Piece A) (kind : Kind) (x : A) (words : List WordView) → Begun (only kind) false words → (pick kind).spells x words → spells_by (λ kind. (pick kind).spells) x words
+picked_by pick kind x [] begun h = absurd cc
+picked_by pick kind x (w ∷ ws) begun h = subst (λ (k : Kind). (pick k).spells x (w ∷ ws)) (sym (only_kind kind w.kind begun)) h
 
 -- ---- with where it stands, what begins with one of these, items, and what is nested
 
-pub located_begins : {A : Type 0} (p q : Piece A) → Begins p q → Begins (located p) (located q)
-located_begins {A} p q pb = record {
+pub located_begins : {A : Type 0} {p q : Piece A} → Begins p q → Begins (located p) (located q)
+located_begins {A} {p} {q} pb = record {
   value = (pb.value, (starting pb.words, ended 0 pb.words));
   words = pb.words;
   some = (pb.some, refl);
@@ -380,11 +381,11 @@ located_begins {A} p q pb = record {
       record { front = v.front; more = v.more; value = (v.value, (starting (v.front ++ v.more), ended 0 (v.front ++ v.more))); whole = v.whole; spelled = (v.spelled, refl) };
 }
 
-pub headed_begins : {A : Type 0} (kinds : Kinds) (p q : Piece A) → Begins p q → Begins (headed kinds p) (headed kinds q)
-headed_begins kinds p q pb = record { value = pb.value; words = pb.words; some = pb.some; wider = pb.wider; viable = pb.viable }
+pub headed_begins : {A : Type 0} (kinds : Kinds) {p q : Piece A} → Begins p q → Begins (headed kinds p) (headed kinds q)
+headed_begins kinds pb = record { value = pb.value; words = pb.words; some = pb.some; wider = pb.wider; viable = pb.viable }
 
-pub item_begins : {A : Type 0} (kinds : Kinds) (wrong : Wrong) (p q : Piece A) → Begins p q → Begins (item kinds wrong p) (item kinds wrong q)
-item_begins {A} kinds wrong p q pb = record {
+pub item_begins : {A : Type 0} (kinds : Kinds) (wrong : Wrong) {p q : Piece A} → Begins p q → Begins (item kinds wrong p) (item kinds wrong q)
+item_begins {A} kinds wrong {p} {q} pb = record {
   value = pb.value;
   words = pb.words;
   some = pb.some;
@@ -395,23 +396,17 @@ item_begins {A} kinds wrong p q pb = record {
   ];
 }
 
--- what is nested too deep, against what does nest
-pub deep_begins : {A : Type 0} (q : Piece A) (x : A) (words : List WordView) → q.spells x words → Begins too_deep q
-deep_begins q x words h = nothing_begins (λ _. TooDeep) q x words h
-
 -- what may nest so deep, against what may nest one deeper
-pub nested_begins : {A : Type 0} (depth : ℕ) (p q : ℕ → Piece A) (x : A) (words : List WordView) → (q depth).spells x words → ((n : ℕ) → depth ≡ suc n → Begins (p n) (q (suc n))) → Begins (nested depth p) (nested (suc depth) q)
-nested_begins zero p q x words h deeper = deep_begins (q zero) x words h
-nested_begins (suc depth) p q x words h deeper = deeper depth refl
+pub nested_leads : {A : Type 0} (depth : ℕ) (p q : ℕ → Piece A) → ((n : ℕ) → Begins (p n) (q (suc n))) → Leads (nested depth p) (nested (suc depth) q)
+nested_leads zero p q deeper = nothing_leads (λ _. TooDeep)
+nested_leads (suc depth) p q deeper = begun_leads (deeper depth)
 
 -- ---- one or more with a sign between them
 
-another_begins : {A : Type 0} (kind : Kind) (p q : Piece A) → Begins p q → Begins (another kind p) (another kind q)
-another_begins kind p q pb = mapped_begins (λ x. x.1) (seq (sign kind) p) (seq (sign kind) q) (seq_begins (sign kind) (sign kind) p q (sign_law kind) (sign_begins kind) pb)
+another_begins : {A : Type 0} (kind : Kind) {p q : Piece A} → Begins p q → Begins (another kind p) (another kind q)
+another_begins kind pb = mapped_begins behind_sign (seq_begins (sign_law kind) (sign_begins kind) pb)
 
-pub separated_begins : {A : Type 0} (kind : Kind) (p q : Piece A) → Lawful p → Begins p q → Begins (separated kind p) (separated kind q)
-separated_begins kind p q pl pb =
-    mapped_begins separated_of (seq (optional (sign kind)) (seq p (many (another kind p)))) (seq (optional (sign kind)) (seq q (many (another kind q))))
-    (seq_begins (optional (sign kind)) (optional (sign kind)) (seq p (many (another kind p))) (seq q (many (another kind q))) (optional_law (sign kind) (sign_law kind) refl)
-    (optional_begins (sign kind) (sign kind) (sign_begins kind))
-    (seq_begins p q (many (another kind p)) (many (another kind q)) pl pb (many_begins (another kind p) (another kind q) (another_law kind p pl) (another_begins kind p q pb))))
+pub separated_begins : {A : Type 0} (kind : Kind) {p q : Piece A} → Lawful p → Begins p q → Begins (separated kind p) (separated kind q)
+separated_begins kind {p} pl pb =
+    mapped_begins separated_of (seq_begins (optional_law (sign kind) (sign_law kind) refl) (optional_begins (begun_leads (sign_begins kind)))
+    (seq_begins pl pb (many_begins (another_law kind p pl) (another_begins kind pb))))

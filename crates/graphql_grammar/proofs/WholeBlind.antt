@@ -1,16 +1,12 @@
--- Where words are refused, none that are the same up to the refused word, that one included, spell anything.
+-- Where words are refused, none that are the same up to the refused word, that one included, are read, or spell anything.
 use Rattle.std.proofs.Common.{◌≡◌, ◌≤◌, List, [], ◌∷◌, ◌++◌, length, Ok, Err, inl, inr, refl, sym, ap, subst, ◌∙◌, arith}
 use Rattle.std.proofs.lemmas.List.{append-nil, length-append}
 use Rattle.graphql_grammar.specs.Words.{WordView}
 use Rattle.graphql_grammar.specs.Pieces.{Piece, Reading, Refusal, State, ◌>>=◌, all_read, read_all}
-use Rattle.graphql_grammar.proofs.BlindLaws.{Agree, Alike, Blind, EndOf, Fork, Forked, Related, rest_of}
+use Rattle.graphql_grammar.specs.Refusals.{EndOf, RefusedWith, Unspelled, reads}
+use Rattle.graphql_grammar.proofs.BlindLaws.{Agree, Alike, Blind, Fork, Forked, Related, rest_of}
 use Rattle.graphql_grammar.proofs.PieceLaws.{Lawful}
 use Rattle.graphql_grammar.proofs.WholeLaws.{all_again}
-
--- no words that begin with this front and have the next word, spell anything; nor does the front alone, where no word is next
-abbrev pub Unspelled : {A : Type 0} → (A → List WordView → Type 0) → List WordView → List WordView → Type 0
-Unspelled {A} spells front [] = (x : A) → spells x front → ⊥
-Unspelled {A} spells front (w ∷ ws) = (x : A) (others : List WordView) → spells x (front ++ w ∷ others) → ⊥
 
 -- words that are left over are refused where they begin
 pub left_over : {A : Type 0} (x : A) (left : List WordView) (e : Refusal) → all_read x left ≡ Err e → left ≡ e.left
@@ -46,36 +42,44 @@ not_whole f r q e x rel h here g = elim rel [
   | inr agree ↦ not_read f r q e x agree h g
 ]
 
-module _ {A : Type 0} (p : Piece A) (pl : Lawful p) (pb : Blind p) where
-  -- no words that have the same words up to the refused one, that one included, spell anything
-  pub blind_from : (front ws : List WordView) (w : WordView) (e : Refusal) → read_all p (front ++ w ∷ ws) ≡ Err e → e.left ≡ w ∷ ws → (x : A) (others : List WordView) → p.spells x (front ++ w ∷ others) → ⊥
-  blind_from front ws w e h here x others spelled =
+module _ {A : Type 0} (p : Piece A) (pb : Blind p) where
+  -- no words that have the same words up to the refused one, that one included, are read
+  not_read_from : (front ws : List WordView) (w : WordView) (e : Refusal) → read_all p (front ++ w ∷ ws) ≡ Err e → e.left ≡ w ∷ ws → (x : A) (others : List WordView) → reads p x (front ++ w ∷ others) → ⊥
+  not_read_from front ws w e h here x others read =
       let f : Fork = record { at = w; one = ws; other = others } in
       let s : State = record { last = 0; left = front ++ w ∷ ws } in
       let t : State = record { last = 0; left = front ++ w ∷ others } in
       let a : Alike f s t = record { last = refl; left = record { front = front; here = refl; there = refl } } in
-      not_whole f (p.read s) (p.read t) e x (pb.same f s t a) h here (all_again p pl (front ++ w ∷ others) x spelled)
+      not_whole f (p.read s) (p.read t) e x (pb.same f s t a) h here read
 
   -- what is left where words are refused is their end
-  pub refused_within : (words : List WordView) (e : Refusal) → read_all p words ≡ Err e → EndOf e.left words
+  refused_within : (words : List WordView) (e : Refusal) → read_all p words ≡ Err e → EndOf e.left words
   refused_within words e h =
       let s : State = record { last = 0; left = words } in
       subst (λ (l : List WordView). EndOf l words) (refused_at (p.read s) e h) (pb.within s)
 
-  -- what is refused spells nothing
-  refused_whole : (words : List WordView) (e : Refusal) → read_all p words ≡ Err e → (x : A) → p.spells x words → ⊥
-  refused_whole words e h x spelled = absurd (let both = sym (all_again p pl words x spelled) ∙ h in cc)
+  -- what is refused is not read
+  refused_whole : (words : List WordView) (e : Refusal) → read_all p words ≡ Err e → (x : A) → reads p x words → ⊥
+  refused_whole words e h x read = absurd (let both = sym read ∙ h in cc)
 
-  unspelled_at : (front left : List WordView) (e : Refusal) → read_all p (front ++ left) ≡ Err e → e.left ≡ left → Unspelled p.spells front left
-  unspelled_at front [] e h here = λ x spelled. refused_whole (front ++ []) e h x (subst (λ (l : List WordView). p.spells x l) (sym (append-nil front)) spelled)
-  unspelled_at front (w ∷ ws) e h here = blind_from front ws w e h here
+  unread_at : (front left : List WordView) (e : Refusal) → read_all p (front ++ left) ≡ Err e → e.left ≡ left → Unspelled (reads p) front left
+  unread_at front [] e h here = λ x read. refused_whole (front ++ []) e h x (subst (λ (l : List WordView). reads p x l) (sym (append-nil front)) read)
+  unread_at front (w ∷ ws) e h here = not_read_from front ws w e h here
 
-  -- where words are refused, no words that are the same up to the refused one, that one included, spell anything
-  pub refusal_from : (front words : List WordView) (e : Refusal) → read_all p words ≡ Err e → words ≡ front ++ e.left → Unspelled p.spells front e.left
-  refusal_from front words e h whole = unspelled_at front e.left e (sym (ap (λ (l : List WordView). read_all p l) whole) ∙ h) refl
-
-  -- and there are such words before it
-  pub refusal_law : (words : List WordView) (e : Refusal) → read_all p words ≡ Err e → (front : List WordView) × (words ≡ front ++ e.left) × Unspelled p.spells front e.left
-  refusal_law words e h =
+  -- where words are refused, no words that are the same up to the refused one, that one included, are read; and there are such words before it
+  pub unread_law : (words : List WordView) (e : Refusal) → read_all p words ≡ Err e → RefusedWith (reads p) words e
+  unread_law words e h =
       let g : EndOf e.left words = refused_within words e h in
-      (g.0, g.1, refusal_from g.0 words e h g.1)
+      (g.0, g.1, unread_at g.0 e.left e (sym (ap (λ (l : List WordView). read_all p l) g.1) ∙ h) refl)
+
+module _ {A : Type 0} (p : Piece A) (pl : Lawful p) where
+  -- what is not read is not spelled
+  unspelled : (front left : List WordView) → Unspelled (reads p) front left → Unspelled p.spells front left
+  unspelled front [] h = λ x spelled. h x (all_again p pl front x spelled)
+  unspelled front (w ∷ ws) h = λ x others spelled. h x others (all_again p pl (front ++ w ∷ others) x spelled)
+
+  -- where words are refused, no words that are the same up to the refused one, that one included, spell anything; and there are such words before it
+  pub refusal_law : Blind p → (words : List WordView) (e : Refusal) → read_all p words ≡ Err e → RefusedWith p.spells words e
+  refusal_law pb words e h =
+      let r : RefusedWith (reads p) words e = unread_law p pb words e h in
+      (r.0, r.1, unspelled r.0 e.left r.2)

@@ -1,9 +1,6 @@
 -- All of some words, as a piece reads them.
-use Rattle.std.proofs.Common.{◌≡◌, List, [], ◌∷◌, ◌++◌, Result, Ok, Err, refl, sym, ap, subst, ◌∙◌}
-use Rattle.std.specs.Prelude.{IfOk, MatchResult}
+use Rattle.std.proofs.Common.{◌≡◌, List, [], ◌∷◌, ◌++◌, Ok, refl, sym, ap, subst, ◌∙◌}
 use Rattle.std.proofs.lemmas.List.{append-nil}
-use Rattle.graphql_grammar.specs.declared.fault.ReadError.{ReadError}
-use Rattle.graphql_grammar.specs.declared.fault.ReadError.TheVariants as errors
 use Rattle.graphql_grammar.specs.Words.{WordView}
 use Rattle.graphql_grammar.specs.Pieces.{Piece, Reading, State, ◌>>=◌, all_read, read_all}
 use Rattle.graphql_grammar.proofs.PieceLaws.{Lawful, Took}

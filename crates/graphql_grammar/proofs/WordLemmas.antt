@@ -1,5 +1,5 @@
 -- The words of a text, from the first on.
-use Rattle.std.proofs.Common.{◌≡◌, ◌≢◌, ℕ, zero, suc, ◌<◌, ◌-◌, List, [], ◌∷◌, length, Option, None, Some, Result, Ok, Err, refl, sym, ap, ◌∙◌, arith}
+use Rattle.std.proofs.Common.{◌≡◌, ◌≢◌, ℕ, zero, suc, ◌<◌, ◌-◌, List, [], ◌∷◌, length, None, Some, Ok, Err, refl, sym, ap, ◌∙◌, arith}
 use Rattle.graphql_tokens.specs.First.{First, FirstReading, first_of}
 use Rattle.graphql_tokens.specs.declared.token.TokenError.{TokenError}
 use Rattle.graphql_tokens.proofs.FirstLemmas.{shorter}

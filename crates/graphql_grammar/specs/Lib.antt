@@ -1,5 +1,6 @@
 pub mod Kinds
 pub mod Pieces
+pub mod Refusals
 pub mod Spelling
 pub mod Standing
 pub mod Words

@@ -1,5 +1,5 @@
 -- Where reading stands, as contracts see it.
-use Rattle.std.specs.Prelude.{ℕ, List, [], ◌∷◌, Option, None, Some}
+use Rattle.std.specs.Prelude.{List, [], ◌∷◌, Option, None, Some}
 use Rattle.graphql_grammar.specs.Words.{WordView, word_view}
 use Rattle.graphql_grammar.specs.WordsOfText.{words_at}
 use Rattle.graphql_grammar.specs.Pieces.{State}

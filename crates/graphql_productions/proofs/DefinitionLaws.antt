@@ -18,7 +18,6 @@ use Rattle.graphql_grammar.specs.declared.kind.Kind.{Kind}
 use Rattle.graphql_grammar.specs.declared.kind.Kind.TheVariants as k
 use Rattle.graphql_grammar.specs.Kinds.{is_name, only}
 use Rattle.graphql_grammar.specs.Pieces.{Piece, behind_sign, choose, filtered, located, many, mapped, nothing, optional, separated, separated_of, seq, sign}
-use Rattle.graphql_grammar.specs.Words.{WordView}
 use Rattle.graphql_grammar.proofs.BranchLaws.{branch_law, either_law}
 use Rattle.graphql_grammar.proofs.ManyLaws.{many_law}
 use Rattle.graphql_grammar.proofs.PieceLaws.{Lawful, apart, filtered_law, located_law, mapped_law, nothing_law, optional_law, picked_law, seq_law, sign_law}
@@ -36,7 +35,7 @@ use Rattle.graphql_productions.proofs.TypeSystemLaws.{argument_definitions_law, 
 
 -- ---- definitions of the type system
 
-type_body_law : (file : FileId) (kind : TypeKind) (depth : ℕ) → Lawful (type_body file kind depth)
+pub type_body_law : (file : FileId) (kind : TypeKind) (depth : ℕ) → Lawful (type_body file kind depth)
 unfolding type_body name
 type_body_law file kind depth =
     let n : Piece (NameView × DefinitionParts) = seq (name file) (parts file kind depth) in
@@ -120,7 +119,7 @@ system_definition_law file depth =
 
 -- ---- extensions
 
-extension_body_law : (file : FileId) (kind : TypeKind) (depth : ℕ) → Lawful (extension_body file kind depth)
+pub extension_body_law : (file : FileId) (kind : TypeKind) (depth : ℕ) → Lawful (extension_body file kind depth)
 unfolding extension_body name
 extension_body_law file kind depth =
     let p : Piece DefinitionParts = filtered has_part (expecting i.ExtensionPart) (parts file kind depth) in
@@ -129,16 +128,20 @@ extension_body_law file kind depth =
     let nl : Lawful n = seq_law (name file) p (name_law file) pl (λ other h. refl) in
     mapped_law (extension_of kind) (seq (sign (keyword kind)) n) (seq_law (sign (keyword kind)) n (sign_law (keyword kind)) nl (λ other h. refl))
 
-schema_extension_body_law : (file : FileId) (depth : ℕ) → Lawful (schema_extension_body file depth)
-unfolding schema_extension_body directives directive_node arguments name
-schema_extension_body_law file depth =
+pub schema_extension_parts_law : (file : FileId) (depth : ℕ) → Lawful (mapped schema_parts (seq (directives file true depth) (optional_roots file depth)))
+unfolding directives directive_node arguments name
+schema_extension_parts_law file depth =
     let d : Piece DirectiveList = directives file true depth in
     let r : Piece (List (NodeView (OperationType × NameView))) = optional_roots file depth in
     let rl : Lawful r = mapped_law or_none (optional (roots file depth)) (optional_law (roots file depth) (roots_law file depth) refl) in
-    let dl : Lawful (seq d r) = seq_law d r (directives_law file true depth) rl (apart d.more r.first refl) in
-    let p : Piece DefinitionParts = mapped schema_parts (seq d r) in
+    mapped_law schema_parts (seq d r) (seq_law d r (directives_law file true depth) rl (apart d.more r.first refl))
+
+schema_extension_body_law : (file : FileId) (depth : ℕ) → Lawful (schema_extension_body file depth)
+unfolding schema_extension_body
+schema_extension_body_law file depth =
+    let p : Piece DefinitionParts = mapped schema_parts (seq (directives file true depth) (optional_roots file depth)) in
     let f : Piece DefinitionParts = filtered has_part (expecting i.ExtensionPart) p in
-    let fl : Lawful f = filtered_law has_part (expecting i.ExtensionPart) p (mapped_law schema_parts (seq d r) dl) in
+    let fl : Lawful f = filtered_law has_part (expecting i.ExtensionPart) p (schema_extension_parts_law file depth) in
     mapped_law schema_extension_of (seq (sign k.Schema) f) (seq_law (sign k.Schema) f (sign_law k.Schema) fl (λ kind h. refl))
 
 extended_pick_law : (file : FileId) (depth : ℕ) (kind : Kind) → Lawful (extended_pick file depth kind)
@@ -192,13 +195,13 @@ unfolding operation_definition operation shorthand_definition shorthand fragment
 definition_law file depth =
     let p0 : Piece Definition = nothing (expecting i.Definition) in
     let pick_law : (kind : Kind) → Lawful (definition_pick file depth kind) = λ kind.
-        let p1 : Piece Definition = choose (is_description kind || is_described kind) (system_definition file depth) p0 in
-        let p2 : Piece Definition = choose (is_operation_type kind) (operation_definition file depth) p1 in
-        let p3 : Piece Definition = choose (only k.Extend kind) (extension file depth) p2 in
-        let p4 : Piece Definition = choose (only k.Fragment kind) (fragment file depth) p3 in
-        either_law (only k.LeftBrace kind) (shorthand_definition file depth) p4 (shorthand_definition_law file depth)
-        (either_law (only k.Fragment kind) (fragment file depth) p3 (fragment_law file depth)
-        (either_law (only k.Extend kind) (extension file depth) p2 (extension_law file depth)
-        (either_law (is_operation_type kind) (operation_definition file depth) p1 (operation_definition_law file depth)
-        (either_law (is_description kind || is_described kind) (system_definition file depth) p0 (system_definition_law file depth) (nothing_law (expecting i.Definition)))))) in
+    let p1 : Piece Definition = choose (is_description kind || is_described kind) (system_definition file depth) p0 in
+    let p2 : Piece Definition = choose (is_operation_type kind) (operation_definition file depth) p1 in
+    let p3 : Piece Definition = choose (only k.Extend kind) (extension file depth) p2 in
+    let p4 : Piece Definition = choose (only k.Fragment kind) (fragment file depth) p3 in
+    either_law (only k.LeftBrace kind) (shorthand_definition file depth) p4 (shorthand_definition_law file depth)
+    (either_law (only k.Fragment kind) (fragment file depth) p3 (fragment_law file depth)
+    (either_law (only k.Extend kind) (extension file depth) p2 (extension_law file depth)
+    (either_law (is_operation_type kind) (operation_definition file depth) p1 (operation_definition_law file depth)
+    (either_law (is_description kind || is_described kind) (system_definition file depth) p0 (system_definition_law file depth) (nothing_law (expecting i.Definition)))))) in
     branch_law is_definition goes_on_type (definition_pick file depth) (expecting i.Definition) pick_law refl refl refl

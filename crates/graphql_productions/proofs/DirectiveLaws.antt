@@ -1,5 +1,5 @@
 -- Arguments and directives: what is read is spelled so, and the other way round.
-use Rattle.std.proofs.Common.{◌≡◌, ℕ, zero, suc, Bool, false, List, refl}
+use Rattle.std.proofs.Common.{ℕ, zero, suc, Bool, List, refl}
 use Rattle.graphql_nodes.specs.declared.source.FileId.{FileId}
 use Rattle.graphql_nodes.specs.NameView.{NameView}
 use Rattle.graphql_nodes.specs.NodeView.{NodeView}
@@ -28,14 +28,19 @@ argument_law file constant depth =
     let m : Piece Argument = mapped argument_of s in
     item_law is_name no_argument (node file m) (node_law file m (mapped_law argument_of s sl) refl) refl refl
 
+pub some_arguments_law : (file : FileId) (constant : Bool) (depth : ℕ) → Lawful (some (argument file constant depth))
+unfolding argument_node name
+some_arguments_law file constant depth =
+    let a : Piece (NodeView Argument) = argument file constant depth in
+    some_law a (argument_law file constant depth) refl (apart a.more a.first refl)
+
 pub argument_list_law : (file : FileId) (constant : Bool) (depth : ℕ) → Lawful (argument_list file constant depth)
 unfolding argument_node name
 argument_list_law file constant zero = headed_law (only k.LeftParen) too_deep (nothing_law (λ _. TooDeep)) refl refl refl
 argument_list_law file constant (suc depth) =
     let a : Piece (NodeView Argument) = argument file constant depth in
-    let sl : Lawful (some a) = some_law a (argument_law file constant depth) refl (apart a.more a.first refl) in
     let b : Piece (List (NodeView Argument)) = between k.LeftParen k.RightParen no_argument (some a) in
-    headed_law (only k.LeftParen) b (between_law k.LeftParen k.RightParen no_argument (some a) sl (apart (some a).more (only k.RightParen) refl)) refl refl refl
+    headed_law (only k.LeftParen) b (between_law k.LeftParen k.RightParen no_argument (some a) (some_arguments_law file constant depth) (apart (some a).more (only k.RightParen) refl)) refl refl refl
 
 pub arguments_law : (file : FileId) (constant : Bool) (depth : ℕ) → Lawful (arguments file constant depth)
 unfolding arguments name

@@ -1,13 +1,12 @@
 -- Documents: what is read is spelled so; and what is spelled in turn, with no `{` but at the front, is read.
-use Rattle.std.proofs.Common.{◌≡◌, ℕ, zero, suc, ◌<◌, ◌≤◌, Bool, true, false, cond, List, [], ◌∷◌, ◌++◌, length, Result, Ok, Err, refl, sym, ap, subst, ◌∙◌, append_assoc, arith}
+use Rattle.std.proofs.Common.{◌≡◌, ℕ, zero, suc, ◌<◌, ◌≤◌, Bool, true, false, cond, List, [], ◌∷◌, ◌++◌, length, Result, Ok, refl, sym, ap, subst, ◌∙◌, arith}
 use Rattle.std.proofs.lemmas.List.{append-nil, length-append}
 use Rattle.graphql_nodes.specs.declared.source.FileId.{FileId}
 use Rattle.graphql_ast.specs.declared.definition.Definition.{Definition}
 use Rattle.graphql_grammar.specs.declared.fault.Item.TheVariants as i
-use Rattle.graphql_grammar.specs.Pieces.{Piece, Reading, Refusal, State, ◌>>=◌, all_read, item, listed, many, many_at, read_all, seq, some}
-use Rattle.graphql_grammar.specs.Spelling.{Parts}
+use Rattle.graphql_grammar.specs.Pieces.{Piece, Reading, Refusal, State, ◌>>=◌, all_read, item, listed, many, many_at, read_all}
 use Rattle.graphql_grammar.specs.Words.{WordView, begins, ended}
-use Rattle.graphql_grammar.proofs.ManyLaws.{longer, many_sound}
+use Rattle.graphql_grammar.proofs.ManyLaws.{longer, some_sound}
 use Rattle.graphql_grammar.proofs.PieceLaws.{Lawful, Stops, Took, item_law}
 use Rattle.graphql_grammar.proofs.ReadingLemmas.{bind_ok, ended_append, ok_is}
 use Rattle.graphql_productions.specs.Documents.{any_kind, definition, document, spells_in_turn, spells_plainly}
@@ -22,24 +21,7 @@ one_law file depth = item_law any_kind (expecting i.Definition) (definition file
 
 -- what is read of a document is spelled so
 pub document_sound : (file : FileId) (depth : ℕ) (s : State) (xs : List Definition) (after : State) → (document file depth).read s ≡ Ok (xs, after) → Took (document file depth).spells s xs after
-document_sound file depth s xs after e =
-    let p : Piece Definition = one file depth in
-    let b = bind_ok ((seq p (many p)).read s) (λ y. Ok (listed y.0, y.1)) (xs, after) e in
-    let y : (Definition × List Definition) × State = b.0 in
-    let d = bind_ok (p.read s) (λ z. (many p).read z.1 >>= λ w. Ok ((z.0, w.0), w.1)) y b.1 in
-    let first : Definition × State = d.0 in
-    let r = bind_ok ((many p).read first.1) (λ w. Ok ((first.0, w.0), w.1)) y d.2 in
-    let rest : List Definition × State = r.0 in
-    let t : Took p.spells s first.0 first.1 = (one_law file depth).sound s first.0 first.1 d.1 in
-    let u : Took (many p).spells first.1 rest.0 rest.1 = many_sound p (one_law file depth) refl (length first.1.left) first.1 rest.0 rest.1 r.1 in
-    let w : Took (document file depth).spells s (first.0 ∷ rest.0) rest.1 = record {
-      front = t.front ++ u.front;
-      left = t.left ∙ ap (λ (l : List WordView). t.front ++ l) u.left ∙ sym (append_assoc t.front u.front rest.1.left);
-      last = u.last ∙ ap (λ (n : ℕ). ended n u.front) t.last ∙ sym (ended_append s.last t.front u.front);
-      spelled = ((first.0, rest.0), refl, record { head = t.front; tail = u.front; whole = refl; first = t.spelled; second = u.spelled });
-    } in
-    let same : (first.0 ∷ rest.0, rest.1) ≡ (xs, after) = ap (λ (v : (Definition × List Definition) × State). (listed v.0, v.1)) (ok_is ((first.0, rest.0), rest.1) y r.2) ∙ ok_is (listed y.0, y.1) (xs, after) b.2 in
-    subst (λ (v : List Definition × State). Took (document file depth).spells s v.0 v.1) same w
+document_sound file depth s xs after e = some_sound (one file depth) (one_law file depth) refl s xs after e
 
 stops_where : (words : List WordView) → begins goes_on_type words ≡ false → Stops goes_on_type words
 stops_where [] e = tt

@@ -1,6 +1,15 @@
+pub mod BlindDefinitions
+pub mod BlindDirectives
+pub mod BlindNodes
+pub mod BlindOperations
+pub mod BlindSelections
+pub mod BlindTypes
+pub mod BlindTypeSystem
+pub mod BlindValues
 pub mod DefinitionLaws
 pub mod DirectiveLaws
 pub mod DocumentLaws
+pub mod ExtensionParts
 pub mod LocationLemmas
 pub mod NestedLemmas
 pub mod NodeLaws
@@ -9,3 +18,11 @@ pub mod SelectionLaws
 pub mod TypeLaws
 pub mod TypeSystemLaws
 pub mod ValueLaws
+pub mod ViableDefinitions
+pub mod ViableDirectives
+pub mod ViableNodes
+pub mod ViableOperations
+pub mod ViableSelections
+pub mod ViableTypes
+pub mod ViableTypeSystem
+pub mod ViableValues

@@ -5,7 +5,7 @@ use Rattle.graphql_grammar.specs.declared.fault.FaultKind.TheVariants.{Expected}
 use Rattle.graphql_grammar.specs.declared.fault.Item.TheVariants as i
 use Rattle.graphql_grammar.specs.declared.kind.Kind.{Kind}
 use Rattle.graphql_grammar.specs.Kinds.{is_name, only}
-use Rattle.graphql_grammar.specs.Pieces.{Piece, Wrong, located, mapped, seq, sign, sign_or, word}
+use Rattle.graphql_grammar.specs.Pieces.{Piece, Wrong, located, seq, sign, sign_or, word}
 use Rattle.graphql_grammar.proofs.PieceLaws.{Apart, Lawful, located_law, mapped_law, seq_law, sign_law, sign_or_law, word_law}
 use Rattle.graphql_productions.specs.Nodes.{between, inner, name, name_of, node, node_of}
 

@@ -1,5 +1,5 @@
 -- Operations and fragments: what is read is spelled so, and the other way round.
-use Rattle.std.proofs.Common.{◌≡◌, ℕ, zero, suc, Bool, true, false, List, Option, refl}
+use Rattle.std.proofs.Common.{ℕ, zero, suc, true, false, List, Option, refl}
 use Rattle.graphql_nodes.specs.declared.operation_type.OperationType.{OperationType}
 use Rattle.graphql_nodes.specs.declared.operation_type.OperationType.TheVariants as o
 use Rattle.graphql_nodes.specs.declared.source.FileId.{FileId}
@@ -37,9 +37,9 @@ operation_type_law =
     let s : Piece OperationType = mapped (λ _. o.Subscription) (sign k.Subscription) in
     let n : Piece OperationType = nothing no_root in
     let pick_law : (kind : Kind) → Lawful (operation_type_pick kind) = λ kind.
-        either_law (only k.Query kind) q (choose (only k.Mutation kind) m (choose (only k.Subscription kind) s n)) (mapped_law (λ _. o.Query) (sign k.Query) (sign_law k.Query))
-        (either_law (only k.Mutation kind) m (choose (only k.Subscription kind) s n) (mapped_law (λ _. o.Mutation) (sign k.Mutation) (sign_law k.Mutation))
-        (either_law (only k.Subscription kind) s n (mapped_law (λ _. o.Subscription) (sign k.Subscription) (sign_law k.Subscription)) (nothing_law no_root))) in
+    either_law (only k.Query kind) q (choose (only k.Mutation kind) m (choose (only k.Subscription kind) s n)) (mapped_law (λ _. o.Query) (sign k.Query) (sign_law k.Query))
+    (either_law (only k.Mutation kind) m (choose (only k.Subscription kind) s n) (mapped_law (λ _. o.Mutation) (sign k.Mutation) (sign_law k.Mutation))
+    (either_law (only k.Subscription kind) s n (mapped_law (λ _. o.Subscription) (sign k.Subscription) (sign_law k.Subscription)) (nothing_law no_root))) in
     branch_law is_operation_type none operation_type_pick no_root pick_law refl refl refl
 
 pub default_law : (file : FileId) (depth : ℕ) → Lawful (default_value file depth)
@@ -73,14 +73,19 @@ variable_definition_law file depth =
     let m : Piece VariableDefinition = mapped variable_of s in
     item_law (only k.Dollar) no_variable (node file m) (node_law file m (mapped_law variable_of s sl) refl) refl refl
 
+pub some_variables_law : (file : FileId) (depth : ℕ) → Lawful (some (variable_definition file depth))
+unfolding variable_node typed directives directive_node arguments name
+some_variables_law file depth =
+    let v : Piece (NodeView VariableDefinition) = variable_definition file depth in
+    some_law v (variable_definition_law file depth) refl (apart v.more v.first refl)
+
 variable_list_law : (file : FileId) (depth : ℕ) → Lawful (enclosed k.LeftParen k.RightParen no_variable depth (λ inside. some (variable_definition file inside)))
 unfolding variable_node typed directives directive_node arguments name
 variable_list_law file zero = headed_law (only k.LeftParen) too_deep (nothing_law (λ _. TooDeep)) refl refl refl
 variable_list_law file (suc depth) =
     let v : Piece (NodeView VariableDefinition) = variable_definition file depth in
-    let sl : Lawful (some v) = some_law v (variable_definition_law file depth) refl (apart v.more v.first refl) in
     let b : Piece (List (NodeView VariableDefinition)) = between k.LeftParen k.RightParen no_variable (some v) in
-    headed_law (only k.LeftParen) b (between_law k.LeftParen k.RightParen no_variable (some v) sl (apart (some v).more (only k.RightParen) refl)) refl refl refl
+    headed_law (only k.LeftParen) b (between_law k.LeftParen k.RightParen no_variable (some v) (some_variables_law file depth) (apart (some v).more (only k.RightParen) refl)) refl refl refl
 
 pub variables_law : (file : FileId) (depth : ℕ) → Lawful (variables file depth)
 unfolding variables
@@ -96,6 +101,10 @@ directed_law file depth =
     let set : Piece (List Selection) = selection_set file depth in
     seq_law d set (directives_law file false depth) (selection_set_law file depth) (apart d.more set.first refl)
 
+pub optional_name_law : (file : FileId) → Lawful (optional (operation_name file))
+unfolding name
+optional_name_law file = optional_law (operation_name file) (headed_law is_name (name file) (name_law file) refl refl refl) refl
+
 pub operation_law : (file : FileId) (depth : ℕ) → Lawful (operation file depth)
 unfolding operation variables directives name directive_node arguments
 operation_law file depth =
@@ -103,7 +112,7 @@ operation_law file depth =
     let v : Piece (List (NodeView VariableDefinition)) = variables file depth in
     let vl : Lawful (seq v d) = seq_law v d (variables_law file depth) (directed_law file depth) (apart v.more d.first refl) in
     let n : Piece (Option NameView) = optional (operation_name file) in
-    let nl : Lawful (seq n (seq v d)) = seq_law n (seq v d) (optional_law (operation_name file) (headed_law is_name (name file) (name_law file) refl refl refl) refl) vl (apart n.more (seq v d).first refl) in
+    let nl : Lawful (seq n (seq v d)) = seq_law n (seq v d) (optional_name_law file) vl (apart n.more (seq v d).first refl) in
     mapped_law operation_of (seq operation_type (seq n (seq v d))) (seq_law operation_type (seq n (seq v d)) operation_type_law nl (λ kind h. refl))
 
 pub shorthand_law : (file : FileId) (depth : ℕ) → Lawful (shorthand file depth)

@@ -1,13 +1,11 @@
 -- Selections: what is read is spelled so, and the other way round.
-use Rattle.std.proofs.Common.{◌≡◌, ℕ, zero, suc, Bool, true, false, ◌||◌, List, Option, refl}
+use Rattle.std.proofs.Common.{ℕ, zero, suc, false, ◌||◌, List, Option, refl}
 use Rattle.graphql_nodes.specs.declared.source.FileId.{FileId}
 use Rattle.graphql_nodes.specs.NameView.{NameView}
 use Rattle.graphql_nodes.specs.NodeView.{NodeView}
 use Rattle.graphql_ast.specs.declared.directive.Argument.{Argument}
 use Rattle.graphql_ast.specs.declared.directive.DirectiveList.{DirectiveList}
 use Rattle.graphql_ast.specs.declared.selection.Field.{Field}
-use Rattle.graphql_ast.specs.declared.selection.FragmentSpread.{FragmentSpread}
-use Rattle.graphql_ast.specs.declared.selection.InlineFragment.{InlineFragment}
 use Rattle.graphql_ast.specs.declared.selection.Selection.{Selection}
 use Rattle.graphql_ast.specs.declared.selection.Selection as s
 use Rattle.graphql_grammar.specs.declared.fault.FaultKind.TheVariants.{TooDeep}
@@ -21,12 +19,12 @@ use Rattle.graphql_grammar.proofs.ManyLaws.{some_law}
 use Rattle.graphql_grammar.proofs.PieceLaws.{Lawful, apart, headed_law, located_law, mapped_law, nothing_law, optional_law, seq_law, sign_law, word_law}
 use Rattle.graphql_productions.specs.Directives.{arguments, directive_node, directives}
 use Rattle.graphql_productions.specs.Documents.{any_kind, selections, selections_pick}
-use Rattle.graphql_productions.specs.Nodes.{behind, between, name, name_of, node}
+use Rattle.graphql_productions.specs.Nodes.{behind, name, name_of, node}
 use Rattle.graphql_productions.specs.Selections.{alias, alias_body, bare_selections, condition_body, field, field_made, field_selection, fragment, fragment_body, fragment_name, fragment_pick, goes_on_selection, inline_at, inline_body, inline_of, is_fragment, is_of_directives, is_selection, nested_set, no_fragment_name, no_selection, placed_fragment, selection, selection_pick, selection_set, selections_of, spread_at, spread_body, spread_of, type_condition}
 use Rattle.graphql_productions.proofs.DirectiveLaws.{arguments_law, directives_law}
 use Rattle.graphql_productions.proofs.NodeLaws.{between_law, name_law, node_law}
 
-alias_law : (file : FileId) → Lawful (alias file)
+pub alias_law : (file : FileId) → Lawful (alias file)
 unfolding alias_body name
 alias_law file =
     let p : Piece (Unit {0} × NameView) = seq (sign k.Colon) (name file) in
@@ -80,8 +78,8 @@ module _ (file : FileId) (depth : ℕ) (p : Piece (List Selection)) (pl : Lawful
       let b : Piece (ℕ × ℕ → Selection) = mapped (spread_at file) (spread_body file depth) in
       let n : Piece (ℕ × ℕ → Selection) = nothing no_selection in
       let pick_law : (kind : Kind) → Lawful (fragment_pick file depth set kind) = λ kind.
-          either_law (only k.On kind || (only k.At kind || only k.LeftBrace kind)) a (choose (is_name kind) b n) (mapped_law (inline_at file) (inline_body file depth set) inline_law)
-          (either_law (is_name kind) b n (mapped_law (spread_at file) (spread_body file depth) spread_law) (nothing_law no_selection)) in
+      either_law (only k.On kind || (only k.At kind || only k.LeftBrace kind)) a (choose (is_name kind) b n) (mapped_law (inline_at file) (inline_body file depth set) inline_law)
+      (either_law (is_name kind) b n (mapped_law (spread_at file) (spread_body file depth) spread_law) (nothing_law no_selection)) in
       branch_law is_fragment is_of_directives (fragment_pick file depth set) no_selection pick_law refl refl refl
 
   fragment_law : Lawful (fragment file depth (headed (only k.LeftBrace) p))
@@ -105,8 +103,8 @@ module _ (file : FileId) (depth : ℕ) (p : Piece (List Selection)) (pl : Lawful
       let f : Piece Selection = field_selection file depth set in
       let n : Piece Selection = nothing no_selection in
       let pick_law : (kind : Kind) → Lawful (selection_pick file depth set kind) = λ kind.
-          either_law (only k.Spread kind) (fragment file depth set) (choose (is_name kind) f n) fragment_law
-          (either_law (is_name kind) f n field_selection_law (nothing_law no_selection)) in
+      either_law (only k.Spread kind) (fragment file depth set) (choose (is_name kind) f n) fragment_law
+      (either_law (is_name kind) f n field_selection_law (nothing_law no_selection)) in
       branch_law is_selection goes_on_selection (selection_pick file depth set) no_selection pick_law refl refl refl
 
   pub some_selections_law : Lawful (some (selection file depth (headed (only k.LeftBrace) p)))
@@ -134,5 +132,5 @@ pub whole_selections_law : (file : FileId) (depth : ℕ) → Lawful (selections 
 unfolding bare_selections
 whole_selections_law file depth =
     let pick_law : (kind : Kind) → Lawful (selections_pick file depth kind) = λ kind.
-        either_law (only k.LeftBrace kind) (selection_set file depth) (bare_selections file depth) (selection_set_law file depth) (bare_selections_law file depth) in
+    either_law (only k.LeftBrace kind) (selection_set file depth) (bare_selections file depth) (selection_set_law file depth) (bare_selections_law file depth) in
     branch_law any_kind any_kind (selections_pick file depth) no_selection pick_law refl refl refl

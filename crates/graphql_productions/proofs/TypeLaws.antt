@@ -1,5 +1,5 @@
 -- References to types: what is read is spelled so, and the other way round.
-use Rattle.std.proofs.Common.{◌≡◌, ℕ, zero, suc, Bool, true, false, Option, refl}
+use Rattle.std.proofs.Common.{ℕ, zero, suc, false, Option, refl}
 use Rattle.graphql_nodes.specs.declared.source.FileId.{FileId}
 use Rattle.graphql_ast.specs.declared.type_reference.Type.{«Type» as TypeReference, Named, «List» as ListOf}
 use Rattle.graphql_grammar.specs.declared.fault.FaultKind.TheVariants.{Expected, TooDeep}
@@ -7,7 +7,7 @@ use Rattle.graphql_grammar.specs.declared.fault.Item.TheVariants as i
 use Rattle.graphql_grammar.specs.declared.kind.Kind.{Kind}
 use Rattle.graphql_grammar.specs.declared.kind.Kind.TheVariants as k
 use Rattle.graphql_grammar.specs.Kinds.{is_name, only}
-use Rattle.graphql_grammar.specs.Pieces.{Piece, branch, choose, headed, mapped, nothing, optional, seq, sign, too_deep}
+use Rattle.graphql_grammar.specs.Pieces.{Piece, branch, choose, headed, nothing, optional, seq, sign, too_deep}
 use Rattle.graphql_grammar.proofs.BranchLaws.{branch_law, either_law}
 use Rattle.graphql_grammar.proofs.PieceLaws.{Lawful, apart, headed_law, mapped_law, nothing_law, optional_law, seq_law, sign_law}
 use Rattle.graphql_productions.specs.Nodes.{between, name}
@@ -18,17 +18,23 @@ named_law : (file : FileId) → Lawful (named_type file)
 unfolding named_type
 named_law file = mapped_law Named (name file) (name_law file)
 
-type_by_law : (file : FileId) (p : Piece TypeReference) → Lawful (headed (only k.LeftBracket) p) → Lawful (type_by file (headed (only k.LeftBracket) p))
+-- a name or a list
+pub name_or_list_law : (file : FileId) (p : Piece TypeReference) → Lawful (headed (only k.LeftBracket) p) → Lawful (branch is_type (λ _. false) (type_pick file (headed (only k.LeftBracket) p)) no_type)
 unfolding named_type name
-type_by_law file p pl =
+name_or_list_law file p pl =
     let list : Piece TypeReference = headed (only k.LeftBracket) p in
     let p0 : Piece TypeReference = nothing no_type in
     let pick_law : (kind : Kind) → Lawful (type_pick file list kind) = λ kind.
-        either_law (only k.LeftBracket kind) list (choose (is_name kind) (named_type file) p0) pl (either_law (is_name kind) (named_type file) p0 (named_law file) (nothing_law no_type)) in
+    either_law (only k.LeftBracket kind) list (choose (is_name kind) (named_type file) p0) pl (either_law (is_name kind) (named_type file) p0 (named_law file) (nothing_law no_type)) in
+    branch_law is_type (λ _. false) (type_pick file list) no_type pick_law refl refl refl
+
+pub type_by_law : (file : FileId) (p : Piece TypeReference) → Lawful (headed (only k.LeftBracket) p) → Lawful (type_by file (headed (only k.LeftBracket) p))
+unfolding named_type name
+type_by_law file p pl =
+    let list : Piece TypeReference = headed (only k.LeftBracket) p in
     let b : Piece TypeReference = branch is_type (λ _. false) (type_pick file list) no_type in
-    let bl : Lawful b = branch_law is_type (λ _. false) (type_pick file list) no_type pick_law refl refl refl in
     let o : Piece (Option (Unit {0})) = optional (sign k.Bang) in
-    mapped_law required_where (seq b o) (seq_law b o bl (optional_law (sign k.Bang) (sign_law k.Bang) refl) (λ kind h. refl))
+    mapped_law required_where (seq b o) (seq_law b o (name_or_list_law file p pl) (optional_law (sign k.Bang) (sign_law k.Bang) refl) (λ kind h. refl))
 
 pub list_type_law : (file : FileId) (depth : ℕ) → Lawful (headed (only k.LeftBracket) (nested_list_type file depth))
 unfolding nested_list_type list_type_of

@@ -1,12 +1,11 @@
 -- What definitions and extensions of the type system hold: what is read is spelled so, and the other way round.
-use Rattle.std.proofs.Common.{◌≡◌, ℕ, zero, suc, Bool, true, false, List, [], ◌∷◌, Option, None, Some, refl}
+use Rattle.std.proofs.Common.{ℕ, zero, suc, true, List, Option, refl}
 use Rattle.graphql_nodes.specs.declared.operation_type.OperationType.{OperationType}
 use Rattle.graphql_nodes.specs.declared.source.FileId.{FileId}
 use Rattle.graphql_nodes.specs.declared.type_kind.TypeKind.{TypeKind}
 use Rattle.graphql_nodes.specs.declared.type_kind.TypeKind.TheVariants as t
 use Rattle.graphql_nodes.specs.NameView.{NameView}
 use Rattle.graphql_nodes.specs.NodeView.{NodeView}
-use Rattle.graphql_ast.specs.declared.definition_parts.DefinitionParts.{DefinitionParts}
 use Rattle.graphql_ast.specs.declared.directive.DirectiveList.{DirectiveList}
 use Rattle.graphql_ast.specs.declared.type_reference.Type.{«Type» as TypeReference}
 use Rattle.graphql_ast.specs.declared.type_system.EnumValueDefinition.{EnumValueDefinition}
@@ -14,9 +13,7 @@ use Rattle.graphql_ast.specs.declared.type_system.FieldDefinition.{FieldDefiniti
 use Rattle.graphql_ast.specs.declared.type_system.InputValueDefinition.{InputValueDefinition}
 use Rattle.graphql_ast.specs.declared.value.Value.{Value}
 use Rattle.graphql_grammar.specs.declared.fault.FaultKind.TheVariants.{Expected, TooDeep}
-use Rattle.graphql_grammar.specs.declared.fault.Item.{Item}
 use Rattle.graphql_grammar.specs.declared.fault.Item.TheVariants as i
-use Rattle.graphql_grammar.specs.declared.kind.Kind.{Kind}
 use Rattle.graphql_grammar.specs.declared.kind.Kind.TheVariants as k
 use Rattle.graphql_grammar.specs.declared.kind.Names.TheVariants as names
 use Rattle.graphql_grammar.specs.Kinds.{names_of, only}
@@ -54,7 +51,7 @@ input_value_law file depth =
     let m : Piece InputValueDefinition = mapped input_of (seq o n) in
     item_law is_described_name (expecting i.InputValue) (node file m) (node_law file m (mapped_law input_of (seq o n) ol) refl) refl refl
 
-some_inputs_law : (file : FileId) (depth : ℕ) → Lawful (some (input_value file depth))
+pub some_inputs_law : (file : FileId) (depth : ℕ) → Lawful (some (input_value file depth))
 unfolding input_node typed directives directive_node arguments name
 some_inputs_law file depth =
     let v : Piece (NodeView InputValueDefinition) = input_value file depth in
@@ -107,14 +104,19 @@ field_definition_law file depth =
     let m : Piece FieldDefinition = mapped field_of (seq o n) in
     item_law is_described_name (expecting i.FieldDefinition) (node file m) (node_law file m (mapped_law field_of (seq o n) ol) refl) refl refl
 
+pub some_fields_law : (file : FileId) (depth : ℕ) → Lawful (some (field_definition file depth))
+unfolding field_node directives directive_node arguments name input_values
+some_fields_law file depth =
+    let f : Piece (NodeView FieldDefinition) = field_definition file depth in
+    some_law f (field_definition_law file depth) refl (apart f.more f.first refl)
+
 field_list_law : (file : FileId) (depth : ℕ) → Lawful (enclosed k.LeftBrace k.RightBrace (expecting i.FieldDefinition) depth (λ inside. some (field_definition file inside)))
 unfolding field_node directives directive_node arguments name input_values
 field_list_law file zero = headed_law (only k.LeftBrace) too_deep (nothing_law (λ _. TooDeep)) refl refl refl
 field_list_law file (suc depth) =
     let f : Piece (NodeView FieldDefinition) = field_definition file depth in
-    let sl : Lawful (some f) = some_law f (field_definition_law file depth) refl (apart f.more f.first refl) in
     let b : Piece (List (NodeView FieldDefinition)) = between k.LeftBrace k.RightBrace (expecting i.FieldDefinition) (some f) in
-    headed_law (only k.LeftBrace) b (between_law k.LeftBrace k.RightBrace (expecting i.FieldDefinition) (some f) sl (apart (some f).more (only k.RightBrace) refl)) refl refl refl
+    headed_law (only k.LeftBrace) b (between_law k.LeftBrace k.RightBrace (expecting i.FieldDefinition) (some f) (some_fields_law file depth) (apart (some f).more (only k.RightBrace) refl)) refl refl refl
 
 pub fields_law : (file : FileId) (depth : ℕ) → Lawful (fields file depth)
 unfolding fields
@@ -124,7 +126,7 @@ fields_law file depth =
 
 -- ---- names with a sign between them
 
-implementing_law : (file : FileId) → Lawful (names_behind file k.Implements k.Ampersand)
+pub implementing_law : (file : FileId) → Lawful (names_behind file k.Implements k.Ampersand)
 unfolding names_behind name
 implementing_law file =
     let o : Piece (Option (Unit {0})) = optional (sign k.Ampersand) in
@@ -156,25 +158,34 @@ members_law file =
 
 -- ---- enum values
 
+pub enum_value_name_law : (file : FileId) → Lawful (enum_value_name file)
+unfolding enum_value_name
+enum_value_name_law file = mapped_law (name_of file) (word (names_of names.EnumValue) no_enum_value) (word_law (names_of names.EnumValue) no_enum_value)
+
 pub enum_value_law : (file : FileId) (depth : ℕ) → Lawful (enum_value_definition file depth)
 unfolding enum_value_node enum_value_name directives directive_node arguments name
 enum_value_law file depth =
     let d : Piece DirectiveList = directives file true depth in
     let n : Piece NameView = enum_value_name file in
-    let nl : Lawful (seq n d) = seq_law n d (mapped_law (name_of file) (word (names_of names.EnumValue) no_enum_value) (word_law (names_of names.EnumValue) no_enum_value)) (directives_law file true depth) (λ kind h. refl) in
+    let nl : Lawful (seq n d) = seq_law n d (enum_value_name_law file) (directives_law file true depth) (λ kind h. refl) in
     let o : Piece (Option NameView) = optional (description file) in
     let ol : Lawful (seq o (seq n d)) = seq_law o (seq n d) (optional_description_law file) nl (apart o.more n.first refl) in
     let m : Piece EnumValueDefinition = mapped enum_value_of (seq o (seq n d)) in
     item_law is_enum_value no_enum_value (node file m) (node_law file m (mapped_law enum_value_of (seq o (seq n d)) ol) refl) refl refl
+
+pub some_enum_values_law : (file : FileId) (depth : ℕ) → Lawful (some (enum_value_definition file depth))
+unfolding enum_value_node enum_value_name directives directive_node arguments name
+some_enum_values_law file depth =
+    let v : Piece (NodeView EnumValueDefinition) = enum_value_definition file depth in
+    some_law v (enum_value_law file depth) refl (apart v.more v.first refl)
 
 enum_value_list_law : (file : FileId) (depth : ℕ) → Lawful (enclosed k.LeftBrace k.RightBrace no_enum_value depth (λ inside. some (enum_value_definition file inside)))
 unfolding enum_value_node enum_value_name directives directive_node arguments name
 enum_value_list_law file zero = headed_law (only k.LeftBrace) too_deep (nothing_law (λ _. TooDeep)) refl refl refl
 enum_value_list_law file (suc depth) =
     let v : Piece (NodeView EnumValueDefinition) = enum_value_definition file depth in
-    let sl : Lawful (some v) = some_law v (enum_value_law file depth) refl (apart v.more v.first refl) in
     let b : Piece (List (NodeView EnumValueDefinition)) = between k.LeftBrace k.RightBrace no_enum_value (some v) in
-    headed_law (only k.LeftBrace) b (between_law k.LeftBrace k.RightBrace no_enum_value (some v) sl (apart (some v).more (only k.RightBrace) refl)) refl refl refl
+    headed_law (only k.LeftBrace) b (between_law k.LeftBrace k.RightBrace no_enum_value (some v) (some_enum_values_law file depth) (apart (some v).more (only k.RightBrace) refl)) refl refl refl
 
 pub enum_values_law : (file : FileId) (depth : ℕ) → Lawful (enum_values file depth)
 unfolding enum_values
@@ -193,14 +204,19 @@ root_law file =
     let m : Piece (OperationType × NameView) = mapped root_of s in
     item_law is_operation_type no_root (node file m) (node_law file m (mapped_law root_of s (seq_law operation_type c operation_type_law cl (λ kind h. refl))) refl) refl refl
 
+pub some_roots_law : (file : FileId) → Lawful (some (root file))
+unfolding root_node name
+some_roots_law file =
+    let r : Piece (NodeView (OperationType × NameView)) = root file in
+    some_law r (root_law file) refl (apart r.more r.first refl)
+
 pub roots_law : (file : FileId) (depth : ℕ) → Lawful (roots file depth)
 unfolding root_node name
 roots_law file zero = headed_law (only k.LeftBrace) too_deep (nothing_law (λ _. TooDeep)) refl refl refl
 roots_law file (suc depth) =
     let r : Piece (NodeView (OperationType × NameView)) = root file in
-    let sl : Lawful (some r) = some_law r (root_law file) refl (apart r.more r.first refl) in
     let b : Piece (List (NodeView (OperationType × NameView))) = between k.LeftBrace k.RightBrace no_root (some r) in
-    headed_law (only k.LeftBrace) b (between_law k.LeftBrace k.RightBrace no_root (some r) sl (apart (some r).more (only k.RightBrace) refl)) refl refl refl
+    headed_law (only k.LeftBrace) b (between_law k.LeftBrace k.RightBrace no_root (some r) (some_roots_law file) (apart (some r).more (only k.RightBrace) refl)) refl refl refl
 
 -- ---- what stands behind a name
 

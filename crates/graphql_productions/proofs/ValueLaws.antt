@@ -1,5 +1,5 @@
 -- Input values: what is read is spelled so, and the other way round.
-use Rattle.std.proofs.Common.{◌≡◌, ℕ, zero, suc, Bool, true, false, List, refl}
+use Rattle.std.proofs.Common.{ℕ, zero, suc, Bool, true, false, refl}
 use Rattle.graphql_nodes.specs.declared.source.FileId.{FileId}
 use Rattle.graphql_nodes.specs.NameView.{NameView}
 use Rattle.graphql_nodes.specs.NodeView.{NodeView}
@@ -9,7 +9,7 @@ use Rattle.graphql_grammar.specs.declared.fault.FaultKind.TheVariants.{TooDeep, 
 use Rattle.graphql_grammar.specs.declared.kind.Kind.{Kind}
 use Rattle.graphql_grammar.specs.declared.kind.Kind.TheVariants as k
 use Rattle.graphql_grammar.specs.Kinds.{is_name, none, only}
-use Rattle.graphql_grammar.specs.Pieces.{Piece, choose, headed, many, mapped, nothing, seq, sign, too_deep, word}
+use Rattle.graphql_grammar.specs.Pieces.{Piece, choose, headed, many, nothing, seq, sign, too_deep, word}
 use Rattle.graphql_grammar.proofs.BranchLaws.{branch_law, either_law}
 use Rattle.graphql_grammar.proofs.ManyLaws.{many_law}
 use Rattle.graphql_grammar.proofs.PieceLaws.{Lawful, apart, headed_law, mapped_law, nothing_law, seq_law, sign_law, word_law}
@@ -117,8 +117,8 @@ module _ (file : FileId) (constant : Bool) (p : Piece Value) (pl : Lawful (heade
       let n : Piece (NodeView Value) = node file (value_by file constant (headed is_group p)) in
       let p0 : Piece Value = nothing no_value in
       let pick_law : (kind : Kind) → Lawful (group_pick file n kind) = λ kind.
-          either_law (only k.LeftBracket kind) (list_of n) (choose (only k.LeftBrace kind) (object_of file n) p0) list_law
-          (either_law (only k.LeftBrace kind) (object_of file n) p0 object_law (nothing_law no_value)) in
+      either_law (only k.LeftBracket kind) (list_of n) (choose (only k.LeftBrace kind) (object_of file n) p0) list_law
+      (either_law (only k.LeftBrace kind) (object_of file n) p0 object_law (nothing_law no_value)) in
       branch_law is_group none (group_pick file n) no_value pick_law refl refl refl
 
 -- how deep values nest says nothing of what they begin with
@@ -136,4 +136,3 @@ value_node_law file constant depth = node_law file (value file constant depth) (
 
 pub member_node_law : (file : FileId) (constant : Bool) (depth : ℕ) → Lawful (member file (value_node file constant depth))
 member_node_law file constant depth = member_law file constant (nested_group file constant depth) (nested_group_law file constant depth)
-

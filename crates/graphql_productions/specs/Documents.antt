@@ -1,14 +1,13 @@
 -- Documents: GraphQL specification of October 2021, section 2.2.
-use Rattle.std.specs.Prelude.{◌≡◌, ℕ, List, [], ◌∷◌, Bool, true, false, ◌||◌, if◌then◌else◌}
+use Rattle.std.specs.Prelude.{◌≡◌, ℕ, List, [], ◌∷◌, true, false, ◌||◌}
 use Rattle.graphql_nodes.specs.declared.source.FileId.{FileId}
 use Rattle.graphql_ast.specs.declared.definition.Definition.{Definition}
 use Rattle.graphql_ast.specs.declared.definition.Definition.TheVariants as d
 use Rattle.graphql_ast.specs.declared.selection.Selection.{Selection}
-use Rattle.graphql_grammar.specs.declared.fault.FaultKind.TheVariants.{Expected}
 use Rattle.graphql_grammar.specs.declared.fault.Item.TheVariants as i
 use Rattle.graphql_grammar.specs.declared.kind.Kind.{Kind}
 use Rattle.graphql_grammar.specs.declared.kind.Kind.TheVariants as k
-use Rattle.graphql_grammar.specs.Kinds.{Kinds, is_name, only}
+use Rattle.graphql_grammar.specs.Kinds.{Kinds, only}
 use Rattle.graphql_grammar.specs.Pieces.{Piece, branch, choose, item, mapped, nothing, some}
 use Rattle.graphql_grammar.specs.Spelling.{Parts}
 use Rattle.graphql_grammar.specs.Words.{WordView, begins}

@@ -1,5 +1,5 @@
 -- The names of directive locations: GraphQL specification of October 2021, section 3.13.
-use Rattle.std.specs.Prelude.{ℕ, Bool, List, [], ◌∷◌, nat_eq, Option, None, Some, if◌then◌else◌}
+use Rattle.std.specs.Prelude.{ℕ, List, [], ◌∷◌, nat_eq, Option, None, Some, if◌then◌else◌}
 use lib.Pointwise.{pointwise}
 use Rattle.graphql_nodes.specs.declared.directive_location.DirectiveLocation.{DirectiveLocation}
 use Rattle.graphql_nodes.specs.declared.directive_location.DirectiveLocation.TheVariants as l

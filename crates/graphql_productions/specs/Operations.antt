@@ -1,5 +1,5 @@
 -- Operations and fragments: GraphQL specification of October 2021, sections 2.3, 2.8 and 2.10.
-use Rattle.std.specs.Prelude.{ℕ, List, [], Bool, true, false, ◌||◌, Option, None, Some}
+use Rattle.std.specs.Prelude.{ℕ, List, [], true, false, ◌||◌, Option, None}
 use Rattle.graphql_nodes.specs.declared.source.FileId.{FileId}
 use Rattle.graphql_nodes.specs.declared.operation_type.OperationType.{OperationType}
 use Rattle.graphql_nodes.specs.declared.operation_type.OperationType.TheVariants as o

@@ -1,5 +1,5 @@
 -- Selections: GraphQL specification of October 2021, sections 2.4 to 2.8.
-use Rattle.std.specs.Prelude.{ℕ, zero, suc, List, [], Bool, true, false, ◌||◌, Option, None, Some, if◌then◌else◌}
+use Rattle.std.specs.Prelude.{ℕ, zero, suc, List, false, ◌||◌, Option, None, Some, if◌then◌else◌}
 use Rattle.graphql_nodes.specs.declared.source.FileId.{FileId}
 use Rattle.graphql_nodes.specs.NameView.{NameView}
 use Rattle.graphql_nodes.specs.NodeView.{NodeView}

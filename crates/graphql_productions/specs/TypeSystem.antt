@@ -26,8 +26,8 @@ use Rattle.graphql_grammar.specs.declared.fault.Item.TheVariants as i
 use Rattle.graphql_grammar.specs.declared.kind.Kind.{Kind}
 use Rattle.graphql_grammar.specs.declared.kind.Kind.TheVariants as k
 use Rattle.graphql_grammar.specs.declared.kind.Names.TheVariants as names
-use Rattle.graphql_grammar.specs.Kinds.{Kinds, is_name, names_of, none, only}
-use Rattle.graphql_grammar.specs.Pieces.{Piece, Wrong, branch, choose, empty, filtered, headed, item, located, mapped, nothing, optional, picked, separated, seq, sign, some, word}
+use Rattle.graphql_grammar.specs.Kinds.{Kinds, is_name, names_of, only}
+use Rattle.graphql_grammar.specs.Pieces.{Piece, Wrong, branch, choose, filtered, headed, item, located, mapped, nothing, optional, picked, separated, seq, sign, some, word}
 use Rattle.graphql_grammar.specs.Words.{WordView, begins}
 use Rattle.graphql_productions.specs.Directives.{directives}
 use Rattle.graphql_productions.specs.Locations.{location_of}

@@ -1,7 +1,6 @@
 -- References to types: GraphQL specification of October 2021, section 2.11.
 use Rattle.std.specs.Prelude.{ℕ, zero, suc, false, Option, None, Some, ◌||◌}
 use Rattle.graphql_nodes.specs.declared.source.FileId.{FileId}
-use Rattle.graphql_nodes.specs.NameView.{NameView}
 use Rattle.graphql_ast.specs.TypeReferences.{made_non_null}
 use Rattle.graphql_ast.specs.declared.type_reference.Type.{«Type» as TypeReference, Named, «List» as ListOf}
 use Rattle.graphql_grammar.specs.declared.fault.FaultKind.TheVariants.{Expected}

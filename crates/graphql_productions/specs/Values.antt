@@ -1,5 +1,5 @@
 -- Input values: GraphQL specification of October 2021, section 2.9.
-use Rattle.std.specs.Prelude.{ℕ, zero, suc, Bool, true, false, ◌||◌, List, if◌then◌else◌}
+use Rattle.std.specs.Prelude.{ℕ, zero, suc, Bool, true, false, ◌||◌}
 use Rattle.graphql_nodes.specs.declared.source.FileId.{FileId}
 use Rattle.graphql_nodes.specs.NameView.{NameView}
 use Rattle.graphql_nodes.specs.NodeView.{NodeView}
@@ -7,14 +7,13 @@ use Rattle.graphql_ast.specs.declared.value.Value.{Value, roll-Value}
 use Rattle.graphql_ast.specs.declared.value.Value.TheOpen.{Value-F}
 use Rattle.graphql_tokens.specs.BlockStringValues.{block_string_value}
 use Rattle.graphql_tokens.specs.StringValues.{string_value as value_of_string}
-use Rattle.graphql_grammar.specs.declared.fault.FaultKind.{FaultKind}
 use Rattle.graphql_grammar.specs.declared.fault.FaultKind.TheVariants.{Expected, VariableInConstant}
 use Rattle.graphql_grammar.specs.declared.fault.Item.TheVariants as i
 use Rattle.graphql_grammar.specs.declared.kind.Kind.{Kind}
 use Rattle.graphql_grammar.specs.declared.kind.Kind.TheVariants as k
-use Rattle.graphql_grammar.specs.Kinds.{Kinds, is_name, none, only, tag}
+use Rattle.graphql_grammar.specs.Kinds.{Kinds, is_name, none, only}
 use Rattle.graphql_grammar.specs.Pieces.{Piece, Wrong, branch, choose, headed, many, mapped, nothing, seq, sign, too_deep, word}
-use Rattle.graphql_productions.specs.Nodes.{behind, between, name, name_of, node}
+use Rattle.graphql_productions.specs.Nodes.{behind, between, name, node}
 
 -- a value was expected
 abbrev pub no_value : Wrong

@@ -1,12 +1,15 @@
 //! Laws of productions.
-ghost use Rattle.std.specs.Prelude.{◌≡◌, ℕ, Bool, List};
+ghost use Rattle.std.specs.Prelude.{◌≡◌, ℕ, suc, Bool, List, Err};
 ghost use Rattle.graphql_nodes.specs.declared.source.FileId.{FileId};
 ghost use Rattle.graphql_ast.specs.declared.definition.Definition.{Definition};
 ghost use Rattle.graphql_ast.specs.declared.selection.Selection.{Selection};
 ghost use Rattle.graphql_ast.specs.declared.value.Value.{Value};
+ghost use Rattle.graphql_grammar.specs.Pieces.{Refusal, read_all};
+ghost use Rattle.graphql_grammar.specs.Refusals.{RefusedWith, Viable, reads};
 ghost use Rattle.graphql_grammar.specs.Words.{WordView};
-ghost use Rattle.graphql_productions.specs.Documents.{definition};
-ghost use Rattle.graphql_productions.specs.Selections.{selection_set};
+ghost use Rattle.graphql_productions.specs.Documents.{definition, document, selections};
+ghost use Rattle.graphql_productions.specs.Selections.{bare_selections, selection_set};
+ghost use Rattle.graphql_productions.specs.Types.{type};
 ghost use Rattle.graphql_productions.specs.Values.{value};
 
 /// Words spell one tree at most: one definition, one selection set, one value.
@@ -14,4 +17,30 @@ pub fn words_spell_one_tree()
     ensures definition { (file : FileId) (depth : ℕ) (words : List WordView) (a b : Definition) → (definition file depth).spells a words → (definition file depth).spells b words → a ≡ b }
     ensures selections { (file : FileId) (depth : ℕ) (words : List WordView) (a b : List Selection) → (selection_set file depth).spells a words → (selection_set file depth).spells b words → a ≡ b }
     ensures value { (file : FileId) (constant : Bool) (depth : ℕ) (words : List WordView) (a b : Value) → (value file constant depth).spells a words → (value file constant depth).spells b words → a ≡ b }
+{}
+
+/// What stands behind a refused word doesn't matter: no words that begin with those before it and with it spell a definition, selections
+/// with braces or without, a type or a value; and words that are refused at their end spell none. Of a document the same is said of
+/// reading, since a `{` behind `type T` is always read as the start of its fields.
+pub fn refusals_are_of_all_words_so_far()
+    ensures definition { (file : FileId) (depth : ℕ) (words : List WordView) (e : Refusal) → read_all (definition file depth) words ≡ Err e → RefusedWith (definition file depth).spells words e }
+    ensures document { (file : FileId) (depth : ℕ) (words : List WordView) (e : Refusal) → read_all (document file depth) words ≡ Err e → RefusedWith (reads (document file depth)) words e }
+    ensures selections { (file : FileId) (depth : ℕ) (words : List WordView) (e : Refusal) → read_all (selections file depth) words ≡ Err e → RefusedWith (selections file depth).spells words e }
+    ensures selection_set { (file : FileId) (depth : ℕ) (words : List WordView) (e : Refusal) → read_all (selection_set file depth) words ≡ Err e → RefusedWith (selection_set file depth).spells words e }
+    ensures bare_selections { (file : FileId) (depth : ℕ) (words : List WordView) (e : Refusal) → read_all (bare_selections file depth) words ≡ Err e → RefusedWith (bare_selections file depth).spells words e }
+    ensures type_reference { (file : FileId) (depth : ℕ) (words : List WordView) (e : Refusal) → read_all (type file depth) words ≡ Err e → RefusedWith (type file depth).spells words e }
+    ensures value { (file : FileId) (constant : Bool) (depth : ℕ) (words : List WordView) (e : Refusal) → read_all (value file constant depth) words ≡ Err e → RefusedWith (value file constant depth).spells words e }
+{}
+
+/// Words are refused no later than they have to be: those before the refused one begin some that spell a definition, a document,
+/// selections with braces or without, a type or a value. One sign more may be open in those, since what is refused for its depth alone
+/// goes on where more may be open. Of a document the productions alone are meant: they leave open what a `{` behind `type T` begins.
+pub fn words_before_a_refusal_go_on()
+    ensures definition { (file : FileId) (depth : ℕ) (words : List WordView) (e : Refusal) → read_all (definition file depth) words ≡ Err e → Viable (definition file (suc depth)).spells words e.left }
+    ensures document { (file : FileId) (depth : ℕ) (words : List WordView) (e : Refusal) → read_all (document file depth) words ≡ Err e → Viable (document file (suc depth)).spells words e.left }
+    ensures selections { (file : FileId) (depth : ℕ) (words : List WordView) (e : Refusal) → read_all (selections file depth) words ≡ Err e → Viable (selections file (suc depth)).spells words e.left }
+    ensures selection_set { (file : FileId) (depth : ℕ) (words : List WordView) (e : Refusal) → read_all (selection_set file depth) words ≡ Err e → Viable (selection_set file (suc depth)).spells words e.left }
+    ensures bare_selections { (file : FileId) (depth : ℕ) (words : List WordView) (e : Refusal) → read_all (bare_selections file depth) words ≡ Err e → Viable (bare_selections file (suc depth)).spells words e.left }
+    ensures type_reference { (file : FileId) (depth : ℕ) (words : List WordView) (e : Refusal) → read_all (type file depth) words ≡ Err e → Viable (type file (suc depth)).spells words e.left }
+    ensures value { (file : FileId) (constant : Bool) (depth : ℕ) (words : List WordView) (e : Refusal) → read_all (value file constant depth) words ≡ Err e → Viable (value file constant (suc depth)).spells words e.left }
 {}
