@@ -1,7 +1,13 @@
-//! Tests of GraphQL texts: their tokens, and the values of strings.
+//! Tests of GraphQL texts: their tokens, the values of strings, and their trees.
 #![tactic(auto)]
 
 #[cfg(test)]
+mod refusals;
+#[cfg(test)]
+mod shown;
+#[cfg(test)]
 mod tokens;
+#[cfg(test)]
+mod trees;
 #[cfg(test)]
 mod values;

@@ -1,0 +1,339 @@
+//! Texts that are refused: what is wrong first, and where, in bytes.
+
+use graphql_nodes::source::FileId;
+use graphql_text::parse_error::ParseError;
+use graphql_text::parsing::{
+    ParseOptions, parse_definitions, parse_selections, parse_type, parse_value,
+};
+use std::alloc::{AllocError, Global};
+use std::test::Fail;
+
+/// The bytes of the refusal, and its message.
+fn told(alloc: Global, error: &ParseError) -> Result<String, AllocError> {
+    let mut text = String::new(alloc);
+    let start = error.location.start;
+    let end = error.location.end;
+    write!(text, "{start}..{end} {}", error.kind)?;
+    Ok(text)
+}
+
+/// Whether a text is refused in this file, with these bytes and this message.
+fn is_refused<T: Drop>(
+    alloc: Global,
+    file: FileId,
+    read: Result<T, ParseError>,
+    expected: &str,
+) -> Result<bool, AllocError> {
+    match read {
+        Ok(_) => Ok(false),
+        Err(error) => Ok(error.location.file == file && told(alloc, &error)?.as_str() == expected),
+    }
+}
+
+const FILE: FileId = FileId(7);
+
+/// Whether each text is refused as a document, as is told beside it.
+fn documents_are_refused(
+    alloc: Global,
+    options: ParseOptions,
+    rows: &[(&str, &str)],
+) -> Result<bool, AllocError> {
+    for (text, expected) in rows {
+        let read = parse_definitions(alloc, FILE, *text, options);
+        if !is_refused(alloc, FILE, read, *expected)? {
+            return Ok(false);
+        }
+    }
+    Ok(true)
+}
+
+/// Whether each text is refused as selections.
+fn selections_are_refused(alloc: Global, rows: &[(&str, &str)]) -> Result<bool, AllocError> {
+    for (text, expected) in rows {
+        let read = parse_selections(alloc, FILE, *text, ParseOptions::new());
+        if !is_refused(alloc, FILE, read, *expected)? {
+            return Ok(false);
+        }
+    }
+    Ok(true)
+}
+
+/// Whether each text is refused as a type.
+fn types_are_refused(alloc: Global, rows: &[(&str, &str)]) -> Result<bool, AllocError> {
+    for (text, expected) in rows {
+        let read = parse_type(alloc, FILE, *text, ParseOptions::new());
+        if !is_refused(alloc, FILE, read, *expected)? {
+            return Ok(false);
+        }
+    }
+    Ok(true)
+}
+
+/// Whether each text is refused as a constant value.
+fn values_are_refused(alloc: Global, rows: &[(&str, &str)]) -> Result<bool, AllocError> {
+    for (text, expected) in rows {
+        let read = parse_value(alloc, FILE, *text, ParseOptions::new());
+        if !is_refused(alloc, FILE, read, *expected)? {
+            return Ok(false);
+        }
+    }
+    Ok(true)
+}
+
+/// A value in so many brackets.
+fn nested(alloc: Global, depth: usize) -> Result<String, AllocError> {
+    let mut text = String::new(alloc);
+    for _ in 0..depth {
+        text.push('[')?;
+    }
+    text.push('1')?;
+    for _ in 0..depth {
+        text.push(']')?;
+    }
+    Ok(text)
+}
+
+/// Whether 200 brackets may be open, and the 201st is refused.
+fn depth_is_limited(alloc: Global) -> Result<bool, AllocError> {
+    let allowed = nested(alloc, 200)?;
+    let deeper = nested(alloc, 201)?;
+    let read = parse_value(alloc, FILE, allowed.as_str(), ParseOptions::new());
+    let refused = parse_value(alloc, FILE, deeper.as_str(), ParseOptions::new());
+    Ok(read.is_ok() && is_refused(alloc, FILE, refused, "200..201 nested too deeply")?)
+}
+
+/// Whether file number 0 is refused, whatever the text.
+fn built_in_is_refused(alloc: Global) -> Result<bool, AllocError> {
+    let read = parse_definitions(alloc, FileId::BUILT_IN, "?", ParseOptions::new());
+    is_refused(
+        alloc,
+        FileId::BUILT_IN,
+        read,
+        "0..0 file number 0 is that of the built-in definitions",
+    )
+}
+
+static TOKENS: [(&str, &str); 15] = [
+    ("{a ?}", "3..3 unexpected character"),
+    ("{é}", "1..1 unexpected character"),
+    ("{..a}", "1..1 unexpected character"),
+    ("{a}#\u{7}", "4..4 unexpected character"),
+    ("{a(b:\"c", "7..7 unterminated string"),
+    ("{a(b:\"c\n\")}", "7..7 unterminated string"),
+    ("{a(b:\"\"\"c\"\")}", "13..13 unterminated string"),
+    ("{a(b:\"\\ud83d\")}", "6..6 invalid escape sequence"),
+    ("{a(b:\"c\\x\")}", "7..7 invalid escape sequence"),
+    ("{a(b:01)}", "6..6 invalid number"),
+    ("{a(b:1x)}", "6..6 invalid number"),
+    ("{a(b:1.)}", "7..7 invalid number"),
+    ("{a(b:-)}", "6..6 invalid number"),
+    // What is wrong further left comes first.
+    ("{} ?", "1..2 expected a selection, found `}`"),
+    ("type T 1x", "8..8 invalid number"),
+];
+
+static MEANINGS: [(&str, &str); 21] = [
+    (
+        "fragment on on T{a}",
+        "9..11 the name `on` is reserved here",
+    ),
+    ("enum E{true}", "7..11 the name `true` is reserved here"),
+    ("enum E{A false}", "9..14 the name `false` is reserved here"),
+    (
+        "enum E{\"d\" null}",
+        "11..15 the name `null` is reserved here",
+    ),
+    (
+        "query($a:Int=$b){c}",
+        "13..14 variable `$b` in a constant value",
+    ),
+    (
+        "query($a:Int@d(e:[{f:$on}])){c}",
+        "21..22 variable `$on` in a constant value",
+    ),
+    (
+        "type T{f(a:Int=$b):Int}",
+        "15..16 variable `$b` in a constant value",
+    ),
+    (
+        "scalar S@d(a:$b)",
+        "13..14 variable `$b` in a constant value",
+    ),
+    ("query($a:Int=$){c}", "13..14 expected a value, found `$`"),
+    ("query($a:Int=$", "13..14 expected a value, found `$`"),
+    (
+        "directive @d on FIELD | NOWHERE",
+        "24..31 unknown directive location `NOWHERE`",
+    ),
+    (
+        "directive @d on field",
+        "16..21 unknown directive location `field`",
+    ),
+    (
+        "\"d\" { a }",
+        "4..5 a description stands before a definition of the type system alone",
+    ),
+    (
+        "\"d\" extend type T{a:Int}",
+        "4..10 a description stands before a definition of the type system alone",
+    ),
+    (
+        "\"d\" query Q{a}",
+        "4..9 a description stands before a definition of the type system alone",
+    ),
+    (
+        "\"\"\"d\"\"\" fragment F on T{a}",
+        "8..16 a description stands before a definition of the type system alone",
+    ),
+    (
+        "\"d\"",
+        "3..3 expected a definition, found the end of the text",
+    ),
+    ("\"d\" \"e\"", "4..7 expected a definition, found a string"),
+    ("", "0..0 expected a definition, found the end of the text"),
+    (
+        " # only",
+        "7..7 expected a definition, found the end of the text",
+    ),
+    ("foo", "0..3 expected a definition, found `foo`"),
+];
+
+static EXPECTED: [(&str, &str); 40] = [
+    ("{a} b", "4..5 expected a definition, found `b`"),
+    ("}", "0..1 expected a definition, found `}`"),
+    ("{\"a\"}", "1..4 expected a selection, found a string"),
+    (
+        "{\"\"\"a\"\"\"}",
+        "1..8 expected a selection, found a block string",
+    ),
+    ("{1}", "1..2 expected a selection, found `1`"),
+    ("{-1.5e3}", "1..7 expected a selection, found `-1.5e3`"),
+    ("{a", "2..2 expected a selection, found the end of the text"),
+    ("{a{}}", "3..4 expected a selection, found `}`"),
+    ("{...}", "4..5 expected a selection, found `}`"),
+    ("{...on}", "6..7 expected a name, found `}`"),
+    ("{...on T}", "8..9 expected `{`, found `}`"),
+    ("{a:}", "3..4 expected a name, found `}`"),
+    ("{a()}", "3..4 expected an argument, found `)`"),
+    ("{a(b:1}", "6..7 expected an argument, found `}`"),
+    ("{a(b 1)}", "5..6 expected `:`, found `1`"),
+    ("{a(b:)}", "5..6 expected a value, found `)`"),
+    ("{a(b:[1)}", "7..8 expected a value, found `)`"),
+    ("{a(b:{1})}", "6..7 expected an object field, found `1`"),
+    ("{a(b:$)}", "6..7 expected a name, found `)`"),
+    ("{a@}", "3..4 expected a name, found `}`"),
+    ("query Q", "7..7 expected `{`, found the end of the text"),
+    (
+        "query(){a}",
+        "6..7 expected a variable definition, found `)`",
+    ),
+    ("query($:Int){a}", "7..8 expected a name, found `:`"),
+    ("query($a Int){b}", "9..12 expected `:`, found `Int`"),
+    ("query($a:!){b}", "9..10 expected a type, found `!`"),
+    ("query($a:[Int){b}", "13..14 expected `]`, found `)`"),
+    ("fragment F{a}", "10..11 expected `on`, found `{`"),
+    ("type T{}", "7..8 expected a field definition, found `}`"),
+    ("type T{f Int}", "9..12 expected `:`, found `Int`"),
+    (
+        "type T{f():Int}",
+        "9..10 expected an input value definition, found `)`",
+    ),
+    (
+        "type T implements{f:Int}",
+        "17..18 expected a name, found `{`",
+    ),
+    (
+        "union U=",
+        "8..8 expected a name, found the end of the text",
+    ),
+    (
+        "enum E{}",
+        "7..8 expected an enum value definition, found `}`",
+    ),
+    (
+        "input I{}",
+        "8..9 expected an input value definition, found `}`",
+    ),
+    ("schema{}", "7..8 expected a root operation type, found `}`"),
+    ("schema@d", "8..8 expected `{`, found the end of the text"),
+    (
+        "directive @d on",
+        "15..15 expected a directive location, found the end of the text",
+    ),
+    ("directive d on FIELD", "10..11 expected `@`, found `d`"),
+    (
+        "extend type T",
+        "13..13 expected something that extends, found the end of the text",
+    ),
+    (
+        "extend query Q{a}",
+        "7..12 expected what is extended, found `query`",
+    ),
+];
+
+static MANY: [(&str, &str); 2] = [
+    ("{a b}", "4..5 too many tokens"),
+    // What is wrong before the limit comes first.
+    ("{}}}", "1..2 expected a selection, found `}`"),
+];
+
+static SELECTIONS: [(&str, &str); 6] = [
+    ("", "0..0 expected a selection, found the end of the text"),
+    ("{}", "1..2 expected a selection, found `}`"),
+    ("{a} b", "4..5 expected the end of the text, found `b`"),
+    ("a}", "1..2 expected the end of the text, found `}`"),
+    (
+        "a \"b\"",
+        "2..5 expected the end of the text, found a string",
+    ),
+    (
+        "a {",
+        "3..3 expected a selection, found the end of the text",
+    ),
+];
+
+static TYPES: [(&str, &str); 5] = [
+    ("", "0..0 expected a type, found the end of the text"),
+    ("Int!!", "4..5 expected the end of the text, found `!`"),
+    (
+        "[Int] Int",
+        "6..9 expected the end of the text, found `Int`",
+    ),
+    ("[]", "1..2 expected a type, found `]`"),
+    ("[Int", "4..4 expected `]`, found the end of the text"),
+];
+
+static VALUES: [(&str, &str); 6] = [
+    ("", "0..0 expected a value, found the end of the text"),
+    ("1 2", "2..3 expected the end of the text, found `2`"),
+    ("$a", "0..1 variable `$a` in a constant value"),
+    ("[{a:$b}]", "4..5 variable `$b` in a constant value"),
+    ("$", "0..1 expected a value, found `$`"),
+    ("{a:}", "3..4 expected a value, found `}`"),
+];
+
+#[test]
+fn documents_are_refused_where_they_go_wrong(rt: HostRuntime) {
+    let options = ParseOptions::new();
+    assert!(rt; documents_are_refused(rt.alloc(), options, &TOKENS) == Ok(true));
+    assert!(rt; documents_are_refused(rt.alloc(), options, &MEANINGS) == Ok(true));
+    assert!(rt; documents_are_refused(rt.alloc(), options, &EXPECTED) == Ok(true));
+}
+
+#[test]
+fn parts_are_refused_where_they_go_wrong(rt: HostRuntime) {
+    assert!(rt; selections_are_refused(rt.alloc(), &SELECTIONS) == Ok(true));
+    assert!(rt; types_are_refused(rt.alloc(), &TYPES) == Ok(true));
+    assert!(rt; values_are_refused(rt.alloc(), &VALUES) == Ok(true));
+}
+
+#[test]
+fn limits_are_kept(rt: HostRuntime) {
+    let few = ParseOptions {
+        max_depth: 200,
+        max_tokens: 3,
+    };
+    assert!(rt; documents_are_refused(rt.alloc(), few, &MANY) == Ok(true));
+    assert!(rt; depth_is_limited(rt.alloc()) == Ok(true));
+    assert!(rt; built_in_is_refused(rt.alloc()) == Ok(true));
+}
