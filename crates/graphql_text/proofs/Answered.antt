@@ -73,4 +73,4 @@ pub document_refused : (file : FileId) (depth total : ℕ) (words left : List Wo
     → GivesAll r left (read_all (document file depth) words) → Parsed file total left r answer → IfErr answer (IsRefused (spells_plainly file depth) file total words)
 document_refused file depth total words left r answer gives parsed =
     refused_so (document file depth) file total words left (spells_plainly file depth)
-        (λ e h. let u : RefusedWith (reads (document file depth)) words e = unread_law (document file depth) (document_blind file depth) words e h in (u.0, u.1, unspelled file depth u.0 e.left u.2)) r answer gives parsed
+    (λ e h. let u : RefusedWith (reads (document file depth)) words e = unread_law (document file depth) (document_blind file depth) words e h in (u.0, u.1, unspelled file depth u.0 e.left u.2)) r answer gives parsed
