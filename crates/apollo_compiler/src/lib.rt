@@ -13,6 +13,7 @@ pub mod executable;
 pub mod laws;
 mod prepared;
 mod rebuilding;
+pub mod text;
 mod typing;
 
 pub use crate::building::build_schema;

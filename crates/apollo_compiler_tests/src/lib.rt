@@ -14,3 +14,5 @@ mod hash_keys;
 mod making;
 #[cfg(test)]
 mod rebuilt;
+#[cfg(test)]
+mod texts;

@@ -1,0 +1,38 @@
+//! GraphQL text that is compiled.
+
+use crate::compiling::PLAIN;
+use crate::making::name;
+use apollo_compiler::executable::FieldSet;
+use apollo_compiler::text::{ParseOptions, parse_document, parse_selections};
+use apollo_compiler::{Document, FileId, HashKeys, SourceFile, build_schema};
+use graphql_nodes::collections::shared::Shared;
+use std::alloc::Global;
+use std::slice;
+
+static SCHEMA: &str = "type Query { product: Product }\n\"\"\"\nWhat is sold.\n\"\"\"\ntype Product { id: ID }\nextend type Product { organization: Organization }\ntype Organization { id: ID }";
+
+/// The document of a text.
+fn read(alloc: Global, text: &str) -> Option<Document> {
+    let file = SourceFile::new(alloc, "store.graphql", text).ok()?;
+    let source = Shared::new(alloc, file).ok()?;
+    parse_document(alloc, FileId(1), &source, ParseOptions::new()).ok()
+}
+
+/// Whether the fields that a key names are all there, with braces or without.
+fn is_key_typed(alloc: Global) -> Option<bool> {
+    let document = read(alloc, SCHEMA)?;
+    let documents = slice::from_ref(&document);
+    let (schema, faults) = build_schema(alloc, HashKeys::FIXED, PLAIN, documents).ok()?;
+    let options = ParseOptions::new();
+    let bare = parse_selections(alloc, FileId(2), "id organization { id }", options).ok()?;
+    let braced = parse_selections(alloc, FileId(2), "{ id organization { id } }", options).ok()?;
+    let ty = name(alloc, "Product").ok()?;
+    let (set, lost) = FieldSet::from_ast(alloc, &schema, ty, bare.as_slice()).ok()?;
+    let is_same = bare == braced;
+    Some(is_same && faults.is_empty() && lost.is_empty() && set.selection_set.selections.len() == 2)
+}
+
+#[test]
+fn a_field_set_of_text_is_typed_over_a_schema_of_text(rt: HostRuntime) {
+    assert!(rt; is_key_typed(rt.alloc()) == Some(true));
+}
