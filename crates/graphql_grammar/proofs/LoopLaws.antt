@@ -4,7 +4,7 @@ use Rattle.std.proofs.lemmas.List.{append-nil}
 use Rattle.graphql_grammar.specs.declared.fault.ReadError.{ReadError}
 use Rattle.graphql_grammar.specs.declared.fault.ReadError.TheVariants as errors
 use Rattle.graphql_grammar.specs.Words.{WordView, begins}
-use Rattle.graphql_grammar.specs.Pieces.{Fails, Piece, Reading, Refusal, State, ◌>>=◌, listed, many, read_as, some, with_front}
+use Rattle.graphql_grammar.specs.Pieces.{Fails, Piece, Reading, State, ◌>>=◌, many, with_front}
 use Rattle.graphql_grammar.proofs.ManyLaws.{many_err_at, many_more_at, many_none}
 use Rattle.graphql_grammar.proofs.PieceLaws.{Lawful}
 
@@ -31,21 +31,6 @@ module _ {A : Type 0} (p : Piece A) (pl : Lawful p) (solid : p.may_be_empty ≡ 
   pub is_done : (front : List A) (s : State) (total : Reading (List A)) → begins p.first s.left ≡ false → with_front front ((many p).read s) ≡ total → total ≡ Ok (front, s)
   is_done front s total miss so_far =
       sym so_far ∙ ap (λ (r : Reading (List A)). with_front front r) (many_none p pl solid (length s.left) s miss) ∙ ap (λ (xs : List A). Ok (xs, s)) (append-nil front)
-
--- ---- one or more, and any number, as a loop adds them
-
-regroup_some : {A : Type 0} (x : A) (r : Reading (List A)) → read_as listed (λ s. r >>= λ z. Ok ((x, z.0), z.1)) (record { last = 0; left = [] }) ≡ with_front (x ∷ []) r
-regroup_some x (Ok y) = refl
-regroup_some x (Err e) = refl
-
-after_first : {A : Type 0} (p : Piece A) (s : State) (r : Reading A) → p.read s ≡ r → (some p).read s ≡ read_as listed (λ t. r >>= λ y. (many p).read y.1 >>= λ z. Ok ((y.0, z.0), z.1)) s
-after_first {A} p s r e = ap (λ (r : Reading A). read_as listed (λ t. r >>= λ y. (many p).read y.1 >>= λ z. Ok ((y.0, z.0), z.1)) s) e
-
-pub some_read : {A : Type 0} (p : Piece A) (s : State) (x : A) (then : State) → p.read s ≡ Ok (x, then) → (some p).read s ≡ with_front (x ∷ []) ((many p).read then)
-some_read p s x then e = after_first p s (Ok (x, then)) e ∙ regroup_some x ((many p).read then)
-
-pub some_fails : {A : Type 0} (p : Piece A) (s : State) (e : Refusal) → p.read s ≡ Err e → (some p).read s ≡ Err e
-some_fails p s e h = after_first p s (Err e) h
 
 pub no_front : {A : Type 0} (r : Reading (List A)) → with_front [] r ≡ r
 no_front (Ok y) = refl

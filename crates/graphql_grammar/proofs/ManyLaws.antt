@@ -8,7 +8,7 @@ use Rattle.graphql_grammar.proofs.PieceLaws.{Apart, Begun, Lawful, Stops, Took, 
 use Rattle.graphql_grammar.proofs.ReadingLemmas.{bind_ok, chosen, ended_append, ok_is}
 
 module _ {A : Type 0} (p : Piece A) (pl : Lawful p) (solid : p.may_be_empty ≡ false) where
-  pub many_sound : (n : ℕ) (s : State) (xs : List A) (then : State) → many_at p.first p.read n s ≡ Ok (xs, then) → Took (many p).spells s xs then
+  many_sound : (n : ℕ) (s : State) (xs : List A) (then : State) → many_at p.first p.read n s ≡ Ok (xs, then) → Took (many p).spells s xs then
   many_sound zero s xs then e =
       let w : Took (many p).spells s [] s = record { front = []; left = refl; last = refl; spelled = refl } in
       subst (λ (v : List A × State). Took (many p).spells s v.0 v.1) (ok_is ([], s) (xs, then) e) w

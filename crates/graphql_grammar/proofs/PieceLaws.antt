@@ -4,9 +4,9 @@ use Rattle.graphql_grammar.specs.declared.fault.FaultKind.{FaultKind}
 use Rattle.graphql_grammar.specs.declared.fault.FaultKind.TheVariants.{Expected, TooDeep}
 use Rattle.graphql_grammar.specs.declared.fault.Item.TheVariants as i
 use Rattle.graphql_grammar.specs.declared.kind.Kind.{Kind}
-use Rattle.graphql_grammar.specs.Kinds.{Kinds, each_kind, either_of, none, only}
+use Rattle.graphql_grammar.specs.Kinds.{Kinds, each_kind, either_of, only}
 use Rattle.graphql_grammar.specs.Words.{WordView, begins, ended, starting}
-use Rattle.graphql_grammar.specs.Pieces.{Piece, Reading, State, Wrong, ◌>>=◌, close, empty, filtered, headed, item, located, mapped, nested, nothing, optional, picked, picked_at, refused, seq, sign, sign_or, take_picked, take_word, tested, word}
+use Rattle.graphql_grammar.specs.Pieces.{Piece, Reading, State, Wrong, ◌>>=◌, filtered, headed, item, located, mapped, nested, nothing, optional, picked, picked_at, refused, seq, sign, sign_or, take_picked, take_word, tested, word}
 use Rattle.graphql_grammar.proofs.KindLemmas.{of_each}
 use Rattle.graphql_grammar.proofs.ReadingLemmas.{bind_ok, chosen, ended_append, ok_is, or_false, or_left, or_right}
 
@@ -121,21 +121,7 @@ sign_or_law kind wrong = record {
 pub sign_law : (kind : Kind) → Lawful (sign kind)
 sign_law kind = sign_or_law kind (λ _. Expected (i.Word kind))
 
-pub close_law : (kind : Kind) (fault : FaultKind) → Lawful (close kind fault)
-close_law kind fault = sign_or_law kind (λ _. fault)
-
 -- ---- nothing
-
-pub empty_law : {A : Type 0} (x : A) → Lawful (empty x)
-empty_law {A} x = record {
-  sound = λ s y then e.
-      let w : Took (empty x).spells s x s = record { front = []; left = refl; last = refl; spelled = (refl, refl) } in
-      subst (λ (v : A × State). Took (empty x).spells s v.0 v.1) (ok_is (x, s) (y, then) e) w;
-  complete = λ y front rest last h _.
-      subst (λ (f : List WordView). (empty x).read (record { last = last; left = f ++ rest }) ≡ Ok (y, record { last = ended last f; left = rest })) (sym h.1)
-      (ap (λ (z : A). Ok (z, record { last = last; left = rest })) (sym h.0));
-  begun = λ y front h. subst (λ (f : List WordView). Begun none true f) (sym h.1) refl;
-}
 
 pub nothing_law : {A : Type 0} (wrong : Wrong) → Lawful (nothing {A = A} wrong)
 nothing_law {A} wrong = record {
@@ -163,7 +149,7 @@ begun_both p q true f [] (t ∷ ts) h g = or_right (p t.kind) (q t.kind) g
 begun_both p q false f [] tail h g = absurd cc
 
 module _ {A B : Type 0} (p : Piece A) (q : Piece B) (pl : Lawful p) (ql : Lawful q) where
-  pub seq_sound : (s : State) (x : A × B) (then : State) → (seq p q).read s ≡ Ok (x, then) → Took (seq p q).spells s x then
+  seq_sound : (s : State) (x : A × B) (then : State) → (seq p q).read s ≡ Ok (x, then) → Took (seq p q).spells s x then
   seq_sound s x then e =
       let b = bind_ok (p.read s) (λ y. q.read y.1 >>= λ z. Ok ((y.0, z.0), z.1)) (x, then) e in
       let y : A × State = b.0 in

@@ -104,21 +104,7 @@ sign_or kind wrong = record {
 abbrev pub sign : Kind → Piece (Unit {0})
 sign kind = sign_or kind (λ _. Expected (i.Word kind))
 
--- the word of this kind that closes a list of such items
-abbrev pub close : Kind → FaultKind → Piece (Unit {0})
-close kind fault = sign_or kind (λ _. fault)
-
 -- ---- nothing
-
--- no word, for this value
-abbrev pub empty : {A : Type 0} → A → Piece A
-empty x = record {
-  spells = λ y front. (y ≡ x) × (front ≡ []);
-  read = λ s. Ok (x, s);
-  first = none;
-  more = none;
-  may_be_empty = true;
-}
 
 -- what no words spell
 abbrev pub nothing : {A : Type 0} → Wrong → Piece A

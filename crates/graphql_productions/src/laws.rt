@@ -19,9 +19,10 @@ pub fn words_spell_one_tree()
     ensures value { (file : FileId) (constant : Bool) (depth : ℕ) (words : List WordView) (a b : Value) → (value file constant depth).spells a words → (value file constant depth).spells b words → a ≡ b }
 {}
 
-/// What stands behind a refused word doesn't matter: no words that begin with those before it and with it spell a definition, selections
-/// with braces or without, a type or a value; and words that are refused at their end spell none. Of a document the same is said of
-/// reading, since a `{` behind `type T` is always read as the start of its fields.
+/// What stands behind a refused word doesn't matter: no words that begin with those before it and with it
+/// spell a definition, selections with braces or without, a type or a value; and words that are refused at
+/// their end spell none. Of a document the same is said of reading, since a `{` behind `type T` is always
+/// read as the start of its fields.
 pub fn refusals_are_of_all_words_so_far()
     ensures definition { (file : FileId) (depth : ℕ) (words : List WordView) (e : Refusal) → read_all (definition file depth) words ≡ Err e → RefusedWith (definition file depth).spells words e }
     ensures document { (file : FileId) (depth : ℕ) (words : List WordView) (e : Refusal) → read_all (document file depth) words ≡ Err e → RefusedWith (reads (document file depth)) words e }
@@ -32,9 +33,10 @@ pub fn refusals_are_of_all_words_so_far()
     ensures value { (file : FileId) (constant : Bool) (depth : ℕ) (words : List WordView) (e : Refusal) → read_all (value file constant depth) words ≡ Err e → RefusedWith (value file constant depth).spells words e }
 {}
 
-/// Words are refused no later than they have to be: those before the refused one begin some that spell a definition, a document,
-/// selections with braces or without, a type or a value. One sign more may be open in those, since what is refused for its depth alone
-/// goes on where more may be open. Of a document the productions alone are meant: they leave open what a `{` behind `type T` begins.
+/// Words are refused no later than they have to be: those before the refused one begin some that spell a
+/// definition, a document, selections with braces or without, a type or a value. One sign more may be open
+/// in those, since what is refused for its depth alone goes on where more may be open. Of a document the
+/// productions alone are meant: they leave open what a `{` behind `type T` begins.
 pub fn words_before_a_refusal_go_on()
     ensures definition { (file : FileId) (depth : ℕ) (words : List WordView) (e : Refusal) → read_all (definition file depth) words ≡ Err e → Viable (definition file (suc depth)).spells words e.left }
     ensures document { (file : FileId) (depth : ℕ) (words : List WordView) (e : Refusal) → read_all (document file depth) words ≡ Err e → Viable (document file (suc depth)).spells words e.left }

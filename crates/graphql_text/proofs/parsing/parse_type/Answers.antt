@@ -1,5 +1,5 @@
 -- What is read of all words is answered.
-use Rattle.std.proofs.Common.{length, true, subst}
+use Rattle.std.proofs.Common.{length, subst}
 use Rattle.graphql_grammar.specs.Pieces.{GivesAll, State, read_whole}
 use Rattle.graphql_grammar.specs.Standing.{standing}
 use Rattle.graphql_grammar.specs.WordsOfText.{words_of}
