@@ -195,14 +195,13 @@ static EXPECTED: [(&str, &str); 40] = [
     ),
 ];
 
-static MANY: [(&str, &str); 6] = [
+static MANY: [(&str, &str); 5] = [
     (
         "{a b c}",
         "[OperationDefinition(OperationDefinition { operation_type: Query, name: None, variables: [], directives: DirectiveList([]), selection_set: [Field(Field { alias: None, name: \"a\", arguments: [], directives: DirectiveList([]), selection_set: [] }), Field(Field { alias: None, name: \"b\", arguments: [], directives: DirectiveList([]), selection_set: [] }), Field(Field { alias: None, name: \"c\", arguments: [], directives: DirectiveList([]), selection_set: [] })] })]",
     ),
     ("{a b c d}", "8..9 too many tokens"),
     ("{a{b{c}}}", "4..5 nested too deeply"),
-    ("{a(b:[1])}", "5..6 nested too deeply"),
     ("{a{b(c:1)}}", "4..5 nested too deeply"),
     // What is wrong before the limit comes first.
     ("{}}}}}}", "1..2 expected a selection, found `}`"),
