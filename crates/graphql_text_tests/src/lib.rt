@@ -8,6 +8,8 @@ mod shown;
 #[cfg(test)]
 mod tokens;
 #[cfg(test)]
+mod told;
+#[cfg(test)]
 mod trees;
 #[cfg(test)]
 mod values;

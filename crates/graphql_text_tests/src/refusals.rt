@@ -1,84 +1,11 @@
 //! Texts that are refused: what is wrong first, and where, in bytes.
 
+use crate::told::{FILE, Whole, are_told};
 use graphql_nodes::source::FileId;
-use graphql_text::parse_error::ParseError;
-use graphql_text::parsing::{
-    ParseOptions, parse_definitions, parse_selections, parse_type, parse_value,
-};
+use graphql_text::parse_error::ParseErrorKind;
+use graphql_text::parsing::{ParseOptions, parse_type, parse_value};
 use std::alloc::{AllocError, Global};
 use std::test::Fail;
-
-/// The bytes of the refusal, and its message.
-fn told(alloc: Global, error: &ParseError) -> Result<String, AllocError> {
-    let mut text = String::new(alloc);
-    let start = error.location.start;
-    let end = error.location.end;
-    write!(text, "{start}..{end} {}", error.kind)?;
-    Ok(text)
-}
-
-/// Whether a text is refused in this file, with these bytes and this message.
-fn is_refused<T: Drop>(
-    alloc: Global,
-    file: FileId,
-    read: Result<T, ParseError>,
-    expected: &str,
-) -> Result<bool, AllocError> {
-    match read {
-        Ok(_) => Ok(false),
-        Err(error) => Ok(error.location.file == file && told(alloc, &error)?.as_str() == expected),
-    }
-}
-
-const FILE: FileId = FileId(7);
-
-/// Whether each text is refused as a document, as is told beside it.
-fn documents_are_refused(
-    alloc: Global,
-    options: ParseOptions,
-    rows: &[(&str, &str)],
-) -> Result<bool, AllocError> {
-    for (text, expected) in rows {
-        let read = parse_definitions(alloc, FILE, *text, options);
-        if !is_refused(alloc, FILE, read, *expected)? {
-            return Ok(false);
-        }
-    }
-    Ok(true)
-}
-
-/// Whether each text is refused as selections.
-fn selections_are_refused(alloc: Global, rows: &[(&str, &str)]) -> Result<bool, AllocError> {
-    for (text, expected) in rows {
-        let read = parse_selections(alloc, FILE, *text, ParseOptions::new());
-        if !is_refused(alloc, FILE, read, *expected)? {
-            return Ok(false);
-        }
-    }
-    Ok(true)
-}
-
-/// Whether each text is refused as a type.
-fn types_are_refused(alloc: Global, rows: &[(&str, &str)]) -> Result<bool, AllocError> {
-    for (text, expected) in rows {
-        let read = parse_type(alloc, FILE, *text, ParseOptions::new());
-        if !is_refused(alloc, FILE, read, *expected)? {
-            return Ok(false);
-        }
-    }
-    Ok(true)
-}
-
-/// Whether each text is refused as a constant value.
-fn values_are_refused(alloc: Global, rows: &[(&str, &str)]) -> Result<bool, AllocError> {
-    for (text, expected) in rows {
-        let read = parse_value(alloc, FILE, *text, ParseOptions::new());
-        if !is_refused(alloc, FILE, read, *expected)? {
-            return Ok(false);
-        }
-    }
-    Ok(true)
-}
 
 /// A value in so many brackets.
 fn nested(alloc: Global, depth: usize) -> Result<String, AllocError> {
@@ -98,19 +25,16 @@ fn depth_is_limited(alloc: Global) -> Result<bool, AllocError> {
     let allowed = nested(alloc, 200)?;
     let deeper = nested(alloc, 201)?;
     let read = parse_value(alloc, FILE, allowed.as_str(), ParseOptions::new());
-    let refused = parse_value(alloc, FILE, deeper.as_str(), ParseOptions::new());
-    Ok(read.is_ok() && is_refused(alloc, FILE, refused, "200..201 nested too deeply")?)
+    let rows = [(deeper.as_str(), "200..201 nested too deeply")];
+    Ok(read.is_ok() && are_told(alloc, Whole::Value, ParseOptions::new(), &rows)?)
 }
 
 /// Whether file number 0 is refused, whatever the text.
-fn built_in_is_refused(alloc: Global) -> Result<bool, AllocError> {
-    let read = parse_definitions(alloc, FileId::BUILT_IN, "?", ParseOptions::new());
-    is_refused(
-        alloc,
-        FileId::BUILT_IN,
-        read,
-        "0..0 file number 0 is that of the built-in definitions",
-    )
+fn built_in_is_refused(alloc: Global) -> bool {
+    match parse_type(alloc, FileId::BUILT_IN, "?", ParseOptions::new()) {
+        Ok(_) => false,
+        Err(error) => error.kind == ParseErrorKind::BuiltInFile,
+    }
 }
 
 static TOKENS: [(&str, &str); 15] = [
@@ -271,10 +195,16 @@ static EXPECTED: [(&str, &str); 40] = [
     ),
 ];
 
-static MANY: [(&str, &str); 2] = [
-    ("{a b}", "4..5 too many tokens"),
+static MANY: [(&str, &str); 5] = [
+    (
+        "{a b c}",
+        "[OperationDefinition(OperationDefinition { operation_type: Query, name: None, variables: [], directives: DirectiveList([]), selection_set: [Field(Field { alias: None, name: \"a\", arguments: [], directives: DirectiveList([]), selection_set: [] }), Field(Field { alias: None, name: \"b\", arguments: [], directives: DirectiveList([]), selection_set: [] }), Field(Field { alias: None, name: \"c\", arguments: [], directives: DirectiveList([]), selection_set: [] })] })]",
+    ),
+    ("{a b c d}", "8..9 too many tokens"),
+    ("{a{b{c}}}", "4..5 nested too deeply"),
+    ("{a{b(c:1)}}", "4..5 nested too deeply"),
     // What is wrong before the limit comes first.
-    ("{}}}", "1..2 expected a selection, found `}`"),
+    ("{}}}}}}", "1..2 expected a selection, found `}`"),
 ];
 
 static SELECTIONS: [(&str, &str); 6] = [
@@ -315,25 +245,26 @@ static VALUES: [(&str, &str); 6] = [
 #[test]
 fn documents_are_refused_where_they_go_wrong(rt: HostRuntime) {
     let options = ParseOptions::new();
-    assert!(rt; documents_are_refused(rt.alloc(), options, &TOKENS) == Ok(true));
-    assert!(rt; documents_are_refused(rt.alloc(), options, &MEANINGS) == Ok(true));
-    assert!(rt; documents_are_refused(rt.alloc(), options, &EXPECTED) == Ok(true));
+    assert!(rt; are_told(rt.alloc(), Whole::Definitions, options, &TOKENS) == Ok(true));
+    assert!(rt; are_told(rt.alloc(), Whole::Definitions, options, &MEANINGS) == Ok(true));
+    assert!(rt; are_told(rt.alloc(), Whole::Definitions, options, &EXPECTED) == Ok(true));
 }
 
 #[test]
 fn parts_are_refused_where_they_go_wrong(rt: HostRuntime) {
-    assert!(rt; selections_are_refused(rt.alloc(), &SELECTIONS) == Ok(true));
-    assert!(rt; types_are_refused(rt.alloc(), &TYPES) == Ok(true));
-    assert!(rt; values_are_refused(rt.alloc(), &VALUES) == Ok(true));
+    let options = ParseOptions::new();
+    assert!(rt; are_told(rt.alloc(), Whole::Selections, options, &SELECTIONS) == Ok(true));
+    assert!(rt; are_told(rt.alloc(), Whole::Type, options, &TYPES) == Ok(true));
+    assert!(rt; are_told(rt.alloc(), Whole::Value, options, &VALUES) == Ok(true));
 }
 
 #[test]
 fn limits_are_kept(rt: HostRuntime) {
     let few = ParseOptions {
-        max_depth: 200,
-        max_tokens: 3,
+        max_depth: 2,
+        max_tokens: 5,
     };
-    assert!(rt; documents_are_refused(rt.alloc(), few, &MANY) == Ok(true));
+    assert!(rt; are_told(rt.alloc(), Whole::Definitions, few, &MANY) == Ok(true));
     assert!(rt; depth_is_limited(rt.alloc()) == Ok(true));
-    assert!(rt; built_in_is_refused(rt.alloc()) == Ok(true));
+    assert!(rt; built_in_is_refused(rt.alloc()));
 }

@@ -1,80 +1,16 @@
 //! What trees of texts hold, and where their parts stand.
 
+use crate::told::{FILE, Whole, are_told};
+use crate::trees::definitions;
 use graphql_ast::definition::Definition;
 use graphql_ast::document::Document;
 use graphql_ast::selection::Selection;
-use graphql_nodes::collections::items::Items;
 use graphql_nodes::collections::shared::Shared;
-use graphql_nodes::source::{FileId, SourceFile, SourceSpan};
+use graphql_nodes::source::{SourceFile, SourceSpan};
 use graphql_text::parse_error::ParseError;
-use graphql_text::parsing::{
-    ParseOptions, parse_definitions, parse_document, parse_selections, parse_type, parse_value,
-};
-use std::alloc::{AllocError, Global};
-use std::fmt::Debug;
+use graphql_text::parsing::{ParseOptions, parse_document};
+use std::alloc::Global;
 use std::test::Fail;
-
-const FILE: FileId = FileId(7);
-
-/// Whether what is read is shown so. Locations aren't shown.
-fn is_shown<T: Debug + Drop>(
-    alloc: Global,
-    read: Result<T, ParseError>,
-    expected: &str,
-) -> Result<bool, AllocError> {
-    match read {
-        Ok(read) => {
-            let mut text = String::new(alloc);
-            write!(text, "{read:?}")?;
-            Ok(text.as_str() == expected)
-        }
-        Err(_) => Ok(false),
-    }
-}
-
-/// Whether each text is read as the definitions that are shown beside it.
-fn definitions_are_shown(alloc: Global, rows: &[(&str, &str)]) -> Result<bool, AllocError> {
-    for (text, expected) in rows {
-        let read = parse_definitions(alloc, FILE, *text, ParseOptions::new());
-        if !is_shown(alloc, read, *expected)? {
-            return Ok(false);
-        }
-    }
-    Ok(true)
-}
-
-/// Whether each text is read as the selections that are shown beside it.
-fn selections_are_shown(alloc: Global, rows: &[(&str, &str)]) -> Result<bool, AllocError> {
-    for (text, expected) in rows {
-        let read = parse_selections(alloc, FILE, *text, ParseOptions::new());
-        if !is_shown(alloc, read, *expected)? {
-            return Ok(false);
-        }
-    }
-    Ok(true)
-}
-
-/// Whether each text is read as the type that is shown beside it.
-fn types_are_shown(alloc: Global, rows: &[(&str, &str)]) -> Result<bool, AllocError> {
-    for (text, expected) in rows {
-        let read = parse_type(alloc, FILE, *text, ParseOptions::new());
-        if !is_shown(alloc, read, *expected)? {
-            return Ok(false);
-        }
-    }
-    Ok(true)
-}
-
-/// Whether each text is read as the value that is shown beside it.
-fn values_are_shown(alloc: Global, rows: &[(&str, &str)]) -> Result<bool, AllocError> {
-    for (text, expected) in rows {
-        let read = parse_value(alloc, FILE, *text, ParseOptions::new());
-        if !is_shown(alloc, read, *expected)? {
-            return Ok(false);
-        }
-    }
-    Ok(true)
-}
 
 fn span(start: usize, end: usize) -> Option<SourceSpan> {
     Some(SourceSpan {
@@ -84,7 +20,8 @@ fn span(start: usize, end: usize) -> Option<SourceSpan> {
     })
 }
 
-/// Where the name, the variable, its type and its default value, and the field's argument stand in the one operation.
+/// Whether the name, the variable, its type and its default value, and the selections stand where they are
+/// spelled.
 fn operation_stands(read: &[Definition]) -> bool {
     let [Definition::OperationDefinition(operation)] = read else {
         return false;
@@ -103,7 +40,7 @@ fn operation_stands(read: &[Definition]) -> bool {
         && selections_stand(operation.selection_set.as_slice())
 }
 
-/// Where the field, its second argument, the spread, its name and its directive stand.
+/// Whether the field, its second argument, the spread, its name and its directive do.
 fn selections_stand(read: &[Selection]) -> bool {
     let [Selection::Field(field), Selection::FragmentSpread(spread)] = read else {
         return false;
@@ -134,13 +71,6 @@ fn description_stands(read: &[Definition]) -> bool {
         && scalar.location() == span(0, 38)
 }
 
-/// Whether the parts of these texts stand where they are spelled.
-fn parts_stand(alloc: Global) -> Result<bool, ParseError> {
-    let operation = parse_definitions(alloc, FILE, OPERATION, ParseOptions::new())?;
-    let scalar = parse_definitions(alloc, FILE, SCALAR, ParseOptions::new())?;
-    Ok(operation_stands(operation.as_slice()) && description_stands(scalar.as_slice()))
-}
-
 /// Whether the document of a file has its definitions, and the file under its number.
 fn holds_file(read: &Document, source: &Shared<SourceFile>) -> bool {
     match read.sources.get(&FILE) {
@@ -154,14 +84,6 @@ fn file_is_held(alloc: Global) -> Result<bool, ParseError> {
     let source = Shared::new(alloc, SourceFile::new(alloc, "a.graphql", "{a}")?)?;
     let read = parse_document(alloc, FILE, &source, ParseOptions::new())?;
     Ok(holds_file(&read, &source))
-}
-
-/// Whether selections are the same with braces and without.
-fn braces_say_nothing(alloc: Global) -> Result<bool, ParseError> {
-    let options = ParseOptions::new();
-    let braced = parse_selections(alloc, FILE, "{ id organization { id } }", options)?;
-    let bare = parse_selections(alloc, FILE, "id organization { id }", options)?;
-    Ok(braced == bare)
 }
 
 const OPERATION: &str = " query Q($x:[Int!]!=[1,2]@d){f(a:$x,b:\"é\")...F @i}";
@@ -279,23 +201,25 @@ static VALUES: [(&str, &str); 12] = [
 
 #[test]
 fn definitions_hold_their_parts(rt: HostRuntime) {
-    assert!(rt; definitions_are_shown(rt.alloc(), &DEFINITIONS) == Ok(true));
+    let options = ParseOptions::new();
+    assert!(rt; are_told(rt.alloc(), Whole::Definitions, options, &DEFINITIONS) == Ok(true));
 }
 
 #[test]
 fn parts_are_read_alone(rt: HostRuntime) {
-    assert!(rt; selections_are_shown(rt.alloc(), &SELECTIONS) == Ok(true));
-    assert!(rt; types_are_shown(rt.alloc(), &TYPES) == Ok(true));
-    assert!(rt; values_are_shown(rt.alloc(), &VALUES) == Ok(true));
+    let options = ParseOptions::new();
+    assert!(rt; are_told(rt.alloc(), Whole::Selections, options, &SELECTIONS) == Ok(true));
+    assert!(rt; are_told(rt.alloc(), Whole::Type, options, &TYPES) == Ok(true));
+    assert!(rt; are_told(rt.alloc(), Whole::Value, options, &VALUES) == Ok(true));
 }
 
 #[test]
 fn parts_stand_where_they_are_spelled(rt: HostRuntime) {
-    assert!(rt; parts_stand(rt.alloc()) == Ok(true));
+    assert!(rt; operation_stands(definitions(rt.alloc(), OPERATION).as_slice()));
+    assert!(rt; description_stands(definitions(rt.alloc(), SCALAR).as_slice()));
 }
 
 #[test]
 fn a_document_holds_its_file(rt: HostRuntime) {
     assert!(rt; file_is_held(rt.alloc()) == Ok(true));
-    assert!(rt; braces_say_nothing(rt.alloc()) == Ok(true));
 }

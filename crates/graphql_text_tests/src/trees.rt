@@ -1,16 +1,15 @@
 //! Texts that are read: their definitions, and where these stand.
 
+use crate::told::FILE;
 use graphql_ast::definition::Definition;
 use graphql_nodes::collections::items::Items;
-use graphql_nodes::source::{FileId, SourceSpan};
+use graphql_nodes::source::SourceSpan;
 use graphql_text::parsing::{ParseOptions, parse_definitions};
-use std::alloc::{AllocError, Global};
+use std::alloc::Global;
 use std::test::Fail;
 
-const FILE: FileId = FileId(7);
-
 /// The definitions of a text that is read; none of another text.
-fn definitions(alloc: Global, text: &str) -> Items<Definition> {
+pub(crate) fn definitions(alloc: Global, text: &str) -> Items<Definition> {
     match parse_definitions(alloc, FILE, text, ParseOptions::new()) {
         Ok(read) => read,
         Err(_) => Items::new(alloc),
