@@ -38,10 +38,10 @@ fn built_in_is_refused(alloc: Global) -> bool {
 }
 
 static TOKENS: [(&str, &str); 15] = [
-    ("{a ?}", "3..3 unexpected character"),
-    ("{é}", "1..1 unexpected character"),
-    ("{..a}", "1..1 unexpected character"),
-    ("{a}#\u{7}", "4..4 unexpected character"),
+    ("{a ?}", "3..3 unexpected character `?`"),
+    ("{é}", "1..1 unexpected character `é`"),
+    ("{..a}", "1..1 unexpected character `.`"),
+    ("{a}#\u{7}", "4..4 unexpected character U+0007"),
     ("{a(b:\"c", "7..7 unterminated string"),
     ("{a(b:\"c\n\")}", "7..7 unterminated string"),
     ("{a(b:\"\"\"c\"\")}", "13..13 unterminated string"),
