@@ -9,7 +9,8 @@ use graphql_nodes::collections::shared::Shared;
 use std::alloc::Global;
 use std::slice;
 
-static SCHEMA: &str = "type Query { product: Product }\n\"\"\"\nWhat is sold.\n\"\"\"\ntype Product { id: ID }\nextend type Product { organization: Organization }\ntype Organization { id: ID }";
+static SCHEMA: &str =
+    "type Query { product: Product }\n\"\"\"\nWhat is sold.\n\"\"\"\ntype Product { id: ID }\nextend type Product { organization: Organization }\ntype Organization { id: ID }";
 
 /// The document of a text.
 fn read(alloc: Global, text: &str) -> Option<Document> {
