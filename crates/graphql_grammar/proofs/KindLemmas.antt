@@ -59,7 +59,10 @@ stands k.Int = refl
 stands k.Float = refl
 stands k.String = refl
 stands k.BlockString = refl
-stands k.Wrong = refl
+stands k.UnexpectedCharacter = refl
+stands k.UnterminatedString = refl
+stands k.InvalidEscape = refl
+stands k.InvalidNumber = refl
 stands k.TooMany = refl
 
 pub of_each : (f : Kinds) → each_kind f ≡ true → (kind : Kind) → f kind ≡ true

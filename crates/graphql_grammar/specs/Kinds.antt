@@ -45,8 +45,11 @@ tag k.Int = 34
 tag k.Float = 35
 tag k.String = 36
 tag k.BlockString = 37
-tag k.Wrong = 38
-tag k.TooMany = 39
+tag k.UnexpectedCharacter = 38
+tag k.UnterminatedString = 39
+tag k.InvalidEscape = 40
+tag k.InvalidNumber = 41
+tag k.TooMany = 42
 
 -- a set of kinds
 abbrev pub Kinds : Type 0
@@ -74,9 +77,13 @@ names_of n.Any kind = is_name kind
 names_of n.Fragment kind = is_name kind && not (only k.On kind)
 names_of n.EnumValue kind = is_name kind && (nat_eq (tag kind) 0 || nat_lt 3 (tag kind))
 
+-- tokens: all but what stands there where a text stops being tokens, or has more than are allowed
+abbrev pub is_token : Kinds
+is_token kind = nat_lt (tag kind) 38
+
 -- all kinds
 abbrev pub all_kinds : List Kind
-all_kinds = k.Name ∷ k.True ∷ k.False ∷ k.Null ∷ k.On ∷ k.Query ∷ k.Mutation ∷ k.Subscription ∷ k.Fragment ∷ k.Schema ∷ k.Scalar ∷ k.Type ∷ k.Interface ∷ k.Union ∷ k.Enum ∷ k.Input ∷ k.Directive ∷ k.Extend ∷ k.Implements ∷ k.Repeatable ∷ k.Bang ∷ k.Dollar ∷ k.Ampersand ∷ k.LeftParen ∷ k.RightParen ∷ k.Spread ∷ k.Colon ∷ k.Equals ∷ k.At ∷ k.LeftBracket ∷ k.RightBracket ∷ k.LeftBrace ∷ k.Pipe ∷ k.RightBrace ∷ k.Int ∷ k.Float ∷ k.String ∷ k.BlockString ∷ k.Wrong ∷ k.TooMany ∷ []
+all_kinds = k.Name ∷ k.True ∷ k.False ∷ k.Null ∷ k.On ∷ k.Query ∷ k.Mutation ∷ k.Subscription ∷ k.Fragment ∷ k.Schema ∷ k.Scalar ∷ k.Type ∷ k.Interface ∷ k.Union ∷ k.Enum ∷ k.Input ∷ k.Directive ∷ k.Extend ∷ k.Implements ∷ k.Repeatable ∷ k.Bang ∷ k.Dollar ∷ k.Ampersand ∷ k.LeftParen ∷ k.RightParen ∷ k.Spread ∷ k.Colon ∷ k.Equals ∷ k.At ∷ k.LeftBracket ∷ k.RightBracket ∷ k.LeftBrace ∷ k.Pipe ∷ k.RightBrace ∷ k.Int ∷ k.Float ∷ k.String ∷ k.BlockString ∷ k.UnexpectedCharacter ∷ k.UnterminatedString ∷ k.InvalidEscape ∷ k.InvalidNumber ∷ k.TooMany ∷ []
 
 -- whether a test holds of each of these kinds
 abbrev pub each_of : Kinds → List Kind → Bool

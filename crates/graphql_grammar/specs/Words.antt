@@ -24,6 +24,11 @@ abbrev pub first_word : List WordView → Option WordView
 first_word [] = None
 first_word (w ∷ ws) = Some w
 
+-- the second of these
+abbrev pub second_word : List WordView → Option WordView
+second_word [] = None
+second_word (w ∷ ws) = first_word ws
+
 -- a word of the code, if there is one
 abbrev pub seen_word : Option Word → Option WordView
 seen_word None = None

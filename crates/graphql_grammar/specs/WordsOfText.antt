@@ -3,6 +3,8 @@ use Rattle.std.specs.Prelude.{ℕ, zero, suc, List, [], ◌∷◌, length, ◌-�
 use lib.Pointwise.{pointwise}
 use Rattle.graphql_tokens.specs.First.{First, first_of}
 use Rattle.graphql_tokens.specs.declared.token.TokenError.{TokenError}
+use Rattle.graphql_tokens.specs.declared.token.TokenErrorKind.{TokenErrorKind}
+use Rattle.graphql_tokens.specs.declared.token.TokenErrorKind.TheVariants as e
 use Rattle.graphql_tokens.specs.declared.token.TokenKind.{TokenKind}
 use Rattle.graphql_tokens.specs.declared.token.TokenKind.TheVariants as t
 use Rattle.graphql_grammar.specs.Words.{WordView}
@@ -68,19 +70,26 @@ word_of total f = record {
 abbrev pub too_many : ℕ → First → WordView
 too_many total f = record (word_of total f) { kind = k.TooMany; text = [] }
 
+-- the kind of what stands there where a text stops being tokens
+abbrev pub error_kind : TokenErrorKind → Kind
+error_kind e.UnexpectedCharacter = k.UnexpectedCharacter
+error_kind e.UnterminatedString = k.UnterminatedString
+error_kind e.InvalidEscape = k.InvalidEscape
+error_kind e.InvalidNumber = k.InvalidNumber
+
 -- what stands there where a text stops being tokens
 abbrev pub wrong : ℕ → List ℕ → TokenError → WordView
-wrong total text e = record {
-  kind = k.Wrong;
+wrong total text error = record {
+  kind = error_kind error.kind;
   text = [];
-  start = total - (length text - e.at);
-  end = total - (length text - e.at);
+  start = total - (length text - error.at);
+  end = total - (length text - error.at);
 }
 
 -- the words of a text of which this comes first, and so many are allowed; those behind the first are the words of its rest
 abbrev pub words_by : ℕ → ℕ → List ℕ → Result (Option First) TokenError → (ℕ → List ℕ → List WordView) → List WordView
 words_by allowed total text (Ok None) behind = []
-words_by allowed total text (Err e) behind = wrong total text e ∷ []
+words_by allowed total text (Err error) behind = wrong total text error ∷ []
 words_by zero total text (Ok (Some f)) behind = too_many total f ∷ []
 words_by (suc allowed) total text (Ok (Some f)) behind = word_of total f ∷ behind allowed f.rest
 

@@ -82,9 +82,16 @@ pub enum Kind {
     String,
     /// A string in `"""`.
     BlockString,
-    /// What is no token: nothing is spelled with it.
-    Wrong,
-    /// The token behind as many as are allowed: nothing is spelled with it.
+    /// Where a text stops being tokens: a character that begins none, or that stands nowhere in a text. Nothing is spelled with
+    /// this kind, nor with those below.
+    UnexpectedCharacter,
+    /// The same: a string without its end.
+    UnterminatedString,
+    /// The same: a `\` without an escape.
+    InvalidEscape,
+    /// The same: a number that ends where none may end.
+    InvalidNumber,
+    /// The token behind as many as are allowed.
     TooMany,
 }
 
@@ -132,8 +139,11 @@ impl Kind {
             Kind::Float => 35,
             Kind::String => 36,
             Kind::BlockString => 37,
-            Kind::Wrong => 38,
-            Kind::TooMany => 39,
+            Kind::UnexpectedCharacter => 38,
+            Kind::UnterminatedString => 39,
+            Kind::InvalidEscape => 40,
+            Kind::InvalidNumber => 41,
+            Kind::TooMany => 42,
         }
     }
 

@@ -2,9 +2,9 @@
 ghost use Rattle.std.specs.Prelude.{◌≡◌, ◌-◌, [], length, Option, None, Some};
 ghost use Rattle.graphql_grammar.specs.Kinds.{is_name, names_of, only};
 ghost use Rattle.graphql_grammar.specs.Pieces.{Gives, GivesSeen, take_sign, take_word};
-ghost use Rattle.graphql_grammar.specs.Standing.{before, standing};
-ghost use Rattle.graphql_grammar.specs.Words.{begins, first_kind, first_word, seen_word, starting, word_view};
-ghost use Rattle.graphql_grammar.specs.WordsOfText.{name_kind, too_many, word_kind, word_of, words_at, words_of, wrong};
+ghost use Rattle.graphql_grammar.specs.Standing.{before, standing, words_of_split};
+ghost use Rattle.graphql_grammar.specs.Words.{begins, first_kind, first_word, second_word, seen_word, starting, word_view};
+ghost use Rattle.graphql_grammar.specs.WordsOfText.{error_kind, name_kind, too_many, word_kind, word_of, words_at, words_of, wrong};
 ghost use Rattle.graphql_tokens.specs.First.{seen};
 
 use crate::fault::{FaultKind, ReadError};
@@ -25,8 +25,13 @@ pub struct Words<'a> {
     total: usize,
     /// How many words are allowed behind the next one.
     allowed: usize,
-    /// What is wrong where the text stops being tokens, once that is met.
-    error: Option<TokenError>,
+}
+
+/// A word, and what stands behind it.
+#[derive(Clone, Copy)]
+struct Split<'a> {
+    word: Word<'a>,
+    rest: &'a str,
 }
 
 /// The kind of a name: the words that the grammar tells apart have kinds of their own.
@@ -108,16 +113,50 @@ fn too_many<'a>(total: usize, token: FirstToken<'a>) -> Word<'a>
     }
 }
 
+/// The kind of what stands there where a text stops being tokens.
+fn error_kind(kind: TokenErrorKind) -> Kind
+    ensures { result ≡ error_kind kind }
+{
+    match kind {
+        TokenErrorKind::UnexpectedCharacter => Kind::UnexpectedCharacter,
+        TokenErrorKind::UnterminatedString => Kind::UnterminatedString,
+        TokenErrorKind::InvalidEscape => Kind::InvalidEscape,
+        TokenErrorKind::InvalidNumber => Kind::InvalidNumber,
+    }
+}
+
 /// What stands there where a text stops being tokens.
 fn wrong<'a>(total: usize, text: &'a str, error: TokenError) -> Word<'a>
     ensures { word_view result ≡ wrong total text.now error }
 {
     let at = total.saturating_sub(text.len().saturating_sub(error.at));
     Word {
-        kind: Kind::Wrong,
+        kind: error_kind(error.kind),
         text: "",
         start: at,
         end: at,
+    }
+}
+
+/// The first word of the end of a text of so many bytes, where so many are allowed, and what stands behind it. Behind what is no
+/// token nothing stands.
+fn split_first<'a>(total: usize, allowed: usize, text: &'a str) -> Option<Split<'a>>
+    ensures { words_of_split allowed total result ≡ words_at allowed total text.now }
+{
+    match first_token_of(text) {
+        Ok(None) => None,
+        Err(error) => Some(Split {
+            word: wrong(total, text, error),
+            rest: "",
+        }),
+        Ok(Some(token)) if allowed == 0 => Some(Split {
+            word: too_many(total, token),
+            rest: "",
+        }),
+        Ok(Some(token)) => Some(Split {
+            word: word_of(total, token),
+            rest: token.rest,
+        }),
     }
 }
 
@@ -132,7 +171,6 @@ impl<'a> Words<'a> {
             rest: text,
             total: text.len(),
             allowed,
-            error: None,
         };
         words.advance();
         words
@@ -143,23 +181,14 @@ impl<'a> Words<'a> {
         ensures last { self.new.last ≡ self.old.last }
         ensures left { (standing self.new).left ≡ words_at self.old.allowed self.old.total self.old.rest.now }
     {
-        match first_token_of(self.rest) {
-            Ok(None) => {
+        match split_first(self.total, self.allowed, self.rest) {
+            Some(split) => {
+                self.next = Some(split.word);
+                self.rest = split.rest;
+                self.allowed = self.allowed.saturating_sub(1);
+            }
+            None => {
                 self.next = None;
-            }
-            Err(error) => {
-                self.next = Some(wrong(self.total, self.rest, error));
-                self.rest = "";
-                self.error = Some(error);
-            }
-            Ok(Some(token)) if self.allowed == 0 => {
-                self.next = Some(too_many(self.total, token));
-                self.rest = "";
-            }
-            Ok(Some(token)) => {
-                self.next = Some(word_of(self.total, token));
-                self.rest = token.rest;
-                self.allowed -= 1;
             }
         }
     }
@@ -172,17 +201,14 @@ impl<'a> Words<'a> {
     }
 
     /// The word behind the next one, if there is one.
-    pub fn second(&self) -> Option<Word<'a>> {
-        match first_token_of(self.rest) {
-            Ok(Some(token)) => Some(word_of(self.total, token)),
-            _ => None,
-        }
-    }
-
-    /// What is wrong where the text stops being tokens, if that was met.
-    pub fn error(&self) -> Option<TokenErrorKind> {
-        match &self.error {
-            Some(error) => Some(error.kind),
+    pub fn second(&self) -> Option<Word<'a>>
+        ensures { seen_word result ≡ second_word (standing self.now).left }
+    {
+        match self.next {
+            Some(_) => match split_first(self.total, self.allowed, self.rest) {
+                Some(split) => Some(split.word),
+                None => None,
+            },
             None => None,
         }
     }
@@ -231,14 +257,8 @@ impl<'a> Words<'a> {
     pub fn expect(&mut self, kind: Kind, fault: FaultKind) -> Result<(), ReadError>
         ensures { Gives result (standing self.new) (take_sign kind fault (standing self.old).left) }
     {
-        match self.next {
-            Some(word) if word.kind.is(kind) => {
-                self.last = word.end;
-                self.advance();
-                Ok(())
-            }
-            _ => Err(ReadError::Fault(fault)),
-        }
+        self.expect_word(kind, fault)?;
+        Ok(())
     }
 
     /// Takes the next word, which is of this kind; else this is wrong.

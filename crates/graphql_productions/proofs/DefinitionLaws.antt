@@ -16,7 +16,7 @@ use Rattle.graphql_ast.specs.declared.type_system.InputValueDefinition.{InputVal
 use Rattle.graphql_grammar.specs.declared.fault.Item.TheVariants as i
 use Rattle.graphql_grammar.specs.declared.kind.Kind.{Kind}
 use Rattle.graphql_grammar.specs.declared.kind.Kind.TheVariants as k
-use Rattle.graphql_grammar.specs.Kinds.{is_name, only}
+use Rattle.graphql_grammar.specs.Kinds.{either_of, is_name, none, only}
 use Rattle.graphql_grammar.specs.Pieces.{Piece, behind_sign, choose, filtered, located, many, mapped, nothing, optional, separated, separated_of, seq, sign}
 use Rattle.graphql_grammar.proofs.BranchLaws.{branch_law, either_law}
 use Rattle.graphql_grammar.proofs.ManyLaws.{many_law}
@@ -29,6 +29,7 @@ use Rattle.graphql_productions.specs.Operations.{fragment_definition, is_operati
 use Rattle.graphql_productions.specs.Selections.{fragment_name}
 use Rattle.graphql_productions.specs.TypeSystem.{Described, definition_made, described, described_pick, description, directive_body, directive_of, enum_values, expecting, extended, extended_pick, extension, extension_body, extension_made, extension_of, fielded, fields, goes_on_type, has_part, input_values, is_described, is_description, is_extended, keyword, location, location_word, names_behind, no_described, no_location, optional_roots, parts, roots, schema_body, schema_extension_body, schema_extension_of, schema_of, schema_parts, system_definition, type_body, type_of}
 use Rattle.graphql_productions.proofs.DirectiveLaws.{directives_law}
+use Rattle.graphql_productions.proofs.ListLaws.{separated_law}
 use Rattle.graphql_productions.proofs.NodeLaws.{name_law, node_law}
 use Rattle.graphql_productions.proofs.OperationLaws.{fragment_definition_law, operation_law, shorthand_law}
 use Rattle.graphql_productions.proofs.TypeSystemLaws.{argument_definitions_law, optional_description_law, parts_law, roots_law}
@@ -60,15 +61,7 @@ location_law = picked_law location_word is_name no_location (λ w x e. named_whe
 
 locations_law : Lawful (separated k.Pipe location)
 unfolding location
-locations_law =
-    let o : Piece (Option (Unit {0})) = optional (sign k.Pipe) in
-    let s : Piece (Unit {0} × DirectiveLocation) = seq (sign k.Pipe) location in
-    let sl : Lawful s = seq_law (sign k.Pipe) location (sign_law k.Pipe) location_law (λ kind h. refl) in
-    let b : Piece DirectiveLocation = mapped behind_sign s in
-    let ml : Lawful (many b) = many_law b (mapped_law behind_sign s sl) refl (apart b.more b.first refl) in
-    let nl : Lawful (seq location (many b)) = seq_law location (many b) location_law ml (λ kind h. refl) in
-    let w : Piece (Option (Unit {0}) × (DirectiveLocation × List DirectiveLocation)) = seq o (seq location (many b)) in
-    mapped_law separated_of w (seq_law o (seq location (many b)) (optional_law (sign k.Pipe) (sign_law k.Pipe) refl) nl (apart o.more location.first refl))
+locations_law = separated_law k.Pipe location location_law refl (λ kind h. refl) (apart (either_of none (only k.Pipe)) is_name refl)
 
 directive_body_law : (file : FileId) (depth : ℕ) → Lawful (directive_body file depth)
 unfolding directive_body input_values name

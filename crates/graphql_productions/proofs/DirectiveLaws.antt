@@ -15,7 +15,8 @@ use Rattle.graphql_grammar.proofs.PieceLaws.{Lawful, apart, headed_law, item_law
 use Rattle.graphql_productions.specs.Directives.{argument, argument_list, argument_node, argument_of, arguments, directive, directive_node, directive_of, directives, no_argument, no_directive}
 use Rattle.graphql_productions.specs.Nodes.{between, name, node, or_none}
 use Rattle.graphql_productions.specs.Values.{value_node}
-use Rattle.graphql_productions.proofs.NodeLaws.{between_law, name_law, node_law}
+use Rattle.graphql_productions.proofs.ListLaws.{optional_enclosed_law}
+use Rattle.graphql_productions.proofs.NodeLaws.{name_law, node_law}
 use Rattle.graphql_productions.proofs.ValueLaws.{value_node_law}
 
 pub argument_law : (file : FileId) (constant : Bool) (depth : ℕ) → Lawful (argument file constant depth)
@@ -34,18 +35,10 @@ some_arguments_law file constant depth =
     let a : Piece (NodeView Argument) = argument file constant depth in
     some_law a (argument_law file constant depth) refl (apart a.more a.first refl)
 
-pub argument_list_law : (file : FileId) (constant : Bool) (depth : ℕ) → Lawful (argument_list file constant depth)
-unfolding argument_node name
-argument_list_law file constant zero = headed_law (only k.LeftParen) too_deep (nothing_law (λ _. TooDeep)) refl refl refl
-argument_list_law file constant (suc depth) =
-    let a : Piece (NodeView Argument) = argument file constant depth in
-    let b : Piece (List (NodeView Argument)) = between k.LeftParen k.RightParen no_argument (some a) in
-    headed_law (only k.LeftParen) b (between_law k.LeftParen k.RightParen no_argument (some a) (some_arguments_law file constant depth) (apart (some a).more (only k.RightParen) refl)) refl refl refl
-
 pub arguments_law : (file : FileId) (constant : Bool) (depth : ℕ) → Lawful (arguments file constant depth)
-unfolding arguments name
+unfolding arguments argument_node name
 arguments_law file constant depth =
-    mapped_law or_none (optional (argument_list file constant depth)) (optional_law (argument_list file constant depth) (argument_list_law file constant depth) refl)
+    optional_enclosed_law k.LeftParen k.RightParen no_argument depth (λ n. some (argument file constant n)) (some_arguments_law file constant) (λ n. apart (some (argument file constant n)).more (only k.RightParen) refl)
 
 pub directive_law : (file : FileId) (constant : Bool) (depth : ℕ) → Lawful (directive file constant depth)
 unfolding directive_node arguments name

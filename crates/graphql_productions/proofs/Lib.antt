@@ -10,6 +10,8 @@ pub mod DefinitionLaws
 pub mod DirectiveLaws
 pub mod DocumentLaws
 pub mod ExtensionParts
+pub mod JudgedProductions
+pub mod ListLaws
 pub mod LocationLemmas
 pub mod NestedLemmas
 pub mod NodeLaws

@@ -25,7 +25,8 @@ use Rattle.graphql_productions.specs.Selections.{fragment_name, selection_set, t
 use Rattle.graphql_productions.specs.Types.{type}
 use Rattle.graphql_productions.specs.Values.{value_node, variable}
 use Rattle.graphql_productions.proofs.DirectiveLaws.{directives_law}
-use Rattle.graphql_productions.proofs.NodeLaws.{between_law, name_law, node_law}
+use Rattle.graphql_productions.proofs.ListLaws.{optional_enclosed_law}
+use Rattle.graphql_productions.proofs.NodeLaws.{name_law, node_law}
 use Rattle.graphql_productions.proofs.SelectionLaws.{condition_law, fragment_name_law, selection_set_law}
 use Rattle.graphql_productions.proofs.TypeLaws.{type_law}
 use Rattle.graphql_productions.proofs.ValueLaws.{value_node_law, variable_law}
@@ -79,19 +80,10 @@ some_variables_law file depth =
     let v : Piece (NodeView VariableDefinition) = variable_definition file depth in
     some_law v (variable_definition_law file depth) refl (apart v.more v.first refl)
 
-variable_list_law : (file : FileId) (depth : ℕ) → Lawful (enclosed k.LeftParen k.RightParen no_variable depth (λ inside. some (variable_definition file inside)))
-unfolding variable_node typed directives directive_node arguments name
-variable_list_law file zero = headed_law (only k.LeftParen) too_deep (nothing_law (λ _. TooDeep)) refl refl refl
-variable_list_law file (suc depth) =
-    let v : Piece (NodeView VariableDefinition) = variable_definition file depth in
-    let b : Piece (List (NodeView VariableDefinition)) = between k.LeftParen k.RightParen no_variable (some v) in
-    headed_law (only k.LeftParen) b (between_law k.LeftParen k.RightParen no_variable (some v) (some_variables_law file depth) (apart (some v).more (only k.RightParen) refl)) refl refl refl
-
 pub variables_law : (file : FileId) (depth : ℕ) → Lawful (variables file depth)
-unfolding variables
+unfolding variables variable_node typed directives directive_node arguments name
 variables_law file depth =
-    let p : Piece (List (NodeView VariableDefinition)) = enclosed k.LeftParen k.RightParen no_variable depth (λ inside. some (variable_definition file inside)) in
-    mapped_law or_none (optional p) (optional_law p (variable_list_law file depth) refl)
+    optional_enclosed_law k.LeftParen k.RightParen no_variable depth (λ n. some (variable_definition file n)) (some_variables_law file) (λ n. apart (some (variable_definition file n)).more (only k.RightParen) refl)
 
 -- directives, and a selection set
 directed_law : (file : FileId) (depth : ℕ) → Lawful (seq (directives file false depth) (selection_set file depth))

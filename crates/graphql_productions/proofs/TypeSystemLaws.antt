@@ -14,19 +14,21 @@ use Rattle.graphql_ast.specs.declared.type_system.InputValueDefinition.{InputVal
 use Rattle.graphql_ast.specs.declared.value.Value.{Value}
 use Rattle.graphql_grammar.specs.declared.fault.FaultKind.TheVariants.{Expected, TooDeep}
 use Rattle.graphql_grammar.specs.declared.fault.Item.TheVariants as i
+use Rattle.graphql_grammar.specs.declared.kind.Kind.{Kind}
 use Rattle.graphql_grammar.specs.declared.kind.Kind.TheVariants as k
 use Rattle.graphql_grammar.specs.declared.kind.Names.TheVariants as names
-use Rattle.graphql_grammar.specs.Kinds.{names_of, only}
+use Rattle.graphql_grammar.specs.Kinds.{either_of, is_name, names_of, none, only}
 use Rattle.graphql_grammar.specs.Pieces.{Piece, behind_sign, many, mapped, optional, separated, separated_of, seq, sign, some, too_deep, word}
 use Rattle.graphql_grammar.proofs.ManyLaws.{many_law, some_law}
-use Rattle.graphql_grammar.proofs.PieceLaws.{Lawful, apart, headed_law, item_law, mapped_law, nothing_law, optional_law, seq_law, sign_law, word_law}
+use Rattle.graphql_grammar.proofs.PieceLaws.{Apart, Lawful, apart, headed_law, item_law, mapped_law, nothing_law, optional_law, seq_law, sign_law, word_law}
 use Rattle.graphql_productions.specs.Directives.{arguments, directive_node, directives}
 use Rattle.graphql_productions.specs.Nodes.{behind, between, enclosed, name, name_of, node, or_none}
 use Rattle.graphql_productions.specs.Operations.{is_operation_type, no_root, operation_type, typed}
 use Rattle.graphql_productions.specs.Types.{type}
 use Rattle.graphql_productions.specs.TypeSystem.{description, description_body, description_of, enum_parts, enum_value_definition, enum_value_name, enum_value_node, enum_value_of, enum_values, expecting, field_definition, field_node, field_of, fielded, fielded_parts, fields, input_node, input_of, input_parts, input_value, input_values, is_described_name, is_description, is_enum_value, names_behind, names_body, no_enum_value, parts, root, root_node, root_of, roots, scalar_parts, union_parts}
 use Rattle.graphql_productions.proofs.DirectiveLaws.{directives_law}
-use Rattle.graphql_productions.proofs.NodeLaws.{between_law, name_law, node_law}
+use Rattle.graphql_productions.proofs.ListLaws.{enclosed_law, optional_enclosed_law, separated_law}
+use Rattle.graphql_productions.proofs.NodeLaws.{name_law, node_law}
 use Rattle.graphql_productions.proofs.OperationLaws.{operation_type_law, typed_law}
 use Rattle.graphql_productions.proofs.TypeLaws.{type_law}
 
@@ -57,33 +59,18 @@ some_inputs_law file depth =
     let v : Piece (NodeView InputValueDefinition) = input_value file depth in
     some_law v (input_value_law file depth) refl (apart v.more v.first refl)
 
-argument_definition_list_law : (file : FileId) (depth : ℕ) → Lawful (enclosed k.LeftParen k.RightParen (expecting i.InputValue) depth (λ inside. some (input_value file inside)))
-unfolding input_node typed directives directive_node arguments name
-argument_definition_list_law file zero = headed_law (only k.LeftParen) too_deep (nothing_law (λ _. TooDeep)) refl refl refl
-argument_definition_list_law file (suc depth) =
-    let p : Piece (List (NodeView InputValueDefinition)) = some (input_value file depth) in
-    let b : Piece (List (NodeView InputValueDefinition)) = between k.LeftParen k.RightParen (expecting i.InputValue) p in
-    headed_law (only k.LeftParen) b (between_law k.LeftParen k.RightParen (expecting i.InputValue) p (some_inputs_law file depth) (apart p.more (only k.RightParen) refl)) refl refl refl
+-- input values between signs of which the second doesn't go on with one
+inputs_law : (file : FileId) (opening closing : Kind) (depth : ℕ) → ((n : ℕ) → Apart (some (input_value file n)).more (only closing)) → Lawful (input_values file opening closing depth)
+unfolding input_values
+inputs_law file opening closing depth far = optional_enclosed_law opening closing (expecting i.InputValue) depth (λ n. some (input_value file n)) (some_inputs_law file) far
 
 pub argument_definitions_law : (file : FileId) (depth : ℕ) → Lawful (input_values file k.LeftParen k.RightParen depth)
-unfolding input_values
-argument_definitions_law file depth =
-    let p : Piece (List (NodeView InputValueDefinition)) = enclosed k.LeftParen k.RightParen (expecting i.InputValue) depth (λ inside. some (input_value file inside)) in
-    mapped_law or_none (optional p) (optional_law p (argument_definition_list_law file depth) refl)
-
-input_field_list_law : (file : FileId) (depth : ℕ) → Lawful (enclosed k.LeftBrace k.RightBrace (expecting i.InputValue) depth (λ inside. some (input_value file inside)))
 unfolding input_node typed directives directive_node arguments name
-input_field_list_law file zero = headed_law (only k.LeftBrace) too_deep (nothing_law (λ _. TooDeep)) refl refl refl
-input_field_list_law file (suc depth) =
-    let p : Piece (List (NodeView InputValueDefinition)) = some (input_value file depth) in
-    let b : Piece (List (NodeView InputValueDefinition)) = between k.LeftBrace k.RightBrace (expecting i.InputValue) p in
-    headed_law (only k.LeftBrace) b (between_law k.LeftBrace k.RightBrace (expecting i.InputValue) p (some_inputs_law file depth) (apart p.more (only k.RightBrace) refl)) refl refl refl
+argument_definitions_law file depth = inputs_law file k.LeftParen k.RightParen depth (λ n. apart (some (input_value file n)).more (only k.RightParen) refl)
 
 pub input_fields_law : (file : FileId) (depth : ℕ) → Lawful (input_values file k.LeftBrace k.RightBrace depth)
-unfolding input_values
-input_fields_law file depth =
-    let p : Piece (List (NodeView InputValueDefinition)) = enclosed k.LeftBrace k.RightBrace (expecting i.InputValue) depth (λ inside. some (input_value file inside)) in
-    mapped_law or_none (optional p) (optional_law p (input_field_list_law file depth) refl)
+unfolding input_node typed directives directive_node arguments name
+input_fields_law file depth = inputs_law file k.LeftBrace k.RightBrace depth (λ n. apart (some (input_value file n)).more (only k.RightBrace) refl)
 
 -- ---- fields
 
@@ -110,51 +97,30 @@ some_fields_law file depth =
     let f : Piece (NodeView FieldDefinition) = field_definition file depth in
     some_law f (field_definition_law file depth) refl (apart f.more f.first refl)
 
-field_list_law : (file : FileId) (depth : ℕ) → Lawful (enclosed k.LeftBrace k.RightBrace (expecting i.FieldDefinition) depth (λ inside. some (field_definition file inside)))
-unfolding field_node directives directive_node arguments name input_values
-field_list_law file zero = headed_law (only k.LeftBrace) too_deep (nothing_law (λ _. TooDeep)) refl refl refl
-field_list_law file (suc depth) =
-    let f : Piece (NodeView FieldDefinition) = field_definition file depth in
-    let b : Piece (List (NodeView FieldDefinition)) = between k.LeftBrace k.RightBrace (expecting i.FieldDefinition) (some f) in
-    headed_law (only k.LeftBrace) b (between_law k.LeftBrace k.RightBrace (expecting i.FieldDefinition) (some f) (some_fields_law file depth) (apart (some f).more (only k.RightBrace) refl)) refl refl refl
-
 pub fields_law : (file : FileId) (depth : ℕ) → Lawful (fields file depth)
-unfolding fields
+unfolding fields field_node directives directive_node arguments name input_values
 fields_law file depth =
-    let p : Piece (List (NodeView FieldDefinition)) = enclosed k.LeftBrace k.RightBrace (expecting i.FieldDefinition) depth (λ inside. some (field_definition file inside)) in
-    mapped_law or_none (optional p) (optional_law p (field_list_law file depth) refl)
+    optional_enclosed_law k.LeftBrace k.RightBrace (expecting i.FieldDefinition) depth (λ n. some (field_definition file n)) (some_fields_law file) (λ n. apart (some (field_definition file n)).more (only k.RightBrace) refl)
 
 -- ---- names with a sign between them
+
+names_body_law : (file : FileId) (opening between : Kind) → Apart (either_of none (only between)) is_name → Lawful (names_body file opening between)
+unfolding name
+names_body_law file opening between far =
+    let p : Piece (List NameView) = separated between (name file) in
+    mapped_law behind (seq (sign opening) p) (seq_law (sign opening) p (sign_law opening) (separated_law between (name file) (name_law file) refl (λ kind h. refl) far) (λ kind h. refl))
 
 pub implementing_law : (file : FileId) → Lawful (names_behind file k.Implements k.Ampersand)
 unfolding names_behind name
 implementing_law file =
-    let o : Piece (Option (Unit {0})) = optional (sign k.Ampersand) in
-    let s : Piece (Unit {0} × NameView) = seq (sign k.Ampersand) (name file) in
-    let sl : Lawful s = seq_law (sign k.Ampersand) (name file) (sign_law k.Ampersand) (name_law file) (λ kind h. refl) in
-    let b : Piece NameView = mapped behind_sign s in
-    let ml : Lawful (many b) = many_law b (mapped_law behind_sign s sl) refl (apart b.more b.first refl) in
-    let nl : Lawful (seq (name file) (many b)) = seq_law (name file) (many b) (name_law file) ml (λ kind h. refl) in
-    let w : Piece (Option (Unit {0}) × (NameView × List NameView)) = seq o (seq (name file) (many b)) in
-    let wl : Lawful w = seq_law o (seq (name file) (many b)) (optional_law (sign k.Ampersand) (sign_law k.Ampersand) refl) nl (apart o.more (name file).first refl) in
-    let p : Piece (List NameView) = separated k.Ampersand (name file) in
-    let bl : Lawful (names_body file k.Implements k.Ampersand) = mapped_law behind (seq (sign k.Implements) p) (seq_law (sign k.Implements) p (sign_law k.Implements) (mapped_law separated_of w wl) (λ kind h. refl)) in
-    mapped_law or_none (optional (names_body file k.Implements k.Ampersand)) (optional_law (names_body file k.Implements k.Ampersand) bl refl)
+    let p : Piece (List NameView) = names_body file k.Implements k.Ampersand in
+    mapped_law or_none (optional p) (optional_law p (names_body_law file k.Implements k.Ampersand (apart (either_of none (only k.Ampersand)) is_name refl)) refl)
 
 members_law : (file : FileId) → Lawful (names_behind file k.Equals k.Pipe)
 unfolding names_behind name
 members_law file =
-    let o : Piece (Option (Unit {0})) = optional (sign k.Pipe) in
-    let s : Piece (Unit {0} × NameView) = seq (sign k.Pipe) (name file) in
-    let sl : Lawful s = seq_law (sign k.Pipe) (name file) (sign_law k.Pipe) (name_law file) (λ kind h. refl) in
-    let b : Piece NameView = mapped behind_sign s in
-    let ml : Lawful (many b) = many_law b (mapped_law behind_sign s sl) refl (apart b.more b.first refl) in
-    let nl : Lawful (seq (name file) (many b)) = seq_law (name file) (many b) (name_law file) ml (λ kind h. refl) in
-    let w : Piece (Option (Unit {0}) × (NameView × List NameView)) = seq o (seq (name file) (many b)) in
-    let wl : Lawful w = seq_law o (seq (name file) (many b)) (optional_law (sign k.Pipe) (sign_law k.Pipe) refl) nl (apart o.more (name file).first refl) in
-    let p : Piece (List NameView) = separated k.Pipe (name file) in
-    let bl : Lawful (names_body file k.Equals k.Pipe) = mapped_law behind (seq (sign k.Equals) p) (seq_law (sign k.Equals) p (sign_law k.Equals) (mapped_law separated_of w wl) (λ kind h. refl)) in
-    mapped_law or_none (optional (names_body file k.Equals k.Pipe)) (optional_law (names_body file k.Equals k.Pipe) bl refl)
+    let p : Piece (List NameView) = names_body file k.Equals k.Pipe in
+    mapped_law or_none (optional p) (optional_law p (names_body_law file k.Equals k.Pipe (apart (either_of none (only k.Pipe)) is_name refl)) refl)
 
 -- ---- enum values
 
@@ -179,19 +145,10 @@ some_enum_values_law file depth =
     let v : Piece (NodeView EnumValueDefinition) = enum_value_definition file depth in
     some_law v (enum_value_law file depth) refl (apart v.more v.first refl)
 
-enum_value_list_law : (file : FileId) (depth : ℕ) → Lawful (enclosed k.LeftBrace k.RightBrace no_enum_value depth (λ inside. some (enum_value_definition file inside)))
-unfolding enum_value_node enum_value_name directives directive_node arguments name
-enum_value_list_law file zero = headed_law (only k.LeftBrace) too_deep (nothing_law (λ _. TooDeep)) refl refl refl
-enum_value_list_law file (suc depth) =
-    let v : Piece (NodeView EnumValueDefinition) = enum_value_definition file depth in
-    let b : Piece (List (NodeView EnumValueDefinition)) = between k.LeftBrace k.RightBrace no_enum_value (some v) in
-    headed_law (only k.LeftBrace) b (between_law k.LeftBrace k.RightBrace no_enum_value (some v) (some_enum_values_law file depth) (apart (some v).more (only k.RightBrace) refl)) refl refl refl
-
 pub enum_values_law : (file : FileId) (depth : ℕ) → Lawful (enum_values file depth)
-unfolding enum_values
+unfolding enum_values enum_value_node enum_value_name directives directive_node arguments name
 enum_values_law file depth =
-    let p : Piece (List (NodeView EnumValueDefinition)) = enclosed k.LeftBrace k.RightBrace no_enum_value depth (λ inside. some (enum_value_definition file inside)) in
-    mapped_law or_none (optional p) (optional_law p (enum_value_list_law file depth) refl)
+    optional_enclosed_law k.LeftBrace k.RightBrace no_enum_value depth (λ n. some (enum_value_definition file n)) (some_enum_values_law file) (λ n. apart (some (enum_value_definition file n)).more (only k.RightBrace) refl)
 
 -- ---- roots
 
@@ -212,11 +169,7 @@ some_roots_law file =
 
 pub roots_law : (file : FileId) (depth : ℕ) → Lawful (roots file depth)
 unfolding root_node name
-roots_law file zero = headed_law (only k.LeftBrace) too_deep (nothing_law (λ _. TooDeep)) refl refl refl
-roots_law file (suc depth) =
-    let r : Piece (NodeView (OperationType × NameView)) = root file in
-    let b : Piece (List (NodeView (OperationType × NameView))) = between k.LeftBrace k.RightBrace no_root (some r) in
-    headed_law (only k.LeftBrace) b (between_law k.LeftBrace k.RightBrace no_root (some r) (some_roots_law file) (apart (some r).more (only k.RightBrace) refl)) refl refl refl
+roots_law file depth = enclosed_law k.LeftBrace k.RightBrace no_root depth (λ _. some (root file)) (λ _. some_roots_law file) (λ _. apart (some (root file)).more (only k.RightBrace) refl)
 
 -- ---- what stands behind a name
 

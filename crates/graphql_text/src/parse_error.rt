@@ -12,7 +12,7 @@ use thiserror::Error;
 #[error("{kind}")]
 pub struct ParseError {
     /// The bytes of the token that can't stand there. Where no token stands, it begins where the text stops being one, and is empty, as
-    /// it is at the end of the text.
+    /// it is at the end of the text. `BuiltInFile` and `Memory` say nothing of a place: theirs is the empty one at the start of file 0.
     pub location: SourceSpan,
     pub kind: ParseErrorKind,
 }
@@ -20,7 +20,7 @@ pub struct ParseError {
 impl From<AllocError> for ParseError {
     ghost from_gives = { λ _ error. error.kind ≡ Memory };
 
-    /// `Memory`, at no place.
+    /// `Memory`.
     fn from(_: AllocError) -> ParseError {
         ParseError {
             location: SourceSpan {

@@ -1,5 +1,5 @@
 //! GraphQL text as trees: GraphQL specification of October 2021, section 2 and appendix B.
-ghost use Rattle.std.specs.Prelude.{◌≡◌, ◌≢◌, List, [], ◌∷◌, length, IfOk, IfErr, MatchResult, true};
+ghost use Rattle.std.specs.Prelude.{◌≡◌, ◌≢◌, suc, List, [], ◌∷◌, length, IfOk, IfErr, MatchResult, true};
 ghost use Rattle.graphql_nodes.specs.NodeView.{NodeView};
 ghost use Rattle.graphql_ast.specs.declared.definition.Definition.{Definition as DefinitionOf};
 ghost use Rattle.graphql_ast.specs.declared.selection.Selection.{Selection as SelectionOf};
@@ -9,12 +9,12 @@ ghost use Rattle.graphql_grammar.specs.WordsOfText.{words_of};
 ghost use Rattle.graphql_productions.specs.Documents.{document, selections, spells_plainly};
 ghost use Rattle.graphql_productions.specs.Types.{type};
 ghost use Rattle.graphql_productions.specs.Values.{value_node};
-ghost use Rattle.graphql_text.specs.Parses.{Answers, IsRefused};
+ghost use Rattle.graphql_text.specs.Parses.{Answers, IsBuiltInFile, IsRefused};
 ghost use Rattle.graphql_text.specs.declared.parse_error.ParseErrorKind.TheVariants.{BuiltInFile, Memory};
 
 use crate::parse_error::{ParseError, ParseErrorKind};
 use crate::reading::target::Target;
-use crate::reading::whole;
+use crate::reading::whole::{Whole, whole};
 use crate::refusals::parsed;
 use graphql_ast::definition::Definition;
 use graphql_ast::document::Document;
@@ -64,6 +64,32 @@ fn built_in_file() -> ParseError
     }
 }
 
+/// What a text is, at locations in this file.
+fn parse<W: Whole>(
+    alloc: Global,
+    file: FileId,
+    text: &str,
+    options: ParseOptions,
+) -> Result<W, ParseError>
+    ensures found { IfOk result (λ read. W.spells file options.max_depth read (words_of options.max_tokens text.now)) }
+    ensures only { (read : W) → file.0 ≢ 0 → W.spells file options.max_depth read (words_of options.max_tokens text.now) → Answers read result }
+    ensures built_in { file.0 ≡ 0 → IsBuiltInFile result }
+    ensures refused { IfErr result (IsRefused (W.piece file options.max_depth) (W.spells file options.max_depth) (W.piece file (suc options.max_depth)).spells file (length text.now) (words_of options.max_tokens text.now)) }
+{
+    if file.0 == 0 {
+        return Err(built_in_file());
+    }
+    let mut words = Words::new(text, options.max_tokens);
+    let target = Target {
+        alloc,
+        file,
+        constant: false,
+        depth: options.max_depth,
+    };
+    let read = whole(target, &mut words);
+    parsed(alloc, file, text, &words, read)
+}
+
 /// The type that a text is (section 2.11), at locations in this file.
 ///
 /// [`ParseErrorKind::BuiltInFile`] refuses the file number 0, before the text is looked at. [`ParseErrorKind::Memory`] says nothing of the
@@ -78,20 +104,10 @@ pub fn parse_type(
     ensures found { IfOk result (λ read. (type file options.max_depth).spells read (words_of options.max_tokens text.now)) }
     // What they spell is answered.
     ensures only { (read : TypeOf) → file.0 ≢ 0 → (type file options.max_depth).spells read (words_of options.max_tokens text.now) → Answers read result }
-    ensures refused { IfErr result (IsRefused (type file options.max_depth).spells file (length text.now) (words_of options.max_tokens text.now)) }
+    ensures built_in { file.0 ≡ 0 → IsBuiltInFile result }
+    ensures refused { IfErr result (IsRefused (type file options.max_depth) (type file options.max_depth).spells (type file (suc options.max_depth)).spells file (length text.now) (words_of options.max_tokens text.now)) }
 {
-    if file.0 == 0 {
-        return Err(built_in_file());
-    }
-    let mut words = Words::new(text, options.max_tokens);
-    let target = Target {
-        alloc,
-        file,
-        constant: true,
-        depth: options.max_depth,
-    };
-    let read = whole::type_reference(target, &mut words);
-    parsed(alloc, file, text, &words, read)
+    parse(alloc, file, text, options)
 }
 
 /// The constant value that a text is (section 2.9), at locations in this file. A variable in it is refused.
@@ -103,22 +119,14 @@ pub fn parse_value(
     text: &str,
     options: ParseOptions,
 ) -> Result<Node<Value>, ParseError>
+    // What is answered is spelled by all words of the text.
     ensures found { IfOk result (λ read. (value_node file true options.max_depth).spells read (words_of options.max_tokens text.now)) }
+    // What they spell is answered.
     ensures only { (read : NodeView ValueOf) → file.0 ≢ 0 → (value_node file true options.max_depth).spells read (words_of options.max_tokens text.now) → Answers read result }
-    ensures refused { IfErr result (IsRefused (value_node file true options.max_depth).spells file (length text.now) (words_of options.max_tokens text.now)) }
+    ensures built_in { file.0 ≡ 0 → IsBuiltInFile result }
+    ensures refused { IfErr result (IsRefused (value_node file true options.max_depth) (value_node file true options.max_depth).spells (value_node file true (suc options.max_depth)).spells file (length text.now) (words_of options.max_tokens text.now)) }
 {
-    if file.0 == 0 {
-        return Err(built_in_file());
-    }
-    let mut words = Words::new(text, options.max_tokens);
-    let target = Target {
-        alloc,
-        file,
-        constant: true,
-        depth: options.max_depth,
-    };
-    let read = whole::value(target, &mut words);
-    parsed(alloc, file, text, &words, read)
+    parse(alloc, file, text, options)
 }
 
 /// The selections that a text is, with braces or without (section 2.4), at locations in this file.
@@ -130,22 +138,14 @@ pub fn parse_selections(
     text: &str,
     options: ParseOptions,
 ) -> Result<Items<Selection>, ParseError>
+    // What is answered is spelled by all words of the text.
     ensures found { IfOk result (λ read. (selections file options.max_depth).spells read (words_of options.max_tokens text.now)) }
+    // What they spell is answered.
     ensures only { (read : List SelectionOf) → file.0 ≢ 0 → (selections file options.max_depth).spells read (words_of options.max_tokens text.now) → Answers read result }
-    ensures refused { IfErr result (IsRefused (selections file options.max_depth).spells file (length text.now) (words_of options.max_tokens text.now)) }
+    ensures built_in { file.0 ≡ 0 → IsBuiltInFile result }
+    ensures refused { IfErr result (IsRefused (selections file options.max_depth) (selections file options.max_depth).spells (selections file (suc options.max_depth)).spells file (length text.now) (words_of options.max_tokens text.now)) }
 {
-    if file.0 == 0 {
-        return Err(built_in_file());
-    }
-    let mut words = Words::new(text, options.max_tokens);
-    let target = Target {
-        alloc,
-        file,
-        constant: false,
-        depth: options.max_depth,
-    };
-    let read = whole::selections(target, &mut words);
-    parsed(alloc, file, text, &words, read)
+    parse(alloc, file, text, options)
 }
 
 /// The definitions that a text is (section 2.2), at locations in this file.
@@ -157,23 +157,14 @@ pub fn parse_definitions(
     text: &str,
     options: ParseOptions,
 ) -> Result<Items<Definition>, ParseError>
-    ensures found { IfOk result (λ read. (document file options.max_depth).spells read (words_of options.max_tokens text.now)) }
-    // Definitions that the words spell, none of which but the first begins with `{`, are answered.
+    // What is answered is spelled by all words of the text.
+    ensures found { IfOk result (λ read. spells_plainly file options.max_depth read (words_of options.max_tokens text.now)) }
+    // What they spell is answered.
     ensures only { (read : List DefinitionOf) → file.0 ≢ 0 → spells_plainly file options.max_depth read (words_of options.max_tokens text.now) → Answers read result }
-    ensures refused { IfErr result (IsRefused (spells_plainly file options.max_depth) file (length text.now) (words_of options.max_tokens text.now)) }
+    ensures built_in { file.0 ≡ 0 → IsBuiltInFile result }
+    ensures refused { IfErr result (IsRefused (document file options.max_depth) (spells_plainly file options.max_depth) (document file (suc options.max_depth)).spells file (length text.now) (words_of options.max_tokens text.now)) }
 {
-    if file.0 == 0 {
-        return Err(built_in_file());
-    }
-    let mut words = Words::new(text, options.max_tokens);
-    let target = Target {
-        alloc,
-        file,
-        constant: false,
-        depth: options.max_depth,
-    };
-    let read = whole::document(target, &mut words);
-    parsed(alloc, file, text, &words, read)
+    parse(alloc, file, text, options)
 }
 
 /// The document of these definitions, whose sources hold the file under this number.
@@ -202,10 +193,11 @@ pub fn parse_document(
     source: &Shared<SourceFile>,
     options: ParseOptions,
 ) -> Result<Document, ParseError>
-    ensures found { IfOk result (λ read. (document file options.max_depth).spells read.definitions (words_of options.max_tokens source.now.text)) }
+    ensures found { IfOk result (λ read. spells_plainly file options.max_depth read.definitions (words_of options.max_tokens source.now.text)) }
     ensures sources { IfOk result (λ read. read.sources ≡ (file, source.now) ∷ []) }
     ensures only { (definitions : List DefinitionOf) → file.0 ≢ 0 → spells_plainly file options.max_depth definitions (words_of options.max_tokens source.now.text) → MatchResult result (λ read. read.definitions ≡ definitions) (λ e. e.kind ≡ Memory) }
-    ensures refused { IfErr result (IsRefused (spells_plainly file options.max_depth) file (length source.now.text) (words_of options.max_tokens source.now.text)) }
+    ensures built_in { file.0 ≡ 0 → IsBuiltInFile result }
+    ensures refused { IfErr result (IsRefused (document file options.max_depth) (spells_plainly file options.max_depth) (document file (suc options.max_depth)).spells file (length source.now.text) (words_of options.max_tokens source.now.text)) }
 {
     match parse_definitions(alloc, file, source.text.as_str(), options) {
         Ok(definitions) => Ok(held(alloc, file, source, definitions)?),

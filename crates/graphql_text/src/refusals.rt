@@ -1,22 +1,22 @@
 //! What a text is refused with.
-ghost use Rattle.std.specs.Prelude.{◌≡◌, length};
-ghost use Rattle.graphql_grammar.specs.declared.fault.ReadError.TheVariants.{Memory as OutOfMemory};
+ghost use Rattle.std.specs.Prelude.{◌≡◌, ◌++◌, codes, length, IfOk};
+ghost use Rattle.graphql_grammar.specs.declared.fault.FaultKind.TheVariants.{VariableInConstant};
 ghost use Rattle.graphql_grammar.specs.Standing.{standing};
-ghost use Rattle.graphql_text.specs.Parses.{Parsed, span_of};
-ghost use Rattle.graphql_text.specs.declared.parse_error.ParseErrorKind.TheVariants.{Memory};
+ghost use Rattle.graphql_text.specs.Parses.{Parsed, Reports, span_of};
+ghost use Rattle.graphql_text.specs.Said.{IsUnexpectedCharacter, Says, fault_said, first_text, found_text, item_text, kind_text, unexpected};
 
 use crate::parse_error::{ParseError, ParseErrorKind};
 use graphql_grammar::fault::{FaultKind, Item, ReadError};
 use graphql_grammar::kind::Kind;
-use graphql_grammar::word::Word;
 use graphql_grammar::words::Words;
 use graphql_nodes::collections::text::Text;
 use graphql_nodes::source::{FileId, SourceSpan};
-use graphql_tokens::token::TokenErrorKind;
 use std::alloc::{AllocError, Global};
 
 /// The item that was expected, in words.
-fn item_text(item: Item) -> &'static str {
+fn item_text(item: Item) -> &'static str
+    ensures { result.now ≡ item_text item }
+{
     match item {
         Item::Definition => "a definition",
         Item::ExtensionPart => "something that extends",
@@ -39,7 +39,9 @@ fn item_text(item: Item) -> &'static str {
 }
 
 /// A word of this kind, in words.
-fn kind_text(kind: Kind) -> &'static str {
+fn kind_text(kind: Kind) -> &'static str
+    ensures { result.now ≡ kind_text kind }
+{
     match kind {
         Kind::On => "`on`",
         Kind::Schema => "`schema`",
@@ -58,27 +60,34 @@ fn kind_text(kind: Kind) -> &'static str {
     }
 }
 
-/// A word as it was found.
-fn found_text(alloc: Global, word: Option<Word<'_>>) -> Result<Text, AllocError> {
-    let Some(word) = word else {
-        return Text::from_str(alloc, "the end of the text");
-    };
-    match word.kind {
-        Kind::String => Text::from_str(alloc, "a string"),
-        Kind::BlockString => Text::from_str(alloc, "a block string"),
-        _ => {
-            let mut text = String::new(alloc);
-            text.push('`')?;
-            text.push_str(word.text)?;
-            text.push('`')?;
-            Ok(Text::from_string(text))
-        }
+/// These bytes in backquotes.
+fn in_backquotes(alloc: Global, inner: &str) -> Result<Text, AllocError>
+    ensures { IfOk result (λ text. text ≡ codes "`" ++ inner.now ++ codes "`") }
+{
+    let mut text = String::new(alloc);
+    text.push_str("`")?;
+    text.push_str(inner)?;
+    text.push_str("`")?;
+    Ok(Text::from_string(text))
+}
+
+/// The next word as it was found.
+fn found_text(alloc: Global, words: &Words<'_>) -> Result<Text, AllocError>
+    ensures { IfOk result (λ text. text ≡ found_text (standing words.now).left) }
+{
+    match words.next() {
+        None => Text::from_str(alloc, "the end of the text"),
+        Some(word) if word.kind.is(Kind::String) => Text::from_str(alloc, "a string"),
+        Some(word) if word.kind.is(Kind::BlockString) => Text::from_str(alloc, "a block string"),
+        Some(word) => in_backquotes(alloc, word.text),
     }
 }
 
-/// The text of a word, and none where there is no word.
-fn word_text<'a>(word: Option<Word<'a>>) -> &'a str {
-    match word {
+/// The text of the next word, and none where there is no word.
+fn first_text<'a>(words: &Words<'a>) -> &'a str
+    ensures { result.now ≡ first_text (standing words.now).left }
+{
+    match words.next() {
         Some(word) => word.text,
         None => "",
     }
@@ -119,60 +128,55 @@ fn shown(alloc: Global, character: char) -> Result<Text, AllocError> {
     Ok(Text::from_string(text))
 }
 
-/// What is wrong where a text stops being tokens, at this byte.
-fn wrong_kind(
-    alloc: Global,
-    text: &str,
-    error: Option<TokenErrorKind>,
-    at: usize,
-) -> Result<ParseErrorKind, AllocError> {
-    match error {
-        Some(TokenErrorKind::UnterminatedString) => Ok(ParseErrorKind::UnterminatedString),
-        Some(TokenErrorKind::InvalidEscape) => Ok(ParseErrorKind::InvalidEscape),
-        Some(TokenErrorKind::InvalidNumber) => Ok(ParseErrorKind::InvalidNumber),
-        Some(TokenErrorKind::UnexpectedCharacter) | None => {
-            let character = character_at(text, at);
-            Ok(ParseErrorKind::UnexpectedCharacter {
-                character,
-                shown: shown(alloc, character)?,
-            })
-        }
-    }
+/// An unexpected character, which stands at this byte of the text.
+fn unexpected_character(alloc: Global, text: &str, at: usize) -> Result<ParseErrorKind, AllocError>
+    ensures { IfOk result IsUnexpectedCharacter }
+{
+    let character = character_at(text, at);
+    let shown = shown(alloc, character)?;
+    Ok(ParseErrorKind::UnexpectedCharacter { character, shown })
+}
+
+/// This was expected, and the next word was found.
+fn unexpected(alloc: Global, words: &Words<'_>, item: Item) -> Result<ParseErrorKind, AllocError>
+    ensures { IfOk result (λ kind. kind ≡ unexpected item (standing words.now).left) }
+{
+    let expected = Text::from_str(alloc, item_text(item))?;
+    let found = found_text(alloc, words)?;
+    Ok(ParseErrorKind::Unexpected { expected, found })
 }
 
 /// What is wrong with a variable where values are constant: its name, if it has one, or its `$`.
-fn variable_kind(alloc: Global, words: &Words<'_>) -> Result<ParseErrorKind, AllocError> {
+fn variable_kind(alloc: Global, words: &Words<'_>) -> Result<ParseErrorKind, AllocError>
+    ensures { IfOk result (λ kind. kind ≡ fault_said VariableInConstant (standing words.now).left) }
+{
     match words.second() {
         Some(word) if word.kind.is_name() => Ok(ParseErrorKind::VariableInConstant(Text::from_str(
             alloc, word.text,
         )?)),
-        _ => Ok(ParseErrorKind::Unexpected {
-            expected: Text::from_str(alloc, item_text(Item::Value))?,
-            found: found_text(alloc, words.next())?,
-        }),
+        _ => unexpected(alloc, words, Item::Value),
     }
 }
 
-/// What is wrong with the next word.
-fn fault_kind(
+/// What a fault says of the next word.
+fn fault_said(
     alloc: Global,
     words: &Words<'_>,
     fault: FaultKind,
-) -> Result<ParseErrorKind, AllocError> {
-    let next = words.next();
+) -> Result<ParseErrorKind, AllocError>
+    ensures { IfOk result (λ kind. kind ≡ fault_said fault (standing words.now).left) }
+{
     match fault {
-        FaultKind::Expected(item) => Ok(ParseErrorKind::Unexpected {
-            expected: Text::from_str(alloc, item_text(item))?,
-            found: found_text(alloc, next)?,
-        }),
-        FaultKind::ReservedName => Ok(ParseErrorKind::ReservedName(Text::from_str(
-            alloc,
-            word_text(next),
-        )?)),
+        FaultKind::Expected(item) => unexpected(alloc, words, item),
+        FaultKind::ReservedName => {
+            let name = Text::from_str(alloc, first_text(words))?;
+            Ok(ParseErrorKind::ReservedName(name))
+        }
         FaultKind::VariableInConstant => variable_kind(alloc, words),
-        FaultKind::UnknownDirectiveLocation => Ok(ParseErrorKind::UnknownDirectiveLocation(
-            Text::from_str(alloc, word_text(next))?,
-        )),
+        FaultKind::UnknownDirectiveLocation => {
+            let name = Text::from_str(alloc, first_text(words))?;
+            Ok(ParseErrorKind::UnknownDirectiveLocation(name))
+        }
         FaultKind::DescriptionNotAllowed => Ok(ParseErrorKind::DescriptionNotAllowed),
         FaultKind::TooDeep => Ok(ParseErrorKind::TooDeep),
     }
@@ -184,11 +188,16 @@ fn refused_kind(
     text: &str,
     words: &Words<'_>,
     fault: FaultKind,
-) -> Result<ParseErrorKind, AllocError> {
+) -> Result<ParseErrorKind, AllocError>
+    ensures { IfOk result (Says fault (standing words.now).left) }
+{
     match words.next_kind() {
-        Some(Kind::Wrong) => wrong_kind(alloc, text, words.error(), words.start()),
+        Some(Kind::UnexpectedCharacter) => unexpected_character(alloc, text, words.start()),
+        Some(Kind::UnterminatedString) => Ok(ParseErrorKind::UnterminatedString),
+        Some(Kind::InvalidEscape) => Ok(ParseErrorKind::InvalidEscape),
+        Some(Kind::InvalidNumber) => Ok(ParseErrorKind::InvalidNumber),
         Some(Kind::TooMany) => Ok(ParseErrorKind::TooManyTokens),
-        _ => fault_kind(alloc, words, fault),
+        _ => fault_said(alloc, words, fault),
     }
 }
 
@@ -210,28 +219,19 @@ fn next_span(file: FileId, words: &Words<'_>, total: usize) -> SourceSpan
     }
 }
 
-/// What a text is refused with, by what its reader met.
+/// What a text is refused with, by what is wrong with the next word.
 fn refusal(
     alloc: Global,
     file: FileId,
     text: &str,
     words: &Words<'_>,
-    error: ReadError,
-) -> ParseError
-    ensures memory { error ≡ OutOfMemory → result.kind ≡ Memory }
-    ensures location { result.location ≡ span_of file (length text.now) (standing words.now).left }
+    fault: FaultKind,
+) -> Result<ParseError, AllocError>
+    ensures { IfOk result (Reports file (length text.now) (record { kind = fault; left = (standing words.now).left })) }
 {
-    let kind = match error {
-        ReadError::Memory => ParseErrorKind::Memory,
-        ReadError::Fault(fault) => match refused_kind(alloc, text, words, fault) {
-            Ok(kind) => kind,
-            Err(_) => ParseErrorKind::Memory,
-        },
-    };
-    ParseError {
-        location: next_span(file, words, text.len()),
-        kind,
-    }
+    let kind = refused_kind(alloc, text, words, fault)?;
+    let location = next_span(file, words, text.len());
+    Ok(ParseError { location, kind })
 }
 
 /// What was read of a text, or what it is refused with.
@@ -246,6 +246,7 @@ pub(crate) fn parsed<T: Drop>(
 {
     match read {
         Ok(value) => Ok(value),
-        Err(error) => Err(refusal(alloc, file, text, words, error)),
+        Err(ReadError::Memory) => Err(ParseError::from(AllocError)),
+        Err(ReadError::Fault(fault)) => Err(refusal(alloc, file, text, words, fault)?),
     }
 }

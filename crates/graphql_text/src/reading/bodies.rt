@@ -92,7 +92,6 @@ impl Extension {
 
 #[tactic(auto, unfolding(graphql_productions::specs::TypeSystem::type_body))]
 fn type_body(target: Target, words: &mut Words<'_>, kind: TypeKind) -> Result<Body, ReadError>
-    requires { target.constant ≡ true }
     ensures { GivesSeen seen_body result (standing words.new) ((type_body target.file kind target.depth).read (standing words.old)) }
 {
     sign(words, keyword(kind))?;
@@ -103,19 +102,17 @@ fn type_body(target: Target, words: &mut Words<'_>, kind: TypeKind) -> Result<Bo
 
 #[tactic(auto, unfolding(graphql_productions::specs::TypeSystem::schema_body))]
 fn schema_body(target: Target, words: &mut Words<'_>) -> Result<Body, ReadError>
-    requires { target.constant ≡ true }
     ensures { GivesSeen seen_body result (standing words.new) ((schema_body target.file target.depth).read (standing words.old)) }
 {
     sign(words, Kind::Schema)?;
     let mut parts = DefinitionParts::new(target.alloc);
-    parts.directives = directives(target, words)?;
+    parts.directives = directives(target.constant(), words)?;
     parts.roots = roots(target, words)?;
     Ok(Body::Schema(parts))
 }
 
 #[tactic(auto, unfolding(graphql_productions::specs::TypeSystem::directive_body))]
 fn directive_body(target: Target, words: &mut Words<'_>) -> Result<Body, ReadError>
-    requires { target.constant ≡ true }
     ensures { GivesSeen seen_body result (standing words.new) ((directive_body target.file target.depth).read (standing words.old)) }
 {
     sign(words, Kind::Directive)?;
@@ -147,7 +144,6 @@ fn no_described(words: &Words<'_>) -> FaultKind
 
 /// Reads a definition of the type system behind its description.
 pub(crate) fn described(target: Target, words: &mut Words<'_>) -> Result<Body, ReadError>
-    requires { target.constant ≡ true }
     ensures { GivesSeen seen_body result (standing words.new) ((described target.file target.depth).read (standing words.old)) }
 {
     match words.next_kind() {
@@ -169,7 +165,6 @@ fn extension_body(
     words: &mut Words<'_>,
     kind: TypeKind,
 ) -> Result<Extension, ReadError>
-    requires { target.constant ≡ true }
     ensures { GivesSeen seen_extension result (standing words.new) ((extension_body target.file kind target.depth).read (standing words.old)) }
 {
     sign(words, keyword(kind))?;
@@ -195,18 +190,16 @@ fn optional_roots(
 }
 
 fn schema_parts(target: Target, words: &mut Words<'_>) -> Result<DefinitionParts, ReadError>
-    requires { target.constant ≡ true }
     ensures { Gives result (standing words.new) ((mapped schema_parts (seq (directives target.file true target.depth) (optional_roots target.file target.depth))).read (standing words.old)) }
 {
     let mut parts = DefinitionParts::new(target.alloc);
-    parts.directives = directives(target, words)?;
+    parts.directives = directives(target.constant(), words)?;
     parts.roots = optional_roots(target, words)?;
     Ok(parts)
 }
 
 #[tactic(auto, unfolding(graphql_productions::specs::TypeSystem::schema_extension_body))]
 fn schema_extension_body(target: Target, words: &mut Words<'_>) -> Result<Extension, ReadError>
-    requires { target.constant ≡ true }
     ensures { GivesSeen seen_extension result (standing words.new) ((schema_extension_body target.file target.depth).read (standing words.old)) }
 {
     sign(words, Kind::Schema)?;
@@ -219,7 +212,6 @@ fn schema_extension_body(target: Target, words: &mut Words<'_>) -> Result<Extens
 
 /// Reads an extension behind `extend`.
 pub(crate) fn extended(target: Target, words: &mut Words<'_>) -> Result<Extension, ReadError>
-    requires { target.constant ≡ true }
     ensures { GivesSeen seen_extension result (standing words.new) ((extended target.file target.depth).read (standing words.old)) }
 {
     match words.next_kind() {

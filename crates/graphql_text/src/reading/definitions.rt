@@ -16,7 +16,6 @@ use graphql_grammar::words::Words;
 
 #[tactic(auto, unfolding(graphql_productions::specs::Documents::operation_definition))]
 fn operation_definition(target: Target, words: &mut Words<'_>) -> Result<Definition, ReadError>
-    requires { target.constant ≡ false }
     ensures { Gives result (standing words.new) ((operation_definition target.file target.depth).read (standing words.old)) }
 {
     let start = words.start();
@@ -26,7 +25,6 @@ fn operation_definition(target: Target, words: &mut Words<'_>) -> Result<Definit
 
 #[tactic(auto, unfolding(graphql_productions::specs::Documents::shorthand_definition))]
 fn shorthand_definition(target: Target, words: &mut Words<'_>) -> Result<Definition, ReadError>
-    requires { target.constant ≡ false }
     ensures { Gives result (standing words.new) ((shorthand_definition target.file target.depth).read (standing words.old)) }
 {
     let start = words.start();
@@ -36,7 +34,6 @@ fn shorthand_definition(target: Target, words: &mut Words<'_>) -> Result<Definit
 
 #[tactic(auto, unfolding(graphql_productions::specs::Documents::fragment))]
 fn fragment(target: Target, words: &mut Words<'_>) -> Result<Definition, ReadError>
-    requires { target.constant ≡ false }
     ensures { Gives result (standing words.new) ((fragment target.file target.depth).read (standing words.old)) }
 {
     let start = words.start();
@@ -46,7 +43,6 @@ fn fragment(target: Target, words: &mut Words<'_>) -> Result<Definition, ReadErr
 
 #[tactic(auto, unfolding(graphql_productions::specs::TypeSystem::system_definition))]
 fn system_definition(target: Target, words: &mut Words<'_>) -> Result<Definition, ReadError>
-    requires { target.constant ≡ true }
     ensures { Gives result (standing words.new) ((system_definition target.file target.depth).read (standing words.old)) }
 {
     let start = words.start();
@@ -61,7 +57,6 @@ fn system_definition(target: Target, words: &mut Words<'_>) -> Result<Definition
 
 #[tactic(auto, unfolding(graphql_productions::specs::TypeSystem::extension))]
 fn extension(target: Target, words: &mut Words<'_>) -> Result<Definition, ReadError>
-    requires { target.constant ≡ true }
     ensures { Gives result (standing words.new) ((extension target.file target.depth).read (standing words.old)) }
 {
     let start = words.start();
@@ -72,13 +67,12 @@ fn extension(target: Target, words: &mut Words<'_>) -> Result<Definition, ReadEr
 
 /// Reads a definition, by its first word.
 pub(crate) fn definition(target: Target, words: &mut Words<'_>) -> Result<Definition, ReadError>
-    requires { target.constant ≡ false }
     ensures { Gives result (standing words.new) ((definition target.file target.depth).read (standing words.old)) }
 {
     match words.next_kind() {
         Some(Kind::LeftBrace) => shorthand_definition(target, words),
         Some(Kind::Fragment) => fragment(target, words),
-        Some(Kind::Extend) => extension(target.constant(), words),
+        Some(Kind::Extend) => extension(target, words),
         Some(Kind::Query | Kind::Mutation | Kind::Subscription) => {
             operation_definition(target, words)
         }
@@ -93,7 +87,7 @@ pub(crate) fn definition(target: Target, words: &mut Words<'_>) -> Result<Defini
             | Kind::Enum
             | Kind::Input
             | Kind::Directive,
-        ) => system_definition(target.constant(), words),
+        ) => system_definition(target, words),
         _ => Err(ReadError::Fault(FaultKind::Expected(Item::Definition))),
     }
 }

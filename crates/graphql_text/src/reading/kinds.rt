@@ -44,52 +44,47 @@ pub(crate) fn has_part(parts: &DefinitionParts) -> bool
 
 #[tactic(auto, unfolding(graphql_productions::specs::TypeSystem::fielded))]
 fn fielded(target: Target, words: &mut Words<'_>) -> Result<DefinitionParts, ReadError>
-    requires { target.constant ≡ true }
     ensures { Gives result (standing words.new) ((fielded target.file target.depth).read (standing words.old)) }
 {
     let mut parts = DefinitionParts::new(target.alloc);
     parts.names = names_behind(target, words, Kind::Implements, Kind::Ampersand)?;
-    parts.directives = directives(target, words)?;
+    parts.directives = directives(target.constant(), words)?;
     parts.fields = fields(target, words)?;
     Ok(parts)
 }
 
 fn union_parts(target: Target, words: &mut Words<'_>) -> Result<DefinitionParts, ReadError>
-    requires { target.constant ≡ true }
     ensures { Gives result (standing words.new) ((mapped union_parts (seq (directives target.file true target.depth) (names_behind target.file Equals Pipe))).read (standing words.old)) }
 {
     let mut parts = DefinitionParts::new(target.alloc);
-    parts.directives = directives(target, words)?;
+    parts.directives = directives(target.constant(), words)?;
     parts.names = names_behind(target, words, Kind::Equals, Kind::Pipe)?;
     Ok(parts)
 }
 
 fn enum_parts(target: Target, words: &mut Words<'_>) -> Result<DefinitionParts, ReadError>
-    requires { target.constant ≡ true }
     ensures { Gives result (standing words.new) ((mapped enum_parts (seq (directives target.file true target.depth) (enum_values target.file target.depth))).read (standing words.old)) }
 {
     let mut parts = DefinitionParts::new(target.alloc);
-    parts.directives = directives(target, words)?;
+    parts.directives = directives(target.constant(), words)?;
     parts.values = enum_values(target, words)?;
     Ok(parts)
 }
 
 fn input_parts(target: Target, words: &mut Words<'_>) -> Result<DefinitionParts, ReadError>
-    requires { target.constant ≡ true }
     ensures { Gives result (standing words.new) ((mapped input_parts (seq (directives target.file true target.depth) (input_values target.file LeftBrace RightBrace target.depth))).read (standing words.old)) }
 {
     let mut parts = DefinitionParts::new(target.alloc);
-    parts.directives = directives(target, words)?;
+    parts.directives = directives(target.constant(), words)?;
     parts.input_fields = input_values(target, words, Kind::LeftBrace, Kind::RightBrace)?;
     Ok(parts)
 }
 
 fn scalar_parts(target: Target, words: &mut Words<'_>) -> Result<DefinitionParts, ReadError>
-    requires { target.constant ≡ true }
     ensures { Gives result (standing words.new) ((mapped scalar_parts (directives target.file true target.depth)).read (standing words.old)) }
 {
     let mut parts = DefinitionParts::new(target.alloc);
-    parts.directives = directives(target, words)?;
+    parts.directives = directives(target.constant(), words)?;
     Ok(parts)
 }
 
@@ -100,7 +95,6 @@ pub(crate) fn parts(
     words: &mut Words<'_>,
     kind: TypeKind,
 ) -> Result<DefinitionParts, ReadError>
-    requires { target.constant ≡ true }
     ensures { Gives result (standing words.new) ((parts target.file kind target.depth).read (standing words.old)) }
 {
     match kind {

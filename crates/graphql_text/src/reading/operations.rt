@@ -49,15 +49,13 @@ pub(crate) fn operation_type(words: &mut Words<'_>) -> Result<OperationType, Rea
 
 #[tactic(auto, unfolding(graphql_productions::specs::Operations::default_body))]
 fn default_value(target: Target, words: &mut Words<'_>) -> Result<Node<Value>, ReadError>
-    requires { target.constant ≡ true }
     ensures { Gives result (standing words.new) ((default_value target.file target.depth).read (standing words.old)) }
 {
     sign(words, Kind::Equals)?;
-    value_node(target, words)
+    value_node(target.constant(), words)
 }
 
 fn optional_default(target: Target, words: &mut Words<'_>) -> Result<Option<Node<Value>>, ReadError>
-    requires { target.constant ≡ true }
     ensures { Gives result (standing words.new) ((optional (default_value target.file target.depth)).read (standing words.old)) }
 {
     if words.next_is(Kind::Equals) {
@@ -77,13 +75,12 @@ pub(crate) struct AfterName {
 /// Reads a type behind `:`, with a default value, if there is one, and directives.
 #[tactic(auto, unfolding(graphql_productions::specs::Operations::typed))]
 pub(crate) fn typed(target: Target, words: &mut Words<'_>) -> Result<AfterName, ReadError>
-    requires { target.constant ≡ true }
     ensures { GivesSeen seen_typed result (standing words.new) ((typed target.file target.depth).read (standing words.old)) }
 {
     sign(words, Kind::Colon)?;
     let ty = type_node(target, words)?;
     let default_value = optional_default(target, words)?;
-    let directives = directives(target, words)?;
+    let directives = directives(target.constant(), words)?;
     Ok(AfterName {
         ty,
         default_value,
@@ -116,7 +113,7 @@ impl Read for Node<VariableDefinition> {
             ty,
             default_value,
             directives,
-        } = typed(target.constant(), words)?;
+        } = typed(target, words)?;
         let definition = VariableDefinition {
             name,
             ty,
@@ -154,13 +151,12 @@ pub(crate) fn operation(
     target: Target,
     words: &mut Words<'_>,
 ) -> Result<OperationDefinition, ReadError>
-    requires { target.constant ≡ false }
     ensures { Gives result (standing words.new) ((operation target.file target.depth).read (standing words.old)) }
 {
     let operation_type = operation_type(words)?;
     let name = optional_name(target, words)?;
     let variables = variables(target, words)?;
-    let directives = directives(target, words)?;
+    let directives = directives(target.with_variables(), words)?;
     let selection_set = selection_set(target, words)?;
     Ok(OperationDefinition {
         operation_type,
@@ -177,7 +173,6 @@ pub(crate) fn shorthand(
     target: Target,
     words: &mut Words<'_>,
 ) -> Result<OperationDefinition, ReadError>
-    requires { target.constant ≡ false }
     ensures { Gives result (standing words.new) ((shorthand target.file target.depth).read (standing words.old)) }
 {
     let selection_set = selection_set(target, words)?;
@@ -196,13 +191,12 @@ pub(crate) fn fragment_definition(
     target: Target,
     words: &mut Words<'_>,
 ) -> Result<FragmentDefinition, ReadError>
-    requires { target.constant ≡ false }
     ensures { Gives result (standing words.new) ((fragment_definition target.file target.depth).read (standing words.old)) }
 {
     sign(words, Kind::Fragment)?;
     let name = fragment_name(target, words)?;
     let type_condition = type_condition(target, words)?;
-    let directives = directives(target, words)?;
+    let directives = directives(target.with_variables(), words)?;
     let selection_set = selection_set(target, words)?;
     Ok(FragmentDefinition {
         name,

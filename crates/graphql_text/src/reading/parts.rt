@@ -60,7 +60,7 @@ impl Read for Node<InputValueDefinition> {
             ty,
             default_value,
             directives,
-        } = typed(target.constant(), words)?;
+        } = typed(target, words)?;
         let definition = InputValueDefinition {
             description,
             name,

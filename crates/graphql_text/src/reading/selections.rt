@@ -87,11 +87,10 @@ pub(crate) fn fragment_name(target: Target, words: &mut Words<'_>) -> Result<Nam
 
 #[tactic(auto, unfolding(graphql_productions::specs::Selections::spread_body))]
 fn spread_body(target: Target, words: &mut Words<'_>) -> Result<FragmentSpread, ReadError>
-    requires { target.constant ≡ false }
     ensures { Gives result (standing words.new) ((spread_body target.file target.depth).read (standing words.old)) }
 {
     let fragment_name = fragment_name(target, words)?;
-    let directives = directives(target, words)?;
+    let directives = directives(target.with_variables(), words)?;
     Ok(FragmentSpread {
         fragment_name,
         directives,
@@ -134,7 +133,6 @@ pub(crate) fn selection_set(
     target: Target,
     words: &mut Words<'_>,
 ) -> Result<Items<Selection>, ReadError>
-    requires { target.constant ≡ false }
     ensures { Gives result (standing words.new) ((selection_set target.file target.depth).read (standing words.old)) }
 {
     if target.depth == 0 {
@@ -150,7 +148,6 @@ pub(crate) fn selection_set(
 #[cycle(selections)]
 #[tactic(auto, unfolding(graphql_productions::specs::Selections::selections_of))]
 fn selections(target: Target, words: &mut Words<'_>) -> Result<Items<Selection>, ReadError>
-    requires { target.constant ≡ false }
     ensures { Gives result (standing words.new) ((selections_of (selection target.file target.depth (selection_set target.file target.depth))).read (standing words.old)) }
 {
     sign(words, Kind::LeftBrace)?;
@@ -165,7 +162,6 @@ pub(crate) fn some_selections(
     target: Target,
     words: &mut Words<'_>,
 ) -> Result<Items<Selection>, ReadError>
-    requires { target.constant ≡ false }
     ensures { Gives result (standing words.new) ((some (selection target.file target.depth (selection_set target.file target.depth))).read (standing words.old)) }
 {
     let first = selection(target, words)?;
@@ -182,7 +178,6 @@ fn push_selections(
     words: &mut Words<'_>,
     selections: &mut Items<Selection>,
 ) -> Result<(), ReadError>
-    requires { target.constant ≡ false }
     ensures { Adds result selections.old selections.new (standing words.new) ((many (selection target.file target.depth (selection_set target.file target.depth))).read (standing words.old)) }
 {
     'selections: while next_is_selection(words) {
@@ -195,7 +190,6 @@ fn push_selections(
 /// Reads a selection, by its first word.
 #[cycle(selections)]
 fn selection(target: Target, words: &mut Words<'_>) -> Result<Selection, ReadError>
-    requires { target.constant ≡ false }
     ensures { Gives result (standing words.new) ((selection target.file target.depth (selection_set target.file target.depth)).read (standing words.old)) }
 {
     match words.next_kind() {
@@ -208,7 +202,6 @@ fn selection(target: Target, words: &mut Words<'_>) -> Result<Selection, ReadErr
 #[cycle(selections)]
 #[tactic(auto, unfolding(graphql_productions::specs::Selections::field_selection))]
 fn field_selection(target: Target, words: &mut Words<'_>) -> Result<Selection, ReadError>
-    requires { target.constant ≡ false }
     ensures { Gives result (standing words.new) ((field_selection target.file target.depth (selection_set target.file target.depth)).read (standing words.old)) }
 {
     let start = words.start();
@@ -219,13 +212,12 @@ fn field_selection(target: Target, words: &mut Words<'_>) -> Result<Selection, R
 #[cycle(selections)]
 #[tactic(auto, unfolding(graphql_productions::specs::Selections::field))]
 fn field(target: Target, words: &mut Words<'_>) -> Result<Field, ReadError>
-    requires { target.constant ≡ false }
     ensures { Gives result (standing words.new) ((field target.file target.depth (selection_set target.file target.depth)).read (standing words.old)) }
 {
     let first = target.name(words)?;
     let second = optional_alias(target, words)?;
-    let arguments = arguments(target, words)?;
-    let directives = directives(target, words)?;
+    let arguments = arguments(target.with_variables(), words)?;
+    let directives = directives(target.with_variables(), words)?;
     let selections = optional_set(target, words)?;
     Ok(field_of(
         first,
@@ -241,7 +233,6 @@ fn optional_set(
     target: Target,
     words: &mut Words<'_>,
 ) -> Result<Option<Items<Selection>>, ReadError>
-    requires { target.constant ≡ false }
     ensures { Gives result (standing words.new) ((optional (selection_set target.file target.depth)).read (standing words.old)) }
 {
     if words.next_is(Kind::LeftBrace) {
@@ -254,11 +245,10 @@ fn optional_set(
 #[cycle(selections)]
 #[tactic(auto, unfolding(graphql_productions::specs::Selections::inline_body))]
 fn inline_body(target: Target, words: &mut Words<'_>) -> Result<InlineFragment, ReadError>
-    requires { target.constant ≡ false }
     ensures { Gives result (standing words.new) ((inline_body target.file target.depth (selection_set target.file target.depth)).read (standing words.old)) }
 {
     let type_condition = optional_condition(target, words)?;
-    let directives = directives(target, words)?;
+    let directives = directives(target.with_variables(), words)?;
     let selection_set = selection_set(target, words)?;
     Ok(InlineFragment {
         type_condition,
@@ -271,7 +261,6 @@ fn inline_body(target: Target, words: &mut Words<'_>) -> Result<InlineFragment, 
 #[cycle(selections)]
 #[tactic(auto, unfolding(graphql_productions::specs::Selections::fragment))]
 fn fragment(target: Target, words: &mut Words<'_>) -> Result<Selection, ReadError>
-    requires { target.constant ≡ false }
     ensures { Gives result (standing words.new) ((fragment target.file target.depth (selection_set target.file target.depth)).read (standing words.old)) }
 {
     let start = words.start();

@@ -1,5 +1,5 @@
 //! What is read into.
-ghost use Rattle.std.specs.Prelude.{◌≡◌, true, IfOk};
+ghost use Rattle.std.specs.Prelude.{◌≡◌, false, true, IfOk};
 ghost use Rattle.graphql_grammar.specs.Pieces.{Gives, sign};
 ghost use Rattle.graphql_grammar.specs.Standing.{standing};
 ghost use Rattle.graphql_grammar.specs.Words.{word_view};
@@ -31,6 +31,16 @@ impl Target {
     {
         Target {
             constant: true,
+            ..self
+        }
+    }
+
+    /// The same where values may be variables.
+    pub(crate) fn with_variables(self) -> Target
+        ensures { result ≡ record self { constant = false } }
+    {
+        Target {
+            constant: false,
             ..self
         }
     }

@@ -1,19 +1,23 @@
 //! Reading all words of a text.
-ghost use Rattle.std.specs.Prelude.{◌≡◌, false, true};
-ghost use Rattle.graphql_grammar.specs.Pieces.{Gives, GivesAll, read_whole};
+ghost use Rattle.std.specs.Prelude.{◌≡◌, ℕ, suc, List, true};
+ghost use Rattle.graphql_nodes.specs.declared.source.FileId.{FileId as File};
+ghost use Rattle.graphql_grammar.specs.Pieces.{Gives, GivesAll, Piece, read_whole};
 ghost use Rattle.graphql_grammar.specs.Standing.{standing};
+ghost use Rattle.graphql_grammar.specs.Words.{WordView};
 ghost use Rattle.graphql_grammar.specs.declared.fault.Item.TheVariants.{Definition as DefinitionItem};
-ghost use Rattle.graphql_productions.specs.Documents.{any_kind, definition, document, selections};
+ghost use Rattle.graphql_grammar.proofs.Judged.{Judged};
+ghost use Rattle.graphql_productions.specs.Documents.{any_kind, definition, document, selections, spells_plainly};
 ghost use Rattle.graphql_productions.specs.Types.{type};
 ghost use Rattle.graphql_productions.specs.TypeSystem.{expecting};
 ghost use Rattle.graphql_productions.specs.Values.{value_node};
 ghost use Rattle.graphql_productions.proofs.DocumentLaws.{one_law};
+ghost use Rattle.graphql_productions.proofs.JudgedProductions.{document_judged, selections_judged, type_judged, value_node_judged};
 
 use crate::reading::definitions::definition;
 use crate::reading::lists::{Read, some_items};
 use crate::reading::selections::{selection_set, some_selections};
 use crate::reading::target::Target;
-use crate::reading::types;
+use crate::reading::types::type_reference;
 use crate::reading::values::value_node;
 use graphql_ast::definition::Definition;
 use graphql_ast::selection::Selection;
@@ -25,56 +29,72 @@ use graphql_grammar::words::Words;
 use graphql_nodes::collections::items::Items;
 use graphql_nodes::node::Node;
 
-/// Nothing else was expected.
-const MORE: ReadError = ReadError::Fault(FaultKind::Expected(Item::End));
+/// What a whole text may be.
+pub(crate) trait Whole: Drop {
+    /// How it is read, where so many signs may be open.
+    ghost piece: { File → ℕ → Piece Self };
 
-/// Reads a type, and nothing behind it.
-pub(crate) fn type_reference(target: Target, words: &mut Words<'_>) -> Result<Type, ReadError>
-    ensures { GivesAll result (standing words.new).left (read_whole (type target.file target.depth) (standing words.old)) }
+    /// Which words spell it.
+    ghost spells: { File → ℕ → Self → List WordView → Type 0 };
+
+    /// Reads it, and leaves what stands behind it.
+    fn read(target: Target, words: &mut Words<'_>) -> Result<Self, ReadError>
+        ensures { Gives result (standing words.new) ((piece target.file target.depth).read (standing words.old)) };
+
+    /// What is read is spelled so, and the other way round; what is refused is refused for all words so far.
+    ghost law: { (file : File) (depth : ℕ) → Judged (piece file depth) (spells file depth) (piece file (suc depth)).spells };
+}
+
+/// Reads what a whole text is, and nothing behind it.
+pub(crate) fn whole<W: Whole>(target: Target, words: &mut Words<'_>) -> Result<W, ReadError>
+    ensures { GivesAll result (standing words.new).left (read_whole (W.piece target.file target.depth) (standing words.old)) }
 {
-    let read = types::type_reference(target, words)?;
+    let read = W::read(target, words)?;
     match words.next_kind() {
         None => Ok(read),
-        Some(_) => Err(MORE),
+        Some(_) => Err(ReadError::Fault(FaultKind::Expected(Item::End))),
     }
 }
 
-/// Reads a value, and nothing behind it.
-pub(crate) fn value(target: Target, words: &mut Words<'_>) -> Result<Node<Value>, ReadError>
-    ensures { GivesAll result (standing words.new).left (read_whole (value_node target.file target.constant target.depth) (standing words.old)) }
-{
-    let read = value_node(target, words)?;
-    match words.next_kind() {
-        None => Ok(read),
-        Some(_) => Err(MORE),
+impl Whole for Type {
+    ghost piece = { type };
+
+    ghost spells = { λ file depth. (type file depth).spells };
+
+    ghost law = { type_judged };
+
+    fn read(target: Target, words: &mut Words<'_>) -> Result<Type, ReadError> {
+        type_reference(target, words)
     }
 }
 
-/// Reads selections, with braces or without.
-#[tactic(auto, unfolding(graphql_productions::specs::Selections::bare_selections))]
-fn braced_or_bare(target: Target, words: &mut Words<'_>) -> Result<Items<Selection>, ReadError>
-    requires { target.constant ≡ false }
-    ensures { Gives result (standing words.new) ((selections target.file target.depth).read (standing words.old)) }
-{
-    match words.next_kind() {
-        Some(Kind::LeftBrace) => selection_set(target, words),
-        Some(_) => some_selections(target, words),
-        None => Err(ReadError::Fault(FaultKind::Expected(Item::Selection))),
+impl Whole for Node<Value> {
+    ghost piece = { λ file depth. value_node file true depth };
+
+    ghost spells = { λ file depth. (value_node file true depth).spells };
+
+    ghost law = { λ file depth. value_node_judged file true depth };
+
+    fn read(target: Target, words: &mut Words<'_>) -> Result<Node<Value>, ReadError> {
+        value_node(target.constant(), words)
     }
 }
 
-/// Reads selections, with braces or without, and nothing behind them.
-pub(crate) fn selections(
-    target: Target,
-    words: &mut Words<'_>,
-) -> Result<Items<Selection>, ReadError>
-    requires { target.constant ≡ false }
-    ensures { GivesAll result (standing words.new).left (read_whole (selections target.file target.depth) (standing words.old)) }
-{
-    let read = braced_or_bare(target, words)?;
-    match words.next_kind() {
-        None => Ok(read),
-        Some(_) => Err(MORE),
+impl Whole for Items<Selection> {
+    ghost piece = { selections };
+
+    ghost spells = { λ file depth. (selections file depth).spells };
+
+    ghost law = { selections_judged };
+
+    /// Reads selections, with braces or without.
+    #[tactic(auto, unfolding(graphql_productions::specs::Selections::bare_selections))]
+    fn read(target: Target, words: &mut Words<'_>) -> Result<Items<Selection>, ReadError> {
+        match words.next_kind() {
+            Some(Kind::LeftBrace) => selection_set(target, words),
+            Some(_) => some_selections(target, words),
+            None => Err(ReadError::Fault(FaultKind::Expected(Item::Selection))),
+        }
     }
 }
 
@@ -96,24 +116,18 @@ impl Read for Definition {
     }
 
     fn read(target: Target, words: &mut Words<'_>) -> Result<Definition, ReadError> {
-        let target = Target {
-            constant: false,
-            ..target
-        };
         definition(target, words)
     }
 }
 
-/// Reads definitions up to the last word.
-pub(crate) fn document(
-    target: Target,
-    words: &mut Words<'_>,
-) -> Result<Items<Definition>, ReadError>
-    ensures { GivesAll result (standing words.new).left (read_whole (document target.file target.depth) (standing words.old)) }
-{
-    let read = some_items(target, words)?;
-    match words.next_kind() {
-        None => Ok(read),
-        Some(_) => Err(MORE),
+impl Whole for Items<Definition> {
+    ghost piece = { document };
+
+    ghost spells = { spells_plainly };
+
+    ghost law = { document_judged };
+
+    fn read(target: Target, words: &mut Words<'_>) -> Result<Items<Definition>, ReadError> {
+        some_items(target, words)
     }
 }

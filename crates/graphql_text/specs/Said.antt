@@ -1,0 +1,98 @@
+-- What is said of a word that can't stand where it does.
+use Rattle.std.specs.Prelude.{◌≡◌, ℕ, List, [], ◌∷◌, ◌++◌, true, false, not, codes, if◌then◌else◌}
+use Rattle.graphql_grammar.specs.declared.fault.FaultKind.{FaultKind}
+use Rattle.graphql_grammar.specs.declared.fault.FaultKind.TheVariants as f
+use Rattle.graphql_grammar.specs.declared.fault.Item.{Item}
+use Rattle.graphql_grammar.specs.declared.fault.Item.TheVariants as i
+use Rattle.graphql_grammar.specs.declared.kind.Kind.{Kind}
+use Rattle.graphql_grammar.specs.declared.kind.Kind.TheVariants as k
+use Rattle.graphql_grammar.specs.Kinds.{is_name, is_token, only}
+use Rattle.graphql_grammar.specs.Words.{WordView, begins}
+use Rattle.graphql_text.specs.declared.parse_error.ParseErrorKind.{ParseErrorKind}
+use Rattle.graphql_text.specs.declared.parse_error.ParseErrorKind.TheVariants as e
+
+-- a word of this kind where it alone may stand
+abbrev pub kind_text : Kind → List ℕ
+kind_text kind =
+    if only k.On kind then codes "`on`" else (
+    if only k.Schema kind then codes "`schema`" else (
+    if only k.Implements kind then codes "`implements`" else (
+    if only k.LeftParen kind then codes "`(`" else (
+    if only k.RightParen kind then codes "`)`" else (
+    if only k.Colon kind then codes "`:`" else (
+    if only k.Equals kind then codes "`=`" else (
+    if only k.At kind then codes "`@`" else (
+    if only k.LeftBracket kind then codes "`[`" else (
+    if only k.RightBracket kind then codes "`]`" else (
+    if only k.LeftBrace kind then codes "`{`" else (
+    if only k.RightBrace kind then codes "`}`" else (
+    if only k.Dollar kind then codes "`$`" else codes "a keyword"))))))))))))
+
+-- what alone may stand at a place, or the item that is being read there
+abbrev pub item_text : Item → List ℕ
+item_text i.Definition = codes "a definition"
+item_text i.ExtensionPart = codes "something that extends"
+item_text i.Extended = codes "what is extended"
+item_text i.FieldDefinition = codes "a field definition"
+item_text i.InputValue = codes "an input value definition"
+item_text i.EnumValue = codes "an enum value definition"
+item_text i.VariableDefinition = codes "a variable definition"
+item_text i.RootOperation = codes "a root operation type"
+item_text i.DirectiveLocation = codes "a directive location"
+item_text i.Selection = codes "a selection"
+item_text i.Argument = codes "an argument"
+item_text i.Value = codes "a value"
+item_text i.ObjectField = codes "an object field"
+item_text i.Type = codes "a type"
+item_text i.Name = codes "a name"
+item_text i.End = codes "the end of the text"
+item_text (i.Word kind) = kind_text kind
+
+-- the first of these words, as it was found: in backquotes, a string by that word
+abbrev pub found_text : List WordView → List ℕ
+found_text [] = codes "the end of the text"
+found_text (w ∷ ws) =
+    if only k.String w.kind then codes "a string" else (
+    if only k.BlockString w.kind then codes "a block string" else (
+    codes "`" ++ w.text ++ codes "`"))
+
+-- the text of the first of these words
+abbrev pub first_text : List WordView → List ℕ
+first_text [] = []
+first_text (w ∷ ws) = w.text
+
+-- something else was expected than the first of these words
+abbrev pub unexpected : Item → List WordView → ParseErrorKind
+unexpected item words = e.Unexpected (item_text item) (found_text words)
+
+-- a variable where values are constant: by its name behind the `$`; a `$` without a name is no variable
+abbrev pub of_variable : List WordView → List WordView → ParseErrorKind
+of_variable words [] = unexpected i.Value words
+of_variable words (w ∷ ws) = if is_name w.kind then e.VariableInConstant w.text else unexpected i.Value words
+
+abbrev pub behind_first : List WordView → List WordView
+behind_first [] = []
+behind_first (w ∷ ws) = ws
+
+-- what a fault says of the first of these words
+abbrev pub fault_said : FaultKind → List WordView → ParseErrorKind
+fault_said (f.Expected item) words = unexpected item words
+fault_said f.ReservedName words = e.ReservedName (first_text words)
+fault_said f.VariableInConstant words = of_variable words (behind_first words)
+fault_said f.UnknownDirectiveLocation words = e.UnknownDirectiveLocation (first_text words)
+fault_said f.DescriptionNotAllowed words = e.DescriptionNotAllowed
+fault_said f.TooDeep words = e.TooDeep
+
+-- some character is unexpected
+abbrev pub IsUnexpectedCharacter : ParseErrorKind → Type 0
+IsUnexpectedCharacter kind = (character : ℕ) × (shown : List ℕ) × (kind ≡ e.UnexpectedCharacter character shown)
+
+-- what is said of the first of these words, which has this fault: where the text stops being tokens, or has too many, that; of every other
+-- word what its fault says
+pub record Says (fault : FaultKind) (words : List WordView) (kind : ParseErrorKind) : Type 0 where
+  pub character : begins (only k.UnexpectedCharacter) words ≡ true → IsUnexpectedCharacter kind
+  pub string : begins (only k.UnterminatedString) words ≡ true → kind ≡ e.UnterminatedString
+  pub escape : begins (only k.InvalidEscape) words ≡ true → kind ≡ e.InvalidEscape
+  pub number : begins (only k.InvalidNumber) words ≡ true → kind ≡ e.InvalidNumber
+  pub many : begins (only k.TooMany) words ≡ true → kind ≡ e.TooManyTokens
+  pub other : begins (λ kind. not (is_token kind)) words ≡ false → kind ≡ fault_said fault words
