@@ -17,9 +17,8 @@ use Rattle.graphql_grammar.specs.declared.fault.Item.TheVariants as i
 use Rattle.graphql_grammar.specs.declared.kind.Kind.{Kind}
 use Rattle.graphql_grammar.specs.declared.kind.Kind.TheVariants as k
 use Rattle.graphql_grammar.specs.Kinds.{either_of, is_name, none, only}
-use Rattle.graphql_grammar.specs.Pieces.{Piece, behind_sign, choose, filtered, located, many, mapped, nothing, optional, separated, separated_of, seq, sign}
+use Rattle.graphql_grammar.specs.Pieces.{Piece, choose, filtered, located, mapped, nothing, optional, separated, seq, sign}
 use Rattle.graphql_grammar.proofs.BranchLaws.{branch_law, either_law}
-use Rattle.graphql_grammar.proofs.ManyLaws.{many_law}
 use Rattle.graphql_grammar.proofs.PieceLaws.{Lawful, apart, filtered_law, located_law, mapped_law, nothing_law, optional_law, picked_law, seq_law, sign_law}
 use Rattle.graphql_productions.specs.Directives.{arguments, directive_node, directives}
 use Rattle.graphql_productions.specs.Documents.{definition, definition_pick, fragment, is_definition, operation_definition, shorthand_definition}

@@ -1,19 +1,18 @@
 -- Arguments and directives: what is read is spelled so, and the other way round.
-use Rattle.std.proofs.Common.{ℕ, zero, suc, Bool, List, refl}
+use Rattle.std.proofs.Common.{ℕ, Bool, List, refl}
 use Rattle.graphql_nodes.specs.declared.source.FileId.{FileId}
 use Rattle.graphql_nodes.specs.NameView.{NameView}
 use Rattle.graphql_nodes.specs.NodeView.{NodeView}
 use Rattle.graphql_ast.specs.declared.directive.Argument.{Argument}
 use Rattle.graphql_ast.specs.declared.directive.Directive.{Directive}
 use Rattle.graphql_ast.specs.declared.value.Value.{Value}
-use Rattle.graphql_grammar.specs.declared.fault.FaultKind.TheVariants.{TooDeep}
 use Rattle.graphql_grammar.specs.declared.kind.Kind.TheVariants as k
 use Rattle.graphql_grammar.specs.Kinds.{is_name, only}
-use Rattle.graphql_grammar.specs.Pieces.{Piece, many, mapped, optional, seq, sign, some, too_deep}
+use Rattle.graphql_grammar.specs.Pieces.{Piece, many, mapped, seq, sign, some}
 use Rattle.graphql_grammar.proofs.ManyLaws.{many_law, some_law}
-use Rattle.graphql_grammar.proofs.PieceLaws.{Lawful, apart, headed_law, item_law, mapped_law, nothing_law, optional_law, seq_law, sign_law}
-use Rattle.graphql_productions.specs.Directives.{argument, argument_list, argument_node, argument_of, arguments, directive, directive_node, directive_of, directives, no_argument, no_directive}
-use Rattle.graphql_productions.specs.Nodes.{between, name, node, or_none}
+use Rattle.graphql_grammar.proofs.PieceLaws.{Lawful, apart, item_law, mapped_law, seq_law, sign_law}
+use Rattle.graphql_productions.specs.Directives.{argument, argument_node, argument_of, arguments, directive, directive_node, directive_of, directives, no_argument, no_directive}
+use Rattle.graphql_productions.specs.Nodes.{name, node}
 use Rattle.graphql_productions.specs.Values.{value_node}
 use Rattle.graphql_productions.proofs.ListLaws.{optional_enclosed_law}
 use Rattle.graphql_productions.proofs.NodeLaws.{name_law, node_law}

@@ -1,23 +1,16 @@
 -- What reading all of some words says of what they spell, of each sort of whole text.
-use Rattle.std.proofs.Common.{◌≡◌, ℕ, suc, Bool, List, [], ◌∷◌, ◌++◌, Err}
+use Rattle.std.proofs.Common.{ℕ, suc, Bool}
 use Rattle.graphql_nodes.specs.declared.source.FileId.{FileId}
-use Rattle.graphql_grammar.specs.Pieces.{Refusal, read_all}
-use Rattle.graphql_grammar.specs.Refusals.{RefusedWith, Unspelled, reads}
-use Rattle.graphql_grammar.specs.Words.{WordView}
 use Rattle.graphql_grammar.proofs.Judged.{Judged, judged}
-use Rattle.graphql_grammar.proofs.WholeBlind.{unread_law}
-use Rattle.graphql_grammar.proofs.WholeViable.{viable_law}
-use Rattle.graphql_productions.specs.Documents.{document, selections, spells_plainly}
+use Rattle.graphql_productions.specs.Documents.{selections}
 use Rattle.graphql_productions.specs.Types.{type}
 use Rattle.graphql_productions.specs.Values.{value_node}
-use Rattle.graphql_productions.proofs.BlindDefinitions.{document_blind}
 use Rattle.graphql_productions.proofs.BlindSelections.{selections_blind}
 use Rattle.graphql_productions.proofs.BlindTypes.{type_blind}
 use Rattle.graphql_productions.proofs.BlindValues.{value_node_blind}
 use Rattle.graphql_productions.proofs.SelectionLaws.{whole_selections_law}
 use Rattle.graphql_productions.proofs.TypeLaws.{type_law}
 use Rattle.graphql_productions.proofs.ValueLaws.{value_node_law}
-use Rattle.graphql_productions.proofs.ViableDefinitions.{document_begins}
 use Rattle.graphql_productions.proofs.ViableSelections.{whole_selections_begin}
 use Rattle.graphql_productions.proofs.ViableTypes.{type_begins}
 use Rattle.graphql_productions.proofs.ViableValues.{value_node_begins}

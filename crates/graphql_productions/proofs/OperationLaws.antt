@@ -1,5 +1,5 @@
 -- Operations and fragments: what is read is spelled so, and the other way round.
-use Rattle.std.proofs.Common.{ℕ, zero, suc, true, false, List, Option, refl}
+use Rattle.std.proofs.Common.{ℕ, true, false, List, Option, refl}
 use Rattle.graphql_nodes.specs.declared.operation_type.OperationType.{OperationType}
 use Rattle.graphql_nodes.specs.declared.operation_type.OperationType.TheVariants as o
 use Rattle.graphql_nodes.specs.declared.source.FileId.{FileId}
@@ -10,16 +10,15 @@ use Rattle.graphql_ast.specs.declared.operation.VariableDefinition.{VariableDefi
 use Rattle.graphql_ast.specs.declared.selection.Selection.{Selection}
 use Rattle.graphql_ast.specs.declared.type_reference.Type.{«Type» as TypeReference}
 use Rattle.graphql_ast.specs.declared.value.Value.{Value}
-use Rattle.graphql_grammar.specs.declared.fault.FaultKind.TheVariants.{TooDeep}
 use Rattle.graphql_grammar.specs.declared.kind.Kind.{Kind}
 use Rattle.graphql_grammar.specs.declared.kind.Kind.TheVariants as k
 use Rattle.graphql_grammar.specs.Kinds.{is_name, none, only}
-use Rattle.graphql_grammar.specs.Pieces.{Piece, choose, mapped, nothing, optional, seq, sign, some, too_deep}
+use Rattle.graphql_grammar.specs.Pieces.{Piece, choose, mapped, nothing, optional, seq, sign, some}
 use Rattle.graphql_grammar.proofs.BranchLaws.{branch_law, either_law}
 use Rattle.graphql_grammar.proofs.ManyLaws.{some_law}
 use Rattle.graphql_grammar.proofs.PieceLaws.{Lawful, apart, headed_law, item_law, mapped_law, nothing_law, optional_law, seq_law, sign_law}
 use Rattle.graphql_productions.specs.Directives.{arguments, directive_node, directives}
-use Rattle.graphql_productions.specs.Nodes.{behind, between, enclosed, name, node, or_none}
+use Rattle.graphql_productions.specs.Nodes.{behind, name, node}
 use Rattle.graphql_productions.specs.Operations.{default_body, default_value, fragment_definition, fragment_of, is_operation_type, no_root, no_variable, operation, operation_name, operation_of, operation_type, operation_type_pick, shorthand, shorthand_of, typed, variable_definition, variable_node, variable_of, variables}
 use Rattle.graphql_productions.specs.Selections.{fragment_name, selection_set, type_condition}
 use Rattle.graphql_productions.specs.Types.{type}

@@ -1,5 +1,5 @@
 -- What definitions and extensions of the type system hold: what is read is spelled so, and the other way round.
-use Rattle.std.proofs.Common.{ℕ, zero, suc, true, List, Option, refl}
+use Rattle.std.proofs.Common.{ℕ, true, List, Option, refl}
 use Rattle.graphql_nodes.specs.declared.operation_type.OperationType.{OperationType}
 use Rattle.graphql_nodes.specs.declared.source.FileId.{FileId}
 use Rattle.graphql_nodes.specs.declared.type_kind.TypeKind.{TypeKind}
@@ -12,17 +12,17 @@ use Rattle.graphql_ast.specs.declared.type_system.EnumValueDefinition.{EnumValue
 use Rattle.graphql_ast.specs.declared.type_system.FieldDefinition.{FieldDefinition}
 use Rattle.graphql_ast.specs.declared.type_system.InputValueDefinition.{InputValueDefinition}
 use Rattle.graphql_ast.specs.declared.value.Value.{Value}
-use Rattle.graphql_grammar.specs.declared.fault.FaultKind.TheVariants.{Expected, TooDeep}
+use Rattle.graphql_grammar.specs.declared.fault.FaultKind.TheVariants.{Expected}
 use Rattle.graphql_grammar.specs.declared.fault.Item.TheVariants as i
 use Rattle.graphql_grammar.specs.declared.kind.Kind.{Kind}
 use Rattle.graphql_grammar.specs.declared.kind.Kind.TheVariants as k
 use Rattle.graphql_grammar.specs.declared.kind.Names.TheVariants as names
 use Rattle.graphql_grammar.specs.Kinds.{either_of, is_name, names_of, none, only}
-use Rattle.graphql_grammar.specs.Pieces.{Piece, behind_sign, many, mapped, optional, separated, separated_of, seq, sign, some, too_deep, word}
-use Rattle.graphql_grammar.proofs.ManyLaws.{many_law, some_law}
-use Rattle.graphql_grammar.proofs.PieceLaws.{Apart, Lawful, apart, headed_law, item_law, mapped_law, nothing_law, optional_law, seq_law, sign_law, word_law}
+use Rattle.graphql_grammar.specs.Pieces.{Piece, mapped, optional, separated, seq, sign, some, word}
+use Rattle.graphql_grammar.proofs.ManyLaws.{some_law}
+use Rattle.graphql_grammar.proofs.PieceLaws.{Apart, Lawful, apart, headed_law, item_law, mapped_law, optional_law, seq_law, sign_law, word_law}
 use Rattle.graphql_productions.specs.Directives.{arguments, directive_node, directives}
-use Rattle.graphql_productions.specs.Nodes.{behind, between, enclosed, name, name_of, node, or_none}
+use Rattle.graphql_productions.specs.Nodes.{behind, between, name, name_of, node, or_none}
 use Rattle.graphql_productions.specs.Operations.{is_operation_type, no_root, operation_type, typed}
 use Rattle.graphql_productions.specs.Types.{type}
 use Rattle.graphql_productions.specs.TypeSystem.{description, description_body, description_of, enum_parts, enum_value_definition, enum_value_name, enum_value_node, enum_value_of, enum_values, expecting, field_definition, field_node, field_of, fielded, fielded_parts, fields, input_node, input_of, input_parts, input_value, input_values, is_described_name, is_description, is_enum_value, names_behind, names_body, no_enum_value, parts, root, root_node, root_of, roots, scalar_parts, union_parts}
