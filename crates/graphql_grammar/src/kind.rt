@@ -1,7 +1,7 @@
 //! Kinds of words: GraphQL specification of October 2021, section 2.1.6. The words that the grammar tells apart from other names
 //! have kinds of their own.
 ghost use Rattle.std.specs.Prelude.{◌≡◌};
-ghost use Rattle.graphql_grammar.specs.Kinds.{is_name, names_of, only, tag};
+ghost use Rattle.graphql_grammar.specs.Kinds.{is_name, is_token, names_of, only, tag};
 
 /// What a word is.
 #[derive(Clone, Copy, Debug, PartialEq, Eq)]
@@ -152,6 +152,13 @@ impl Kind {
         ensures { result ≡ only other self }
     {
         self.tag() == other.tag()
+    }
+
+    /// Whether words of the kind are tokens: not where a text stops being tokens, or has more than are allowed.
+    pub fn is_token(self) -> bool
+        ensures { result ≡ is_token self }
+    {
+        self.tag() < 38
     }
 
     /// Whether words of the kind are names, the words that the grammar tells apart among them.

@@ -1,5 +1,5 @@
 -- What is said of a word that can't stand where it does.
-use Rattle.std.specs.Prelude.{◌≡◌, ℕ, List, [], ◌∷◌, ◌++◌, true, false, not, codes, if◌then◌else◌}
+use Rattle.std.specs.Prelude.{◌≡◌, ℕ, List, [], ◌∷◌, ◌++◌, true, false, codes, if◌then◌else◌, ◌⊎◌}
 use Rattle.graphql_grammar.specs.declared.fault.FaultKind.{FaultKind}
 use Rattle.graphql_grammar.specs.declared.fault.FaultKind.TheVariants as f
 use Rattle.graphql_grammar.specs.declared.fault.Item.{Item}
@@ -7,7 +7,7 @@ use Rattle.graphql_grammar.specs.declared.fault.Item.TheVariants as i
 use Rattle.graphql_grammar.specs.declared.kind.Kind.{Kind}
 use Rattle.graphql_grammar.specs.declared.kind.Kind.TheVariants as k
 use Rattle.graphql_grammar.specs.Kinds.{is_name, is_token, only}
-use Rattle.graphql_grammar.specs.Words.{WordView, begins}
+use Rattle.graphql_grammar.specs.Words.{WordView}
 use Rattle.graphql_text.specs.declared.parse_error.ParseErrorKind.{ParseErrorKind}
 use Rattle.graphql_text.specs.declared.parse_error.ParseErrorKind.TheVariants as e
 
@@ -87,12 +87,15 @@ fault_said f.TooDeep words = e.TooDeep
 abbrev pub IsUnexpectedCharacter : ParseErrorKind → Type 0
 IsUnexpectedCharacter kind = (character : ℕ) × (shown : List ℕ) × (kind ≡ e.UnexpectedCharacter character shown)
 
--- what is said of the first of these words, which has this fault: where the text stops being tokens, or has too many, that; of every other
--- word what its fault says
-pub record Says (fault : FaultKind) (words : List WordView) (kind : ParseErrorKind) : Type 0 where
-  pub character : begins (only k.UnexpectedCharacter) words ≡ true → IsUnexpectedCharacter kind
-  pub string : begins (only k.UnterminatedString) words ≡ true → kind ≡ e.UnterminatedString
-  pub escape : begins (only k.InvalidEscape) words ≡ true → kind ≡ e.InvalidEscape
-  pub number : begins (only k.InvalidNumber) words ≡ true → kind ≡ e.InvalidNumber
-  pub many : begins (only k.TooMany) words ≡ true → kind ≡ e.TooManyTokens
-  pub other : begins (λ kind. not (is_token kind)) words ≡ false → kind ≡ fault_said fault words
+-- what is said where no token stands, or one more than are allowed
+pub record SaysNoToken (word : Kind) (kind : ParseErrorKind) : Type 0 where
+  pub character : only k.UnexpectedCharacter word ≡ true → IsUnexpectedCharacter kind
+  pub string : only k.UnterminatedString word ≡ true → kind ≡ e.UnterminatedString
+  pub escape : only k.InvalidEscape word ≡ true → kind ≡ e.InvalidEscape
+  pub number : only k.InvalidNumber word ≡ true → kind ≡ e.InvalidNumber
+  pub many : only k.TooMany word ≡ true → kind ≡ e.TooManyTokens
+
+-- what is said of the first of these words, which has this fault: of a token what the fault says
+abbrev pub Says : FaultKind → List WordView → ParseErrorKind → Type 0
+Says fault [] kind = kind ≡ fault_said fault []
+Says fault (w ∷ ws) kind = ((is_token w.kind ≡ true) × (kind ≡ fault_said fault (w ∷ ws))) ⊎ ((is_token w.kind ≡ false) × SaysNoToken w.kind kind)

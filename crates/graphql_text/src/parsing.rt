@@ -14,7 +14,7 @@ ghost use Rattle.graphql_text.specs.declared.parse_error.ParseErrorKind.TheVaria
 
 use crate::parse_error::{ParseError, ParseErrorKind};
 use crate::reading::target::Target;
-use crate::reading::whole::{Whole, whole};
+use crate::reading::whole::{Tree, whole};
 use crate::refusals::parsed;
 use graphql_ast::definition::Definition;
 use graphql_ast::document::Document;
@@ -65,16 +65,16 @@ fn built_in_file() -> ParseError
 }
 
 /// What a text is, at locations in this file.
-fn parse<W: Whole>(
+fn parse<T: Tree>(
     alloc: Global,
     file: FileId,
     text: &str,
     options: ParseOptions,
-) -> Result<W, ParseError>
-    ensures found { IfOk result (λ read. W.spells file options.max_depth read (words_of options.max_tokens text.now)) }
-    ensures only { (read : W) → file.0 ≢ 0 → W.spells file options.max_depth read (words_of options.max_tokens text.now) → Answers read result }
+) -> Result<T, ParseError>
+    ensures found { IfOk result (λ read. T.spells file options.max_depth read (words_of options.max_tokens text.now)) }
+    ensures only { (read : T) → file.0 ≢ 0 → T.spells file options.max_depth read (words_of options.max_tokens text.now) → Answers read result }
     ensures built_in { file.0 ≡ 0 → IsBuiltInFile result }
-    ensures refused { IfErr result (IsRefused (W.piece file options.max_depth) (W.spells file options.max_depth) (W.piece file (suc options.max_depth)).spells file (length text.now) (words_of options.max_tokens text.now)) }
+    ensures refused { IfErr result (IsRefused (T.piece file options.max_depth) (T.spells file options.max_depth) (T.piece file (suc options.max_depth)).spells file (length text.now) (words_of options.max_tokens text.now)) }
 {
     if file.0 == 0 {
         return Err(built_in_file());

@@ -3,7 +3,7 @@ ghost use Rattle.std.specs.Prelude.{◌≡◌, ◌++◌, codes, length, IfOk};
 ghost use Rattle.graphql_grammar.specs.declared.fault.FaultKind.TheVariants.{VariableInConstant};
 ghost use Rattle.graphql_grammar.specs.Standing.{standing};
 ghost use Rattle.graphql_text.specs.Parses.{Parsed, Reports, span_of};
-ghost use Rattle.graphql_text.specs.Said.{IsUnexpectedCharacter, Says, fault_said, first_text, found_text, item_text, kind_text, unexpected};
+ghost use Rattle.graphql_text.specs.Said.{IsUnexpectedCharacter, Says, SaysNoToken, fault_said, first_text, found_text, item_text, kind_text, unexpected};
 
 use crate::parse_error::{ParseError, ParseErrorKind};
 use graphql_grammar::fault::{FaultKind, Item, ReadError};
@@ -182,6 +182,19 @@ fn fault_said(
     }
 }
 
+/// What is wrong where no token stands, or one more than are allowed: at this byte, by the kind of the word there.
+fn no_token(alloc: Global, text: &str, at: usize, word: Kind) -> Result<ParseErrorKind, AllocError>
+    ensures { IfOk result (SaysNoToken word) }
+{
+    match word {
+        Kind::UnexpectedCharacter => unexpected_character(alloc, text, at),
+        Kind::UnterminatedString => Ok(ParseErrorKind::UnterminatedString),
+        Kind::InvalidEscape => Ok(ParseErrorKind::InvalidEscape),
+        Kind::InvalidNumber => Ok(ParseErrorKind::InvalidNumber),
+        _ => Ok(ParseErrorKind::TooManyTokens),
+    }
+}
+
 /// What is wrong with the next word, or with the text there.
 fn refused_kind(
     alloc: Global,
@@ -192,11 +205,7 @@ fn refused_kind(
     ensures { IfOk result (Says fault (standing words.now).left) }
 {
     match words.next_kind() {
-        Some(Kind::UnexpectedCharacter) => unexpected_character(alloc, text, words.start()),
-        Some(Kind::UnterminatedString) => Ok(ParseErrorKind::UnterminatedString),
-        Some(Kind::InvalidEscape) => Ok(ParseErrorKind::InvalidEscape),
-        Some(Kind::InvalidNumber) => Ok(ParseErrorKind::InvalidNumber),
-        Some(Kind::TooMany) => Ok(ParseErrorKind::TooManyTokens),
+        Some(word) if !word.is_token() => no_token(alloc, text, words.start(), word),
         _ => fault_said(alloc, words, fault),
     }
 }

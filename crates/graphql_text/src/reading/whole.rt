@@ -2,11 +2,12 @@
 ghost use Rattle.std.specs.Prelude.{◌≡◌, ℕ, suc, List, true};
 ghost use Rattle.graphql_nodes.specs.declared.source.FileId.{FileId as File};
 ghost use Rattle.graphql_grammar.specs.Pieces.{Gives, GivesAll, Piece, read_whole};
+ghost use Rattle.graphql_grammar.specs.Refusals.{reads};
 ghost use Rattle.graphql_grammar.specs.Standing.{standing};
 ghost use Rattle.graphql_grammar.specs.Words.{WordView};
 ghost use Rattle.graphql_grammar.specs.declared.fault.Item.TheVariants.{Definition as DefinitionItem};
 ghost use Rattle.graphql_grammar.proofs.Judged.{Judged};
-ghost use Rattle.graphql_productions.specs.Documents.{any_kind, definition, document, selections, spells_plainly};
+ghost use Rattle.graphql_productions.specs.Documents.{any_kind, definition, document, selections};
 ghost use Rattle.graphql_productions.specs.Types.{type};
 ghost use Rattle.graphql_productions.specs.TypeSystem.{expecting};
 ghost use Rattle.graphql_productions.specs.Values.{value_node};
@@ -30,7 +31,7 @@ use graphql_nodes::collections::items::Items;
 use graphql_nodes::node::Node;
 
 /// What a whole text may be.
-pub(crate) trait Whole: Drop {
+pub(crate) trait Tree: Drop {
     /// How it is read, where so many signs may be open.
     ghost piece: { File → ℕ → Piece Self };
 
@@ -46,17 +47,17 @@ pub(crate) trait Whole: Drop {
 }
 
 /// Reads what a whole text is, and nothing behind it.
-pub(crate) fn whole<W: Whole>(target: Target, words: &mut Words<'_>) -> Result<W, ReadError>
-    ensures { GivesAll result (standing words.new).left (read_whole (W.piece target.file target.depth) (standing words.old)) }
+pub(crate) fn whole<T: Tree>(target: Target, words: &mut Words<'_>) -> Result<T, ReadError>
+    ensures { GivesAll result (standing words.new).left (read_whole (T.piece target.file target.depth) (standing words.old)) }
 {
-    let read = W::read(target, words)?;
+    let read = T::read(target, words)?;
     match words.next_kind() {
         None => Ok(read),
         Some(_) => Err(ReadError::Fault(FaultKind::Expected(Item::End))),
     }
 }
 
-impl Whole for Type {
+impl Tree for Type {
     ghost piece = { type };
 
     ghost spells = { λ file depth. (type file depth).spells };
@@ -68,7 +69,7 @@ impl Whole for Type {
     }
 }
 
-impl Whole for Node<Value> {
+impl Tree for Node<Value> {
     ghost piece = { λ file depth. value_node file true depth };
 
     ghost spells = { λ file depth. (value_node file true depth).spells };
@@ -80,7 +81,7 @@ impl Whole for Node<Value> {
     }
 }
 
-impl Whole for Items<Selection> {
+impl Tree for Items<Selection> {
     ghost piece = { selections };
 
     ghost spells = { λ file depth. (selections file depth).spells };
@@ -120,10 +121,10 @@ impl Read for Definition {
     }
 }
 
-impl Whole for Items<Definition> {
+impl Tree for Items<Definition> {
     ghost piece = { document };
 
-    ghost spells = { spells_plainly };
+    ghost spells = { λ file depth. reads (document file depth) };
 
     ghost law = { document_judged };
 
