@@ -8,7 +8,11 @@ pub mod BlindTypeSystem
 pub mod BlindValues
 pub mod DefinitionLaws
 pub mod DirectiveLaws
+pub mod DocumentExamples
 pub mod DocumentLaws
+pub mod DocumentRefusals
+pub mod EndsDefinitions
+pub mod EndsTypeSystem
 pub mod ExtensionParts
 pub mod LocationLemmas
 pub mod NestedLemmas
