@@ -1,6 +1,6 @@
 -- Documents: what is read is spelled so, and a document is read where its words spell it, and nowhere else.
 use Rattle.std.proofs.Common.{◌≡◌, ℕ, zero, suc, ◌<◌, ◌≤◌, Bool, true, false, not, ◌&&◌, cond, List, [], ◌∷◌, ◌++◌, length, Result, Ok, inl, inr, refl, sym, ap, subst, ◌∙◌, arith}
-use Rattle.std.proofs.lemmas.List.{append-nil, length-append}
+use Rattle.std.proofs.lemmas.List.{length-append}
 use Rattle.graphql_nodes.specs.declared.source.FileId.{FileId}
 use Rattle.graphql_ast.specs.declared.definition.Definition.{Definition}
 use Rattle.graphql_grammar.specs.declared.fault.Item.TheVariants as i
@@ -8,9 +8,8 @@ use Rattle.graphql_grammar.specs.declared.kind.Kind.{Kind}
 use Rattle.graphql_grammar.specs.declared.kind.Kind.TheVariants as k
 use Rattle.graphql_grammar.specs.Kinds.{only}
 use Rattle.graphql_grammar.specs.Pieces.{Piece, Reading, Refusal, State, ◌>>=◌, all_read, item, listed, many, many_at, read_all}
-use Rattle.graphql_grammar.specs.Spelling.{Parts}
 use Rattle.graphql_grammar.specs.Words.{WordView, begins, ended}
-use Rattle.graphql_grammar.proofs.EndsLaws.{Bounded, item_bounded}
+use Rattle.graphql_grammar.proofs.EndsLaws.{item_bounded}
 use Rattle.graphql_grammar.proofs.ManyLaws.{longer, some_sound}
 use Rattle.graphql_grammar.proofs.PieceLaws.{Begun, Lawful, Stops, Took, apart, item_law}
 use Rattle.graphql_grammar.proofs.ReadingLemmas.{and_true, bind_ok, chosen, ended_append, ok_is}

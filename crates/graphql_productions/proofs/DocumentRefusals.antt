@@ -1,7 +1,6 @@
 -- Where words are refused, none that begin with those up to the refused one spell a document.
 use Rattle.std.proofs.Common.{◌≡◌, ℕ, List, [], ◌∷◌, ◌++◌, Err}
 use Rattle.graphql_nodes.specs.declared.source.FileId.{FileId}
-use Rattle.graphql_ast.specs.declared.definition.Definition.{Definition}
 use Rattle.graphql_grammar.specs.Pieces.{Refusal, read_all}
 use Rattle.graphql_grammar.specs.Refusals.{RefusedWith, Unspelled, reads}
 use Rattle.graphql_grammar.specs.Words.{WordView}

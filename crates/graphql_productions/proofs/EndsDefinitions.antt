@@ -14,7 +14,6 @@ use Rattle.graphql_ast.specs.declared.definition.Definition.TheVariants as d
 use Rattle.graphql_ast.specs.declared.definition_parts.DefinitionParts.{DefinitionParts}
 use Rattle.graphql_ast.specs.declared.type_system.InputValueDefinition.{InputValueDefinition}
 use Rattle.graphql_grammar.specs.declared.fault.Item.TheVariants as i
-use Rattle.graphql_grammar.specs.declared.kind.Kind.{Kind}
 use Rattle.graphql_grammar.specs.declared.kind.Kind.TheVariants as k
 use Rattle.graphql_grammar.specs.Kinds.{only}
 use Rattle.graphql_grammar.specs.Pieces.{Piece, filtered, located, mapped, optional, separated, seq, sign}

@@ -20,7 +20,7 @@ use Rattle.graphql_grammar.specs.Kinds.{Kinds, each_kind, either_of, none, only}
 use Rattle.graphql_grammar.specs.Pieces.{Piece, Wrong, mapped, optional, seq, sign, some, too_deep}
 use Rattle.graphql_grammar.specs.Words.{WordView}
 use Rattle.graphql_grammar.proofs.EndsLaws.{Bounded, Limits, lawful_bounded, mapped_bounded, never, optional_bounded, optional_limits, same_limits, seq_bounded, stops_by, wider, within}
-use Rattle.graphql_grammar.proofs.PieceLaws.{Apart, Lawful, Stops, apart, headed_law, if_then, nothing_law, seq_law, sign_law}
+use Rattle.graphql_grammar.proofs.PieceLaws.{Apart, Lawful, Stops, apart, headed_law, if_then, nothing_law, sign_law}
 use Rattle.graphql_productions.specs.Directives.{arguments, directive_node, directives}
 use Rattle.graphql_productions.specs.Nodes.{between, enclosed, name, or_none}
 use Rattle.graphql_productions.specs.Operations.{no_root, typed}
