@@ -1,11 +1,13 @@
 pub mod BlindLaws
 pub mod BranchLaws
+pub mod EndsLaws
 pub mod Judged
 pub mod KindLemmas
 pub mod LoopLaws
 pub mod ManyLaws
 pub mod PieceLaws
 pub mod ReadingLemmas
+pub mod SeparatedLaws
 pub mod ViableLaws
 pub mod WholeBlind
 pub mod WholeLaws

@@ -20,6 +20,7 @@ use Rattle.graphql_grammar.specs.Kinds.{either_of, is_name, none, only}
 use Rattle.graphql_grammar.specs.Pieces.{Piece, choose, filtered, located, mapped, nothing, optional, separated, seq, sign}
 use Rattle.graphql_grammar.proofs.BranchLaws.{branch_law, either_law}
 use Rattle.graphql_grammar.proofs.PieceLaws.{Lawful, apart, filtered_law, located_law, mapped_law, nothing_law, optional_law, picked_law, seq_law, sign_law}
+use Rattle.graphql_grammar.proofs.SeparatedLaws.{separated_law}
 use Rattle.graphql_productions.specs.Directives.{arguments, directive_node, directives}
 use Rattle.graphql_productions.specs.Documents.{definition, definition_pick, fragment, is_definition, operation_definition, shorthand_definition}
 use Rattle.graphql_productions.specs.Locations.{location_of}
@@ -28,7 +29,6 @@ use Rattle.graphql_productions.specs.Operations.{fragment_definition, is_operati
 use Rattle.graphql_productions.specs.Selections.{fragment_name}
 use Rattle.graphql_productions.specs.TypeSystem.{Described, definition_made, described, described_pick, description, directive_body, directive_of, enum_values, expecting, extended, extended_pick, extension, extension_body, extension_made, extension_of, fielded, fields, goes_on_type, has_part, input_values, is_described, is_description, is_extended, keyword, location, location_word, names_behind, no_described, no_location, optional_roots, parts, roots, schema_body, schema_extension_body, schema_extension_of, schema_of, schema_parts, system_definition, type_body, type_of}
 use Rattle.graphql_productions.proofs.DirectiveLaws.{directives_law}
-use Rattle.graphql_productions.proofs.ListLaws.{separated_law}
 use Rattle.graphql_productions.proofs.NodeLaws.{name_law, node_law}
 use Rattle.graphql_productions.proofs.OperationLaws.{fragment_definition_law, operation_law, shorthand_law}
 use Rattle.graphql_productions.proofs.TypeSystemLaws.{argument_definitions_law, optional_description_law, parts_law, roots_law}
@@ -58,7 +58,7 @@ pub location_law : Lawful location
 unfolding location
 location_law = picked_law location_word is_name no_location (λ w x e. named_where (is_name w.kind) (location_of w.text) x e)
 
-locations_law : Lawful (separated k.Pipe location)
+pub locations_law : Lawful (separated k.Pipe location)
 unfolding location
 locations_law = separated_law k.Pipe location location_law refl (λ kind h. refl) (apart (either_of none (only k.Pipe)) is_name refl)
 

@@ -9,6 +9,9 @@ pub mod BlindValues
 pub mod DefinitionLaws
 pub mod DirectiveLaws
 pub mod DocumentLaws
+pub mod DocumentRefusals
+pub mod EndsDefinitions
+pub mod EndsTypeSystem
 pub mod ExtensionParts
 pub mod JudgedProductions
 pub mod ListLaws

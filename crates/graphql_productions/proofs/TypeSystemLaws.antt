@@ -21,13 +21,14 @@ use Rattle.graphql_grammar.specs.Kinds.{either_of, is_name, names_of, none, only
 use Rattle.graphql_grammar.specs.Pieces.{Piece, mapped, optional, separated, seq, sign, some, word}
 use Rattle.graphql_grammar.proofs.ManyLaws.{some_law}
 use Rattle.graphql_grammar.proofs.PieceLaws.{Apart, Lawful, apart, headed_law, item_law, mapped_law, optional_law, seq_law, sign_law, word_law}
+use Rattle.graphql_grammar.proofs.SeparatedLaws.{separated_law}
 use Rattle.graphql_productions.specs.Directives.{arguments, directive_node, directives}
 use Rattle.graphql_productions.specs.Nodes.{behind, between, name, name_of, node, or_none}
 use Rattle.graphql_productions.specs.Operations.{is_operation_type, no_root, operation_type, typed}
 use Rattle.graphql_productions.specs.Types.{type}
 use Rattle.graphql_productions.specs.TypeSystem.{description, description_body, description_of, enum_parts, enum_value_definition, enum_value_name, enum_value_node, enum_value_of, enum_values, expecting, field_definition, field_node, field_of, fielded, fielded_parts, fields, input_node, input_of, input_parts, input_value, input_values, is_described_name, is_description, is_enum_value, names_behind, names_body, no_enum_value, parts, root, root_node, root_of, roots, scalar_parts, union_parts}
 use Rattle.graphql_productions.proofs.DirectiveLaws.{directives_law}
-use Rattle.graphql_productions.proofs.ListLaws.{enclosed_law, optional_enclosed_law, separated_law}
+use Rattle.graphql_productions.proofs.ListLaws.{enclosed_law, optional_enclosed_law}
 use Rattle.graphql_productions.proofs.NodeLaws.{name_law, node_law}
 use Rattle.graphql_productions.proofs.OperationLaws.{operation_type_law, typed_law}
 use Rattle.graphql_productions.proofs.TypeLaws.{type_law}

@@ -1,5 +1,5 @@
 -- Documents: GraphQL specification of October 2021, section 2.2.
-use Rattle.std.specs.Prelude.{◌≡◌, ℕ, List, [], ◌∷◌, true, false, ◌||◌}
+use Rattle.std.specs.Prelude.{◌≡◌, ℕ, List, [], ◌∷◌, Bool, true, false, ◌||◌, ◌&&◌}
 use Rattle.graphql_nodes.specs.declared.source.FileId.{FileId}
 use Rattle.graphql_ast.specs.declared.definition.Definition.{Definition}
 use Rattle.graphql_ast.specs.declared.definition.Definition.TheVariants as d
@@ -14,7 +14,7 @@ use Rattle.graphql_grammar.specs.Words.{WordView, begins}
 use Rattle.graphql_productions.specs.Nodes.{node}
 use Rattle.graphql_productions.specs.Operations.{fragment_definition, is_operation_type, operation, shorthand}
 use Rattle.graphql_productions.specs.Selections.{bare_selections, no_selection, selection_set}
-use Rattle.graphql_productions.specs.TypeSystem.{expecting, extension, goes_on_type, is_described, is_description, system_definition}
+use Rattle.graphql_productions.specs.TypeSystem.{expecting, extension, goes_on_type, is_described, is_description, is_none, system_definition}
 
 unfoldable pub operation_definition : FileId → ℕ → Piece Definition
 operation_definition file depth = mapped (λ x. d.OperationDefinition x) (node file (operation file depth))
@@ -50,15 +50,30 @@ any_kind kind = true
 abbrev pub document : FileId → ℕ → Piece (List Definition)
 document file depth = some (item any_kind (expecting i.Definition) (definition file depth))
 
--- these definitions, one after the other; none of them but the first begins with `{`, nor with what may go on with the one before
+-- whether a `{` behind a definition would still be its own: one that may have fields, values, input fields or roots
+-- between braces, and has none. Sections 3.3.2, 3.6, 3.7, 3.9 and 3.10
+abbrev pub takes_braces : Definition → Bool
+takes_braces (d.SchemaExtension x) = is_none x.value.root_operations
+takes_braces (d.ObjectTypeDefinition x) = is_none x.value.fields
+takes_braces (d.ObjectTypeExtension x) = is_none x.value.fields
+takes_braces (d.InterfaceTypeDefinition x) = is_none x.value.fields
+takes_braces (d.InterfaceTypeExtension x) = is_none x.value.fields
+takes_braces (d.EnumTypeDefinition x) = is_none x.value.values
+takes_braces (d.EnumTypeExtension x) = is_none x.value.values
+takes_braces (d.InputObjectTypeDefinition x) = is_none x.value.fields
+takes_braces (d.InputObjectTypeExtension x) = is_none x.value.fields
+takes_braces _ = false
+
+-- these definitions, one after the other; a `{` never follows one that takes braces
 abbrev pub spells_in_turn : FileId → ℕ → List Definition → List WordView → Type 0
 spells_in_turn file depth [] words = words ≡ []
-spells_in_turn file depth (x ∷ xs) words = Parts ((definition file depth).spells x) (λ tail. spells_in_turn file depth xs tail × (begins goes_on_type tail ≡ false)) words
+spells_in_turn file depth (x ∷ xs) words =
+    Parts ((definition file depth).spells x) (λ tail. spells_in_turn file depth xs tail × ((takes_braces x && begins (only k.LeftBrace) tail) ≡ false)) words
 
--- these definitions, one or more, so spelled
-abbrev pub spells_plainly : FileId → ℕ → List Definition → List WordView → Type 0
-spells_plainly file depth [] words = ⊥
-spells_plainly file depth (x ∷ xs) words = spells_in_turn file depth (x ∷ xs) words
+-- the words of a document: one definition or more, so spelled. Section 2.2
+abbrev pub spells_document : FileId → ℕ → List Definition → List WordView → Type 0
+spells_document file depth [] words = ⊥
+spells_document file depth (x ∷ xs) words = spells_in_turn file depth (x ∷ xs) words
 
 abbrev pub selections_pick : FileId → ℕ → Kind → Piece (List Selection)
 selections_pick file depth kind = choose (only k.LeftBrace kind) (selection_set file depth) (bare_selections file depth)

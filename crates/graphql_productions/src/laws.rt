@@ -5,27 +5,27 @@ ghost use Rattle.graphql_ast.specs.declared.definition.Definition.{Definition};
 ghost use Rattle.graphql_ast.specs.declared.selection.Selection.{Selection};
 ghost use Rattle.graphql_ast.specs.declared.value.Value.{Value};
 ghost use Rattle.graphql_grammar.specs.Pieces.{Refusal, read_all};
-ghost use Rattle.graphql_grammar.specs.Refusals.{RefusedWith, Viable, reads};
+ghost use Rattle.graphql_grammar.specs.Refusals.{RefusedWith, Viable};
 ghost use Rattle.graphql_grammar.specs.Words.{WordView};
-ghost use Rattle.graphql_productions.specs.Documents.{definition, document, selections};
+ghost use Rattle.graphql_productions.specs.Documents.{definition, document, selections, spells_document};
 ghost use Rattle.graphql_productions.specs.Selections.{bare_selections, selection_set};
 ghost use Rattle.graphql_productions.specs.Types.{type};
 ghost use Rattle.graphql_productions.specs.Values.{value};
 
-/// Words spell one tree at most: one definition, one selection set, one value.
+/// Words spell one tree at most: one document, one definition, one selection set, one value.
 pub fn words_spell_one_tree()
+    ensures document { (file : FileId) (depth : ℕ) (words : List WordView) (a b : List Definition) → spells_document file depth a words → spells_document file depth b words → a ≡ b }
     ensures definition { (file : FileId) (depth : ℕ) (words : List WordView) (a b : Definition) → (definition file depth).spells a words → (definition file depth).spells b words → a ≡ b }
     ensures selections { (file : FileId) (depth : ℕ) (words : List WordView) (a b : List Selection) → (selection_set file depth).spells a words → (selection_set file depth).spells b words → a ≡ b }
     ensures value { (file : FileId) (constant : Bool) (depth : ℕ) (words : List WordView) (a b : Value) → (value file constant depth).spells a words → (value file constant depth).spells b words → a ≡ b }
 {}
 
 /// What stands behind a refused word doesn't matter: no words that begin with those before it and with it
-/// spell a definition, selections with braces or without, a type or a value; and words that are refused at
-/// their end spell none. Of a document the same is said of reading, since a `{` behind `type T` is always
-/// read as the start of its fields.
+/// spell a definition, a document, selections with braces or without, a type or a value; and words that are
+/// refused at their end spell none.
 pub fn refusals_are_of_all_words_so_far()
     ensures definition { (file : FileId) (depth : ℕ) (words : List WordView) (e : Refusal) → read_all (definition file depth) words ≡ Err e → RefusedWith (definition file depth).spells words e }
-    ensures document { (file : FileId) (depth : ℕ) (words : List WordView) (e : Refusal) → read_all (document file depth) words ≡ Err e → RefusedWith (reads (document file depth)) words e }
+    ensures document { (file : FileId) (depth : ℕ) (words : List WordView) (e : Refusal) → read_all (document file depth) words ≡ Err e → RefusedWith (spells_document file depth) words e }
     ensures selections { (file : FileId) (depth : ℕ) (words : List WordView) (e : Refusal) → read_all (selections file depth) words ≡ Err e → RefusedWith (selections file depth).spells words e }
     ensures selection_set { (file : FileId) (depth : ℕ) (words : List WordView) (e : Refusal) → read_all (selection_set file depth) words ≡ Err e → RefusedWith (selection_set file depth).spells words e }
     ensures bare_selections { (file : FileId) (depth : ℕ) (words : List WordView) (e : Refusal) → read_all (bare_selections file depth) words ≡ Err e → RefusedWith (bare_selections file depth).spells words e }

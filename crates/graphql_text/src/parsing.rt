@@ -6,7 +6,7 @@ ghost use Rattle.graphql_ast.specs.declared.selection.Selection.{Selection as Se
 ghost use Rattle.graphql_ast.specs.declared.type_reference.Type.{«Type» as TypeOf};
 ghost use Rattle.graphql_ast.specs.declared.value.Value.{Value as ValueOf};
 ghost use Rattle.graphql_grammar.specs.WordsOfText.{words_of};
-ghost use Rattle.graphql_productions.specs.Documents.{document, selections, spells_plainly};
+ghost use Rattle.graphql_productions.specs.Documents.{document, selections, spells_document};
 ghost use Rattle.graphql_productions.specs.Types.{type};
 ghost use Rattle.graphql_productions.specs.Values.{value_node};
 ghost use Rattle.graphql_text.specs.Parses.{Answers, IsBuiltInFile, IsRefused};
@@ -158,11 +158,11 @@ pub fn parse_definitions(
     options: ParseOptions,
 ) -> Result<Items<Definition>, ParseError>
     // What is answered is spelled by all words of the text.
-    ensures found { IfOk result (λ read. spells_plainly file options.max_depth read (words_of options.max_tokens text.now)) }
+    ensures found { IfOk result (λ read. spells_document file options.max_depth read (words_of options.max_tokens text.now)) }
     // What they spell is answered.
-    ensures only { (read : List DefinitionOf) → file.0 ≢ 0 → spells_plainly file options.max_depth read (words_of options.max_tokens text.now) → Answers read result }
+    ensures only { (read : List DefinitionOf) → file.0 ≢ 0 → spells_document file options.max_depth read (words_of options.max_tokens text.now) → Answers read result }
     ensures built_in { file.0 ≡ 0 → IsBuiltInFile result }
-    ensures refused { IfErr result (IsRefused (document file options.max_depth) (spells_plainly file options.max_depth) (document file (suc options.max_depth)).spells file (length text.now) (words_of options.max_tokens text.now)) }
+    ensures refused { IfErr result (IsRefused (document file options.max_depth) (spells_document file options.max_depth) (document file (suc options.max_depth)).spells file (length text.now) (words_of options.max_tokens text.now)) }
 {
     parse(alloc, file, text, options)
 }
@@ -193,11 +193,11 @@ pub fn parse_document(
     source: &Shared<SourceFile>,
     options: ParseOptions,
 ) -> Result<Document, ParseError>
-    ensures found { IfOk result (λ read. spells_plainly file options.max_depth read.definitions (words_of options.max_tokens source.now.text)) }
+    ensures found { IfOk result (λ read. spells_document file options.max_depth read.definitions (words_of options.max_tokens source.now.text)) }
     ensures sources { IfOk result (λ read. read.sources ≡ (file, source.now) ∷ []) }
-    ensures only { (definitions : List DefinitionOf) → file.0 ≢ 0 → spells_plainly file options.max_depth definitions (words_of options.max_tokens source.now.text) → MatchResult result (λ read. read.definitions ≡ definitions) (λ e. e.kind ≡ Memory) }
+    ensures only { (definitions : List DefinitionOf) → file.0 ≢ 0 → spells_document file options.max_depth definitions (words_of options.max_tokens source.now.text) → MatchResult result (λ read. read.definitions ≡ definitions) (λ e. e.kind ≡ Memory) }
     ensures built_in { file.0 ≡ 0 → IsBuiltInFile result }
-    ensures refused { IfErr result (IsRefused (document file options.max_depth) (spells_plainly file options.max_depth) (document file (suc options.max_depth)).spells file (length source.now.text) (words_of options.max_tokens source.now.text)) }
+    ensures refused { IfErr result (IsRefused (document file options.max_depth) (spells_document file options.max_depth) (document file (suc options.max_depth)).spells file (length source.now.text) (words_of options.max_tokens source.now.text)) }
 {
     match parse_definitions(alloc, file, source.text.as_str(), options) {
         Ok(definitions) => Ok(held(alloc, file, source, definitions)?),

@@ -2,12 +2,11 @@
 ghost use Rattle.std.specs.Prelude.{◌≡◌, ℕ, suc, List, true};
 ghost use Rattle.graphql_nodes.specs.declared.source.FileId.{FileId as File};
 ghost use Rattle.graphql_grammar.specs.Pieces.{Gives, GivesAll, Piece, read_whole};
-ghost use Rattle.graphql_grammar.specs.Refusals.{reads};
 ghost use Rattle.graphql_grammar.specs.Standing.{standing};
 ghost use Rattle.graphql_grammar.specs.Words.{WordView};
 ghost use Rattle.graphql_grammar.specs.declared.fault.Item.TheVariants.{Definition as DefinitionItem};
 ghost use Rattle.graphql_grammar.proofs.Judged.{Judged};
-ghost use Rattle.graphql_productions.specs.Documents.{any_kind, definition, document, selections};
+ghost use Rattle.graphql_productions.specs.Documents.{any_kind, definition, document, selections, spells_document};
 ghost use Rattle.graphql_productions.specs.Types.{type};
 ghost use Rattle.graphql_productions.specs.TypeSystem.{expecting};
 ghost use Rattle.graphql_productions.specs.Values.{value_node};
@@ -124,7 +123,7 @@ impl Read for Definition {
 impl Tree for Items<Definition> {
     ghost piece = { document };
 
-    ghost spells = { λ file depth. reads (document file depth) };
+    ghost spells = { spells_document };
 
     ghost law = { document_judged };
 

@@ -1,14 +1,15 @@
 -- Each production looks at one word ahead only, so what is refused at a word is refused with all that goes on from it.
-use Rattle.graphql_grammar.proofs.WholeBlind.{refusal_law, unread_law}
-use Rattle.graphql_productions.specs.Documents.{definition, document, selections}
+use Rattle.graphql_grammar.proofs.WholeBlind.{refusal_law}
+use Rattle.graphql_productions.specs.Documents.{definition, selections}
 use Rattle.graphql_productions.specs.Selections.{bare_selections, selection_set}
 use Rattle.graphql_productions.specs.Types.{type}
 use Rattle.graphql_productions.specs.Values.{value}
-use Rattle.graphql_productions.proofs.BlindDefinitions.{definition_blind, document_blind}
+use Rattle.graphql_productions.proofs.BlindDefinitions.{definition_blind}
 use Rattle.graphql_productions.proofs.BlindSelections.{bare_selections_blind, selection_set_blind, selections_blind}
 use Rattle.graphql_productions.proofs.BlindTypes.{type_blind}
 use Rattle.graphql_productions.proofs.BlindValues.{value_blind}
 use Rattle.graphql_productions.proofs.DefinitionLaws.{definition_law}
+use Rattle.graphql_productions.proofs.DocumentRefusals.{document_refused}
 use Rattle.graphql_productions.proofs.SelectionLaws.{bare_selections_law, selection_set_law, whole_selections_law}
 use Rattle.graphql_productions.proofs.TypeLaws.{type_law}
 use Rattle.graphql_productions.proofs.ValueLaws.{value_law}
@@ -18,7 +19,7 @@ pub returns-clause-definition : goal.returns-clause-definition
 returns-clause-definition c = λ file depth words e. refusal_law (definition file depth) (definition_law file depth) (definition_blind file depth) words e
 
 pub returns-clause-document : goal.returns-clause-document
-returns-clause-document c = λ file depth words e. unread_law (document file depth) (document_blind file depth) words e
+returns-clause-document c = λ file depth words e. document_refused file depth words e
 
 pub returns-clause-selections : goal.returns-clause-selections
 returns-clause-selections c = λ file depth words e. refusal_law (selections file depth) (whole_selections_law file depth) (selections_blind file depth) words e
