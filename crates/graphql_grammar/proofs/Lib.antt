@@ -10,3 +10,4 @@ pub mod WholeBlind
 pub mod WholeLaws
 pub mod WholeViable
 pub mod WordLemmas
+pub mod WordsOfTokens
