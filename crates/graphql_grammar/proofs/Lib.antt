@@ -1,5 +1,6 @@
 pub mod BlindLaws
 pub mod BranchLaws
+pub mod CleanLaws
 pub mod KindLemmas
 pub mod LoopLaws
 pub mod ManyLaws
