@@ -1,9 +1,10 @@
 -- What a piece spells is tokens alone.
-use Rattle.std.proofs.Common.{◌≡◌, ℕ, zero, suc, Bool, true, false, List, [], ◌∷◌, ◌++◌, Option, Some, None, refl, sym, ap, subst, ◌∙◌}
-use Rattle.graphql_grammar.specs.declared.fault.FaultKind.TheVariants.{TooDeep}
+use Rattle.std.proofs.Common.{◌≡◌, ℕ, zero, suc, Bool, true, false, List, [], ◌∷◌, ◌++◌, Option, Some, None, sym, ap, subst, ◌∙◌}
+use Rattle.graphql_grammar.specs.declared.fault.FaultKind.TheVariants.{Expected, TooDeep}
+use Rattle.graphql_grammar.specs.declared.fault.Item.TheVariants as i
 use Rattle.graphql_grammar.specs.declared.kind.Kind.{Kind}
 use Rattle.graphql_grammar.specs.Clean.{AllClean, clean}
-use Rattle.graphql_grammar.specs.Kinds.{Kinds, each_kind, only}
+use Rattle.graphql_grammar.specs.Kinds.{Kinds, each_kind}
 use Rattle.graphql_grammar.specs.Spelling.{spells_by, spells_many}
 use Rattle.graphql_grammar.specs.Words.{WordView}
 use Rattle.graphql_grammar.specs.Pieces.{Piece, Wrong, behind_sign, branch, choose, filtered, headed, item, listed, located, many, mapped, nested, nothing, optional, picked, separated, separated_of, seq, sign, sign_or, some, word}
@@ -46,7 +47,7 @@ pub sign_or_clean : (kind : Kind) (wrong : Wrong) → clean kind ≡ true → Sp
 sign_or_clean kind wrong token = record { clean = λ x front h. one_word_clean h.0 front h.1 (ap clean (only_kind kind h.0.kind h.2) ∙ token) }
 
 pub sign_clean : (kind : Kind) → clean kind ≡ true → Spotless (sign kind)
-sign_clean kind token = record { clean = λ x front h. one_word_clean h.0 front h.1 (ap clean (only_kind kind h.0.kind h.2) ∙ token) }
+sign_clean kind token = sign_or_clean kind (λ _. Expected (i.Word kind)) token
 
 -- ---- nothing
 

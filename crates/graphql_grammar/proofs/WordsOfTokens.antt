@@ -1,5 +1,5 @@
 -- The words of a text are the words at its tokens where it has tokens, and no more than are allowed; else not all of them are tokens.
-use Rattle.std.proofs.Common.{◌≡◌, ◌≢◌, ℕ, zero, suc, ◌+◌, ◌-◌, ◌<◌, ◌≤◌, Bool, true, false, cond, List, [], ◌∷◌, length, map, take, drop, None, Some, Ok, Err, ◌⊎◌, inl, inr, refl, sym, ap, subst, ◌∙◌, arith}
+use Rattle.std.proofs.Common.{◌≡◌, ℕ, zero, suc, ◌+◌, ◌-◌, ◌<◌, ◌≤◌, Bool, true, false, cond, List, [], ◌∷◌, length, map, take, drop, None, Some, Ok, Err, ◌⊎◌, inl, inr, refl, sym, ap, subst, ◌∙◌, arith}
 use Rattle.std.specs.Prelude.{codes, nat_eq, slice_range}
 use lib.Pointwise.{pointwise}
 use Rattle.std.proofs.lemmas.List.{drop-drop, length-drop, length-take, take_min}
@@ -18,41 +18,44 @@ use Rattle.graphql_grammar.specs.Clean.{AllClean, clean}
 use Rattle.graphql_grammar.specs.Words.{WordView}
 use Rattle.graphql_grammar.specs.WordsAtTokens.{AreAtTokens, word_at}
 use Rattle.graphql_grammar.specs.WordsOfText.{name_kind, too_many, word_kind, word_of, words_at, words_of, wrong}
+use Rattle.graphql_grammar.specs.declared.kind.Kind.{Kind}
 use Rattle.graphql_grammar.specs.declared.kind.Kind.TheVariants as k
 use Rattle.graphql_grammar.proofs.WordLemmas.{next_left, none_left, too_many_left, wrong_left}
 
 -- ---- words at tokens are tokens
 
-named_clean : (b1 b2 b3 b4 b5 b6 b7 b8 b9 b10 b11 b12 b13 b14 b15 b16 b17 b18 b19 : Bool) → clean (cond b1 k.True (cond b2 k.False (cond b3 k.Null (cond b4 k.On (cond b5 k.Query (cond b6 k.Mutation (cond b7 k.Subscription (cond b8 k.Fragment (cond b9 k.Schema (cond b10 k.Scalar (cond b11 k.Type (cond b12 k.Interface (cond b13 k.Union (cond b14 k.Enum (cond b15 k.Input (cond b16 k.Directive (cond b17 k.Extend (cond b18 k.Implements (cond b19 k.Repeatable k.Name))))))))))))))))))) ≡ true
-named_clean true b2 b3 b4 b5 b6 b7 b8 b9 b10 b11 b12 b13 b14 b15 b16 b17 b18 b19 = refl
-named_clean false true b3 b4 b5 b6 b7 b8 b9 b10 b11 b12 b13 b14 b15 b16 b17 b18 b19 = refl
-named_clean false false true b4 b5 b6 b7 b8 b9 b10 b11 b12 b13 b14 b15 b16 b17 b18 b19 = refl
-named_clean false false false true b5 b6 b7 b8 b9 b10 b11 b12 b13 b14 b15 b16 b17 b18 b19 = refl
-named_clean false false false false true b6 b7 b8 b9 b10 b11 b12 b13 b14 b15 b16 b17 b18 b19 = refl
-named_clean false false false false false true b7 b8 b9 b10 b11 b12 b13 b14 b15 b16 b17 b18 b19 = refl
-named_clean false false false false false false true b8 b9 b10 b11 b12 b13 b14 b15 b16 b17 b18 b19 = refl
-named_clean false false false false false false false true b9 b10 b11 b12 b13 b14 b15 b16 b17 b18 b19 = refl
-named_clean false false false false false false false false true b10 b11 b12 b13 b14 b15 b16 b17 b18 b19 = refl
-named_clean false false false false false false false false false true b11 b12 b13 b14 b15 b16 b17 b18 b19 = refl
-named_clean false false false false false false false false false false true b12 b13 b14 b15 b16 b17 b18 b19 = refl
-named_clean false false false false false false false false false false false true b13 b14 b15 b16 b17 b18 b19 = refl
-named_clean false false false false false false false false false false false false true b14 b15 b16 b17 b18 b19 = refl
-named_clean false false false false false false false false false false false false false true b15 b16 b17 b18 b19 = refl
-named_clean false false false false false false false false false false false false false false true b16 b17 b18 b19 = refl
-named_clean false false false false false false false false false false false false false false false true b17 b18 b19 = refl
-named_clean false false false false false false false false false false false false false false false false true b18 b19 = refl
-named_clean false false false false false false false false false false false false false false false false false true b19 = refl
-named_clean false false false false false false false false false false false false false false false false false false true = refl
-named_clean false false false false false false false false false false false false false false false false false false false = refl
+-- the kind that stands with the first flag that is set, and `Name` where none is
+abbrev chosen : List (Bool × Kind) → Kind
+chosen [] = k.Name
+chosen (x ∷ xs) = cond x.0 x.1 (chosen xs)
+
+abbrev AllTokens : List (Bool × Kind) → Type 0
+AllTokens [] = Unit {0}
+AllTokens (x ∷ xs) = (clean x.1 ≡ true) × AllTokens xs
+
+either_clean : (b : Bool) (x y : Kind) → clean x ≡ true → clean y ≡ true → clean (cond b x y) ≡ true
+either_clean true x y hx hy = hx
+either_clean false x y hx hy = hy
+
+chosen_clean : (choices : List (Bool × Kind)) → AllTokens choices → clean (chosen choices) ≡ true
+chosen_clean [] h = refl
+chosen_clean (x ∷ xs) h = either_clean x.0 x.1 (chosen xs) h.0 (chosen_clean xs h.1)
 
 name_clean : (text : List ℕ) → clean (name_kind text) ≡ true
 name_clean text =
     let is : List ℕ → Bool = pointwise nat_eq text in
-    named_clean (is (codes "true")) (is (codes "false")) (is (codes "null")) (is (codes "on"))
-    (is (codes "query")) (is (codes "mutation")) (is (codes "subscription")) (is (codes "fragment"))
-    (is (codes "schema")) (is (codes "scalar")) (is (codes "type")) (is (codes "interface"))
-    (is (codes "union")) (is (codes "enum")) (is (codes "input")) (is (codes "directive"))
-    (is (codes "extend")) (is (codes "implements")) (is (codes "repeatable"))
+    let choices : List (Bool × Kind) =
+    (is (codes "true"), k.True) ∷ (is (codes "false"), k.False) ∷ (is (codes "null"), k.Null) ∷
+    (is (codes "on"), k.On) ∷ (is (codes "query"), k.Query) ∷ (is (codes "mutation"), k.Mutation) ∷
+    (is (codes "subscription"), k.Subscription) ∷ (is (codes "fragment"), k.Fragment) ∷
+    (is (codes "schema"), k.Schema) ∷ (is (codes "scalar"), k.Scalar) ∷ (is (codes "type"), k.Type) ∷
+    (is (codes "interface"), k.Interface) ∷ (is (codes "union"), k.Union) ∷
+    (is (codes "enum"), k.Enum) ∷ (is (codes "input"), k.Input) ∷
+    (is (codes "directive"), k.Directive) ∷ (is (codes "extend"), k.Extend) ∷
+    (is (codes "implements"), k.Implements) ∷ (is (codes "repeatable"), k.Repeatable) ∷ [] in
+    let tokens : AllTokens choices =
+    (refl, (refl, (refl, (refl, (refl, (refl, (refl, (refl, (refl, (refl, (refl, (refl, (refl, (refl, (refl, (refl, (refl, (refl, (refl, tt))))))))))))))))))) in
+    chosen_clean choices tokens
 
 kind_clean : (kind : TokenKind) (text : List ℕ) → clean (word_kind kind text) ≡ true
 kind_clean t.Name text = name_clean text
