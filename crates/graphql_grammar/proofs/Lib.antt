@@ -1,5 +1,6 @@
 pub mod BlindLaws
 pub mod BranchLaws
+pub mod CleanLaws
 pub mod EndsLaws
 pub mod Judged
 pub mod KindLemmas
@@ -13,3 +14,4 @@ pub mod WholeBlind
 pub mod WholeLaws
 pub mod WholeViable
 pub mod WordLemmas
+pub mod WordsOfTokens

@@ -1,7 +1,9 @@
+pub mod Clean
 pub mod Kinds
 pub mod Pieces
 pub mod Refusals
 pub mod Spelling
 pub mod Standing
 pub mod Words
+pub mod WordsAtTokens
 pub mod WordsOfText

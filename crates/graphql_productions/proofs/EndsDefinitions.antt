@@ -25,7 +25,7 @@ use Rattle.graphql_productions.specs.Nodes.{name, node, span_at}
 use Rattle.graphql_productions.specs.Operations.{fragment_definition, is_operation_type, operation, shorthand, variables}
 use Rattle.graphql_productions.specs.Selections.{fragment_name}
 use Rattle.graphql_productions.specs.TypeSystem.{Described, definition_made, described, described_pick, description, directive_body, directive_of, enum_values, expecting, extended, extended_pick, extension, extension_body, extension_made, extension_of, fielded, fields, goes_on_type, has_part, input_values, is_described, is_description, is_extended, is_none, keyword, location, names_behind, no_described, optional_roots, parts, roots, schema_body, schema_extension_body, schema_extension_of, schema_of, schema_parts, system_definition, type_body, type_of}
-use Rattle.graphql_productions.proofs.DefinitionLaws.{locations_law, location_law}
+use Rattle.graphql_productions.proofs.DefinitionLaws.{locations_law}
 use Rattle.graphql_productions.proofs.EndsTypeSystem.{Braced, as_well, behind_directives, behind_name, behind_word, limits, parts_braced, parts_take, plain, schema_extension_parts_braced}
 use Rattle.graphql_productions.proofs.NodeLaws.{node_law}
 use Rattle.graphql_productions.proofs.OperationLaws.{fragment_definition_law, operation_law, shorthand_law}

@@ -1,6 +1,6 @@
 -- What ends the parts of definitions and extensions: where what stands between braces is left out, a `{` goes on
 -- with them, and is always taken.
-use Rattle.std.proofs.Common.{◌≡◌, ℕ, zero, suc, Bool, true, false, not, ◌&&◌, cond, List, Option, None, Some, refl, sym, ap, subst, ◌∙◌}
+use Rattle.std.proofs.Common.{◌≡◌, ℕ, zero, suc, Bool, true, false, not, ◌&&◌, List, Option, None, Some, refl, sym, ap, subst, ◌∙◌}
 use Rattle.graphql_nodes.specs.declared.operation_type.OperationType.{OperationType}
 use Rattle.graphql_nodes.specs.declared.source.FileId.{FileId}
 use Rattle.graphql_nodes.specs.declared.type_kind.TypeKind.{TypeKind}
@@ -12,17 +12,16 @@ use Rattle.graphql_ast.specs.declared.directive.DirectiveList.{DirectiveList}
 use Rattle.graphql_ast.specs.declared.type_system.EnumValueDefinition.{EnumValueDefinition}
 use Rattle.graphql_ast.specs.declared.type_system.FieldDefinition.{FieldDefinition}
 use Rattle.graphql_ast.specs.declared.type_system.InputValueDefinition.{InputValueDefinition}
-use Rattle.graphql_grammar.specs.declared.fault.FaultKind.TheVariants.{TooDeep}
 use Rattle.graphql_grammar.specs.declared.fault.Item.TheVariants as i
 use Rattle.graphql_grammar.specs.declared.kind.Kind.{Kind}
 use Rattle.graphql_grammar.specs.declared.kind.Kind.TheVariants as k
-use Rattle.graphql_grammar.specs.Kinds.{Kinds, each_kind, either_of, none, only}
-use Rattle.graphql_grammar.specs.Pieces.{Piece, Wrong, mapped, optional, seq, sign, some, too_deep}
+use Rattle.graphql_grammar.specs.Kinds.{Kinds, each_kind, none, only}
+use Rattle.graphql_grammar.specs.Pieces.{Piece, Wrong, mapped, optional, seq, sign, some}
 use Rattle.graphql_grammar.specs.Words.{WordView}
 use Rattle.graphql_grammar.proofs.EndsLaws.{Bounded, Limits, lawful_bounded, mapped_bounded, never, optional_bounded, optional_limits, same_limits, seq_bounded, stops_by, wider, within}
-use Rattle.graphql_grammar.proofs.PieceLaws.{Apart, Lawful, Stops, apart, headed_law, if_then, nothing_law, sign_law}
+use Rattle.graphql_grammar.proofs.PieceLaws.{Apart, Lawful, Stops, apart, if_then, sign_law}
 use Rattle.graphql_productions.specs.Directives.{arguments, directive_node, directives}
-use Rattle.graphql_productions.specs.Nodes.{between, enclosed, name, or_none}
+use Rattle.graphql_productions.specs.Nodes.{enclosed, name, or_none}
 use Rattle.graphql_productions.specs.Operations.{no_root, typed}
 use Rattle.graphql_productions.specs.TypeSystem.{enum_parts, enum_value_definition, enum_value_name, enum_value_node, enum_values, expecting, field_definition, field_node, fielded, fielded_parts, fields, goes_on_type, input_node, input_parts, input_value, input_values, is_none, names_behind, no_enum_value, optional_roots, parts, root, root_node, schema_parts}
 use Rattle.graphql_productions.proofs.DirectiveLaws.{directives_law}

@@ -6,6 +6,14 @@ pub mod BlindSelections
 pub mod BlindTypes
 pub mod BlindTypeSystem
 pub mod BlindValues
+pub mod CleanDefinitions
+pub mod CleanDirectives
+pub mod CleanNodes
+pub mod CleanOperations
+pub mod CleanSelections
+pub mod CleanTypes
+pub mod CleanTypeSystem
+pub mod CleanValues
 pub mod DefinitionLaws
 pub mod DirectiveLaws
 pub mod DocumentLaws

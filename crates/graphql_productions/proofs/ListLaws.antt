@@ -1,11 +1,10 @@
 -- Lists between signs: what is read is spelled so, and the other way round.
-use Rattle.std.proofs.Common.{◌≡◌, ℕ, zero, suc, Bool, true, false, not, ◌&&◌, cond, List, [], ◌∷◌, Option, refl}
+use Rattle.std.proofs.Common.{◌≡◌, ℕ, zero, suc, Bool, true, false, not, ◌&&◌, cond, List, [], ◌∷◌, refl}
 use Rattle.graphql_grammar.specs.declared.fault.FaultKind.TheVariants.{TooDeep}
 use Rattle.graphql_grammar.specs.declared.kind.Kind.{Kind}
 use Rattle.graphql_grammar.specs.Kinds.{Kinds, all_kinds, each_kind, each_of, either_of, none, only}
-use Rattle.graphql_grammar.specs.Pieces.{Piece, Wrong, behind_sign, many, mapped, optional, separated, separated_of, seq, sign, too_deep}
-use Rattle.graphql_grammar.proofs.ManyLaws.{many_law}
-use Rattle.graphql_grammar.proofs.PieceLaws.{Apart, Lawful, headed_law, implied, mapped_law, nothing_law, optional_law, seq_law, sign_law}
+use Rattle.graphql_grammar.specs.Pieces.{Piece, Wrong, mapped, optional, too_deep}
+use Rattle.graphql_grammar.proofs.PieceLaws.{Apart, Lawful, headed_law, implied, mapped_law, nothing_law, optional_law}
 use Rattle.graphql_grammar.proofs.ReadingLemmas.{and_true}
 use Rattle.graphql_productions.specs.Nodes.{between, enclosed, or_none}
 use Rattle.graphql_productions.proofs.NodeLaws.{between_law}

@@ -1,16 +1,22 @@
 //! Laws of productions.
-ghost use Rattle.std.specs.Prelude.{◌≡◌, ℕ, suc, Bool, List, Err};
+ghost use Rattle.std.specs.Prelude.{◌≡◌, ◌≤◌, ℕ, suc, Bool, List, length, map, Err, Ok};
+ghost use Rattle.graphql_nodes.specs.NodeView.{NodeView};
 ghost use Rattle.graphql_nodes.specs.declared.source.FileId.{FileId};
 ghost use Rattle.graphql_ast.specs.declared.definition.Definition.{Definition};
 ghost use Rattle.graphql_ast.specs.declared.selection.Selection.{Selection};
+ghost use Rattle.graphql_ast.specs.declared.type_reference.Type.{«Type» as TypeReference};
 ghost use Rattle.graphql_ast.specs.declared.value.Value.{Value};
+ghost use Rattle.graphql_tokens.specs.Tokens.{tokens_of};
+ghost use Rattle.graphql_tokens.specs.declared.token.Token.{Token};
 ghost use Rattle.graphql_grammar.specs.Pieces.{Refusal, read_all};
 ghost use Rattle.graphql_grammar.specs.Refusals.{RefusedWith, Viable};
 ghost use Rattle.graphql_grammar.specs.Words.{WordView};
+ghost use Rattle.graphql_grammar.specs.WordsAtTokens.{AreAtTokens, word_at};
+ghost use Rattle.graphql_grammar.specs.WordsOfText.{words_of};
 ghost use Rattle.graphql_productions.specs.Documents.{definition, document, selections, spells_document};
 ghost use Rattle.graphql_productions.specs.Selections.{bare_selections, selection_set};
 ghost use Rattle.graphql_productions.specs.Types.{type};
-ghost use Rattle.graphql_productions.specs.Values.{value};
+ghost use Rattle.graphql_productions.specs.Values.{value, value_node};
 
 /// Words spell one tree at most: one document, one definition, one selection set, one value.
 pub fn words_spell_one_tree()
@@ -45,4 +51,19 @@ pub fn words_before_a_refusal_go_on()
     ensures bare_selections { (file : FileId) (depth : ℕ) (words : List WordView) (e : Refusal) → read_all (bare_selections file depth) words ≡ Err e → Viable (bare_selections file (suc depth)).spells words e.left }
     ensures type_reference { (file : FileId) (depth : ℕ) (words : List WordView) (e : Refusal) → read_all (type file depth) words ≡ Err e → Viable (type file (suc depth)).spells words e.left }
     ensures value { (file : FileId) (constant : Bool) (depth : ℕ) (words : List WordView) (e : Refusal) → read_all (value file constant depth) words ≡ Err e → Viable (value file constant (suc depth)).spells words e.left }
+{}
+
+/// A text that has tokens, no more than are allowed, has the words at those.
+pub fn words_are_those_at_tokens()
+    ensures { (allowed : ℕ) (text : List ℕ) (tokens : List Token) → tokens_of text ≡ Ok tokens → length tokens ≤ allowed → words_of allowed text ≡ map (word_at text) tokens }
+{}
+
+/// Trees are spelled by tokens alone: where the words of a text spell a document, selections with braces or
+/// without, a type or a value, the text has tokens, no more than are allowed, and its words are the words at
+/// those.
+pub fn trees_are_spelled_by_tokens()
+    ensures document { (file : FileId) (depth allowed : ℕ) (text : List ℕ) (x : List Definition) → spells_document file depth x (words_of allowed text) → AreAtTokens allowed text (tokens_of text) (words_of allowed text) }
+    ensures selections { (file : FileId) (depth allowed : ℕ) (text : List ℕ) (x : List Selection) → (selections file depth).spells x (words_of allowed text) → AreAtTokens allowed text (tokens_of text) (words_of allowed text) }
+    ensures type_reference { (file : FileId) (depth allowed : ℕ) (text : List ℕ) (x : TypeReference) → (type file depth).spells x (words_of allowed text) → AreAtTokens allowed text (tokens_of text) (words_of allowed text) }
+    ensures value { (file : FileId) (constant : Bool) (depth allowed : ℕ) (text : List ℕ) (x : NodeView Value) → (value_node file constant depth).spells x (words_of allowed text) → AreAtTokens allowed text (tokens_of text) (words_of allowed text) }
 {}
