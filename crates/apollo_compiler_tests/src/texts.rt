@@ -12,12 +12,12 @@ use std::slice;
 static SCHEMA: &str =
     "type Query { product: Product }\n\"\"\"\nWhat is sold.\n\"\"\"\ntype Product { id: ID }\nextend type Product { organization: Organization }\ntype Organization { id: ID }";
 
-/// The document of a text, the file of this number.
+/// The document of a text, that of the file of this number.
 /// No clause: it serves tests.
-pub fn read(alloc: Global, file: FileId, text: &str) -> Option<Document> {
-    let source = SourceFile::new(alloc, "store.graphql", text).ok()?;
-    let source = Shared::new(alloc, source).ok()?;
-    parse_document(alloc, file, &source, ParseOptions::new()).ok()
+pub fn read(alloc: Global, number: FileId, text: &str) -> Option<Document> {
+    let file = SourceFile::new(alloc, "store.graphql", text).ok()?;
+    let source = Shared::new(alloc, file).ok()?;
+    parse_document(alloc, number, &source, ParseOptions::new()).ok()
 }
 
 /// Whether the fields that a key names are all there, with braces or without.
