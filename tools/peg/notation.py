@@ -22,6 +22,9 @@ SEPARATORS = {
     "arg": ("(", ", "),
 }
 
+# Where lines stand in GraphQL below their header or field: behind others of it, but for those below 0.
+PLACES = {"implements": -2, "@": -1, "field@": 1}
+
 
 class Item(NamedTuple):
     """A header, by the number of its line and its words, and the lines below it."""
@@ -126,6 +129,28 @@ def as_graphql(lines):
     for item in items(lines):
         texts[item.number - 1 : item.number + len(item.parts)] = graphql_lines(item)
     return "\n".join(texts)
+
+
+def in_order(lines):
+    """Lines that say documents, with those below each header and each field in the order in which GraphQL has them."""
+    groups = []
+    for line in lines:
+        word = line.split(" ")[0]
+        if word in (*HEADERS, "field", "---", "==="):
+            groups.append([])
+        groups[-1].append((PLACES.get(word, 0), line))
+    return [line for group in groups for _, line in group[:1] + sorted(group[1:], key=lambda it: it[0])]
+
+
+def without_empty(lines):
+    """Lines that say documents, without inline fragments that have no selections, of which GraphQL has none."""
+    kept = []
+    for line in reversed(lines):
+        match line.split(" "):
+            case ["sel", depth, "inline", *_] if not (kept and kept[-1].startswith(f"sel {int(depth) + 1} ")):
+                continue
+        kept.append(line)
+    return kept[::-1]
 
 
 def described(lines):

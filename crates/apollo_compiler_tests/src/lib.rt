@@ -9,6 +9,8 @@ mod compiled;
 #[cfg(test)]
 mod compiling;
 #[cfg(test)]
+mod examples;
+#[cfg(test)]
 mod hash_keys;
 #[cfg(test)]
 mod making;

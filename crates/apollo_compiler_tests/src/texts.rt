@@ -12,16 +12,17 @@ use std::slice;
 static SCHEMA: &str =
     "type Query { product: Product }\n\"\"\"\nWhat is sold.\n\"\"\"\ntype Product { id: ID }\nextend type Product { organization: Organization }\ntype Organization { id: ID }";
 
-/// The document of a text.
-fn read(alloc: Global, text: &str) -> Option<Document> {
+/// The document of a text, that of the file of this number.
+/// No clause: it serves tests.
+pub fn read(alloc: Global, number: FileId, text: &str) -> Option<Document> {
     let file = SourceFile::new(alloc, "store.graphql", text).ok()?;
     let source = Shared::new(alloc, file).ok()?;
-    parse_document(alloc, FileId(1), &source, ParseOptions::new()).ok()
+    parse_document(alloc, number, &source, ParseOptions::new()).ok()
 }
 
 /// Whether the fields that a key names are all there, with braces or without.
 fn is_key_typed(alloc: Global) -> Option<bool> {
-    let document = read(alloc, SCHEMA)?;
+    let document = read(alloc, FileId(1), SCHEMA)?;
     let documents = slice::from_ref(&document);
     let (schema, faults) = build_schema(alloc, HashKeys::FIXED, PLAIN, documents).ok()?;
     let options = ParseOptions::new();

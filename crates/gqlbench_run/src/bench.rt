@@ -6,6 +6,8 @@ use crate::failure::Failure;
 use apollo_compiler::building::build_schema;
 use apollo_compiler::compile_options::CompileOptions;
 use apollo_compiler::document_building::build_executable_document;
+use apollo_compiler::text::{ParseOptions, parse_document};
+use apollo_compiler::{FileId, SourceFile};
 use apollo_document::Faults as DocumentFaults;
 use apollo_executable::document::ExecutableDocument;
 use apollo_meaning::build_error::Faults as SchemaFaults;
@@ -15,6 +17,7 @@ use gqlbench_counts::questions::{Question, field_questions, subtype_questions};
 use gqltool_run::failure::Failure as InputFailure;
 use graphql_ast::document::Document;
 use graphql_nodes::collections::hash_keys::HashKeys;
+use graphql_nodes::collections::shared::Shared;
 use std::alloc::Global;
 use std::slice;
 
@@ -42,6 +45,7 @@ pub enum Ready {
     Walks((Schema, ExecutableDocument)),
     LeafFaults((Schema, ExecutableDocument)),
     Compilation(DividedDocuments),
+    Text(Shared<SourceFile>),
 }
 
 /// What work is done with.
@@ -62,6 +66,7 @@ impl Bench {
             Work::Walks => Ok(Ready::Walks(self.read_typed(input)?)),
             Work::LeafFaults => Ok(Ready::LeafFaults(self.read_typed(input)?)),
             Work::Compilation => Ok(Ready::Compilation(self.read_divided(input)?)),
+            Work::Text => Ok(Ready::Text(self.file_of(input)?)),
         }
     }
 
@@ -71,6 +76,12 @@ impl Bench {
 
     fn read_divided(&self, input: &str) -> Result<DividedDocuments, Failure> {
         Ok(read_divided(self.alloc, input).map_err(InputFailure::from)?)
+    }
+
+    /// A file of GraphQL text.
+    fn file_of(&self, input: &str) -> Result<Shared<SourceFile>, Failure> {
+        let file = SourceFile::new(self.alloc, "input.graphql", input)?;
+        Ok(Shared::new(self.alloc, file)?)
     }
 
     /// A schema, and all that is asked of it.
@@ -105,6 +116,11 @@ impl Bench {
     pub fn rebuild(&self, written: &Document) -> Result<Built, Failure> {
         let documents = slice::from_ref(written);
         Ok(build_schema(self.alloc, self.keys, REBUILDING, documents)?)
+    }
+
+    /// The document of a file of GraphQL text.
+    pub fn parse(&self, file: &Shared<SourceFile>) -> Result<Document, Failure> {
+        Ok(parse_document(self.alloc, FileId(1), file, ParseOptions::new())?)
     }
 
     /// The typed document of documents over a schema.

@@ -18,6 +18,8 @@ pub enum Work {
     LeafFaults,
     /// Documents compiled in one call, and beside it each phase of that.
     Compilation,
+    /// GraphQL text read, and what it is read as freed.
+    Text,
 }
 
 const COMPILATION: &str =
@@ -65,6 +67,7 @@ fn read_work(word: &str) -> Option<(Work, &'static str)> {
         "walk" => Some((Work::Walks, "root-walks all-walks")),
         "leaf" => Some((Work::LeafFaults, "leaf_faults")),
         "compile" => Some((Work::Compilation, COMPILATION)),
+        "text" => Some((Work::Text, "parse drop")),
         _ => None,
     }
 }

@@ -6,6 +6,7 @@ use crate::failure::Failure;
 use crate::report::Item;
 use crate::report::Value::{Count, Equality};
 use crate::stopwatch::Stopwatch;
+use apollo_compiler::SourceFile;
 use apollo_compiler::compiled::Compiled;
 use apollo_compiler::compiling::compile_with_keys;
 use apollo_executable::document::ExecutableDocument;
@@ -16,6 +17,7 @@ use gqlbench_counts::walked::count_walked;
 use graphql_ast::definition::Definition;
 use graphql_ast::document::Document;
 use graphql_nodes::collections::items::Items;
+use graphql_nodes::collections::shared::Shared;
 use leafcheck::checking::leaf_faults;
 use std::io::Write;
 use std::time::Clock;
@@ -32,6 +34,9 @@ pub fn time<C: Clock>(bench: &Bench, clock: &C, ready: &Ready, errors: &mut impl
         watch.tell(done + 1, errors)?;
     }
     watch.push_times(&mut items)?;
+    if let Ready::Text(file) = ready {
+        watch.push_rate(&mut items, "parse", file.text.len())?;
+    }
     Ok(items)
 }
 
@@ -44,6 +49,7 @@ impl<C: Clock> Stopwatch<'_, C> {
             Ready::Walks((_, document)) => self.time_walks(document),
             Ready::LeafFaults((schema, document)) => self.time_leaf_faults(schema, document),
             Ready::Compilation(documents) => self.time_compile(documents),
+            Ready::Text(file) => self.time_text(file),
         }
     }
 
@@ -155,6 +161,17 @@ impl<C: Clock> Stopwatch<'_, C> {
         let [operations, fragments] = sizes(document);
         let faults = (" leaf faults\n", "leaf_faults", faults);
         Ok([operations, fragments, faults].to_vec(self.bench.alloc)?)
+    }
+
+    fn time_text(&mut self, file: &Shared<SourceFile>) -> Counted {
+        let began = self.now()?;
+        let read = self.bench.parse(file)?;
+        let read = self.took("parse", began, read)?;
+        let definitions = Count(read.definitions.len());
+        self.time_drop(read)?;
+        let bytes = (" bytes, ", "bytes", Count(file.text.len()));
+        let definitions = (" definitions\n", "definitions", definitions);
+        Ok([bytes, definitions].to_vec(self.bench.alloc)?)
     }
 
     /// The whole call, and beside it each phase of it, with all that these give kept.

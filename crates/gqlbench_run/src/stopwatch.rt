@@ -10,6 +10,9 @@ use std::time::{Clock, Instant};
 /// How many seconds go by between two words of how far a run is.
 const SECONDS_BETWEEN: u64 = 2;
 
+/// How many nanoseconds a second has.
+const NANOSECONDS: u128 = 1_000_000_000;
+
 /// The name of a phase.
 pub type Phase = &'static str;
 
@@ -64,13 +67,33 @@ impl<'a, C: Clock> Stopwatch<'a, C> {
         Ok(())
     }
 
+    /// How many nanoseconds a phase took, each time.
+    fn times_of(&self, phase: &str) -> Result<Vec<u64>, AllocError> {
+        let of_phase = self.times.iter().filter(|time| time.0 == phase);
+        of_phase.map(|time| time.1).collect(self.bench.alloc)
+    }
+
+    /// Adds how many bytes a second a phase went over that took these bytes, by its least time.
+    pub fn push_rate(
+        &self,
+        items: &mut Vec<Item>,
+        phase: Phase,
+        bytes: usize,
+    ) -> Result<(), AllocError> {
+        let mut times = self.times_of(phase)?;
+        let (least, _, _) = summary(times.as_mut_slice()).unwrap_or((0, 0, 0));
+        let all = (bytes as u128).saturating_mul(NANOSECONDS);
+        if let Some(rate) = all.checked_div(u128::from(least)) {
+            let rate = Value::Count(usize::try_from(rate).unwrap_or(usize::MAX));
+            items.push((" bytes a second\n", "bytes_per_second", rate))?;
+        }
+        Ok(())
+    }
+
     /// Adds what the times of each phase come to.
     pub fn push_times(&self, items: &mut Vec<Item>) -> Result<(), AllocError> {
-        let bench = self.bench;
-        let (alloc, phases) = (bench.alloc, bench.command.phases);
-        for phase in phases.split(' ') {
-            let of_phase = self.times.iter().filter(|time| time.0 == phase);
-            let mut times: Vec<u64> = of_phase.map(|time| time.1).collect(alloc)?;
+        for phase in self.bench.command.phases.split(' ') {
+            let mut times = self.times_of(phase)?;
             if let Some((least, median, mean)) = summary(times.as_mut_slice()) {
                 items.extend_from_slice(&[
                     (" min ", "phase", Value::Phase(phase)),

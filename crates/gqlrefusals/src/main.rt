@@ -7,6 +7,7 @@ mod compiling;
 mod documents;
 mod scenario;
 mod sets;
+mod texts;
 
 use crate::scenario::{SCENARIOS, Scenario};
 use gqlrefusals_values::stop::{Stop, Told};

@@ -1,8 +1,8 @@
 //! The scenarios: one for each call, or for calls of one sort, that can want memory.
 
-use crate::compiling;
 use crate::documents::{self, OfBuilt, OfDocuments};
 use crate::sets::OfSet;
+use crate::{compiling, texts};
 use apollo_schema::schema::Schema;
 use gqlrefusals_schemas::builders::{self, OfBuilder};
 use gqlrefusals_schemas::inputs::{DOCUMENTS, Input, NONE, SCHEMAS, SERVED, SPENT};
@@ -50,6 +50,8 @@ pub enum Scenario {
     Coordinates(Form),
     /// Coordinates that others stand in.
     CutCoordinates,
+    /// GraphQL text that is read.
+    Texts(texts::Form),
     /// `compile`, of documents of the type system.
     CompileSchemas,
     /// `compile`, of documents of both sorts.
@@ -57,7 +59,7 @@ pub enum Scenario {
 }
 
 /// All scenarios, with their names.
-pub static SCENARIOS: [(&str, Scenario); 56] = [
+pub static SCENARIOS: [(&str, Scenario); 60] = [
     ("name-new", Scenario::Names),
     ("same-location", Scenario::SameLocation),
     ("meta-fields", Scenario::MetaFields),
@@ -153,6 +155,10 @@ pub static SCENARIOS: [(&str, Scenario); 56] = [
     ),
     ("any-from-str", Scenario::Coordinates(Form::Any)),
     ("cut-coordinates", Scenario::CutCoordinates),
+    ("parse-document", Scenario::Texts(texts::Form::Document)),
+    ("parse-selections", Scenario::Texts(texts::Form::Selections)),
+    ("parse-type", Scenario::Texts(texts::Form::Type)),
+    ("parse-value", Scenario::Texts(texts::Form::Value)),
     ("compile-schemas", Scenario::CompileSchemas),
     ("compile-both", Scenario::CompileBoth),
     ("leaf-faults", Scenario::Built(OfBuilt::Leaves)),
@@ -198,6 +204,7 @@ impl Scenario {
             Scenario::FromOne => making::from_one(alloc, text),
             Scenario::Coordinates(form) => coordinates::read_all(alloc, text, form),
             Scenario::CutCoordinates => coordinates::cut(alloc, text),
+            Scenario::Texts(form) => texts::read_all(alloc, text, form),
             Scenario::CompileSchemas => compiling::tell_schemas(alloc, text, input),
             Scenario::CompileBoth => compiling::tell_documents(alloc, text, input),
         }

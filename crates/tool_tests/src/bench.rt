@@ -116,8 +116,11 @@ sel 0 field q
 sel 0 field zz
 ";
 
+/// GraphQL text of both sorts.
+const TEXT: &str = "type Query { a: Int }\n\n{ a }\n";
+
 /// The word of a work, the options of a build and a number, an input, and the report, as lines and as objects.
-const REPORTS: [(&str, &[&str], &str, &str, &str); 7] = [
+const REPORTS: [(&str, &[&str], &str, &str, &str); 8] = [
     (
         "schema",
         &["3"],
@@ -245,6 +248,23 @@ drop           min            7 median            7 mean            7 ns
 {\"phase\":\"drop\",\"least\":7,\"median\":7,\"mean\":7}
 ",
     ),
+    (
+        "text",
+        &["2"],
+        TEXT,
+        "\
+29 bytes, 2 definitions
+parse          min            7 median            7 mean            7 ns
+drop           min            7 median            7 mean            7 ns
+4142857142 bytes a second
+",
+        "\
+{\"bytes\":29,\"definitions\":2}
+{\"phase\":\"parse\",\"least\":7,\"median\":7,\"mean\":7}
+{\"phase\":\"drop\",\"least\":7,\"median\":7,\"mean\":7}
+{\"bytes_per_second\":4142857142}
+",
+    ),
 ];
 
 /// Expects a run on these words to write this, over a system that gives no random bytes, and with
@@ -310,7 +330,7 @@ fn words_that_are_no_command(rt: HostRuntime) {
         &["document", "3"],
     ];
     let usage =
-        "usage: gqlbench schema|lookups|doc|walk|leaf|compile [--json] [--random-keys] [--adopt] [--ignore-builtin] REPEAT (without --random-keys tables hash by fixed keys)\n";
+        "usage: gqlbench schema|lookups|doc|walk|leaf|compile|text [--json] [--random-keys] [--adopt] [--ignore-builtin] REPEAT (without --random-keys tables hash by fixed keys)\n";
     expect_none(&rt, &rows, "foo", (Status::Refused, usage));
 }
 
@@ -327,15 +347,26 @@ fn inputs_and_clocks_that_cannot_be_read(rt: HostRuntime) {
         &["compile", "1"],
     ];
     expect_none(&rt, &schemas, "foo", unknown);
+    expect_none(&rt, &[&["text", "1"]], TEXT, stopped);
     expect_none(&rt, &divided, INPUT, undivided);
     expect_none(&rt, &schemas, INPUT, stopped);
     expect_none(&rt, &divided, DIVIDED, stopped);
 }
 
 #[test]
+fn texts_that_are_refused(rt: HostRuntime) {
+    let system = system_of(Some(7), None, None);
+    let said = "byte 1: expected a selection, found `}`\n";
+    let outcome = (Status::Refused, "", said);
+    expect(&rt, &system, &["text", "1"], "{}", outcome);
+}
+
+#[test]
 fn keys_that_cannot_be_drawn(rt: HostRuntime) {
     let not_drawn = (Status::Exhausted, "cannot draw random keys\n");
-    for work in ["schema", "lookups", "doc", "walk", "leaf", "compile"] {
+    for work in [
+        "schema", "lookups", "doc", "walk", "leaf", "compile", "text",
+    ] {
         expect_none(&rt, &[&[work, "--random-keys", "1"]], "foo", not_drawn);
     }
 }
