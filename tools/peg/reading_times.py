@@ -11,8 +11,8 @@ HERE = pathlib.Path(__file__).parent
 WANTED = 3
 # Debian's packages node-graphql and golang-github-vektah-gqlparser-dev.
 OTHERS = {
-    "graphql-js": (["node", HERE / "texts.js"], {}),
-    "gqlparser": (["go", "run", HERE / "texts.go"], {"GO111MODULE": "off", "GOPATH": "/usr/share/gocode"}),
+    "graphql-js": (["node", HERE / "reading_times.js"], {}),
+    "gqlparser": (["go", "run", HERE / "reading_times.go"], {"GO111MODULE": "off", "GOPATH": "/usr/share/gocode"}),
 }
 
 

@@ -1,4 +1,4 @@
-// Reads the GraphQL text on standard input by gqlparser, as texts.js reads it by graphql-js: as definitions of the type system, or else
+// Reads the GraphQL text on standard input by gqlparser, as reading_times.js reads it by graphql-js: as definitions of the type system, or else
 // as operations and fragments.
 package main
 
