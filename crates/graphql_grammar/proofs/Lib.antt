@@ -5,6 +5,7 @@ pub mod LoopLaws
 pub mod ManyLaws
 pub mod PieceLaws
 pub mod ReadingLemmas
+pub mod TextsOfWords
 pub mod ViableLaws
 pub mod WholeBlind
 pub mod WholeLaws
