@@ -14,6 +14,14 @@ pub mod LocationLemmas
 pub mod NestedLemmas
 pub mod NodeLaws
 pub mod OperationLaws
+pub mod PartLaws
+pub mod PartsOfDefinitions
+pub mod PartsOfOperations
+pub mod PartsOfSelections
+pub mod PartsOfTypeSystem
+pub mod PartsOfValues
+pub mod PlaceLaws
+pub mod RolledParts
 pub mod SelectionLaws
 pub mod TypeLaws
 pub mod TypeSystemLaws
@@ -26,3 +34,4 @@ pub mod ViableSelections
 pub mod ViableTypes
 pub mod ViableTypeSystem
 pub mod ViableValues
+pub mod WellFormedLaws

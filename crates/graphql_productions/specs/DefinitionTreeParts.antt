@@ -92,16 +92,16 @@ definition_parts (d.InputObjectTypeDefinition n) =
 definition_parts (d.SchemaExtension n) =
     Node n.location
     ∷ (extended_parts n.value.directives (is_none n.value.root_operations)
-        ++ (directives_parts true n.value.directives ++ flat_map (node_parts root_parts) n.value.root_operations))
+    ++ (directives_parts true n.value.directives ++ flat_map (node_parts root_parts) n.value.root_operations))
 definition_parts (d.ScalarTypeExtension n) = Node n.location ∷ (extended_parts n.value.directives true ++ (Name n.value.name ∷ directives_parts true n.value.directives))
 definition_parts (d.ObjectTypeExtension n) =
     Node n.location
     ∷ (extended_parts n.value.directives (is_none n.value.implements_interfaces && is_none n.value.fields)
-        ++ (Name n.value.name ∷ (names_parts n.value.implements_interfaces ++ (directives_parts true n.value.directives ++ fields_parts n.value.fields))))
+    ++ (Name n.value.name ∷ (names_parts n.value.implements_interfaces ++ (directives_parts true n.value.directives ++ fields_parts n.value.fields))))
 definition_parts (d.InterfaceTypeExtension n) =
     Node n.location
     ∷ (extended_parts n.value.directives (is_none n.value.implements_interfaces && is_none n.value.fields)
-        ++ (Name n.value.name ∷ (names_parts n.value.implements_interfaces ++ (directives_parts true n.value.directives ++ fields_parts n.value.fields))))
+    ++ (Name n.value.name ∷ (names_parts n.value.implements_interfaces ++ (directives_parts true n.value.directives ++ fields_parts n.value.fields))))
 definition_parts (d.UnionTypeExtension n) =
     Node n.location
     ∷ (extended_parts n.value.directives (is_none n.value.members) ++ (Name n.value.name ∷ (directives_parts true n.value.directives ++ names_parts n.value.members)))
