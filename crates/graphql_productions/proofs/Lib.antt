@@ -11,6 +11,7 @@ pub mod DirectiveLaws
 pub mod DocumentLaws
 pub mod ExtensionParts
 pub mod LocationLemmas
+pub mod NameTexts
 pub mod NestedLemmas
 pub mod NodeLaws
 pub mod OperationLaws

@@ -2,6 +2,7 @@
 use Rattle.std.proofs.Common.{◌≡◌, ◌≢◌, ℕ, Bool, true, false, ◌&&◌, List, [], ◌∷◌, ◌++◌, refl, sym, ap, ◌∙◌}
 use Rattle.std.specs.Prelude.{codes}
 use Rattle.std.specs.List.{AllByRecursion}
+use Rattle.graphql_nodes.specs.NameSyntax.{IsName}
 use Rattle.graphql_nodes.specs.declared.source.FileId.{FileId}
 use Rattle.graphql_grammar.specs.declared.kind.Kind.{Kind}
 use Rattle.graphql_grammar.specs.declared.kind.Names.{Names}
@@ -10,7 +11,8 @@ use Rattle.graphql_grammar.specs.Kinds.{is_name, names_of}
 use Rattle.graphql_grammar.specs.TextsOfWords.{HasItsText}
 use Rattle.graphql_grammar.specs.Words.{WordView}
 use Rattle.graphql_grammar.specs.WordsOfText.{name_kind}
-use Rattle.graphql_productions.specs.WellFormed.{IsNameText, IsWellFormedPart}
+use Rattle.graphql_productions.specs.WellFormed.{IsWellFormedPart}
+use Rattle.graphql_productions.proofs.NameTexts.{name_text}
 use Rattle.graphql_productions.proofs.PartLaws.{Serves}
 
 split_all : {X : Type 0} (P : X → Type 0) (xs ys : List X) → AllByRecursion P (xs ++ ys) → AllByRecursion P xs × AllByRecursion P ys
@@ -28,8 +30,8 @@ a_name names.EnumValue kind h = first_true (is_name kind) _ h
 
 -- a name is no word whose kind may not stand there
 module _ (some : Names) (w : WordView) (has : HasItsText w) (h : names_of some w.kind ≡ true) where
-  named : IsNameText w.text
-  named = (has.name (a_name some w.kind h)).0
+  named : IsName w.text
+  named = name_text w.text (has.name (a_name some w.kind h)).0
 
   is_no : (word : List ℕ) → names_of some (name_kind word) ≡ false → w.text ≢ word
   is_no word out e =
