@@ -1,8 +1,9 @@
 -- The bytes of a token that is a name are a name.
-use Rattle.std.proofs.Common.{◌≡◌, ◌≢◌, ◌≤◌, ◌+◌, ℕ, suc, Bool, true, false, ◌||◌, ◌&&◌, cond, List, [], ◌∷◌, take, drop, Ok, Err, ◌⊎◌, inl, inr, refl, sym, ap, subst, ◌∙◌, arith}
+use Rattle.std.proofs.Common.{◌≡◌, ◌≢◌, ◌≤◌, ◌+◌, ℕ, suc, Bool, true, false, ◌||◌, ◌&&◌, cond, List, [], ◌∷◌, take, drop, Ok, Err, inl, inr, refl, sym, ap, subst, ◌∙◌, arith}
 use Rattle.std.specs.Prelude.{All, None, Option, Some, nat_eq, nat_le}
 use Rattle.std.specs.Char.{is_ascii_digit}
 use Rattle.std.specs.List.{prefix_len}
+use Rattle.std.proofs.lemmas.Bool.{and_parts, or_cases}
 use Rattle.std.proofs.lemmas.List.Elements.{All-cons, All-nil}
 use Rattle.graphql_nodes.specs.NameSyntax.{IsName, IsNameContinue, IsNameStart}
 use Rattle.graphql_tokens.specs.Bytes.{begins, is_name_byte, is_name_start}
@@ -13,6 +14,7 @@ use Rattle.graphql_tokens.specs.declared.token.TokenErrorKind.TheVariants as e
 use Rattle.graphql_tokens.specs.declared.token.TokenKind.{TokenKind}
 use Rattle.graphql_tokens.specs.declared.token.TokenKind.TheVariants as t
 use Rattle.graphql_grammar.specs.TextsOfWords.{IsTextOf}
+use Rattle.graphql_grammar.proofs.TextsOfWords.{either}
 
 -- ---- what begins otherwise is no name
 
@@ -21,10 +23,6 @@ a_name size = Ok (record { kind = t.Name; size = size })
 
 abbrev IsNoName : Reading → Type 0
 IsNoName r = (size : ℕ) → r ≡ a_name size → ⊥
-
-either : {A : Type 0} (P : A → Type 0) (b : Bool) (x y : A) → P x → P y → P (cond b x y)
-either P true x y px py = px
-either P false x y px py = py
 
 -- what a token is, and how long
 abbrev kind_read : Reading → Option TokenKind
@@ -106,16 +104,8 @@ found false n r size other e = absurd (other size e)
 
 -- ---- its bytes
 
-or_cases : (a b : Bool) → (a || b) ≡ true → (a ≡ true) ⊎ (b ≡ true)
-or_cases true b e = inl refl
-or_cases false b e = inr e
-
-and_cases : (a b : Bool) → (a && b) ≡ true → (a ≡ true) × (b ≡ true)
-and_cases true b e = (refl, e)
-and_cases false b e = absurd cc
-
 between : (low c high : ℕ) → (nat_le low c && nat_le c high) ≡ true → low ≤ c × c ≤ high
-between low c high e = let both = and_cases (nat_le low c) (nat_le c high) e in (grind (arith, both.0), grind (arith, both.1))
+between low c high e = let both = and_parts (nat_le low c) (nat_le c high) e in (grind (arith, both.0), grind (arith, both.1))
 
 starts : (c : ℕ) → is_name_start c ≡ true → IsNameStart c
 starts c e =

@@ -1,7 +1,8 @@
 -- What words with their texts spell is well-formed.
-use Rattle.std.proofs.Common.{◌≡◌, ◌≢◌, ℕ, Bool, true, false, ◌&&◌, List, [], ◌∷◌, ◌++◌, refl, sym, ap, ◌∙◌}
+use Rattle.std.proofs.Common.{◌≡◌, ◌≢◌, ℕ, true, false, List, [], ◌∷◌, ◌++◌, refl, sym, ap, ◌∙◌}
 use Rattle.std.specs.Prelude.{codes}
 use Rattle.std.specs.List.{AllByRecursion}
+use Rattle.std.proofs.lemmas.Bool.{and_parts}
 use Rattle.graphql_nodes.specs.NameSyntax.{IsName}
 use Rattle.graphql_nodes.specs.declared.source.FileId.{FileId}
 use Rattle.graphql_grammar.specs.declared.kind.Kind.{Kind}
@@ -19,14 +20,10 @@ split_all : {X : Type 0} (P : X → Type 0) (xs ys : List X) → AllByRecursion 
 split_all P [] ys all = (tt, all)
 split_all P (x ∷ xs) ys all = let rest = split_all P xs ys all.1 in ((all.0, rest.0), rest.1)
 
-first_true : (a b : Bool) → (a && b) ≡ true → a ≡ true
-first_true true b e = refl
-first_true false b e = absurd cc
-
 a_name : (some : Names) (kind : Kind) → names_of some kind ≡ true → is_name kind ≡ true
 a_name names.Any kind h = h
-a_name names.Fragment kind h = first_true (is_name kind) _ h
-a_name names.EnumValue kind h = first_true (is_name kind) _ h
+a_name names.Fragment kind h = (and_parts (is_name kind) _ h).0
+a_name names.EnumValue kind h = (and_parts (is_name kind) _ h).0
 
 -- a name is no word whose kind may not stand there
 module _ (some : Names) (w : WordView) (has : HasItsText w) (h : names_of some w.kind ≡ true) where

@@ -39,6 +39,7 @@ input_value_parts v =
     description_parts v.description
     ++ (Name v.name ∷ (node_parts type_parts v.ty ++ (option_parts (node_parts (value_parts true)) v.default_value ++ directives_parts true v.directives)))
 
+-- arguments or input fields, in order
 abbrev pub input_values_parts : List (NodeView InputValueDefinition) → List TreePart
 input_values_parts values = flat_map (node_parts input_value_parts) values
 
@@ -46,6 +47,7 @@ input_values_parts values = flat_map (node_parts input_value_parts) values
 abbrev pub field_parts : FieldDefinition → List TreePart
 field_parts f = description_parts f.description ++ (Name f.name ∷ (input_values_parts f.arguments ++ (type_parts f.ty ++ directives_parts true f.directives)))
 
+-- fields, in order
 abbrev pub fields_parts : List (NodeView FieldDefinition) → List TreePart
 fields_parts fields = flat_map (node_parts field_parts) fields
 
@@ -53,6 +55,7 @@ fields_parts fields = flat_map (node_parts field_parts) fields
 abbrev pub enum_value_parts : EnumValueDefinition → List TreePart
 enum_value_parts v = description_parts v.description ++ (EnumName v.value ∷ directives_parts true v.directives)
 
+-- enum values, in order
 abbrev pub enum_values_parts : List (NodeView EnumValueDefinition) → List TreePart
 enum_values_parts values = flat_map (node_parts enum_value_parts) values
 

@@ -6,6 +6,7 @@ use Rattle.graphql_ast.specs.declared.selection.Selection.{Selection, fold-Selec
 use Rattle.graphql_ast.specs.declared.selection.Selection.TheOpen.{Field-F, InlineFragment-F, Selection-F}
 use Rattle.graphql_productions.specs.TreeParts.{FragmentName, Name, TreePart, arguments_parts, directives_parts, name_parts, node_parts, option_parts, wanted_parts}
 
+-- the parts of what is inside
 abbrev pub Listed : Type 0
 Listed = List TreePart
 

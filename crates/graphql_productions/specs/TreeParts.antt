@@ -83,6 +83,7 @@ type_parts = fold-Type (List TreePart) type_step
 abbrev pub argument_parts : Bool → Argument → List TreePart
 argument_parts constant a = Name a.name ∷ node_parts (value_parts constant) a.value
 
+-- arguments, in order
 abbrev pub arguments_parts : Bool → List (NodeView Argument) → List TreePart
 arguments_parts constant arguments = flat_map (node_parts (argument_parts constant)) arguments
 
@@ -90,5 +91,6 @@ arguments_parts constant arguments = flat_map (node_parts (argument_parts consta
 abbrev pub directive_parts : Bool → Directive → List TreePart
 directive_parts constant d = Name d.name ∷ arguments_parts constant d.arguments
 
+-- directives, in order
 abbrev pub directives_parts : Bool → DirectiveList → List TreePart
 directives_parts constant l = flat_map (node_parts (directive_parts constant)) l.0
