@@ -25,7 +25,7 @@ ghost use Rattle.graphql_nodes.specs.Comparing.{ComparesBy};
 // Names, nodes and containers: `==` compares text or value, without locations, and tables and sets without order.
 pub use graphql_nodes::laws as nodes;
 
-// GraphQL text: words spell one tree at most, and refusals are of all words so far.
+// GraphQL text: words spell one tree at most, which is well-formed; refusals are of all words so far.
 pub use graphql_productions::laws as text;
 
 // The syntax tree: `==` leaves out each location and nothing else, and each clone is the original.

@@ -16,7 +16,7 @@ pub record Spotless {A : Type 0} (p : Piece A) : Type 0 where
   pub clean : (x : A) (front : List WordView) → p.spells x front → AllClean front
 
 -- tokens, and then tokens
-pub both_clean : (head tail : List WordView) → AllClean head → AllClean tail → AllClean (head ++ tail)
+both_clean : (head tail : List WordView) → AllClean head → AllClean tail → AllClean (head ++ tail)
 both_clean [] tail h g = g
 both_clean (w ∷ ws) tail h g = (h.0, both_clean ws tail h.1 g)
 

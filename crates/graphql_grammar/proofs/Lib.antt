@@ -9,6 +9,7 @@ pub mod ManyLaws
 pub mod PieceLaws
 pub mod ReadingLemmas
 pub mod SeparatedLaws
+pub mod TextsOfWords
 pub mod ViableLaws
 pub mod WholeBlind
 pub mod WholeLaws

@@ -4,6 +4,7 @@ pub mod Pieces
 pub mod Refusals
 pub mod Spelling
 pub mod Standing
+pub mod TextsOfWords
 pub mod Words
 pub mod WordsAtTokens
 pub mod WordsOfText

@@ -1,16 +1,13 @@
 -- Definitions, extensions and documents are spelled by tokens alone.
-use Rattle.std.proofs.Common.{◌≡◌, ℕ, ◌||◌, true, List, [], ◌∷◌, refl, subst, sym}
+use Rattle.std.proofs.Common.{◌≡◌, ℕ, ◌||◌, true, refl}
 use Rattle.graphql_nodes.specs.declared.source.FileId.{FileId}
 use Rattle.graphql_nodes.specs.declared.type_kind.TypeKind.{TypeKind}
 use Rattle.graphql_nodes.specs.declared.type_kind.TypeKind.TheVariants as t
-use Rattle.graphql_ast.specs.declared.definition.Definition.{Definition}
 use Rattle.graphql_grammar.specs.declared.fault.Item.TheVariants as i
 use Rattle.graphql_grammar.specs.declared.kind.Kind.TheVariants as k
-use Rattle.graphql_grammar.specs.Clean.{AllClean}
 use Rattle.graphql_grammar.specs.Kinds.{is_name, is_token, only}
-use Rattle.graphql_grammar.specs.Words.{WordView}
-use Rattle.graphql_grammar.proofs.CleanLaws.{Spotless, both_clean, branch_clean, choose_clean, filtered_clean, located_clean, mapped_clean, nothing_clean, optional_clean, picked_clean, separated_clean, seq_clean, sign_clean}
-use Rattle.graphql_productions.specs.Documents.{definition, fragment, operation_definition, shorthand_definition, spells_document, spells_in_turn}
+use Rattle.graphql_grammar.proofs.CleanLaws.{Spotless, branch_clean, choose_clean, filtered_clean, item_clean, located_clean, mapped_clean, nothing_clean, optional_clean, picked_clean, separated_clean, seq_clean, sign_clean, some_clean}
+use Rattle.graphql_productions.specs.Documents.{definition, document, fragment, operation_definition, shorthand_definition}
 use Rattle.graphql_productions.specs.Operations.{is_operation_type}
 use Rattle.graphql_productions.specs.TypeSystem.{described, directive_body, expecting, extended, extension, extension_body, is_described, is_description, keyword, location, location_word, no_described, no_location, schema_body, schema_extension_body, system_definition, type_body}
 use Rattle.graphql_productions.proofs.CleanDirectives.{directives_clean}
@@ -106,10 +103,5 @@ definition_clean file depth =
     (choose_clean (is_operation_type kind) (operation_definition_clean file depth)
     (choose_clean (is_description kind || is_described kind) (system_definition_clean file depth) (nothing_clean (expecting i.Definition)))))))
 
-in_turn_clean : (file : FileId) (depth : ℕ) (xs : List Definition) (words : List WordView) → spells_in_turn file depth xs words → AllClean words
-in_turn_clean file depth [] words h = subst AllClean (sym h) tt
-in_turn_clean file depth (x ∷ xs) words h = subst AllClean (sym h.whole) (both_clean h.head h.tail ((definition_clean file depth).clean x h.head h.first) (in_turn_clean file depth xs h.tail h.second.0))
-
-pub document_clean : (file : FileId) (depth : ℕ) (xs : List Definition) (words : List WordView) → spells_document file depth xs words → AllClean words
-document_clean file depth [] words h = absurd h
-document_clean file depth (x ∷ xs) words h = in_turn_clean file depth (x ∷ xs) words h
+pub document_clean : (file : FileId) (depth : ℕ) → Spotless (document file depth)
+document_clean file depth = some_clean (item_clean (expecting i.Definition) (definition_clean file depth))

@@ -156,3 +156,13 @@ document_found file depth words xs e =
 -- words spell one document at most
 pub documents_are_one : (file : FileId) (depth : ℕ) (words : List WordView) (xs ys : List Definition) → spells_document file depth xs words → spells_document file depth ys words → xs ≡ ys
 documents_are_one file depth words xs ys h g = ok_is xs ys (sym (document_again file depth xs words h) ∙ document_again file depth ys words g)
+
+-- definitions in turn are any number of definitions
+many_spelled : (file : FileId) (depth : ℕ) (xs : List Definition) (words : List WordView) → spells_in_turn file depth xs words → (many (one file depth)).spells xs words
+many_spelled file depth [] words h = h
+many_spelled file depth (x ∷ xs) words h = record { head = h.head; tail = h.tail; whole = h.whole; first = h.first; second = many_spelled file depth xs h.tail h.second.0 }
+
+-- words that spell a document spell it as its production says
+pub as_spelled : (file : FileId) (depth : ℕ) (xs : List Definition) (words : List WordView) → spells_document file depth xs words → (document file depth).spells xs words
+as_spelled file depth [] words h = absurd h
+as_spelled file depth (x ∷ xs) words h = ((x, xs), refl, record { head = h.head; tail = h.tail; whole = h.whole; first = h.first; second = many_spelled file depth xs h.tail h.second.0 })

@@ -24,9 +24,18 @@ pub mod ExtensionParts
 pub mod JudgedProductions
 pub mod ListLaws
 pub mod LocationLemmas
+pub mod NameTexts
 pub mod NestedLemmas
 pub mod NodeLaws
 pub mod OperationLaws
+pub mod PartLaws
+pub mod PartsOfDefinitions
+pub mod PartsOfOperations
+pub mod PartsOfSelections
+pub mod PartsOfTypeSystem
+pub mod PartsOfValues
+pub mod PlaceLaws
+pub mod RolledParts
 pub mod SelectionLaws
 pub mod TypeLaws
 pub mod TypeSystemLaws
@@ -39,3 +48,4 @@ pub mod ViableSelections
 pub mod ViableTypes
 pub mod ViableTypeSystem
 pub mod ViableValues
+pub mod WellFormedLaws

@@ -1,9 +1,14 @@
+pub mod DefinitionTreeParts
 pub mod Directives
 pub mod Documents
 pub mod Locations
 pub mod Nodes
 pub mod Operations
+pub mod Places
+pub mod SelectionParts
 pub mod Selections
+pub mod TreeParts
 pub mod Types
 pub mod TypeSystem
 pub mod Values
+pub mod WellFormed

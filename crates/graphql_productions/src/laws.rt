@@ -18,6 +18,8 @@ ghost use Rattle.graphql_productions.specs.Selections.{bare_selections, selectio
 ghost use Rattle.graphql_productions.specs.Types.{type};
 ghost use Rattle.graphql_productions.specs.Values.{value, value_node};
 
+pub mod trees;
+
 /// Words spell one tree at most: one document, one definition, one selection set, one value.
 pub fn words_spell_one_tree()
     ensures document { (file : FileId) (depth : ℕ) (words : List WordView) (a b : List Definition) → spells_document file depth a words → spells_document file depth b words → a ≡ b }

@@ -5,10 +5,11 @@ use Rattle.graphql_productions.proofs.CleanDefinitions.{document_clean}
 use Rattle.graphql_productions.proofs.CleanSelections.{selections_clean}
 use Rattle.graphql_productions.proofs.CleanTypes.{type_clean}
 use Rattle.graphql_productions.proofs.CleanValues.{value_node_clean}
+use Rattle.graphql_productions.proofs.DocumentLaws.{as_spelled}
 use Rattle.graphql_productions.proofs.laws.trees_are_spelled_by_tokens.Goals as goal
 
 pub returns-clause-document : goal.returns-clause-document
-returns-clause-document c = λ file depth allowed text x h. words_are_at_tokens allowed text (document_clean file depth x (words_of allowed text) h)
+returns-clause-document c = λ file depth allowed text x h. words_are_at_tokens allowed text ((document_clean file depth).clean x (words_of allowed text) (as_spelled file depth x (words_of allowed text) h))
 
 pub returns-clause-selections : goal.returns-clause-selections
 returns-clause-selections c = λ file depth allowed text x h. words_are_at_tokens allowed text ((selections_clean file depth).clean x (words_of allowed text) h)

@@ -1,0 +1,24 @@
+-- Trees that could have come of a text: GraphQL specification of October 2021, sections 2.1.9, 2.8, 2.9, 2.10 and 3.9, and appendix B.
+use Rattle.std.specs.Prelude.{◌≡◌, ◌≢◌, false, true, List, codes}
+use Rattle.std.specs.List.{AllByRecursion}
+use Rattle.graphql_nodes.specs.NameSyntax.{IsName}
+use Rattle.graphql_tokens.specs.declared.token.TokenKind.TheVariants as t
+use Rattle.graphql_grammar.specs.TextsOfWords.{IsTextOf}
+use Rattle.graphql_productions.specs.TreeParts.{Description, EnumName, Float, FragmentName, Int, Name, Node, TreePart, Variable, Wanted}
+
+-- a part that could have come of a text: names are names and numbers are tokens, no name of a fragment is `on`, none of an enum
+-- value is `true`, `false` or `null`, no variable stands in a constant value, and what the grammar wants is there
+abbrev pub IsWellFormedPart : TreePart → Type 0
+IsWellFormedPart (Node at) = Unit {0}
+IsWellFormedPart (Name n) = IsName n.text
+IsWellFormedPart (FragmentName n) = IsName n.text × (n.text ≢ codes "on")
+IsWellFormedPart (EnumName n) = IsName n.text × (n.text ≢ codes "true") × (n.text ≢ codes "false") × (n.text ≢ codes "null")
+IsWellFormedPart (Variable constant n) = IsName n.text × (constant ≡ false)
+IsWellFormedPart (Description n) = Unit {0}
+IsWellFormedPart (Int text) = IsTextOf t.Int text
+IsWellFormedPart (Float text) = IsTextOf t.Float text
+IsWellFormedPart (Wanted there) = there ≡ true
+
+-- a tree of these parts could have come of a text
+abbrev pub IsWellFormed : List TreePart → Type 0
+IsWellFormed parts = AllByRecursion IsWellFormedPart parts
