@@ -1,43 +1,38 @@
-//! Executable documents over a schema: faults with their paths, an operation got by its name, its fields walked.
+//! GraphQL text read as a schema and a document: faults with their paths, an operation got by its name, its fields walked.
 #![tactic(auto)]
 
 use anyhow::{Result, bail};
+use apollo_compiler::collections::Shared;
 use apollo_compiler::executable::{Operation, RequestError};
+use apollo_compiler::text::{ParseOptions, parse_document};
 use apollo_compiler::{
-    CompileOptions, Document, ExecutableDocument, HashKeys, Name, Node, Schema,
+    CompileOptions, Document, ExecutableDocument, FileId, HashKeys, Name, Node, Schema, SourceFile,
     build_executable_document, build_schema,
 };
-use bench_notation::reading::read_divided;
 use std::alloc::Global;
+use std::slice;
 
-/// A schema, and a document of two operations and a fragment, in the line notation. A service has its own reader of GraphQL
-/// text, which makes the same documents.
-const INPUT: &str = "def object Query
-field book Book
-arg isbn ID!
-def object Book
-field title String
-field author Author
-def object Author
-field name String
-===
-operation query Shown
-sel 0 field book
-sel 1 field title
-sel 1 field author
-sel 2 spread Names
-sel 1 field price
-operation query Asked
-sel 0 field __schema
-sel 1 field types
-sel 2 field name
-fragment Names Author
-sel 0 field name
+const SCHEMA: &str = "type Query { book(isbn: ID!): Book }
+type Book { title: String author: Author }
+type Author { name: String }
 ";
 
-/// The schema of documents. A server draws its keys, for documents from strangers.
-fn schema(alloc: Global, documents: &[Document]) -> Result<Schema> {
+const QUERIES: &str = "query Shown { book(isbn: \"1\") { title author { ...Names } price } }
+query Asked { __schema { types { name } } }
+fragment Names on Author { name }
+";
+
+/// The document of a text, which is the file of this number: every number but 0 will do.
+fn document(alloc: Global, number: u64, path: &str, text: &str) -> Result<Document> {
+    let source = Shared::new(alloc, SourceFile::new(alloc, path, text)?)?;
+    // The error says what is wrong with the text first, and where.
+    Ok(parse_document(alloc, FileId(number), &source, ParseOptions::new())?)
+}
+
+/// The schema of a document. A server draws its keys, for documents from strangers.
+fn schema(alloc: Global, document: &Document) -> Result<Schema> {
     let options = CompileOptions::none();
+    let documents = slice::from_ref(document);
     let (schema, faults) = build_schema(alloc, HashKeys::FIXED, options, documents)?;
     if !faults.is_empty() {
         bail!("the schema has faults");
@@ -86,10 +81,10 @@ fn print_operation(
 
 fn main(rt: HostRuntime) -> Result<()> {
     let alloc = rt.alloc();
-    let documents = read_divided(alloc, INPUT)?;
-    let schema = schema(alloc, documents.schema.as_slice())?;
-    let queries = documents.executable.as_slice();
+    let schema = schema(alloc, &document(alloc, 1, "store.graphql", SCHEMA)?)?;
+    let queries = document(alloc, 2, "queries.graphql", QUERIES)?;
     // Definitions of types don't belong here: each is a fault.
+    let queries = slice::from_ref(&queries);
     let (document, faults) = build_executable_document(alloc, &schema, queries, true)?;
     for (_, fault) in faults.iter() {
         println!(rt; "fault: {fault}")?;
