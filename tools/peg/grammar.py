@@ -1,6 +1,6 @@
 """Random GraphQL documents, as their tokens: GraphQL specification of October 2021, appendix B."""
-NAMES = ["a", "b", "B2", "_", "__c", "Query", "on", "type", "query", "input", "schema", "fragment", "implements", "repeatable"]
-NAMES += ["true", "null", "FIELD"]
+NAMES = ["a", "b", "B2", "_", "__c", "Query", "FIELD", "on", "type", "query", "input", "schema", "fragment", "implements"]
+NAMES += ["repeatable", "true", "null"]
 LOCATIONS = ["QUERY", "MUTATION", "SUBSCRIPTION", "FIELD", "FRAGMENT_DEFINITION", "FRAGMENT_SPREAD", "INLINE_FRAGMENT"]
 LOCATIONS += ["VARIABLE_DEFINITION", "SCHEMA", "SCALAR", "OBJECT", "FIELD_DEFINITION", "ARGUMENT_DEFINITION", "INTERFACE", "UNION"]
 LOCATIONS += ["ENUM", "ENUM_VALUE", "INPUT_OBJECT", "INPUT_FIELD_DEFINITION"]
@@ -14,8 +14,8 @@ PUNCTUATORS = ["!", "$", "&", "(", ")", "...", ":", "=", "@", "[", "]", "{", "|"
 WORDS = ["query", "mutation", "subscription", "fragment", "on", "extend", "schema", "scalar", "type", "interface", "union", "enum"]
 WORDS += ["input", "directive", "repeatable", "implements", *RESERVED]
 # What a token may be changed to: also what is none.
-TOKENS = [*PUNCTUATORS, *PUNCTUATORS, *WORDS, *NAMES, *NUMBERS, '""', '"a"', '"""b"""', '"', '"""', "01", "1.", "1e", "-", "1.5.", "1a"]
-TOKENS += ["..", ".", "?", "/", "'", "\\", "\0", "\u00e9", "\ufeff"]
+TOKENS = [*PUNCTUATORS, *PUNCTUATORS, *WORDS, *NAMES, *NUMBERS, '""', '"a"', '"""b"""', '"', '"""']
+TOKENS += ["01", "1.", "1e", "-", "1.5.", "1a", "..", ".", "?", "/", "'", "\\", "\0", "\u00e9", "\ufeff"]
 
 
 class Maker:
@@ -41,21 +41,16 @@ class Maker:
         return [signs[0], *self.some(make, *given), signs[1]]
 
     def separated(self, sign, make):
-        return [*self.maybe(lambda: [sign]), *make(), *(self.maybe(lambda: [sign, *make(), *self.maybe(lambda: [sign, *make()])]))]
+        return [*self.maybe(lambda: [sign]), *make(), *self.maybe(self.some, lambda: [sign, *make()])]
 
     def name(self, but=()):
         return [self.choice([name for name in NAMES if name not in but or self.is_wrong()])]
 
-    def string(self):
-        pieces = self.choice([CHARACTERS, CHARACTERS + ESCAPES])
-        return ['"%s"' % "".join(self.choice(WRONG if self.is_wrong() else pieces) for _ in range(self.chance.randint(0, 5)))]
-
-    def block(self):
-        pieces = CHARACTERS + 2 * BLOCK
-        return ['"""%s"""' % "".join(self.choice(WRONG if self.is_wrong() else pieces) for _ in range(self.chance.randint(0, 9)))]
-
     def text(self):
-        return self.choice([self.string, self.block])()
+        """A string or a block string."""
+        quotes, pieces = self.choice([('"', CHARACTERS), ('"', CHARACTERS + ESCAPES), ('"""', CHARACTERS + 2 * BLOCK)])
+        inside = [self.choice(WRONG if self.is_wrong() else pieces) for _ in range(self.chance.randint(0, 7))]
+        return [quotes + "".join(inside) + quotes]
 
     def value(self, constant, depth=2):
         makes = [lambda: [self.choice(NUMBERS)], self.text, lambda: [self.choice(RESERVED)], self.name]
@@ -130,7 +125,7 @@ class Maker:
 
     def parts(self, word):
         """What stands behind the name of a type, or behind `schema`."""
-        implements = self.maybe(lambda: ["implements", *self.separated("&", self.name)]) if word in ("type", "interface") else []
+        implements = self.maybe(lambda: ["implements", *self.separated("&", self.name)])
         below = {
             "schema": lambda: self.enclosed("{}", self.root),
             "type": lambda: self.maybe(self.enclosed, "{}", self.field),
@@ -139,7 +134,7 @@ class Maker:
             "enum": lambda: self.maybe(self.enclosed, "{}", self.enum_value),
             "input": lambda: self.inputs("{}"),
         }
-        return [*implements, *self.directives(True), *below.get(word, list)()]
+        return [*(implements if word in ("type", "interface") else []), *self.directives(True), *below.get(word, list)()]
 
     def of_type_system(self):
         word = self.choice(["schema", "scalar", "type", "type", "interface", "union", "enum", "input"])
@@ -153,3 +148,8 @@ class Maker:
 
     def document(self):
         return [*(self.selections() if self.chance.random() < 0.1 else []), *self.some(self.definition)]
+
+    def tokens(self, sort):
+        """A document, or what else `gqltext` reads."""
+        makes = {"selections": self.selections, "type": self.type, "value": lambda: self.value(True)}
+        return makes.get(sort, self.document)()

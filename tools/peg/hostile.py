@@ -167,7 +167,10 @@ CASES = {
     "opening brackets": refused(b"value", b"[", b"200 201 nested too deeply"),
     "backslashes": refused(b"value", b"\\", b"0 0 unexpected character `\\`"),
     "GraphQL texts": Hostile(
-        [b"value"], lines(framed(b"0")), lambda size, run: run.answer == (0, b"tree 0..1 int 0 \n" * size, b""), program="gqltext"
+        [b"value"],
+        lines(framed(b"0")),
+        lambda size, run: run.answer == (0, b"tree 0..1 int 0 \n" * size, b""),
+        program="gqltext",
     ),
 }
 

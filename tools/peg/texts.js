@@ -1,9 +1,9 @@
-// Says what graphql-js reads texts as, as `gqltext document` does: reads JSON, a list of texts, from standard input, and writes a line
-// for each: `tree` and the tree, or `refused`, the byte where, and why. What `gqltext` doesn't keep is left out: the places of lists,
-// of non-null types, of members of objects and of operation types, and whether a string is a block.
+// Says what graphql-js reads texts as, as `gqltext` does: reads JSON, a list of words of `gqltext` and texts, from standard input, and
+// writes a line for each: `tree` and the tree, or `refused`, the byte where, and why. What `gqltext` doesn't keep is left out: the
+// places of lists, of non-null types, of members of objects and of operation types, and whether a string is a block.
 'use strict';
 const fs = require('node:fs');
-const { parse } = require('./graphql');
+const { parse, parseConstValue, Parser, parseType } = require('./graphql');
 
 // The byte of each place in a text, of which graphql-js counts UTF-16 units.
 function bytesOf(text) {
@@ -26,8 +26,18 @@ function described(kind) {
   return `${/^[aeio]/.test(words) ? 'an' : 'a'} ${words}`;
 }
 
-// The words of a tree, whose places are in these bytes.
-function told(document, bytes) {
+// Selections, with braces or without.
+function parseSelections(text) {
+  const parser = new Parser(text);
+  if (parser._lexer.lookahead().kind !== '{') return { selections: parser.many('<SOF>', parser.parseSelection, '<EOF>') };
+  parser.expectToken('<SOF>');
+  const set = parser.parseSelectionSet();
+  parser.expectToken('<EOF>');
+  return set;
+}
+
+// The words of what a text is read as, in these bytes.
+function told(sort, text, bytes) {
   const at = (it) => `${bytes[it.loc.start]}..${bytes[it.loc.end]}`;
   const name = (it) => (it ? [it.value, at(it)] : ['-']);
   const description = (it) => (it ? [escaped(it.value), at(it)] : ['-']);
@@ -108,18 +118,27 @@ function told(document, bytes) {
       }
     }
   };
-  return list(document.definitions, (it) => [described(it.kind), ...placed(it, definition)]);
+  switch (sort) {
+    case 'selections':
+      return selections({ selectionSet: parseSelections(text) });
+    case 'type':
+      return type(parseType(text));
+    case 'value':
+      return placed(parseConstValue(text), value);
+    default:
+      return list(parse(text).definitions, (it) => [described(it.kind), ...placed(it, definition)]);
+  }
 }
 
-function answer(text) {
+function answer([sort, text]) {
   const bytes = bytesOf(text);
   try {
-    return `tree ${told(parse(text), bytes).join(' ')} `;
+    return `tree ${told(sort, text, bytes).join(' ')} `;
   } catch (error) {
     if (!error.positions) throw error;
     return `refused ${bytes[error.positions[0]]} ${error.message}`.replace(/\s/g, ' ');
   }
 }
 
-const texts = JSON.parse(fs.readFileSync(0, 'utf8'));
-fs.writeFileSync(1, texts.map((text) => `${answer(text)}\n`).join(''));
+const asked = JSON.parse(fs.readFileSync(0, 'utf8'));
+fs.writeFileSync(1, asked.map((pair) => `${answer(pair)}\n`).join(''));

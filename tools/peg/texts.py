@@ -4,6 +4,7 @@ Where the two differ for a reason that is known, the difference is counted under
 difference is wrong.
 """
 import collections
+import itertools
 import json
 import pathlib
 import random
@@ -13,6 +14,7 @@ import subprocess
 from peg import TOP, programs
 from peg.grammar import TOKENS, Maker
 
+SORTS = ["document", "selections", "type", "value"]
 SCRIPT = pathlib.Path(__file__).with_name("texts.js")
 EXPLAINED = {
     "control": "control characters in strings and comments, which graphql-js takes",
@@ -22,16 +24,17 @@ EXPLAINED = {
 # How graphql-js says that no token stands somewhere.
 NO_TOKEN = "Unterminated|Invalid|Unexpected (character|single quote)"
 explained = collections.Counter()
-# What ends gaps, begins tokens, and stands nowhere, or nowhere but in strings and comments.
+# What a character may be changed to: what ends a gap, begins a token, stands in strings alone, or nowhere.
 ODD = list("!$&().:=@[]{|}#,\"\\-+'%?_0 \t\n\r\0\x07\x7f\ufeff\u2028\u00e9\u2603\U0001d11e") + ["\r\n", "...", '"""']
-GAPS = ["", "", "", " ", " ", ",", "\n", "\r", "\r\n", "\t", " \n  ", "\ufeff", ", ,", "#\n", "# a \"\u2603 {\U0001d11e\r", "#é#\r\n"]
+GAPS = ["", "", "", " ", " ", ",", "\n", "\r", "\r\n", "\t", " \n  ", "\ufeff", ", ,"]
+GAPS += ["#\n", "# a \"\u2603 {\U0001d11e\r", "#\u00e9#\r\n"]
 STYLES = [[""], [" "], [" ", "\n"], GAPS]
 
 
 def must_part(before, after):
     """Whether there must be something between these tokens."""
-    is_number = before[0] in "-0123456789"
-    return bool(re.search(r"\w\Z", before) and re.match(r"\w", after)) or (before[-1] + after[0] == '""') or is_number and after[0] == "."
+    are_words = re.search(r"\w\Z", before) and re.match(r"\w", after)
+    return are_words or before[-1] + after[0] == '""' or before[0] in "-0123456789" and after[0] == "."
 
 
 def laid_out(chance, tokens):
@@ -51,36 +54,35 @@ def changed(chance, parts, others):
     return [*parts[:at], *new, *parts[at + 1 :]]
 
 
-def of_document(name):
-    """The texts of a name, each with a name of its own: a document, and the same with a token or a character changed."""
-    chance = random.Random(name)
-    tokens = Maker(chance).document()
+def of_name(name):
+    """The texts of a name, which begins with their sort: one, and the same with a token and with a character changed."""
+    chance, sort = random.Random(name), name.split(" ")[0]
+    tokens = Maker(chance).tokens(sort)
     text = laid_out(chance, tokens)
-    yield name, text
-    yield f"{name}, a token changed", laid_out(chance, changed(chance, tokens, TOKENS))
-    yield f"{name}, a character changed", "".join(changed(chance, text, ODD))
+    yield name, sort, text
+    yield f"{name}, a token changed", sort, laid_out(chance, changed(chance, tokens, TOKENS))
+    yield f"{name}, a character changed", sort, "".join(changed(chance, text, ODD))
 
 
 def of_examples():
     for path in sorted((TOP / "examples").glob("*.graphql")):
-        yield str(path.relative_to(TOP)), path.read_bytes().decode()
-
-
-def framed(texts):
-    """These texts as `gqltext` takes them."""
-    return b"".join(b"%d\n%b" % (len(text), text) for text in (text.encode() for text in texts))
+        yield str(path.relative_to(TOP)), "document", path.read_bytes().decode()
 
 
 def lines(output):
     return output.decode().split("\n")[:-1]
 
 
-def ours(texts):
-    return lines(programs.run(programs.path("gqltext"), [b"document"], framed(texts)).output)
+def ours(sort, texts):
+    """The answers of `gqltext` to texts of a sort."""
+    given = b"".join(b"%d\n%b" % (len(text), text) for text in (text.encode() for text in texts))
+    return lines(programs.run(programs.path("gqltext"), [sort.encode()], given).output)
 
 
-def theirs(texts):
-    return lines(subprocess.run(["node", SCRIPT], input=json.dumps(texts).encode(), stdout=subprocess.PIPE).stdout)
+def theirs(sort, texts):
+    """The answers of graphql-js."""
+    given = json.dumps([(sort, text) for text in texts]).encode()
+    return lines(subprocess.run(["node", SCRIPT], input=given, stdout=subprocess.PIPE).stdout)
 
 
 def reason(own, peer):
@@ -111,14 +113,12 @@ def wrong_of(own, peer):
 
 def trials(names):
     """Of each text of these names, and of the examples: its name, what is wrong, and the text."""
-    named = [*of_examples(), *(pair for name in names for pair in of_document(name))]
-    texts = [text for _, text in named]
-    own, peer = ours(texts), theirs(texts)
-    for at, (name, text) in enumerate(named):
-        if at < min(len(own), len(peer)):
-            yield name, wrong_of(own[at], peer[at]), [text]
-        else:
-            yield name, ["gqltext has ended" if at >= len(own) else "graphql-js has ended"], [text]
+    named = [*of_examples(), *(text for name in names for text in of_name(name))]
+    for sort in SORTS:
+        its = [(name, text) for name, its_sort, text in named if its_sort == sort]
+        texts = [text for _, text in its]
+        for (name, text), *answers in itertools.zip_longest(its, ours(sort, texts), theirs(sort, texts)):
+            yield name, wrong_of(*answers) if all(answers) else [f"an answer is missing: {answers}"], [text]
 
 
 def told():
