@@ -10,7 +10,11 @@ function load(name) {
   }
 }
 
-const graphql = { ...load('graphql'), validateSDL: load('graphql/validation/validate').validateSDL };
+const graphql = {
+  ...load('graphql'),
+  validateSDL: load('graphql/validation/validate').validateSDL,
+  Parser: load('graphql/language/parser').Parser,
+};
 const { isExecutableDefinitionNode, print, visit } = graphql;
 
 const KINDS = {

@@ -1,6 +1,6 @@
 """Large and strange inputs, each at two sizes: what comes of them, and that the time grows as what is read, said and walked.
 
-Texts of coordinates longer than a command line may have are run as rows, by `gqlrows`.
+Texts of coordinates longer than a command line may have are run as rows, by `gqlrows`, and GraphQL texts are read by `gqltext`.
 """
 import re
 from typing import Callable, NamedTuple
@@ -13,12 +13,13 @@ AT_MOST, SECONDS = 3, 0.1
 
 
 class Hostile(NamedTuple):
-    """The words of a run (none for rows), its input of any size, whether a run is right, and two sizes."""
+    """The words of a run, its input of any size, whether a run is right, two sizes, and the program."""
 
     words: list
     text: Callable
     is_right: Callable
     sizes: tuple = (250_000, 1_000_000)
+    program: str = "gqltool"
 
 
 def ends(status, output=b"", errors=b""):
@@ -59,7 +60,11 @@ def nested(size):
 
 def coordinate(text, answer):
     """A row: a text of this size, and what is to come of it."""
-    return lambda size: b"* a long text\n$ coord\n$ %s\n%s\n" % (text(size), answer(size))
+
+    def row(size):
+        return b"* a long text\n$ coord\n$ %s\n%s\n" % (text(size), answer(size))
+
+    return Hostile([], row, ends(0, b"1 rows, 0 differ\n"), program="gqlrows")
 
 
 def unknown(size):
@@ -71,13 +76,45 @@ def lines(line):
     return lambda size: line * size
 
 
+def framed(text):
+    return b"%d\n%s" % (len(text), text)
+
+
+def read(text, told, sizes=(250_000, 1_000_000)):
+    """A value that is read: its text, and the tree behind its place."""
+
+    def is_right(size, run):
+        return run.answer == (0, b"tree 0..%d %s \n" % (len(text(size)), told(size)), b"")
+
+    return Hostile([b"value"], lambda size: framed(text(size)), is_right, sizes, "gqltext")
+
+
+def listed(size, step, length, told):
+    """A list of so many values of this length, each so far behind the one before."""
+    return b"list [ %s]" % b"".join(b"%d..%d %b " % (at, at + length, told) for at in range(1, 1 + step * size, step))
+
+
+def refused(words, part, answer):
+    """So many times the same, as a text that is refused so."""
+    return Hostile(words.split(), lambda size: framed(part * size), ends(0, b"refused %s\n" % answer), program="gqltext")
+
+
+def is_nested(size, run):
+    """Brackets are read where no more of them are open than may be."""
+    lists = b"".join(b"%d..%d list [ " % (at, 2 * size - at) for at in range(size))
+    answer = b"tree " + lists + b"] " * size if size <= AT_ONCE else b"refused %d %d nested too deeply" % (AT_ONCE, AT_ONCE + 1)
+    return run.answer == (0, answer + b"\n", b"")
+
+
 def letters(size):
     return b"def object " + b"T" * size + b"\n"
 
 
 IS_UNKNOWN = ends(2, errors=b"line 1: unknown line\n")
-IS_ROW = ends(0, b"1 rows, 0 differ\n")
-SCHEMA, DOC, WALK, ROW = [b"schema"], [b"doc"], [b"walk"], []
+# How many signs may be open at once in a GraphQL text.
+AT_ONCE = 200
+LONG = (2_500_000, 10_000_000)
+SCHEMA, DOC, WALK = [b"schema"], [b"doc"], [b"walk"]
 CASES = {
     "definitions of one name": Hostile(SCHEMA, lines(b"def object T\n"), twice_defined, (25_000, 100_000)),
     "operations of one name": Hostile(
@@ -101,11 +138,39 @@ CASES = {
     ),
     "line feeds": Hostile(DOC, lines(b"\n"), ends(2, errors=b"missing ===\n")),
     "ends of documents": Hostile(SCHEMA, lines(b"---\n"), ends(0)),
-    "letters of each part of a coordinate": Hostile(
-        ROW, coordinate(lambda size: b"T" * size + b"." + b"T" * size, unknown), IS_ROW
+    "letters of each part of a coordinate": coordinate(lambda size: b"T" * size + b"." + b"T" * size, unknown),
+    "dots of a coordinate": coordinate(
+        lines(b"T."), lambda size: b"! `%s` is not a valid GraphQL name\n? 2" % (b"T." * size)
     ),
-    "dots of a coordinate": Hostile(
-        ROW, coordinate(lines(b"T."), lambda size: b"! `%s` is not a valid GraphQL name\n? 2" % (b"T." * size)), IS_ROW
+    "characters of a string": read(lambda size: b'"%s"' % (b"s" * size), lambda size: b'"%s"' % (b"s" * size), LONG),
+    "digits of a number": read(lines(b"7"), lambda size: b"int " + b"7" * size, LONG),
+    "letters of a GraphQL name": read(lines(b"n"), lambda size: b"enum %s 0..%d" % (b"n" * size, size), LONG),
+    "characters of a comment": read(lambda size: b"[#%s\n]" % (b"#" * size), lambda size: b"list [ ]", LONG),
+    "escapes of a string": read(
+        lambda size: b'"%s"' % (b"\\\\" * size), lambda size: b'"%s"' % (b"\\\\" * size)
+    ),
+    "escaped quotes of a block string": read(
+        lambda size: b'"""%s"""' % (b'\\"""' * size), lambda size: b'"%s"' % (b'\\"\\"\\"' * size)
+    ),
+    "lines of a block string": read(
+        lambda size: b'"""%s"""' % (b"\n  s" * size), lambda size: b'"s%s"' % (b"\\ns" * (size - 1))
+    ),
+    "block strings": read(
+        lambda size: b"[%s]" % (b'""""""' * size), lambda size: listed(size, 6, 6, b'""'), (50_000, 200_000)
+    ),
+    "tokens": read(lambda size: b"[%s]" % (b"0 " * size), lambda size: listed(size, 2, 1, b"int 0")),
+    "tokens above the limit": refused(b"value --max-tokens 7", b"[", b"7 8 too many tokens"),
+    "brackets around one another": Hostile(
+        [b"value"], lambda size: framed(b"[" * size + b"]" * size), is_nested, (AT_ONCE, AT_ONCE + 1), "gqltext"
+    ),
+    "opening braces": refused(b"document", b"{", b"1 2 expected a selection, found `{`"),
+    "opening brackets": refused(b"value", b"[", b"200 201 nested too deeply"),
+    "backslashes": refused(b"value", b"\\", b"0 0 unexpected character `\\`"),
+    "GraphQL texts": Hostile(
+        [b"value"],
+        lines(framed(b"0")),
+        lambda size, run: run.answer == (0, b"tree 0..1 int 0 \n" * size, b""),
+        program="gqltext",
     ),
 }
 
@@ -126,7 +191,7 @@ def findings():
     """Runs all cases, prints a table of their times, and answers what is wrong with each."""
     print("| input | size | s | size | s |\n|---|---|---|---|---|")
     for name, case in CASES.items():
-        program = programs.path("gqltool" if case.words else "gqlrows")
+        program = programs.path(case.program)
         texts = [case.text(size) for size in case.sizes]
         runs = [programs.run(program, case.words, text) for text in texts]
         if is_slow(texts, runs):

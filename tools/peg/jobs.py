@@ -61,6 +61,7 @@ def of_both(*words):
         command("tools/colliding_names", "--check"),
         command("tools/fuzz", "2000", "1"),
         command("tools/fuzz", "--peer", "100", "1"),
+        command("tools/fuzz", "--texts", "100", "1"),
         command("tools/checked_examples", *words),
         *(command(f"tools/{check}") for check in checks),
     ]
