@@ -3,6 +3,7 @@ pub mod BranchLaws
 pub mod CleanLaws
 pub mod EndsLaws
 pub mod Judged
+pub mod KeywordLemmas
 pub mod KindLemmas
 pub mod LoopLaws
 pub mod ManyLaws

@@ -1,7 +1,9 @@
 -- The words of a text are the words at its tokens where it has tokens, and no more than are allowed; else not all of them are tokens.
 use Rattle.std.proofs.Common.{◌≡◌, ℕ, zero, suc, ◌+◌, ◌-◌, ◌<◌, ◌≤◌, Bool, true, false, cond, List, [], ◌∷◌, length, map, take, drop, None, Some, Ok, Err, ◌⊎◌, inl, inr, refl, sym, ap, subst, ◌∙◌, arith}
-use Rattle.std.specs.Prelude.{codes, nat_eq, slice_range}
+use Rattle.std.specs.Prelude.{nat_eq, slice_range}
+use Rattle.std.specs.List.{list_all}
 use lib.Pointwise.{pointwise}
+use Rattle.std.proofs.lemmas.Bool.{and_parts}
 use Rattle.std.proofs.lemmas.List.{drop-drop, length-drop, length-take, take_min}
 use Rattle.graphql_tokens.specs.First.{First, FirstReading, first_behind, first_of, read_behind}
 use Rattle.graphql_tokens.specs.Ignored.{ignored}
@@ -18,45 +20,25 @@ use Rattle.graphql_grammar.specs.Clean.{AllClean}
 use Rattle.graphql_grammar.specs.Kinds.{is_token}
 use Rattle.graphql_grammar.specs.Words.{WordView}
 use Rattle.graphql_grammar.specs.WordsAtTokens.{AreAtTokens, word_at}
-use Rattle.graphql_grammar.specs.WordsOfText.{name_kind, too_many, word_kind, word_of, words_at, words_of, wrong}
+use Rattle.graphql_grammar.specs.WordsOfText.{keywords, kind_among, name_kind, too_many, word_kind, word_of, words_at, words_of, wrong}
 use Rattle.graphql_grammar.specs.declared.kind.Kind.{Kind}
-use Rattle.graphql_grammar.specs.declared.kind.Kind.TheVariants as k
 use Rattle.graphql_grammar.proofs.WordLemmas.{next_left, none_left, too_many_left, wrong_left}
 
 -- ---- words at tokens are tokens
-
--- the kind that stands with the first flag that is set, and `Name` where none is
-abbrev chosen : List (Bool × Kind) → Kind
-chosen [] = k.Name
-chosen (x ∷ xs) = cond x.0 x.1 (chosen xs)
-
-abbrev AllTokens : List (Bool × Kind) → Type 0
-AllTokens [] = Unit {0}
-AllTokens (x ∷ xs) = (is_token x.1 ≡ true) × AllTokens xs
 
 either_clean : (b : Bool) (x y : Kind) → is_token x ≡ true → is_token y ≡ true → is_token (cond b x y) ≡ true
 either_clean true x y hx hy = hx
 either_clean false x y hx hy = hy
 
-chosen_clean : (choices : List (Bool × Kind)) → AllTokens choices → is_token (chosen choices) ≡ true
-chosen_clean [] h = refl
-chosen_clean (x ∷ xs) h = either_clean x.0 x.1 (chosen xs) h.0 (chosen_clean xs h.1)
+-- where all kinds of a table are tokens, the kind that stands with a text is one, and so is `Name`
+among_clean : (table : List (List ℕ × Kind)) (text : List ℕ) → list_all (λ x. is_token x.1) table ≡ true → is_token (kind_among table text) ≡ true
+among_clean [] text clean = refl
+among_clean (x ∷ xs) text clean =
+    let both = and_parts (is_token x.1) (list_all (λ y. is_token y.1) xs) clean in
+    either_clean (pointwise nat_eq text x.0) x.1 (kind_among xs text) both.0 (among_clean xs text both.1)
 
 name_clean : (text : List ℕ) → is_token (name_kind text) ≡ true
-name_clean text =
-    let is : List ℕ → Bool = pointwise nat_eq text in
-    let choices : List (Bool × Kind) =
-    (is (codes "true"), k.True) ∷ (is (codes "false"), k.False) ∷ (is (codes "null"), k.Null) ∷
-    (is (codes "on"), k.On) ∷ (is (codes "query"), k.Query) ∷ (is (codes "mutation"), k.Mutation) ∷
-    (is (codes "subscription"), k.Subscription) ∷ (is (codes "fragment"), k.Fragment) ∷
-    (is (codes "schema"), k.Schema) ∷ (is (codes "scalar"), k.Scalar) ∷ (is (codes "type"), k.Type) ∷
-    (is (codes "interface"), k.Interface) ∷ (is (codes "union"), k.Union) ∷
-    (is (codes "enum"), k.Enum) ∷ (is (codes "input"), k.Input) ∷
-    (is (codes "directive"), k.Directive) ∷ (is (codes "extend"), k.Extend) ∷
-    (is (codes "implements"), k.Implements) ∷ (is (codes "repeatable"), k.Repeatable) ∷ [] in
-    let tokens : AllTokens choices =
-    (refl, (refl, (refl, (refl, (refl, (refl, (refl, (refl, (refl, (refl, (refl, (refl, (refl, (refl, (refl, (refl, (refl, (refl, (refl, tt))))))))))))))))))) in
-    chosen_clean choices tokens
+name_clean text = among_clean keywords text refl
 
 kind_clean : (kind : TokenKind) (text : List ℕ) → is_token (word_kind kind text) ≡ true
 kind_clean t.Name text = name_clean text

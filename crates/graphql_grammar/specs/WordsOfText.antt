@@ -1,5 +1,5 @@
 -- The words of a text: GraphQL specification of October 2021, section 2.1.6.
-use Rattle.std.specs.Prelude.{ℕ, zero, suc, List, [], ◌∷◌, length, ◌-◌, codes, nat_eq, if◌then◌else◌, Option, None, Some, Result, Ok, Err}
+use Rattle.std.specs.Prelude.{ℕ, zero, suc, List, [], ◌∷◌, length, filter, ◌-◌, codes, nat_eq, if◌then◌else◌, Option, None, Some, Result, Ok, Err}
 use lib.Pointwise.{pointwise}
 use Rattle.graphql_tokens.specs.First.{First, first_of}
 use Rattle.graphql_tokens.specs.declared.token.TokenError.{TokenError}
@@ -11,29 +11,28 @@ use Rattle.graphql_grammar.specs.Words.{WordView}
 use Rattle.graphql_grammar.specs.declared.kind.Kind.{Kind}
 use Rattle.graphql_grammar.specs.declared.kind.Kind.TheVariants as k
 
+-- the words that the grammar tells apart from other names, each with its kind
+abbrev pub keywords : List (List ℕ × Kind)
+keywords =
+    (codes "true", k.True) ∷ (codes "false", k.False) ∷ (codes "null", k.Null) ∷ (codes "on", k.On) ∷
+    (codes "query", k.Query) ∷ (codes "mutation", k.Mutation) ∷ (codes "subscription", k.Subscription) ∷
+    (codes "fragment", k.Fragment) ∷ (codes "schema", k.Schema) ∷ (codes "scalar", k.Scalar) ∷
+    (codes "type", k.Type) ∷ (codes "interface", k.Interface) ∷ (codes "union", k.Union) ∷
+    (codes "enum", k.Enum) ∷ (codes "input", k.Input) ∷ (codes "directive", k.Directive) ∷
+    (codes "extend", k.Extend) ∷ (codes "implements", k.Implements) ∷ (codes "repeatable", k.Repeatable) ∷ []
+
+-- the kind that stands with this text in a table, and `Name` where the text stands nowhere
+abbrev pub kind_among : List (List ℕ × Kind) → List ℕ → Kind
+kind_among [] text = k.Name
+kind_among (x ∷ xs) text = if pointwise nat_eq text x.0 then x.1 else kind_among xs text
+
+-- what a table has of words of this length
+abbrev pub of_length : ℕ → List (List ℕ × Kind) → List (List ℕ × Kind)
+of_length n table = filter (λ x. nat_eq (length x.0) n) table
+
 -- the kind of a name of these bytes: the words that the grammar tells apart have kinds of their own
 abbrev pub name_kind : List ℕ → Kind
-name_kind text =
-    if pointwise nat_eq text (codes "true") then k.True else (
-    if pointwise nat_eq text (codes "false") then k.False else (
-    if pointwise nat_eq text (codes "null") then k.Null else (
-    if pointwise nat_eq text (codes "on") then k.On else (
-    if pointwise nat_eq text (codes "query") then k.Query else (
-    if pointwise nat_eq text (codes "mutation") then k.Mutation else (
-    if pointwise nat_eq text (codes "subscription") then k.Subscription else (
-    if pointwise nat_eq text (codes "fragment") then k.Fragment else (
-    if pointwise nat_eq text (codes "schema") then k.Schema else (
-    if pointwise nat_eq text (codes "scalar") then k.Scalar else (
-    if pointwise nat_eq text (codes "type") then k.Type else (
-    if pointwise nat_eq text (codes "interface") then k.Interface else (
-    if pointwise nat_eq text (codes "union") then k.Union else (
-    if pointwise nat_eq text (codes "enum") then k.Enum else (
-    if pointwise nat_eq text (codes "input") then k.Input else (
-    if pointwise nat_eq text (codes "directive") then k.Directive else (
-    if pointwise nat_eq text (codes "extend") then k.Extend else (
-    if pointwise nat_eq text (codes "implements") then k.Implements else (
-    if pointwise nat_eq text (codes "repeatable") then k.Repeatable else (
-    k.Name)))))))))))))))))))
+name_kind text = kind_among keywords text
 
 -- the kind of the word that a token of these bytes is
 abbrev pub word_kind : TokenKind → List ℕ → Kind
