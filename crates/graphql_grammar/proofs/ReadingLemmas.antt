@@ -1,5 +1,6 @@
 -- What readings, flags and ends of lists of words say.
 use Rattle.std.proofs.Common.{◌≡◌, ℕ, Bool, true, false, ◌||◌, ◌&&◌, cond, List, [], ◌∷◌, ◌++◌, Result, Ok, Err, ◌⊎◌, inl, inr, refl}
+use Rattle.std.proofs.lemmas.Bool.{cond_both}
 use Rattle.graphql_grammar.specs.Pieces.{Refusal, ◌>>=◌}
 use Rattle.graphql_grammar.specs.Words.{WordView, ended}
 
@@ -16,6 +17,10 @@ ok_is x y e = cc
 pub chosen : {A : Type 0} (b : Bool) (x y z : A) → cond b x y ≡ z → ((b ≡ true) × (x ≡ z)) ⊎ ((b ≡ false) × (y ≡ z))
 chosen true x y z e = inl (refl, e)
 chosen false x y z e = inr (refl, e)
+
+-- what holds of both holds of the one that is chosen
+pub either : {A : Type 0} (P : A → Type 0) (b : Bool) (x y : A) → P x → P y → P (cond b x y)
+either P b x y px py = cond_both b x y P (λ _. px) (λ _. py)
 
 pub or_false : (a b : Bool) → (a || b) ≡ false → (a ≡ false) × (b ≡ false)
 or_false true b e = absurd cc

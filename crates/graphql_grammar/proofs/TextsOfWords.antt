@@ -1,9 +1,7 @@
 -- The words of a text have their texts, and stand in it one behind the other.
-use Rattle.std.proofs.Common.{◌≡◌, ℕ, zero, suc, ◌≤◌, ◌+◌, ◌-◌, Bool, true, false, cond, List, [], ◌∷◌, length, take, drop, Ok, Err, refl, subst, arith}
-use Rattle.std.specs.Prelude.{None, Some, codes, nat_eq}
+use Rattle.std.proofs.Common.{◌≡◌, ℕ, zero, suc, ◌≤◌, ◌+◌, ◌-◌, true, false, List, [], ◌∷◌, length, take, drop, Ok, Err, refl, subst, arith}
+use Rattle.std.specs.Prelude.{None, Some}
 use Rattle.std.specs.List.{AllByRecursion}
-use Rattle.std.proofs.lemmas.Bool.{cond_both}
-use lib.Pointwise.{pointwise}
 use Rattle.graphql_tokens.specs.First.{First, FirstReading, first_behind, first_of, read_behind}
 use Rattle.graphql_tokens.specs.Ignored.{ignored}
 use Rattle.graphql_tokens.specs.Lexemes.{Reading, lexeme}
@@ -12,9 +10,9 @@ use Rattle.graphql_tokens.specs.declared.token.TokenErrorKind.TheVariants as e
 use Rattle.graphql_tokens.specs.declared.token.TokenKind.{TokenKind}
 use Rattle.graphql_tokens.specs.declared.token.TokenKind.TheVariants as t
 use Rattle.graphql_tokens.proofs.FirstLemmas.{parts}
-use Rattle.graphql_grammar.specs.declared.kind.Kind.{Kind}
 use Rattle.graphql_grammar.specs.declared.kind.Kind.TheVariants as k
 use Rattle.graphql_grammar.specs.Kinds.{is_name, only}
+use Rattle.graphql_grammar.proofs.KeywordLemmas.{name_passes}
 use Rattle.graphql_grammar.proofs.PieceLaws.{apart}
 use Rattle.graphql_grammar.specs.TextsOfWords.{HasItsText, IsTextOf, StandInOrder}
 use Rattle.graphql_grammar.specs.Words.{WordView}
@@ -39,34 +37,9 @@ text_of_first text f is = by (drop (ignored text) text) is
 
 -- ---- kinds of names
 
-abbrev IsNameKind : Kind → Type 0
-IsNameKind kind = is_name kind ≡ true
-
-pub either : {A : Type 0} (P : A → Type 0) (b : Bool) (x y : A) → P x → P y → P (cond b x y)
-either P b x y px py = cond_both b x y P (λ _. px) (λ _. py)
-
 -- a name has a kind of names
-named : (text : List ℕ) → IsNameKind (name_kind text)
-named text =
-    either IsNameKind (pointwise nat_eq text (codes "true")) k.True _ refl
-    (either IsNameKind (pointwise nat_eq text (codes "false")) k.False _ refl
-    (either IsNameKind (pointwise nat_eq text (codes "null")) k.Null _ refl
-    (either IsNameKind (pointwise nat_eq text (codes "on")) k.On _ refl
-    (either IsNameKind (pointwise nat_eq text (codes "query")) k.Query _ refl
-    (either IsNameKind (pointwise nat_eq text (codes "mutation")) k.Mutation _ refl
-    (either IsNameKind (pointwise nat_eq text (codes "subscription")) k.Subscription _ refl
-    (either IsNameKind (pointwise nat_eq text (codes "fragment")) k.Fragment _ refl
-    (either IsNameKind (pointwise nat_eq text (codes "schema")) k.Schema _ refl
-    (either IsNameKind (pointwise nat_eq text (codes "scalar")) k.Scalar _ refl
-    (either IsNameKind (pointwise nat_eq text (codes "type")) k.Type _ refl
-    (either IsNameKind (pointwise nat_eq text (codes "interface")) k.Interface _ refl
-    (either IsNameKind (pointwise nat_eq text (codes "union")) k.Union _ refl
-    (either IsNameKind (pointwise nat_eq text (codes "enum")) k.Enum _ refl
-    (either IsNameKind (pointwise nat_eq text (codes "input")) k.Input _ refl
-    (either IsNameKind (pointwise nat_eq text (codes "directive")) k.Directive _ refl
-    (either IsNameKind (pointwise nat_eq text (codes "extend")) k.Extend _ refl
-    (either IsNameKind (pointwise nat_eq text (codes "implements")) k.Implements _ refl
-    (either IsNameKind (pointwise nat_eq text (codes "repeatable")) k.Repeatable k.Name refl refl))))))))))))))))))
+named : (text : List ℕ) → is_name (name_kind text) ≡ true
+named text = name_passes is_name refl refl text
 
 -- ---- each word has its text
 

@@ -1,9 +1,6 @@
 -- The words of a text are the words at its tokens where it has tokens, and no more than are allowed; else not all of them are tokens.
-use Rattle.std.proofs.Common.{◌≡◌, ℕ, zero, suc, ◌+◌, ◌-◌, ◌<◌, ◌≤◌, Bool, true, false, cond, List, [], ◌∷◌, length, map, take, drop, None, Some, Ok, Err, ◌⊎◌, inl, inr, refl, sym, ap, subst, ◌∙◌, arith}
-use Rattle.std.specs.Prelude.{nat_eq, slice_range}
-use Rattle.std.specs.List.{list_all}
-use lib.Pointwise.{pointwise}
-use Rattle.std.proofs.lemmas.Bool.{and_parts}
+use Rattle.std.proofs.Common.{◌≡◌, ℕ, zero, suc, ◌+◌, ◌-◌, ◌<◌, ◌≤◌, true, List, [], ◌∷◌, length, map, take, drop, None, Some, Ok, Err, ◌⊎◌, inl, inr, refl, sym, ap, subst, ◌∙◌, arith}
+use Rattle.std.specs.Prelude.{slice_range}
 use Rattle.std.proofs.lemmas.List.{drop-drop, length-drop, length-take, take_min}
 use Rattle.graphql_tokens.specs.First.{First, FirstReading, first_behind, first_of, read_behind}
 use Rattle.graphql_tokens.specs.Ignored.{ignored}
@@ -20,25 +17,14 @@ use Rattle.graphql_grammar.specs.Clean.{AllClean}
 use Rattle.graphql_grammar.specs.Kinds.{is_token}
 use Rattle.graphql_grammar.specs.Words.{WordView}
 use Rattle.graphql_grammar.specs.WordsAtTokens.{AreAtTokens, word_at}
-use Rattle.graphql_grammar.specs.WordsOfText.{keywords, kind_among, name_kind, too_many, word_kind, word_of, words_at, words_of, wrong}
-use Rattle.graphql_grammar.specs.declared.kind.Kind.{Kind}
+use Rattle.graphql_grammar.specs.WordsOfText.{name_kind, too_many, word_kind, word_of, words_at, words_of, wrong}
+use Rattle.graphql_grammar.proofs.KeywordLemmas.{name_passes}
 use Rattle.graphql_grammar.proofs.WordLemmas.{next_left, none_left, too_many_left, wrong_left}
 
 -- ---- words at tokens are tokens
 
-either_clean : (b : Bool) (x y : Kind) → is_token x ≡ true → is_token y ≡ true → is_token (cond b x y) ≡ true
-either_clean true x y hx hy = hx
-either_clean false x y hx hy = hy
-
--- where all kinds of a table are tokens, the kind that stands with a text is one, and so is `Name`
-among_clean : (table : List (List ℕ × Kind)) (text : List ℕ) → list_all (λ x. is_token x.1) table ≡ true → is_token (kind_among table text) ≡ true
-among_clean [] text clean = refl
-among_clean (x ∷ xs) text clean =
-    let both = and_parts (is_token x.1) (list_all (λ y. is_token y.1) xs) clean in
-    either_clean (pointwise nat_eq text x.0) x.1 (kind_among xs text) both.0 (among_clean xs text both.1)
-
 name_clean : (text : List ℕ) → is_token (name_kind text) ≡ true
-name_clean text = among_clean keywords text refl
+name_clean text = name_passes is_token refl refl text
 
 kind_clean : (kind : TokenKind) (text : List ℕ) → is_token (word_kind kind text) ≡ true
 kind_clean t.Name text = name_clean text

@@ -2,6 +2,7 @@
 #![tactic(auto)]
 
 pub mod fault;
+mod keywords;
 pub mod kind;
 pub mod word;
 pub mod words;

@@ -14,7 +14,7 @@ use Rattle.graphql_tokens.specs.declared.token.TokenErrorKind.TheVariants as e
 use Rattle.graphql_tokens.specs.declared.token.TokenKind.{TokenKind}
 use Rattle.graphql_tokens.specs.declared.token.TokenKind.TheVariants as t
 use Rattle.graphql_grammar.specs.TextsOfWords.{IsTextOf}
-use Rattle.graphql_grammar.proofs.TextsOfWords.{either}
+use Rattle.graphql_grammar.proofs.ReadingLemmas.{either}
 
 -- ---- what begins otherwise is no name
 

@@ -2,7 +2,7 @@
 use Rattle.std.proofs.Common.{◌∙◌}
 use Rattle.graphql_grammar.specs.WordsOfText.{keywords}
 use Rattle.graphql_grammar.proofs.KeywordLemmas.{in_length}
-use Rattle.graphql_grammar.proofs.words.name_kind.Goals as goal
+use Rattle.graphql_grammar.proofs.keywords.name_kind.Goals as goal
 
 pub returns-in-4 : goal.returns-in-4
 returns-in-4 c = c.kind_of_four.ensures ∙ in_length 4 keywords c.args.text.now c.in-4.is
