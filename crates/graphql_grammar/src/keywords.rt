@@ -1,4 +1,5 @@
-//! The words that the grammar tells apart from other names: GraphQL specification of October 2021, section 2.1.9 and appendix B.
+//! The words that the grammar tells apart from other names: GraphQL specification of October 2021, section
+//! 2.1.9 and appendix B.
 ghost use Rattle.std.specs.Prelude.{◌≡◌};
 ghost use Rattle.graphql_grammar.specs.WordsOfText.{keywords, kind_among, name_kind, of_length};
 
@@ -95,8 +96,8 @@ fn kind_of_twelve(text: &str) -> Kind
     }
 }
 
-/// The kind of a name: the words that the grammar tells apart have kinds of their own. A name is compared with
-/// those of its length alone.
+/// The kind of a name: the words that the grammar tells apart have kinds of their own. A name is compared
+/// with those of its length alone.
 pub(crate) fn name_kind(text: &str) -> Kind
     ensures { result ≡ name_kind text.now }
 {

@@ -1,5 +1,5 @@
-//! Kinds of words: GraphQL specification of October 2021, section 2.1.6. The words that the grammar tells apart from other names
-//! have kinds of their own.
+//! Kinds of words: GraphQL specification of October 2021, section 2.1.6. The words that the grammar tells
+//! apart from other names have kinds of their own.
 ghost use Rattle.std.specs.Prelude.{◌≡◌};
 ghost use Rattle.graphql_grammar.specs.Kinds.{is_name, is_token, names_of, only, tag};
 
@@ -82,8 +82,8 @@ pub enum Kind {
     String,
     /// A string in `"""`.
     BlockString,
-    /// Where a text stops being tokens: a character that begins none, or that stands nowhere in a text. Nothing is spelled with
-    /// this kind, nor with those below.
+    /// Where a text stops being tokens: a character that begins none, or that stands nowhere in a text.
+    /// Nothing is spelled with this kind, nor with those below.
     UnexpectedCharacter,
     /// The same: a string without its end.
     UnterminatedString,
@@ -154,7 +154,8 @@ impl Kind {
         self.tag() == other.tag()
     }
 
-    /// Whether words of the kind are tokens: not where a text stops being tokens, or has more than are allowed.
+    /// Whether words of the kind are tokens: not where a text stops being tokens, or has more than are
+    /// allowed.
     pub fn is_token(self) -> bool
         ensures { result ≡ is_token self }
     {

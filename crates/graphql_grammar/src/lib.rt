@@ -1,4 +1,5 @@
-//! What a grammar over the words of a text is made of: words, the cursor that goes along them, and pieces with their laws.
+//! What a grammar over the words of a text is made of: words, the cursor that goes along them, and pieces
+//! with their laws.
 #![tactic(auto)]
 
 pub mod fault;

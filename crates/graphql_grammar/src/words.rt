@@ -111,8 +111,8 @@ fn wrong<'a>(total: usize, text: &'a str, error: TokenError) -> Word<'a>
     }
 }
 
-/// The first word of the end of a text of so many bytes, where so many are allowed, and what stands behind it. Behind what is no
-/// token nothing stands.
+/// The first word of the end of a text of so many bytes, where so many are allowed, and what stands behind
+/// it. Behind what is no token nothing stands.
 fn split_first<'a>(total: usize, allowed: usize, text: &'a str) -> Option<Split<'a>>
     ensures { words_of_split allowed total result ≡ words_at allowed total text.now }
 {

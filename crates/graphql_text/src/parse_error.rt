@@ -11,8 +11,9 @@ use thiserror::Error;
 #[derive(Debug, Drop, PartialEq, Eq, Clone, Error)]
 #[error("{kind}")]
 pub struct ParseError {
-    /// The bytes of the token that can't stand there. Where no token stands, it begins where the text stops being one, and is empty, as
-    /// it is at the end of the text. `BuiltInFile` and `Memory` say nothing of a place: theirs is the empty one at the start of file 0.
+    /// The bytes of the token that can't stand there. Where no token stands, it begins where the text stops
+    /// being one, and is empty, as it is at the end of the text. `BuiltInFile` and `Memory` say nothing of a
+    /// place: theirs is the empty one at the start of file 0.
     pub location: SourceSpan,
     pub kind: ParseErrorKind,
 }
@@ -49,8 +50,8 @@ pub enum ParseErrorKind {
     /// A number that ends where none may end.
     #[error("invalid number")]
     InvalidNumber,
-    /// A token that can't stand there: what alone may stand there, or the item that is being read, and the token in backquotes, `a
-    /// string`, `a block string` or `the end of the text`.
+    /// A token that can't stand there: what alone may stand there, or the item that is being read, and the
+    /// token in backquotes, `a string`, `a block string` or `the end of the text`.
     #[error("expected {expected}, found {found}")]
     Unexpected { expected: Text, found: Text },
     /// `on` as the name of a fragment, or `true`, `false` or `null` as an enum value in a definition.

@@ -92,8 +92,9 @@ fn parse<T: Tree>(
 
 /// The type that a text is (section 2.11), at locations in this file.
 ///
-/// [`ParseErrorKind::BuiltInFile`] refuses the file number 0, before the text is looked at. [`ParseErrorKind::Memory`] says nothing of the
-/// text. Every other refusal says what is wrong with it first, from the left, and where, in bytes.
+/// [`ParseErrorKind::BuiltInFile`] refuses the file number 0, before the text is looked at.
+/// [`ParseErrorKind::Memory`] says nothing of the text. Every other refusal says what is wrong with it first,
+/// from the left, and where, in bytes.
 pub fn parse_type(
     alloc: Global,
     file: FileId,

@@ -182,7 +182,8 @@ fn fault_said(
     }
 }
 
-/// What is wrong where no token stands, or one more than are allowed: at this byte, by the kind of the word there.
+/// What is wrong where no token stands, or one more than are allowed: at this byte, by the kind of the word
+/// there.
 fn no_token(alloc: Global, text: &str, at: usize, word: Kind) -> Result<ParseErrorKind, AllocError>
     ensures { IfOk result (SaysNoToken word) }
 {

@@ -1,5 +1,5 @@
-//! Reading definitions and extensions of the type system, behind their descriptions and behind `extend`: GraphQL specification of October
-//! 2021, sections 3.3 to 3.13.
+//! Reading definitions and extensions of the type system, behind their descriptions and behind `extend`:
+//! GraphQL specification of October 2021, sections 3.3 to 3.13.
 ghost use Rattle.std.specs.Prelude.{◌≡◌, true, IfOk};
 ghost use Rattle.graphql_grammar.specs.Pieces.{Gives, GivesSeen, mapped, seq};
 ghost use Rattle.graphql_productions.specs.Directives.{directives};

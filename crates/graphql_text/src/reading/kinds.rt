@@ -1,4 +1,5 @@
-//! Reading what stands behind the name of a type, by its kind: GraphQL specification of October 2021, sections 3.5 to 3.10.
+//! Reading what stands behind the name of a type, by its kind: GraphQL specification of October 2021,
+//! sections 3.5 to 3.10.
 ghost use Rattle.std.specs.Prelude.{◌≡◌, true};
 ghost use Rattle.graphql_grammar.specs.Pieces.{Gives, mapped, seq};
 ghost use Rattle.graphql_grammar.specs.Standing.{standing};

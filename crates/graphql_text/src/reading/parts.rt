@@ -1,4 +1,5 @@
-//! Reading what definitions and extensions of the type system hold: GraphQL specification of October 2021, sections 3.3 to 3.10.
+//! Reading what definitions and extensions of the type system hold: GraphQL specification of October 2021,
+//! sections 3.3 to 3.10.
 ghost use Rattle.std.specs.Prelude.{◌≡◌, true};
 ghost use Rattle.graphql_grammar.specs.Pieces.{Gives, optional, separated};
 ghost use Rattle.graphql_grammar.specs.Standing.{standing};

@@ -14,8 +14,8 @@ use graphql_nodes::node::Node;
 use graphql_nodes::source::{FileId, SourceSpan};
 use std::alloc::{AllocError, Global};
 
-/// What is read into: where memory comes from, the file that locations name, whether values are constant, and how many signs may
-/// be open inside.
+/// What is read into: where memory comes from, the file that locations name, whether values are constant, and
+/// how many signs may be open inside.
 #[derive(Clone, Copy)]
 pub(crate) struct Target {
     pub(crate) alloc: Global,
