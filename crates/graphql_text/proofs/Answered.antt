@@ -1,5 +1,5 @@
 -- What calls that read a text answer, by what their readers returned.
-use Rattle.std.proofs.Common.{◌≡◌, ℕ, List, Result, Ok, Err, IfOk, IfErr, inl, inr, sym, subst, ◌∙◌}
+use Rattle.std.proofs.Common.{ℕ, List, Result, Ok, Err, IfOk, IfErr, inl, inr, sym, subst, ◌∙◌}
 use Rattle.graphql_nodes.specs.declared.source.FileId.{FileId}
 use Rattle.graphql_grammar.specs.declared.fault.ReadError.{ReadError}
 use Rattle.graphql_grammar.specs.declared.fault.ReadError.TheVariants as errors
