@@ -69,7 +69,11 @@ fn write_answers<W: Write>(
 ) -> io::Result<bool> {
     let mut rest = input;
     let mut line = String::new(alloc);
-    while !rest.is_empty() {
+    // Each text stands behind a line, so there are fewer of them than bytes.
+    for _ in 0..input.len() {
+        if rest.is_empty() {
+            break;
+        }
         let Some((text, behind)) = divided(rest) else {
             return Ok(false);
         };
