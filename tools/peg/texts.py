@@ -19,7 +19,7 @@ SCRIPT = pathlib.Path(__file__).with_name("texts.js")
 EXPLAINED = {
     "control": "control characters in strings and comments, which graphql-js takes",
     "described": "places behind a description that isn't allowed",
-    "ahead": "places at once behind an unknown directive location or root operation, where no token stands",
+    "ahead": "places at once behind an unknown location or root operation or the `$` of a constant, where no token stands",
 }
 # How graphql-js says that no token stands somewhere.
 NO_TOKEN = "Unterminated|Invalid|Unexpected (character|single quote)"
@@ -96,7 +96,7 @@ def reason(own, peer):
     if place and (place[2].startswith("Unexpected description") or said[3].startswith("a description stands before ")):
         return "described"
     # graphql-js looks at such a name once it has read the token behind it.
-    is_late = re.match("unknown directive location|expected a root operation type, found `\\w", said[3])
+    is_late = re.match("unknown directive location|expected a root operation type, found `\\w|expected a value, found `\\$`", said[3])
     if place and is_late and int(place[1]) >= int(said[2]) and re.match(NO_TOKEN, place[2]):
         return "ahead"
     return None
