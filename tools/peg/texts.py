@@ -92,7 +92,8 @@ def reason(own, peer):
     if not said:
         return None
     if said[3].startswith(("unexpected character U+000", "unexpected character U+001")):
-        return "control" if not place or int(place[1]) > int(said[1]) else None
+        is_later = not place or int(place[1]) > int(said[1]) or place[2].startswith("Unexpected description")
+        return "control" if is_later else None
     if place and (place[2].startswith("Unexpected description") or said[3].startswith("a description stands before ")):
         return "described"
     # graphql-js looks at such a name once it has read the token behind it.

@@ -92,7 +92,9 @@ impl<'a, C: Clock> Stopwatch<'a, C> {
 
     /// Adds what the times of each phase come to.
     pub fn push_times(&self, items: &mut Vec<Item>) -> Result<(), AllocError> {
-        for phase in self.bench.command.phases.split(' ') {
+        let bench = self.bench;
+        let phases = bench.command.phases;
+        for phase in phases.split(' ') {
             let mut times = self.times_of(phase)?;
             if let Some((least, median, mean)) = summary(times.as_mut_slice()) {
                 items.extend_from_slice(&[
