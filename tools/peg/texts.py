@@ -23,6 +23,8 @@ EXPLAINED = {
 }
 # How graphql-js says that no token stands somewhere.
 NO_TOKEN = "Unterminated|Invalid|Unexpected (character|single quote)"
+# How it says that a string can't stand somewhere.
+OF_STRING = "Unexpected (description|String|BlockString)|Expected .*, found (String|BlockString)"
 explained = collections.Counter()
 # What a character may be changed to: what ends a gap, begins a token, stands in strings alone, or nowhere.
 ODD = list("!$&().:=@[]{|}#,\"\\-+'%?_0 \t\n\r\0\x07\x7f\ufeff\u2028\u00e9\u2603\U0001d11e") + ["\r\n", "...", '"""']
@@ -92,8 +94,9 @@ def reason(own, peer):
     if not said:
         return None
     if said[3].startswith(("unexpected character U+000", "unexpected character U+001")):
-        is_later = not place or int(place[1]) > int(said[1]) or place[2].startswith("Unexpected description")
-        return "control" if is_later else None
+        # The string that it stands in may itself be out of place there.
+        is_there = not place or int(place[1]) > int(said[1]) or re.match(OF_STRING, place[2])
+        return "control" if is_there else None
     if place and (place[2].startswith("Unexpected description") or said[3].startswith("a description stands before ")):
         return "described"
     # graphql-js looks at such a name once it has read the token behind it.
