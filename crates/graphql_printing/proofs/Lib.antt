@@ -1,1 +1,2 @@
 mod FoldedText
+mod InsideLemmas

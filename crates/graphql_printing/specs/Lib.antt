@@ -1,3 +1,4 @@
+pub mod Descriptions
 pub mod Layout
 pub mod Strings
 pub mod Texts

@@ -1,7 +1,8 @@
 //! GraphQL trees as text, in the layout of `print` of graphql-js 16.
 #![tactic(auto)]
 
-mod arguments;
+pub mod arguments;
+pub mod descriptions;
 pub mod printing;
 mod strings;
 mod types;

@@ -58,7 +58,7 @@ fn escape_letter(c: char) -> u8
 }
 
 /// Whether a character is a control character.
-fn is_control(c: char) -> bool
+pub(crate) fn is_control(c: char) -> bool
     ensures { result ≡ is_control c }
 {
     c < ' ' || ('\u{7f}' <= c && c < '\u{a0}')

@@ -1,5 +1,5 @@
 -- A list and an object are written with what stands in them.
-use Rattle.std.proofs.Common.{◌∙◌, ℕ, List, ◌++◌, sym, ap, rules, codes}
+use Rattle.std.proofs.Common.{◌∙◌, List, ◌++◌, sym, ap, rules, codes}
 use Rattle.std.proofs.Output.{has_written_append, has_written_of_eq}
 use Rattle.graphql_nodes.specs.NameView.{NameView}
 use Rattle.graphql_nodes.specs.NodeView.{NodeView}
