@@ -1,2 +1,3 @@
 mod FoldedText
 mod InsideLemmas
+mod WidthLemmas

@@ -1,8 +1,10 @@
 -- Descriptions as strings: GraphQL specification of October 2021, sections 2.9.4 and 3.2.
-use Rattle.std.specs.Prelude.{ℕ, zero, suc, Bool, true, false, ◌||◌, ◌&&◌, not, List, [], ◌∷◌, ◌++◌, ◌+◌, nat_eq, nat_le, nat_lt, replicate, if◌then◌else◌, codes}
+use Rattle.std.specs.Prelude.{ℕ, zero, suc, Bool, true, false, ◌||◌, ◌&&◌, not, List, [], ◌∷◌, ◌++◌, nat_eq, nat_le, if◌then◌else◌, codes}
 use Rattle.std.specs.List.{flat_map, list_any}
 use Rattle.std.specs.Str.{chars}
+use Rattle.graphql_printing.specs.Layout.{line_end}
 use Rattle.graphql_printing.specs.Strings.{is_control, quoted}
+use Rattle.graphql_printing.specs.Widths.{width}
 
 -- a tab or a blank
 abbrev pub is_white : ℕ → Bool
@@ -41,15 +43,6 @@ reads_back (c ∷ cs) = ends_with_text false (c ∷ cs) && (not (has_line_feed (
 abbrev pub is_block : List ℕ → Bool
 is_block text = reads_back text && not (list_any is_unprintable (chars text))
 
--- how many UTF-16 units the character has whose first byte this is; none for its other bytes
-abbrev pub units : ℕ → ℕ
-units c = if nat_lt c 128 then 1 else (if nat_lt c 192 then 0 else (if nat_lt c 240 then 1 else 2))
-
--- how many UTF-16 units a text has
-abbrev pub width : List ℕ → ℕ
-width [] = 0
-width (c ∷ cs) = units c + width cs
-
 -- whether a text ends in a quote or in `\`
 abbrev pub ends_in_mark : Bool → List ℕ → Bool
 ends_in_mark so_far [] = so_far
@@ -67,10 +60,6 @@ begins_white (c ∷ cs) = is_white c
 -- whether a text begins behind the quotes at once, though it doesn't fit: one line that begins with a tab or a blank, which else were lost
 abbrev pub begins_at_once : List ℕ → Bool
 begins_at_once text = not (has_line_feed text) && begins_white text
-
--- a line feed, and so many blanks
-abbrev pub line_end : ℕ → List ℕ
-line_end indent = 10 ∷ replicate indent 32
 
 -- whether `"""` stands at the front
 abbrev pub begins_with_quotes : List ℕ → Bool

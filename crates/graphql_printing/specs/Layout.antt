@@ -1,5 +1,5 @@
 -- How texts are put together.
-use Rattle.std.specs.Prelude.{ℕ, List, [], ◌∷◌, ◌++◌}
+use Rattle.std.specs.Prelude.{ℕ, List, [], ◌∷◌, ◌++◌, replicate}
 use Rattle.std.specs.List.{flat_map}
 
 -- texts, each behind this one
@@ -15,3 +15,7 @@ separated separator text (x ∷ xs) = text x ++ each_behind separator text xs
 abbrev pub enclosed : {A : Type 0} → List ℕ → List ℕ → List ℕ → (A → List ℕ) → List A → List ℕ
 enclosed beginning separator end text [] = []
 enclosed beginning separator end text (x ∷ xs) = beginning ++ separated separator text (x ∷ xs) ++ end
+
+-- a line feed, and so many blanks
+abbrev pub line_end : ℕ → List ℕ
+line_end indent = 10 ∷ replicate indent 32

@@ -1,11 +1,14 @@
 //! Descriptions: GraphQL specification of October 2021, sections 2.9.4 and 3.2.
-ghost use Rattle.std.specs.Prelude.{◌≡◌, [], false, true, nat_lt, if◌then◌else◌, replicate};
+ghost use Rattle.std.specs.Prelude.{◌≡◌, [], false, true, if◌then◌else◌};
 ghost use Rattle.std.specs.Fmt.{WritesOnOk};
 ghost use Rattle.std.specs.List.{list_any};
 ghost use Rattle.std.specs.Str.{chars};
-ghost use Rattle.graphql_printing.specs.Descriptions.{begins_at_once, begins_white, begins_with_quotes, begins_with_text, block, description_text, ends_in_mark, ends_with_text, fits_one_line, has_line_feed, has_outer_line, inside, is_block, is_unprintable, is_white, line_end, reads_back, units, width};
+ghost use Rattle.graphql_printing.specs.Layout.{line_end};
+ghost use Rattle.graphql_printing.specs.Descriptions.{begins_at_once, begins_white, begins_with_quotes, begins_with_text, block, description_text, ends_in_mark, ends_with_text, fits_one_line, has_line_feed, has_outer_line, inside, is_block, is_unprintable, is_white, reads_back};
 
+use crate::layout::write_line_end;
 use crate::strings::{is_control, write_quoted};
+use crate::widths::is_wider;
 use std::fmt;
 use std::fmt::{Formatter, Write};
 
@@ -104,33 +107,6 @@ fn has_outer_line(text: &[u8]) -> bool
     false
 }
 
-/// How many UTF-16 units the character has whose first byte this is.
-fn units(byte: u8) -> usize
-    ensures { result ≡ units byte }
-{
-    match byte {
-        0..=127 => 1,
-        128..=191 => 0,
-        192..=239 => 1,
-        _ => 2,
-    }
-}
-
-/// Whether a text has more UTF-16 units.
-fn is_wider(text: &[u8], most: usize) -> bool
-    ensures { result ≡ nat_lt most (width text.now) }
-{
-    let mut left = most;
-    for byte in text {
-        let size = units(*byte);
-        if size > left {
-            return true;
-        }
-        left -= size;
-    }
-    false
-}
-
 /// Whether a text ends in a quote or in `\`.
 fn ends_in_mark(text: &[u8]) -> bool
     ensures { result ≡ ends_in_mark false text.now }
@@ -188,23 +164,6 @@ fn write_start<W: Write>(f: &mut Formatter<W>, text: &[u8], indent: usize) -> fm
         return Ok(());
     }
     write_line_end(f, indent)
-}
-
-/// Writes a line feed, and so many blanks.
-fn write_line_end<W: Write>(f: &mut Formatter<W>, indent: usize) -> fmt::Result
-    ensures { WritesOnOk W.write_str_gives f.old result (line_end indent) f.new }
-{
-    f.write_str("\n")?;
-    write_blanks(f, indent)
-}
-
-fn write_blanks<W: Write>(f: &mut Formatter<W>, count: usize) -> fmt::Result
-    ensures { WritesOnOk W.write_str_gives f.old result (replicate count 32) f.new }
-{
-    for _i in 0..count {
-        f.write_str(" ")?;
-    }
-    Ok(())
 }
 
 /// Whether `"""` stands at the front.

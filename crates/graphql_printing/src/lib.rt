@@ -3,7 +3,10 @@
 
 pub mod arguments;
 pub mod descriptions;
+pub mod fields;
+mod layout;
 pub mod printing;
 mod strings;
 mod types;
 mod values;
+mod widths;
