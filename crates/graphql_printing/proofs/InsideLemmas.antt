@@ -3,7 +3,8 @@ use Rattle.std.proofs.Common.{◌≡◌, ℕ, zero, suc, ◌+◌, ◌-◌, ◌<�
 use Rattle.std.proofs.lemmas.Bool.{false≢true}
 use Rattle.std.proofs.lemmas.Bool.Decides.{nat_tests}
 use Rattle.std.proofs.lemmas.List.{drop_more, take_more}
-use Rattle.graphql_printing.specs.Descriptions.{begins_with_quotes, further_in, with_marks}
+use Rattle.graphql_tokens.specs.Strings.{begins_with_quotes}
+use Rattle.graphql_printing.specs.Descriptions.{further_in, with_marks}
 use Rattle.graphql_printing.specs.Layout.{line_end}
 
 -- what stands behind a place, where so many quotes are of a `"""` that has begun

@@ -2,13 +2,11 @@
 use Rattle.std.specs.Prelude.{ℕ, zero, suc, Bool, true, false, ◌||◌, ◌&&◌, not, List, [], ◌∷◌, ◌++◌, nat_eq, nat_le, if◌then◌else◌, codes}
 use Rattle.std.specs.List.{flat_map, list_any}
 use Rattle.std.specs.Str.{chars}
+use Rattle.graphql_tokens.specs.BlockStringValues.{is_white}
+use Rattle.graphql_tokens.specs.Strings.{begins_with_quotes}
 use Rattle.graphql_printing.specs.Layout.{line_end}
 use Rattle.graphql_printing.specs.Strings.{is_control, quoted}
 use Rattle.graphql_printing.specs.Widths.{width}
-
--- a tab or a blank
-abbrev pub is_white : ℕ → Bool
-is_white c = nat_eq c 9 || nat_eq c 32
 
 -- a control character that no block string has here: any but a tab and a line feed
 abbrev pub is_unprintable : ℕ → Bool
@@ -28,13 +26,14 @@ abbrev pub ends_with_text : Bool → List ℕ → Bool
 ends_with_text so_far [] = so_far
 ends_with_text so_far (c ∷ cs) = ends_with_text (if nat_eq c 10 then false else so_far || not (is_white c)) cs
 
--- whether some line begins with neither a tab nor a blank, and isn't empty; `begins` says whether a line begins here
+-- whether some line begins with neither a tab nor a blank, and isn't empty; `begins` says whether a line begins
+-- here
 abbrev pub has_outer_line : Bool → List ℕ → Bool
 has_outer_line begins [] = false
 has_outer_line begins (c ∷ cs) = (begins && not (is_white c || nat_eq c 10)) || has_outer_line (nat_eq c 10) cs
 
--- whether a block string of this text is read as the text again: of more lines neither the first nor the last is blank, and one is not
--- further in; one line is empty, or is not blank
+-- whether a block string of this text is read as the text again: of more lines neither the first nor the last is
+-- blank, and one is not further in; one line is empty, or is not blank
 abbrev pub reads_back : List ℕ → Bool
 reads_back [] = true
 reads_back (c ∷ cs) = ends_with_text false (c ∷ cs) && (not (has_line_feed (c ∷ cs)) || (begins_with_text (c ∷ cs) && has_outer_line true (c ∷ cs)))
@@ -57,14 +56,10 @@ abbrev pub begins_white : List ℕ → Bool
 begins_white [] = false
 begins_white (c ∷ cs) = is_white c
 
--- whether a text begins behind the quotes at once, though it doesn't fit: one line that begins with a tab or a blank, which else were lost
+-- whether a text begins behind the quotes at once, though it doesn't fit: one line that begins with a tab or a
+-- blank, which else were lost
 abbrev pub begins_at_once : List ℕ → Bool
 begins_at_once text = not (has_line_feed text) && begins_white text
-
--- whether `"""` stands at the front
-abbrev pub begins_with_quotes : List ℕ → Bool
-begins_with_quotes (a ∷ b ∷ c ∷ rest) = nat_eq a 34 && (nat_eq b 34 && nat_eq c 34)
-begins_with_quotes _ = false
 
 -- a text with `\` before each `"""`, where so many quotes at the front are of one that has begun
 abbrev pub with_marks : ℕ → List ℕ → List ℕ

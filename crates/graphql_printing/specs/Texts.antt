@@ -1,4 +1,5 @@
--- The text of values, types, arguments and directives: GraphQL specification of October 2021, sections 2.6, 2.9, 2.11 and 2.12.
+-- The text of values, types, arguments and directives: GraphQL specification of October 2021, sections 2.6, 2.9, 2.11
+-- and 2.12.
 use Rattle.std.specs.Prelude.{ℕ, List, ◌++◌, if◌then◌else◌, codes}
 use Rattle.graphql_nodes.specs.NameView.{NameView}
 use Rattle.graphql_nodes.specs.NodeView.{NodeView}

@@ -3,8 +3,10 @@ ghost use Rattle.std.specs.Prelude.{◌≡◌, [], false, true, if◌then◌else
 ghost use Rattle.std.specs.Fmt.{WritesOnOk};
 ghost use Rattle.std.specs.List.{list_any};
 ghost use Rattle.std.specs.Str.{chars};
+ghost use Rattle.graphql_tokens.specs.BlockStringValues.{is_white};
+ghost use Rattle.graphql_tokens.specs.Strings.{begins_with_quotes};
 ghost use Rattle.graphql_printing.specs.Layout.{line_end};
-ghost use Rattle.graphql_printing.specs.Descriptions.{begins_at_once, begins_white, begins_with_quotes, begins_with_text, block, description_text, ends_in_mark, ends_with_text, fits_one_line, has_line_feed, has_outer_line, inside, is_block, is_unprintable, is_white, reads_back};
+ghost use Rattle.graphql_printing.specs.Descriptions.{begins_at_once, begins_white, begins_with_text, block, description_text, ends_in_mark, ends_with_text, fits_one_line, has_line_feed, has_outer_line, inside, is_block, is_unprintable, reads_back};
 
 use crate::layout::write_line_end;
 use crate::strings::{is_control, write_quoted};
@@ -12,8 +14,8 @@ use crate::widths::is_wider;
 use std::fmt;
 use std::fmt::{Formatter, Write};
 
-/// Writes a description that stands further in by so many blanks: a block string where that is read as the text again and has no
-/// control character but tabs and line feeds, or else a quoted string.
+/// Writes a description that stands further in by so many blanks: a block string where that is read as the text again and
+/// has no control character but tabs and line feeds, or else a quoted string.
 pub fn write_description<W: Write>(f: &mut Formatter<W>, text: &str, indent: usize) -> fmt::Result
     ensures { WritesOnOk W.write_str_gives f.old result (description_text indent text.now) f.new }
 {

@@ -3,7 +3,7 @@ use Rattle.std.proofs.Common.{◌≡◌, ◌-◌, ◌<◌, true, false, [], ◌�
 use Rattle.std.proofs.lemmas.Grind.{common_steps}
 use Rattle.std.proofs.lemmas.Str.{IsCharBoundary-start, IsCharBoundary-after_ascii, IsCharBoundary-before_ascii}
 use Rattle.std.proofs.Output.{has_written_append, has_written_of_eq}
-use Rattle.graphql_printing.specs.Descriptions.{begins_with_quotes}
+use Rattle.graphql_tokens.specs.Strings.{begins_with_quotes}
 use Rattle.graphql_printing.specs.Layout.{line_end}
 use Rattle.graphql_printing.proofs.InsideLemmas.{feed_at, goes_on_at, kept, marked, marks_at, plain_at, quote_at, replaced}
 use Rattle.graphql_printing.proofs.descriptions.write_inside.Goals as goal
