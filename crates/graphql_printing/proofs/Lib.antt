@@ -1,0 +1,3 @@
+mod FoldedText
+mod InsideLemmas
+mod WidthLemmas

@@ -1,0 +1,6 @@
+pub mod Descriptions
+pub mod Fields
+pub mod Layout
+pub mod Strings
+pub mod Texts
+pub mod Widths

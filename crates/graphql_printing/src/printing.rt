@@ -1,0 +1,62 @@
+//! Trees as text.
+ghost use Rattle.std.specs.Prelude.{◌≡◌, IfOk, Some, string_bytes};
+ghost use Rattle.graphql_printing.specs.Texts.{type_text, value_text};
+
+use crate::types::write_type;
+use crate::values::write_value;
+use graphql_ast::type_reference::Type;
+use graphql_ast::value::Value;
+use std::alloc::{AllocError, Global};
+use std::fmt;
+
+/// A value that is printed as its text.
+#[derive(Clone, Copy)]
+pub struct ValueText<'a>(&'a Value);
+
+impl<'a> fmt::Display for ValueText<'a> {
+    ghost output = { λ it. Some (value_text it.0.now) };
+
+    fn fmt<W: fmt::Write>(&self, f: &mut fmt::Formatter<W>) -> fmt::Result {
+        write_value(f, self.0)
+    }
+}
+
+/// A type that is printed as its text.
+#[derive(Clone, Copy)]
+pub struct TypeText<'a>(&'a Type);
+
+impl<'a> fmt::Display for TypeText<'a> {
+    ghost output = { λ it. Some (type_text it.0.now) };
+
+    fn fmt<W: fmt::Write>(&self, f: &mut fmt::Formatter<W>) -> fmt::Result {
+        write_type(f, self.0)
+    }
+}
+
+/// A value, to be printed: `Display` writes its text, and takes no memory.
+pub fn value<'a>(value: &'a Value) -> ValueText<'a>
+    ensures { result.0.now ≡ value.now }
+{
+    ValueText(value)
+}
+
+/// A type, to be printed: `Display` writes its text, and takes no memory.
+pub fn ty<'a>(ty: &'a Type) -> TypeText<'a>
+    ensures { result.0.now ≡ ty.now }
+{
+    TypeText(ty)
+}
+
+/// The text of a value. The error is want of memory.
+pub fn value_text(alloc: Global, value: &Value) -> Result<String, AllocError>
+    ensures { IfOk result (λ text. string_bytes text ≡ value_text value.now) }
+{
+    ValueText(value).to_string(alloc)
+}
+
+/// The text of a type. The error is want of memory.
+pub fn type_text(alloc: Global, ty: &Type) -> Result<String, AllocError>
+    ensures { IfOk result (λ text. string_bytes text ≡ type_text ty.now) }
+{
+    TypeText(ty).to_string(alloc)
+}

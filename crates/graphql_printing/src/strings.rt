@@ -1,0 +1,89 @@
+//! Quoted strings: GraphQL specification of October 2021, section 2.9.4.
+ghost use Rattle.std.specs.Prelude.{◌≡◌, ◌<◌, true};
+ghost use Rattle.std.specs.Fmt.{WritesOnOk, digit_glyph};
+ghost use Rattle.std.specs.List.{flat_map};
+ghost use Rattle.std.specs.Str.{chars};
+ghost use Rattle.graphql_printing.specs.Strings.{escape_letter, is_control, number_escape, quoted, quoted_character};
+
+use std::fmt;
+use std::fmt::{Formatter, Write};
+
+/// Writes a text as a quoted string.
+pub(crate) fn write_quoted<W: Write>(f: &mut Formatter<W>, text: &str) -> fmt::Result
+    ensures { WritesOnOk W.write_str_gives f.old result (quoted text.now) f.new }
+{
+    f.write_str("\"")?;
+    write_characters(f, text)?;
+    f.write_str("\"")
+}
+
+fn write_characters<W: Write>(f: &mut Formatter<W>, text: &str) -> fmt::Result
+    ensures { WritesOnOk W.write_str_gives f.old result (flat_map quoted_character (chars text.now)) f.new }
+{
+    for c in text.chars() {
+        write_character(f, c)?;
+    }
+    Ok(())
+}
+
+fn write_character<W: Write>(f: &mut Formatter<W>, c: char) -> fmt::Result
+    ensures { WritesOnOk W.write_str_gives f.old result (quoted_character c) f.new }
+{
+    let letter = escape_letter(c);
+    if letter > 0 {
+        f.write_str("\\")?;
+        f.write_char(char::from(letter))
+    } else if is_control(c) {
+        write_number(f, c)
+    } else {
+        f.write_char(c)
+    }
+}
+
+/// The letter of the escape of a character, or 0 where it has none.
+fn escape_letter(c: char) -> u8
+    ensures value { result ≡ escape_letter c }
+    ensures ascii { result < 128 }
+{
+    match c {
+        '\u{8}' => b'b',
+        '\t' => b't',
+        '\n' => b'n',
+        '\u{c}' => b'f',
+        '\r' => b'r',
+        '"' => b'"',
+        '\\' => b'\\',
+        _ => 0,
+    }
+}
+
+/// Whether a character is a control character.
+pub(crate) fn is_control(c: char) -> bool
+    ensures { result ≡ is_control c }
+{
+    c < ' ' || ('\u{7f}' <= c && c < '\u{a0}')
+}
+
+/// Writes the escape of a character by its number.
+fn write_number<W: Write>(f: &mut Formatter<W>, c: char) -> fmt::Result
+    requires { c < 256 }
+    ensures { WritesOnOk W.write_str_gives f.old result (number_escape c) f.new }
+{
+    let number = c as u32;
+    f.write_str("\\u00")?;
+    f.write_char(digit((number / 16) as u8))?;
+    f.write_char(digit((number % 16) as u8))
+}
+
+/// A hexadecimal digit.
+fn digit(value: u8) -> char
+    requires { value < 16 }
+    ensures value { result ≡ digit_glyph true value }
+    ensures ascii { result < 128 }
+{
+    char::from(if value < 10 {
+        b'0' + value
+    } else {
+        b'A' - 10 + value
+    })
+}
