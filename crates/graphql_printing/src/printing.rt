@@ -47,14 +47,14 @@ pub fn ty<'a>(ty: &'a Type) -> TypeText<'a>
     TypeText(ty)
 }
 
-/// The text of a value. The error is want of memory.
+/// The text of a value. The error is out of memory.
 pub fn value_text(alloc: Global, value: &Value) -> Result<String, AllocError>
     ensures { IfOk result (λ text. string_bytes text ≡ value_text value.now) }
 {
     ValueText(value).to_string(alloc)
 }
 
-/// The text of a type. The error is want of memory.
+/// The text of a type. The error is out of memory.
 pub fn type_text(alloc: Global, ty: &Type) -> Result<String, AllocError>
     ensures { IfOk result (λ text. string_bytes text ≡ type_text ty.now) }
 {
