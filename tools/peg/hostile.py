@@ -99,6 +99,16 @@ def refused(words, part, answer):
     return Hostile(words.split(), lambda size: framed(part * size), ends(0, b"refused %s\n" % answer), program="gqltext")
 
 
+def unended(size):
+    """A block string of this many escaped quotes, without its end."""
+    return b'"""' + b'\\"""' * size
+
+
+def is_unended(size, run):
+    end = len(unended(size))
+    return run.answer == (0, b"refused %d %d unterminated string\n" % (end, end), b"")
+
+
 def is_nested(size, run):
     """Brackets are read where no more of them are open than may be."""
     lists = b"".join(b"%d..%d list [ " % (at, 2 * size - at) for at in range(size))
@@ -157,6 +167,10 @@ CASES = {
     ),
     "block strings": read(
         lambda size: b"[%s]" % (b'""""""' * size), lambda size: listed(size, 6, 6, b'""'), (50_000, 200_000)
+    ),
+    "quotes": refused(b"value", b'"', b"6 12 expected the end of the text, found a block string"),
+    "quotes of a block string without its end": Hostile(
+        [b"value"], lambda size: framed(unended(size)), is_unended, (50_000, 200_000), "gqltext"
     ),
     "tokens": read(lambda size: b"[%s]" % (b"0 " * size), lambda size: listed(size, 2, 1, b"int 0")),
     "tokens above the limit": refused(b"value --max-tokens 7", b"[", b"7 8 too many tokens"),
