@@ -1,3 +1,4 @@
+mod FoldedSelections
 mod FoldedText
 mod InsideLemmas
 mod WidthLemmas

@@ -1,5 +1,5 @@
 -- How texts are put together.
-use Rattle.std.specs.Prelude.{ℕ, List, [], ◌∷◌, ◌++◌, replicate}
+use Rattle.std.specs.Prelude.{ℕ, List, [], ◌∷◌, ◌++◌, ◌+◌, replicate, codes}
 use Rattle.std.specs.List.{flat_map}
 
 -- texts, each behind this one
@@ -19,3 +19,8 @@ enclosed beginning separator end text (x ∷ xs) = beginning ++ separated separa
 -- a line feed, and so many blanks
 abbrev pub line_end : ℕ → List ℕ
 line_end indent = 10 ∷ replicate indent 32
+
+-- texts, each on a line of its own and further in by two, between an opening and its `}`, of what stands further in by so
+-- many blanks, or nothing where there is no text
+abbrev pub braces : {A : Type 0} → List ℕ → ℕ → (A → List ℕ) → List A → List ℕ
+braces opening indent text xs = enclosed (opening ++ line_end (indent + 2)) (line_end (indent + 2)) (line_end indent ++ codes "}") text xs

@@ -1,5 +1,5 @@
 //! The heads of fields: GraphQL specification of October 2021, sections 2.5 to 2.7.
-ghost use Rattle.std.specs.Prelude.{◌≡◌, ◌+◌, IfOk, nat_lt};
+ghost use Rattle.std.specs.Prelude.{◌≡◌, IfOk, nat_lt};
 ghost use Rattle.std.specs.Fmt.{WritesOnOk};
 ghost use Rattle.graphql_printing.specs.Layout.{each_behind, line_end};
 ghost use Rattle.graphql_printing.specs.Fields.{argument_lines, field_head, field_name_text, short_head};
@@ -7,7 +7,7 @@ ghost use Rattle.graphql_printing.specs.Texts.{argument_text};
 ghost use Rattle.graphql_printing.specs.Widths.{width};
 
 use crate::arguments::{write_argument, write_arguments};
-use crate::layout::write_line_end;
+use crate::layout::{further_in, write_line_end};
 use crate::values::write_label;
 use crate::widths::Width;
 use graphql_ast::directive::Argument;
@@ -109,11 +109,4 @@ fn write_other_lines<W: Write>(
         write_argument(f, argument)?;
     }
     Ok(())
-}
-
-/// Two blanks more, if a `usize` can say so.
-fn further_in(indent: usize) -> Result<usize, fmt::Error>
-    ensures { IfOk result (λ inner. inner ≡ indent + 2) }
-{
-    indent.checked_add(2).ok_or(fmt::Error)
 }

@@ -1,5 +1,5 @@
 //! How lines are put together.
-ghost use Rattle.std.specs.Prelude.{replicate};
+ghost use Rattle.std.specs.Prelude.{◌≡◌, ◌+◌, IfOk, replicate};
 ghost use Rattle.std.specs.Fmt.{WritesOnOk};
 ghost use Rattle.graphql_printing.specs.Layout.{line_end};
 
@@ -21,4 +21,11 @@ fn write_blanks<W: Write>(f: &mut Formatter<W>, count: usize) -> fmt::Result
         f.write_str(" ")?;
     }
     Ok(())
+}
+
+/// Two blanks more, if a `usize` can say so.
+pub(crate) fn further_in(indent: usize) -> Result<usize, fmt::Error>
+    ensures { IfOk result (λ inner. inner ≡ indent + 2) }
+{
+    indent.checked_add(2).ok_or(fmt::Error)
 }

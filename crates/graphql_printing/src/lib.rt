@@ -6,6 +6,7 @@ pub mod descriptions;
 pub mod fields;
 mod layout;
 pub mod printing;
+pub mod selections;
 mod strings;
 mod types;
 mod values;

@@ -1,9 +1,12 @@
 //! Trees as text.
 ghost use Rattle.std.specs.Prelude.{◌≡◌, IfOk, Some, string_bytes};
+ghost use Rattle.graphql_printing.specs.Selections.{selections_text};
 ghost use Rattle.graphql_printing.specs.Texts.{type_text, value_text};
 
+use crate::selections::write_selections;
 use crate::types::write_type;
 use crate::values::write_value;
+use graphql_ast::selection::Selection;
 use graphql_ast::type_reference::Type;
 use graphql_ast::value::Value;
 use std::alloc::{AllocError, Global};
@@ -33,6 +36,18 @@ impl<'a> fmt::Display for TypeText<'a> {
     }
 }
 
+/// Selections that are printed as their text.
+#[derive(Clone, Copy)]
+pub struct SelectionsText<'a>(&'a [Selection]);
+
+impl<'a> fmt::Display for SelectionsText<'a> {
+    ghost output = { λ it. Some (selections_text 0 it.0.now) };
+
+    fn fmt<W: fmt::Write>(&self, f: &mut fmt::Formatter<W>) -> fmt::Result {
+        write_selections(f, "{", self.0, 0)
+    }
+}
+
 /// A value, to be printed: `Display` writes its text, and takes no memory.
 pub fn value<'a>(value: &'a Value) -> ValueText<'a>
     ensures { result.0.now ≡ value.now }
@@ -47,6 +62,13 @@ pub fn ty<'a>(ty: &'a Type) -> TypeText<'a>
     TypeText(ty)
 }
 
+/// Selections, to be printed in braces: `Display` writes their text, and takes no memory.
+pub fn selections<'a>(selections: &'a [Selection]) -> SelectionsText<'a>
+    ensures { result.0.now ≡ selections.now }
+{
+    SelectionsText(selections)
+}
+
 /// The text of a value. The error is out of memory.
 pub fn value_text(alloc: Global, value: &Value) -> Result<String, AllocError>
     ensures { IfOk result (λ text. string_bytes text ≡ value_text value.now) }
@@ -59,4 +81,11 @@ pub fn type_text(alloc: Global, ty: &Type) -> Result<String, AllocError>
     ensures { IfOk result (λ text. string_bytes text ≡ type_text ty.now) }
 {
     TypeText(ty).to_string(alloc)
+}
+
+/// The text of selections, in braces. The error is out of memory.
+pub fn selections_text(alloc: Global, selections: &[Selection]) -> Result<String, AllocError>
+    ensures { IfOk result (λ text. string_bytes text ≡ selections_text 0 selections.now) }
+{
+    SelectionsText(selections).to_string(alloc)
 }
