@@ -1,8 +1,8 @@
-//! Values and types that are read and printed.
+//! Values, types and selections that are read and printed.
 
 use graphql_nodes::source::FileId;
-use graphql_printing::printing::{ty, type_text, value, value_text};
-use graphql_text::parsing::{ParseOptions, parse_type, parse_value};
+use graphql_printing::printing::{selections, selections_text, ty, type_text, value, value_text};
+use graphql_text::parsing::{ParseOptions, parse_selections, parse_type, parse_value};
 use std::alloc::{AllocError, Global};
 use std::test::Fail;
 
@@ -29,6 +29,23 @@ static TYPES: [(&str, &str); 3] = [
     ("[[[ID]!]]", "[[[ID]!]]"),
 ];
 
+static SELECTIONS: [(&str, &str); 5] = [
+    ("a", "{\n  a\n}"),
+    ("{ a: b(x:1) @d  c }", "{\n  a: b(x: 1) @d\n  c\n}"),
+    (
+        "{...F @a(b:[1]) ... on T @x {a{b c}} ...{d} ... @y{e}}",
+        "{\n  ...F @a(b: [1])\n  ... on T @x {\n    a {\n      b\n      c\n    }\n  }\n  ... {\n    d\n  }\n  ... @y {\n    e\n  }\n}",
+    ),
+    (
+        "{a{f: field(a: \"xxxxxxxxxxxxxxxxxxxxxxxxxxxxxxxxxxxxxxxxxxxxxxxxxxxxxx\", b: {c: E})@d{b}}}",
+        "{\n  a {\n    f: field(a: \"xxxxxxxxxxxxxxxxxxxxxxxxxxxxxxxxxxxxxxxxxxxxxxxxxxxxxx\", b: {c: E}) @d {\n      b\n    }\n  }\n}",
+    ),
+    (
+        "{a{f: field(a: \"xxxxxxxxxxxxxxxxxxxxxxxxxxxxxxxxxxxxxxxxxxxxxxxxxxxxxxx\", b: {c: E})@d{b}}}",
+        "{\n  a {\n    f: field(\n      a: \"xxxxxxxxxxxxxxxxxxxxxxxxxxxxxxxxxxxxxxxxxxxxxxxxxxxxxxx\"\n      b: {c: E}\n    ) @d {\n      b\n    }\n  }\n}",
+    ),
+];
+
 /// Whether this value is printed so, in both ways.
 fn is_printed_value(alloc: Global, text: &str, printed: &str) -> Result<bool, AllocError> {
     let Ok(read) = parse_value(alloc, FileId(1), text, ParseOptions::new()) else {
@@ -49,6 +66,17 @@ fn is_printed_type(alloc: Global, text: &str, printed: &str) -> Result<bool, All
     Ok(type_text(alloc, &read)?.as_str() == printed && shown.as_str() == printed)
 }
 
+/// Whether these selections are printed so, in both ways.
+fn are_printed_selections(alloc: Global, text: &str, printed: &str) -> Result<bool, AllocError> {
+    let Ok(read) = parse_selections(alloc, FileId(1), text, ParseOptions::new()) else {
+        return Ok(false);
+    };
+    let mut shown = String::new(alloc);
+    write!(shown, "{}", selections(read.as_slice()))?;
+    let made = selections_text(alloc, read.as_slice())?;
+    Ok(made.as_str() == printed && shown.as_str() == printed)
+}
+
 #[test]
 fn values_are_printed(rt: HostRuntime) {
     for (text, printed) in &VALUES {
@@ -60,5 +88,12 @@ fn values_are_printed(rt: HostRuntime) {
 fn types_are_printed(rt: HostRuntime) {
     for (text, printed) in &TYPES {
         assert!(rt; is_printed_type(rt.alloc(), *text, *printed) == Ok(true));
+    }
+}
+
+#[test]
+fn selections_are_printed(rt: HostRuntime) {
+    for (text, printed) in &SELECTIONS {
+        assert!(rt; are_printed_selections(rt.alloc(), *text, *printed) == Ok(true));
     }
 }
