@@ -5,6 +5,7 @@ pub mod arguments;
 pub mod descriptions;
 pub mod fields;
 mod layout;
+pub mod operations;
 pub mod printing;
 pub mod selections;
 mod strings;

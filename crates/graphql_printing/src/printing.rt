@@ -1,11 +1,14 @@
 //! Trees as text.
 ghost use Rattle.std.specs.Prelude.{◌≡◌, IfOk, Some, string_bytes};
+ghost use Rattle.graphql_printing.specs.Operations.{fragment_definition_text, operation_definition_text};
 ghost use Rattle.graphql_printing.specs.Selections.{selections_text};
 ghost use Rattle.graphql_printing.specs.Texts.{type_text, value_text};
 
+use crate::operations::{write_fragment, write_operation};
 use crate::selections::write_selections;
 use crate::types::write_type;
 use crate::values::write_value;
+use graphql_ast::operation::{FragmentDefinition, OperationDefinition};
 use graphql_ast::selection::Selection;
 use graphql_ast::type_reference::Type;
 use graphql_ast::value::Value;
@@ -48,6 +51,30 @@ impl<'a> fmt::Display for SelectionsText<'a> {
     }
 }
 
+/// An operation that is printed as its text.
+#[derive(Clone, Copy)]
+pub struct OperationText<'a>(&'a OperationDefinition);
+
+impl<'a> fmt::Display for OperationText<'a> {
+    ghost output = { λ it. Some (operation_definition_text it.0.now) };
+
+    fn fmt<W: fmt::Write>(&self, f: &mut fmt::Formatter<W>) -> fmt::Result {
+        write_operation(f, self.0)
+    }
+}
+
+/// A fragment that is printed as its text.
+#[derive(Clone, Copy)]
+pub struct FragmentText<'a>(&'a FragmentDefinition);
+
+impl<'a> fmt::Display for FragmentText<'a> {
+    ghost output = { λ it. Some (fragment_definition_text it.0.now) };
+
+    fn fmt<W: fmt::Write>(&self, f: &mut fmt::Formatter<W>) -> fmt::Result {
+        write_fragment(f, self.0)
+    }
+}
+
 /// A value, to be printed: `Display` writes its text, and takes no memory.
 pub fn value<'a>(value: &'a Value) -> ValueText<'a>
     ensures { result.0.now ≡ value.now }
@@ -69,6 +96,20 @@ pub fn selections<'a>(selections: &'a [Selection]) -> SelectionsText<'a>
     SelectionsText(selections)
 }
 
+/// An operation, to be printed: `Display` writes its text, and takes no memory.
+pub fn operation<'a>(operation: &'a OperationDefinition) -> OperationText<'a>
+    ensures { result.0.now ≡ operation.now }
+{
+    OperationText(operation)
+}
+
+/// A fragment, to be printed: `Display` writes its text, and takes no memory.
+pub fn fragment<'a>(fragment: &'a FragmentDefinition) -> FragmentText<'a>
+    ensures { result.0.now ≡ fragment.now }
+{
+    FragmentText(fragment)
+}
+
 /// The text of a value. The error is out of memory.
 pub fn value_text(alloc: Global, value: &Value) -> Result<String, AllocError>
     ensures { IfOk result (λ text. string_bytes text ≡ value_text value.now) }
@@ -88,4 +129,18 @@ pub fn selections_text(alloc: Global, selections: &[Selection]) -> Result<String
     ensures { IfOk result (λ text. string_bytes text ≡ selections_text 0 selections.now) }
 {
     SelectionsText(selections).to_string(alloc)
+}
+
+/// The text of an operation. The error is out of memory.
+pub fn operation_text(alloc: Global, operation: &OperationDefinition) -> Result<String, AllocError>
+    ensures { IfOk result (λ text. string_bytes text ≡ operation_definition_text operation.now) }
+{
+    OperationText(operation).to_string(alloc)
+}
+
+/// The text of a fragment. The error is out of memory.
+pub fn fragment_text(alloc: Global, fragment: &FragmentDefinition) -> Result<String, AllocError>
+    ensures { IfOk result (λ text. string_bytes text ≡ fragment_definition_text fragment.now) }
+{
+    FragmentText(fragment).to_string(alloc)
 }

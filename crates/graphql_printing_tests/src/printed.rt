@@ -1,8 +1,14 @@
-//! Values, types and selections that are read and printed.
+//! Values, types, selections, operations and fragments that are read and printed.
 
+use graphql_ast::definition::Definition;
 use graphql_nodes::source::FileId;
-use graphql_printing::printing::{selections, selections_text, ty, type_text, value, value_text};
-use graphql_text::parsing::{ParseOptions, parse_selections, parse_type, parse_value};
+use graphql_printing::printing::{
+    fragment, fragment_text, operation, operation_text, selections, selections_text, ty, type_text,
+    value, value_text,
+};
+use graphql_text::parsing::{
+    ParseOptions, parse_definitions, parse_selections, parse_type, parse_value,
+};
 use std::alloc::{AllocError, Global};
 use std::test::Fail;
 
@@ -46,6 +52,19 @@ static SELECTIONS: [(&str, &str); 5] = [
     ),
 ];
 
+static DEFINITIONS: [(&str, &str); 7] = [
+    ("query{a}", "{\n  a\n}"),
+    ("query @d{a}", "query @d {\n  a\n}"),
+    ("query Q{a}", "query Q {\n  a\n}"),
+    ("query($a:Int){a}", "query ($a: Int) {\n  a\n}"),
+    ("mutation{a}", "mutation {\n  a\n}"),
+    (
+        "subscription S($a:[Int!]!=[1]@x @y,$b:T)@z{a{b}}",
+        "subscription S($a: [Int!]! = [1] @x @y, $b: T) @z {\n  a {\n    b\n  }\n}",
+    ),
+    ("fragment F on T@a @b{a}", "fragment F on T @a @b {\n  a\n}"),
+];
+
 /// Whether this value is printed so, in both ways.
 fn is_printed_value(alloc: Global, text: &str, printed: &str) -> Result<bool, AllocError> {
     let Ok(read) = parse_value(alloc, FileId(1), text, ParseOptions::new()) else {
@@ -77,6 +96,29 @@ fn are_printed_selections(alloc: Global, text: &str, printed: &str) -> Result<bo
     Ok(made.as_str() == printed && shown.as_str() == printed)
 }
 
+/// Whether this operation or fragment is printed so, in both ways.
+fn is_printed_definition(alloc: Global, text: &str, printed: &str) -> Result<bool, AllocError> {
+    let Ok(read) = parse_definitions(alloc, FileId(1), text, ParseOptions::new()) else {
+        return Ok(false);
+    };
+    let [definition] = read.as_slice() else {
+        return Ok(false);
+    };
+    let mut shown = String::new(alloc);
+    let made = match definition {
+        Definition::OperationDefinition(node) => {
+            write!(shown, "{}", operation(node))?;
+            operation_text(alloc, node)?
+        }
+        Definition::FragmentDefinition(node) => {
+            write!(shown, "{}", fragment(node))?;
+            fragment_text(alloc, node)?
+        }
+        _ => return Ok(false),
+    };
+    Ok(made.as_str() == printed && shown.as_str() == printed)
+}
+
 #[test]
 fn values_are_printed(rt: HostRuntime) {
     for (text, printed) in &VALUES {
@@ -95,5 +137,12 @@ fn types_are_printed(rt: HostRuntime) {
 fn selections_are_printed(rt: HostRuntime) {
     for (text, printed) in &SELECTIONS {
         assert!(rt; are_printed_selections(rt.alloc(), *text, *printed) == Ok(true));
+    }
+}
+
+#[test]
+fn definitions_are_printed(rt: HostRuntime) {
+    for (text, printed) in &DEFINITIONS {
+        assert!(rt; is_printed_definition(rt.alloc(), *text, *printed) == Ok(true));
     }
 }
