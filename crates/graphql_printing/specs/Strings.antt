@@ -21,7 +21,7 @@ escape_letter c =
 
 -- the escape of a character by its number: `\u` and four digits, of which the first two are 0
 abbrev pub number_escape : ℕ → List ℕ
-number_escape c = codes "\\u00" ++ digit_glyph true (c / 16) ∷ digit_glyph true (c % 16) ∷ []
+number_escape c = codes "\\u00" ++ digit_glyph true (c / 16 % 16) ∷ digit_glyph true (c % 16) ∷ []
 
 -- a character in a quoted string: an escape by letter or by number, or else itself
 abbrev pub quoted_character : ℕ → List ℕ

@@ -1,5 +1,5 @@
 //! Quoted strings: GraphQL specification of October 2021, section 2.9.4.
-ghost use Rattle.std.specs.Prelude.{◌≡◌, ◌<◌, true};
+ghost use Rattle.std.specs.Prelude.{◌≡◌, ◌<◌, ◌%◌, true};
 ghost use Rattle.std.specs.Fmt.{WritesOnOk, digit_glyph};
 ghost use Rattle.std.specs.List.{flat_map};
 ghost use Rattle.std.specs.Str.{chars};
@@ -64,23 +64,22 @@ pub(crate) fn is_control(c: char) -> bool
     c < ' ' || ('\u{7f}' <= c && c < '\u{a0}')
 }
 
-/// Writes the escape of a character by its number.
+/// Writes the escape of a character by its number, of which no more than two digits count.
 fn write_number<W: Write>(f: &mut Formatter<W>, c: char) -> fmt::Result
-    requires { c < 256 }
     ensures { WritesOnOk W.write_str_gives f.old result (number_escape c) f.new }
 {
-    let number = c as u32;
+    let number = u32::from(c);
     f.write_str("\\u00")?;
-    f.write_char(digit((number / 16) as u8))?;
-    f.write_char(digit((number % 16) as u8))
+    f.write_char(digit(number / 16))?;
+    f.write_char(digit(number))
 }
 
-/// A hexadecimal digit.
-fn digit(value: u8) -> char
-    requires { value < 16 }
-    ensures value { result ≡ digit_glyph true value }
+/// The last hexadecimal digit of a number.
+fn digit(number: u32) -> char
+    ensures value { result ≡ digit_glyph true (number % 16) }
     ensures ascii { result < 128 }
 {
+    let value = (number % 16) as u8;
     char::from(if value < 10 {
         b'0' + value
     } else {
