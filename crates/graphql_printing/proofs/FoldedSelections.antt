@@ -11,7 +11,7 @@ use Rattle.graphql_printing.specs.Texts.{directives_text}
 use Rattle.graphql_printing.proofs.FoldedText.{folded_inside}
 
 -- selections come to the same where their texts are made first
-behind : (indent : ℕ) (selections : List Selection) → braces (codes " {") indent (λ (text : Text). text (indent + 2)) (map selection_text selections) ≡ selections_behind (codes " {") indent selections
+behind : (indent : ℕ) (selections : List Selection) → braces (codes " {") indent (λ (inner : ℕ) (text : Text). text inner) (map selection_text selections) ≡ selections_behind (codes " {") indent selections
 behind indent selections =
     folded_inside (codes " {" ++ line_end (indent + 2)) (line_end (indent + 2)) (line_end indent ++ codes "}") (λ (text : Text). text (indent + 2)) selection_text selections
 

@@ -1,9 +1,9 @@
 -- The heads of fields: GraphQL specification of October 2021, sections 2.5 to 2.7.
-use Rattle.std.specs.Prelude.{ℕ, List, ◌++◌, ◌+◌, nat_lt, if◌then◌else◌, Option, None, Some, codes}
+use Rattle.std.specs.Prelude.{ℕ, List, ◌++◌, nat_lt, if◌then◌else◌, Option, None, Some, codes}
 use Rattle.graphql_nodes.specs.NameView.{NameView}
 use Rattle.graphql_nodes.specs.NodeView.{NodeView}
 use Rattle.graphql_ast.specs.declared.directive.Argument.{Argument}
-use Rattle.graphql_printing.specs.Layout.{enclosed, line_end}
+use Rattle.graphql_printing.specs.Layout.{on_lines}
 use Rattle.graphql_printing.specs.Texts.{argument_text, arguments_text, label_text}
 use Rattle.graphql_printing.specs.Widths.{width}
 
@@ -18,7 +18,7 @@ short_head alias name arguments = field_name_text alias name ++ arguments_text a
 
 -- arguments one a line, further in, of what stands further in by so many blanks
 abbrev pub argument_lines : ℕ → List (NodeView Argument) → List ℕ
-argument_lines indent arguments = enclosed (codes "(" ++ line_end (indent + 2)) (line_end (indent + 2)) (line_end indent ++ codes ")") argument_text arguments
+argument_lines indent arguments = on_lines (codes "(") (codes ")") indent (λ (inner : ℕ). argument_text) arguments
 
 -- a field's alias, name and arguments: these one a line where all take more than 80 UTF-16 units in one line
 abbrev pub field_head : ℕ → Option NameView → NameView → List (NodeView Argument) → List ℕ

@@ -1,8 +1,10 @@
 pub mod Descriptions
+pub mod Documents
 pub mod Fields
 pub mod Layout
 pub mod Operations
 pub mod Selections
 pub mod Strings
 pub mod Texts
+pub mod TypeSystem
 pub mod Widths
