@@ -1,0 +1,3 @@
+pub mod LeadLaws
+pub mod PieceTexts
+pub mod TokenTexts
