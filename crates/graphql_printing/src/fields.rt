@@ -1,13 +1,11 @@
 //! The heads of fields: GraphQL specification of October 2021, sections 2.5 to 2.7.
 ghost use Rattle.std.specs.Prelude.{◌≡◌, IfOk, nat_lt};
 ghost use Rattle.std.specs.Fmt.{WritesOnOk};
-ghost use Rattle.graphql_printing.specs.Layout.{each_behind, line_end};
 ghost use Rattle.graphql_printing.specs.Fields.{argument_lines, field_head, field_name_text, short_head};
-ghost use Rattle.graphql_printing.specs.Texts.{argument_text};
 ghost use Rattle.graphql_printing.specs.Widths.{width};
 
-use crate::arguments::{write_argument, write_arguments};
-use crate::layout::{further_in, write_line_end};
+use crate::arguments::write_arguments;
+use crate::lists::write_on_lines;
 use crate::values::write_label;
 use crate::widths::Width;
 use graphql_ast::directive::Argument;
@@ -85,28 +83,5 @@ fn write_argument_lines<W: Write>(
 ) -> fmt::Result
     ensures { WritesOnOk W.write_str_gives f.old result (argument_lines indent arguments.now) f.new }
 {
-    let [first, others @ ..] = arguments else {
-        return Ok(());
-    };
-    let inner = further_in(indent)?;
-    f.write_str("(")?;
-    write_line_end(f, inner)?;
-    write_argument(f, first)?;
-    write_other_lines(f, others, inner)?;
-    write_line_end(f, indent)?;
-    f.write_str(")")
-}
-
-fn write_other_lines<W: Write>(
-    f: &mut Formatter<W>,
-    arguments: &[Node<Argument>],
-    indent: usize,
-) -> fmt::Result
-    ensures { WritesOnOk W.write_str_gives f.old result (each_behind (line_end indent) argument_text arguments.now) f.new }
-{
-    for argument in arguments {
-        write_line_end(f, indent)?;
-        write_argument(f, argument)?;
-    }
-    Ok(())
+    write_on_lines(f, "(", ")", arguments, indent)
 }

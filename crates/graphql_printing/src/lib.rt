@@ -3,12 +3,15 @@
 
 pub mod arguments;
 pub mod descriptions;
+pub mod documents;
 pub mod fields;
 mod layout;
+mod lists;
 pub mod operations;
 pub mod printing;
 pub mod selections;
 mod strings;
+mod type_system;
 mod types;
 mod values;
 mod widths;

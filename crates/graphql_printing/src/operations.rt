@@ -1,10 +1,10 @@
 //! Operations and fragments: GraphQL specification of October 2021, sections 2.3, 2.8 and 2.10.
-ghost use Rattle.std.specs.Prelude.{◌≡◌, codes};
+ghost use Rattle.std.specs.Prelude.{◌≡◌};
 ghost use Rattle.std.specs.Fmt.{WritesOnOk};
-ghost use Rattle.graphql_printing.specs.Layout.{each_behind};
 ghost use Rattle.graphql_printing.specs.Operations.{default_text, fragment_definition_text, is_short, long_text, operation_definition_text, signature_text, variable_text, variables_text};
 
 use crate::arguments::write_directives;
+use crate::lists::{Written, write_enclosed};
 use crate::selections::write_selections;
 use crate::types::write_type;
 use crate::values::write_value;
@@ -54,7 +54,10 @@ fn is_short(
 }
 
 /// Writes an operation with its keyword.
-fn write_long<W: Write>(f: &mut Formatter<W>, operation: &OperationDefinition) -> fmt::Result
+pub(crate) fn write_long<W: Write>(
+    f: &mut Formatter<W>,
+    operation: &OperationDefinition,
+) -> fmt::Result
     ensures { WritesOnOk W.write_str_gives f.old result (long_text operation.now) f.new }
 {
     f.write_str(operation.operation_type.name())?;
@@ -89,45 +92,27 @@ fn write_variables<W: Write>(
 ) -> fmt::Result
     ensures { WritesOnOk W.write_str_gives f.old result (variables_text opening.now variables.now) f.new }
 {
-    let [first, others @ ..] = variables else {
-        return Ok(());
-    };
-    f.write_str(opening)?;
-    write_variable(f, first)?;
-    write_other_variables(f, others)?;
-    f.write_str(")")
+    write_enclosed(f, opening, ", ", ")", variables, 0)
 }
 
-fn write_other_variables<W: Write>(
-    f: &mut Formatter<W>,
-    variables: &[Node<VariableDefinition>],
-) -> fmt::Result
-    ensures { WritesOnOk W.write_str_gives f.old result (each_behind (codes ", ") variable_text variables.now) f.new }
-{
-    for variable in variables {
-        f.write_str(", ")?;
-        write_variable(f, variable)?;
+impl Written for Node<VariableDefinition> {
+    ghost text = { λ indent variable. variable_text variable };
+
+    fn write<W: Write>(&self, f: &mut Formatter<W>, _indent: usize) -> fmt::Result {
+        f.write_str("$")?;
+        f.write_str(self.name.as_str())?;
+        f.write_str(": ")?;
+        write_type(f, &self.ty)?;
+        write_default(f, &self.default_value)?;
+        write_directives(f, self.directives.0.as_slice())
     }
-    Ok(())
-}
-
-/// Writes a variable.
-fn write_variable<W: Write>(
-    f: &mut Formatter<W>,
-    variable: &Node<VariableDefinition>,
-) -> fmt::Result
-    ensures { WritesOnOk W.write_str_gives f.old result (variable_text variable.now) f.new }
-{
-    f.write_str("$")?;
-    f.write_str(variable.name.as_str())?;
-    f.write_str(": ")?;
-    write_type(f, &variable.ty)?;
-    write_default(f, &variable.default_value)?;
-    write_directives(f, variable.directives.0.as_slice())
 }
 
 /// Writes a default value, or nothing where there is none.
-fn write_default<W: Write>(f: &mut Formatter<W>, default: &Option<Node<Value>>) -> fmt::Result
+pub(crate) fn write_default<W: Write>(
+    f: &mut Formatter<W>,
+    default: &Option<Node<Value>>,
+) -> fmt::Result
     ensures { WritesOnOk W.write_str_gives f.old result (default_text default.now) f.new }
 {
     match default {

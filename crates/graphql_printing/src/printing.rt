@@ -1,13 +1,17 @@
 //! Trees as text.
-ghost use Rattle.std.specs.Prelude.{◌≡◌, IfOk, Some, string_bytes};
+ghost use Rattle.std.specs.Prelude.{◌≡◌, IfOk, Some, false, string_bytes};
+ghost use Rattle.graphql_printing.specs.Documents.{definition_text, definitions_text};
 ghost use Rattle.graphql_printing.specs.Operations.{fragment_definition_text, operation_definition_text};
 ghost use Rattle.graphql_printing.specs.Selections.{selections_text};
 ghost use Rattle.graphql_printing.specs.Texts.{type_text, value_text};
 
+use crate::documents::{write_definition, write_definitions};
 use crate::operations::{write_fragment, write_operation};
 use crate::selections::write_selections;
 use crate::types::write_type;
 use crate::values::write_value;
+use graphql_ast::definition::Definition;
+use graphql_ast::document::Document;
 use graphql_ast::operation::{FragmentDefinition, OperationDefinition};
 use graphql_ast::selection::Selection;
 use graphql_ast::type_reference::Type;
@@ -75,6 +79,30 @@ impl<'a> fmt::Display for FragmentText<'a> {
     }
 }
 
+/// A definition or extension that is printed as its text.
+#[derive(Clone, Copy)]
+pub struct DefinitionText<'a>(&'a Definition);
+
+impl<'a> fmt::Display for DefinitionText<'a> {
+    ghost output = { λ it. Some (definition_text false it.0.now) };
+
+    fn fmt<W: fmt::Write>(&self, f: &mut fmt::Formatter<W>) -> fmt::Result {
+        write_definition(f, self.0, false)
+    }
+}
+
+/// Definitions that are printed as their text.
+#[derive(Clone, Copy)]
+pub struct DefinitionsText<'a>(&'a [Definition]);
+
+impl<'a> fmt::Display for DefinitionsText<'a> {
+    ghost output = { λ it. Some (definitions_text it.0.now) };
+
+    fn fmt<W: fmt::Write>(&self, f: &mut fmt::Formatter<W>) -> fmt::Result {
+        write_definitions(f, self.0)
+    }
+}
+
 /// A value, to be printed: `Display` writes its text, and takes no memory.
 pub fn value<'a>(value: &'a Value) -> ValueText<'a>
     ensures { result.0.now ≡ value.now }
@@ -110,6 +138,33 @@ pub fn fragment<'a>(fragment: &'a FragmentDefinition) -> FragmentText<'a>
     FragmentText(fragment)
 }
 
+/// A definition or extension of any sort, to be printed: `Display` writes its text, and takes no memory.
+pub fn definition<'a>(definition: &'a Definition) -> DefinitionText<'a>
+    ensures { result.0.now ≡ definition.now }
+{
+    DefinitionText(definition)
+}
+
+/// Definitions, to be printed with an empty line between each two: `Display` writes their text, and takes no memory. See
+/// [`text`] for the keyword of a query.
+pub fn definitions<'a>(definitions: &'a [Definition]) -> DefinitionsText<'a>
+    ensures { result.0.now ≡ definitions.now }
+{
+    DefinitionsText(definitions)
+}
+
+/// A document, to be printed: `Display` writes the text of its definitions, with an empty line between each two and no line
+/// end behind the last, and takes no memory. The sources are left out.
+///
+/// The layout is that of `print` of graphql-js 16, with one exception. A query without name, variables and directives is
+/// written as its selections alone, but keeps its keyword `query` behind a definition that would take its `{` for its own, as
+/// `type T` without fields would.
+pub fn text<'a>(document: &'a Document) -> DefinitionsText<'a>
+    ensures { result.0.now ≡ document.now.definitions }
+{
+    DefinitionsText(document.definitions.as_slice())
+}
+
 /// The text of a value. The error is out of memory.
 pub fn value_text(alloc: Global, value: &Value) -> Result<String, AllocError>
     ensures { IfOk result (λ text. string_bytes text ≡ value_text value.now) }
@@ -143,4 +198,25 @@ pub fn fragment_text(alloc: Global, fragment: &FragmentDefinition) -> Result<Str
     ensures { IfOk result (λ text. string_bytes text ≡ fragment_definition_text fragment.now) }
 {
     FragmentText(fragment).to_string(alloc)
+}
+
+/// The text of a definition or extension of any sort. The error is out of memory.
+pub fn definition_text(alloc: Global, definition: &Definition) -> Result<String, AllocError>
+    ensures { IfOk result (λ text. string_bytes text ≡ definition_text false definition.now) }
+{
+    DefinitionText(definition).to_string(alloc)
+}
+
+/// The text of definitions, with an empty line between each two. The error is out of memory.
+pub fn definitions_text(alloc: Global, definitions: &[Definition]) -> Result<String, AllocError>
+    ensures { IfOk result (λ text. string_bytes text ≡ definitions_text definitions.now) }
+{
+    DefinitionsText(definitions).to_string(alloc)
+}
+
+/// The text of a document, as [`text`] writes it. The error is out of memory.
+pub fn document_text(alloc: Global, document: &Document) -> Result<String, AllocError>
+    ensures { IfOk result (λ text. string_bytes text ≡ definitions_text document.now.definitions) }
+{
+    text(document).to_string(alloc)
 }

@@ -1,0 +1,281 @@
+//! Definitions and extensions of the type system: GraphQL specification of October 2021, section 3.
+ghost use Rattle.std.specs.Prelude.{◌≡◌, ◌++◌, codes};
+ghost use Rattle.std.specs.Fmt.{WritesOnOk};
+ghost use Rattle.std.specs.List.{list_any};
+ghost use Rattle.graphql_nodes.specs.LocationTexts.{location_text};
+ghost use Rattle.graphql_nodes.specs.declared.type_kind.TypeKind.TheVariants as t;
+ghost use Rattle.graphql_ast.specs.DefinitionParts.{no_parts};
+ghost use Rattle.graphql_printing.specs.Texts.{directives_text};
+ghost use Rattle.graphql_printing.specs.TypeSystem.{argument_definitions_text, described, directive_shape, enum_value_text, field_definition_text, fielded_text, input_value_text, interfaces_text, members_text, name_text, repeatable_text, root_text, schema_shape, takes_lines, type_shape};
+
+use crate::arguments::write_directives;
+use crate::descriptions::write_description;
+use crate::layout::write_line_end;
+use crate::lists::{Written, write_braces, write_enclosed, write_on_lines, write_separated};
+use crate::operations::write_default;
+use crate::types::write_type;
+use crate::values::write_label;
+use graphql_ast::directive::DirectiveList;
+use graphql_ast::type_system::{
+    DirectiveDefinition, EnumValueDefinition, FieldDefinition, InputValueDefinition,
+};
+use graphql_nodes::directive_location::DirectiveLocation;
+use graphql_nodes::name::{Name, NamedType};
+use graphql_nodes::node::Node;
+use graphql_nodes::node_str::NodeStr;
+use graphql_nodes::operation_type::OperationType;
+use std::fmt;
+use std::fmt::{Formatter, Write};
+
+/// Writes a description on lines of its own above what stands further in by so many blanks, or nothing where there is none.
+pub(crate) fn write_described<W: Write>(
+    f: &mut Formatter<W>,
+    description: &Option<NodeStr>,
+    indent: usize,
+) -> fmt::Result
+    ensures { WritesOnOk W.write_str_gives f.old result (described indent description.now) f.new }
+{
+    match description {
+        Some(text) => {
+            write_description(f, text.as_str(), indent)?;
+            write_line_end(f, indent)
+        }
+        None => Ok(()),
+    }
+}
+
+impl Written for Node<InputValueDefinition> {
+    ghost text = { input_value_text };
+
+    fn write<W: Write>(&self, f: &mut Formatter<W>, indent: usize) -> fmt::Result {
+        write_described(f, &self.description, indent)?;
+        write_label(f, &self.name)?;
+        write_type(f, &self.ty)?;
+        write_default(f, &self.default_value)?;
+        write_directives(f, self.directives.0.as_slice())
+    }
+}
+
+/// Whether one of these arguments takes several lines: it has a description.
+fn take_lines(inputs: &[Node<InputValueDefinition>]) -> bool
+    ensures { result ≡ list_any takes_lines inputs.now }
+{
+    inputs.iter().any(|input| input.description.is_some())
+}
+
+/// Writes arguments that are defined, in one line or one a line, or nothing where there is none.
+fn write_argument_definitions<W: Write>(
+    f: &mut Formatter<W>,
+    inputs: &[Node<InputValueDefinition>],
+    indent: usize,
+) -> fmt::Result
+    ensures { WritesOnOk W.write_str_gives f.old result (argument_definitions_text indent inputs.now) f.new }
+{
+    if take_lines(inputs) {
+        write_on_lines(f, "(", ")", inputs, indent)
+    } else {
+        write_enclosed(f, "(", ", ", ")", inputs, indent)
+    }
+}
+
+impl Written for Node<FieldDefinition> {
+    ghost text = { field_definition_text };
+
+    fn write<W: Write>(&self, f: &mut Formatter<W>, indent: usize) -> fmt::Result {
+        write_described(f, &self.description, indent)?;
+        f.write_str(self.name.as_str())?;
+        write_argument_definitions(f, self.arguments.as_slice(), indent)?;
+        f.write_str(": ")?;
+        write_type(f, &self.ty)?;
+        write_directives(f, self.directives.0.as_slice())
+    }
+}
+
+impl Written for Node<EnumValueDefinition> {
+    ghost text = { enum_value_text };
+
+    fn write<W: Write>(&self, f: &mut Formatter<W>, indent: usize) -> fmt::Result {
+        write_described(f, &self.description, indent)?;
+        f.write_str(self.value.as_str())?;
+        write_directives(f, self.directives.0.as_slice())
+    }
+}
+
+impl Written for Node<(OperationType, NamedType)> {
+    ghost text = { root_text };
+
+    fn write<W: Write>(&self, f: &mut Formatter<W>, _indent: usize) -> fmt::Result {
+        f.write_str(self.0.name())?;
+        f.write_str(": ")?;
+        f.write_str(self.1.as_str())
+    }
+}
+
+impl Written for Name {
+    ghost text = { λ indent name. name_text name };
+
+    fn write<W: Write>(&self, f: &mut Formatter<W>, _indent: usize) -> fmt::Result {
+        f.write_str(self.as_str())
+    }
+}
+
+impl Written for DirectiveLocation {
+    ghost text = { λ indent location. location_text location };
+
+    fn write<W: Write>(&self, f: &mut Formatter<W>, _indent: usize) -> fmt::Result {
+        f.write_str(self.name())
+    }
+}
+
+/// Writes the keyword and name of a type.
+fn write_keyword<W: Write>(f: &mut Formatter<W>, keyword: &str, name: &Name) -> fmt::Result
+    ensures { WritesOnOk W.write_str_gives f.old result (keyword.now ++ codes " " ++ name.now.text) f.new }
+{
+    f.write_str(keyword)?;
+    f.write_str(" ")?;
+    f.write_str(name.as_str())
+}
+
+/// Writes the keyword, name and directives of a type.
+fn write_head<W: Write>(
+    f: &mut Formatter<W>,
+    keyword: &str,
+    name: &Name,
+    directives: &DirectiveList,
+) -> fmt::Result
+    ensures { WritesOnOk W.write_str_gives f.old result (keyword.now ++ codes " " ++ name.now.text ++ directives_text directives.now.0) f.new }
+{
+    write_keyword(f, keyword, name)?;
+    write_directives(f, directives.0.as_slice())
+}
+
+/// Writes a scalar type, defined or extended.
+pub(crate) fn write_scalar<W: Write>(
+    f: &mut Formatter<W>,
+    name: &Name,
+    directives: &DirectiveList,
+) -> fmt::Result
+    ensures { WritesOnOk W.write_str_gives f.old result (type_shape t.Scalar name.now (record no_parts { directives = directives.now })) f.new }
+{
+    write_head(f, "scalar", name, directives)
+}
+
+/// Writes interfaces, directives and fields.
+fn write_fielded<W: Write>(
+    f: &mut Formatter<W>,
+    interfaces: &[Name],
+    directives: &DirectiveList,
+    fields: &[Node<FieldDefinition>],
+) -> fmt::Result
+    ensures { WritesOnOk W.write_str_gives f.old result (fielded_text (record no_parts { names = interfaces.now; directives = directives.now; fields = fields.now })) f.new }
+{
+    write_enclosed(f, " implements ", " & ", "", interfaces, 0)?;
+    write_directives(f, directives.0.as_slice())?;
+    write_braces(f, " {", fields, 0)
+}
+
+/// Writes an object type, defined or extended.
+pub(crate) fn write_object<W: Write>(
+    f: &mut Formatter<W>,
+    name: &Name,
+    interfaces: &[Name],
+    directives: &DirectiveList,
+    fields: &[Node<FieldDefinition>],
+) -> fmt::Result
+    ensures { WritesOnOk W.write_str_gives f.old result (type_shape t.Object name.now (record no_parts { names = interfaces.now; directives = directives.now; fields = fields.now })) f.new }
+{
+    write_keyword(f, "type", name)?;
+    write_fielded(f, interfaces, directives, fields)
+}
+
+/// Writes an interface type, defined or extended.
+pub(crate) fn write_interface<W: Write>(
+    f: &mut Formatter<W>,
+    name: &Name,
+    interfaces: &[Name],
+    directives: &DirectiveList,
+    fields: &[Node<FieldDefinition>],
+) -> fmt::Result
+    ensures { WritesOnOk W.write_str_gives f.old result (type_shape t.Interface name.now (record no_parts { names = interfaces.now; directives = directives.now; fields = fields.now })) f.new }
+{
+    write_keyword(f, "interface", name)?;
+    write_fielded(f, interfaces, directives, fields)
+}
+
+/// Writes a union type, defined or extended.
+pub(crate) fn write_union<W: Write>(
+    f: &mut Formatter<W>,
+    name: &Name,
+    directives: &DirectiveList,
+    members: &[NamedType],
+) -> fmt::Result
+    ensures { WritesOnOk W.write_str_gives f.old result (type_shape t.Union name.now (record no_parts { directives = directives.now; names = members.now })) f.new }
+{
+    write_head(f, "union", name, directives)?;
+    write_enclosed(f, " = ", " | ", "", members, 0)
+}
+
+/// Writes an enum type, defined or extended.
+pub(crate) fn write_enum<W: Write>(
+    f: &mut Formatter<W>,
+    name: &Name,
+    directives: &DirectiveList,
+    values: &[Node<EnumValueDefinition>],
+) -> fmt::Result
+    ensures { WritesOnOk W.write_str_gives f.old result (type_shape t.Enum name.now (record no_parts { directives = directives.now; values = values.now })) f.new }
+{
+    write_head(f, "enum", name, directives)?;
+    write_braces(f, " {", values, 0)
+}
+
+/// Writes an input object type, defined or extended.
+pub(crate) fn write_input_object<W: Write>(
+    f: &mut Formatter<W>,
+    name: &Name,
+    directives: &DirectiveList,
+    fields: &[Node<InputValueDefinition>],
+) -> fmt::Result
+    ensures { WritesOnOk W.write_str_gives f.old result (type_shape t.InputObject name.now (record no_parts { directives = directives.now; input_fields = fields.now })) f.new }
+{
+    write_head(f, "input", name, directives)?;
+    write_braces(f, " {", fields, 0)
+}
+
+/// Writes the schema, defined or extended.
+pub(crate) fn write_schema<W: Write>(
+    f: &mut Formatter<W>,
+    directives: &DirectiveList,
+    roots: &[Node<(OperationType, NamedType)>],
+) -> fmt::Result
+    ensures { WritesOnOk W.write_str_gives f.old result (schema_shape directives.now roots.now) f.new }
+{
+    f.write_str("schema")?;
+    write_directives(f, directives.0.as_slice())?;
+    write_braces(f, " {", roots, 0)
+}
+
+/// Writes that a directive may be repeated, if it may.
+fn write_repeatable<W: Write>(f: &mut Formatter<W>, repeatable: bool) -> fmt::Result
+    ensures { WritesOnOk W.write_str_gives f.old result (repeatable_text repeatable) f.new }
+{
+    if repeatable {
+        f.write_str(" repeatable")
+    } else {
+        Ok(())
+    }
+}
+
+/// Writes a directive that is defined.
+pub(crate) fn write_directive_shape<W: Write>(
+    f: &mut Formatter<W>,
+    directive: &DirectiveDefinition,
+) -> fmt::Result
+    ensures { WritesOnOk W.write_str_gives f.old result (directive_shape directive.now) f.new }
+{
+    f.write_str("directive @")?;
+    f.write_str(directive.name.as_str())?;
+    write_argument_definitions(f, directive.arguments.as_slice(), 0)?;
+    write_repeatable(f, directive.repeatable)?;
+    f.write_str(" on ")?;
+    write_separated(f, " | ", directive.locations.as_slice(), 0)
+}
