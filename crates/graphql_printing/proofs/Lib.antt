@@ -1,4 +1,5 @@
 mod FoldedSelections
 mod FoldedText
 mod InsideLemmas
+mod QuotedText
 mod WidthLemmas
