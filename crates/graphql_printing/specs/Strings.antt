@@ -2,8 +2,6 @@
 use Rattle.std.specs.Prelude.{ℕ, Bool, true, ◌||◌, ◌&&◌, List, [], ◌∷◌, ◌++◌, ◌/◌, ◌%◌, nat_eq, nat_le, nat_lt, if◌then◌else◌, codes}
 use Rattle.std.specs.Char.{encode_utf8}
 use Rattle.std.specs.Fmt.{digit_glyph}
-use Rattle.std.specs.List.{flat_map}
-use Rattle.std.specs.Str.{chars}
 
 -- a control character: one below U+0020, or of U+007F to U+009F
 abbrev pub is_control : ℕ → Bool
@@ -29,6 +27,21 @@ quoted_character c =
     if nat_lt 0 (escape_letter c) then codes "\\" ++ escape_letter c ∷ [] else (
     if is_control c then number_escape c else encode_utf8 c)
 
+-- a byte in a quoted string: one of ASCII as that character, any other as itself
+abbrev pub quoted_byte : ℕ → List ℕ
+quoted_byte c = if nat_lt c 128 then quoted_character c else c ∷ []
+
+-- whether two bytes are a control character, one of U+0080 to U+009F: 194, and then the character's number
+abbrev pub are_control : ℕ → ℕ → Bool
+are_control a b = nat_eq a 194 && (nat_le 128 b && is_control b)
+
+-- the bytes of a text in a quoted string: two of a control character as its escape, any other by itself
+abbrev pub quoted_bytes : List ℕ → List ℕ
+quoted_bytes [] = []
+quoted_bytes (a ∷ []) = quoted_byte a
+quoted_bytes (a ∷ b ∷ rest) =
+    if are_control a b then number_escape b ++ quoted_bytes rest else quoted_byte a ++ quoted_bytes (b ∷ rest)
+
 -- a quoted string
 abbrev pub quoted : List ℕ → List ℕ
-quoted text = codes "\"" ++ flat_map quoted_character (chars text) ++ codes "\""
+quoted text = codes "\"" ++ quoted_bytes text ++ codes "\""

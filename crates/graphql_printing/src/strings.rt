@@ -1,9 +1,7 @@
 //! Quoted strings: GraphQL specification of October 2021, section 2.9.4.
 ghost use Rattle.std.specs.Prelude.{◌≡◌, ◌<◌, ◌%◌, true};
 ghost use Rattle.std.specs.Fmt.{WritesOnOk, digit_glyph};
-ghost use Rattle.std.specs.List.{flat_map};
-ghost use Rattle.std.specs.Str.{chars};
-ghost use Rattle.graphql_printing.specs.Strings.{escape_letter, is_control, number_escape, quoted, quoted_character};
+ghost use Rattle.graphql_printing.specs.Strings.{escape_letter, is_control, number_escape, quoted, quoted_bytes, quoted_character};
 
 use std::fmt;
 use std::fmt::{Formatter, Write};
@@ -18,7 +16,7 @@ pub(crate) fn write_quoted<W: Write>(f: &mut Formatter<W>, text: &str) -> fmt::R
 }
 
 fn write_characters<W: Write>(f: &mut Formatter<W>, text: &str) -> fmt::Result
-    ensures { WritesOnOk W.write_str_gives f.old result (flat_map quoted_character (chars text.now)) f.new }
+    ensures { WritesOnOk W.write_str_gives f.old result (quoted_bytes text.now) f.new }
 {
     for c in text.chars() {
         write_character(f, c)?;

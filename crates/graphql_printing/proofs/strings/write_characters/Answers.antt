@@ -5,6 +5,7 @@ use Rattle.std.proofs.lemmas.Grind.{flat_map-append}
 use Rattle.std.proofs.lemmas.Iterator.{YieldsList-from_chars}
 use Rattle.std.proofs.lemmas.Iterator.Consumers.{YieldsList-end}
 use Rattle.graphql_printing.specs.Strings.{quoted_character}
+use Rattle.graphql_printing.proofs.QuotedText.{by_characters}
 use Rattle.graphql_printing.proofs.strings.write_characters.Goals as goal
 
 pub loop-c-preserved : goal.loop-c-preserved
@@ -18,4 +19,4 @@ loop-c-preserved g c plain =
 pub returns : goal.returns
 returns g c plain ok =
     let end = YieldsList-end (YieldsList-from_chars c.args.text.now c.utf8.text cc) c.loop-c.yielded _ c.loop-c.yielded_by _ _ c.in-None.is c.next.ensures.steps in
-    has_written_of_eq _ _ _ _ _ (ap (flat_map quoted_character) (sym (map-id c.loop-c.yielded) ∙ end.0)) (c.loop-c.invariant plain)
+    has_written_of_eq _ _ _ _ _ (ap (flat_map quoted_character) (sym (map-id c.loop-c.yielded) ∙ end.0) ∙ sym (by_characters c.args.text.now c.utf8.text)) (c.loop-c.invariant plain)
