@@ -1,3 +1,5 @@
+pub mod Grouping
 pub mod LeadLaws
+pub mod NodeTexts
 pub mod PieceTexts
 pub mod TokenTexts
