@@ -3,3 +3,4 @@ pub mod LeadLaws
 pub mod NodeTexts
 pub mod PieceTexts
 pub mod TokenTexts
+pub mod WholeTexts
