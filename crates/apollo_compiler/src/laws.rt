@@ -28,6 +28,10 @@ pub use graphql_nodes::laws as nodes;
 // GraphQL text: words spell one tree at most, which is well-formed; refusals are of all words so far.
 pub use graphql_productions::laws as text;
 
+// What is printed: the text of a well-formed tree is read as an equal tree, equal trees have one text, and formatting twice is
+// formatting once.
+pub use graphql_round_trip::laws as round_trip;
+
 // The syntax tree: `==` leaves out each location and nothing else, and each clone is the original.
 pub use graphql_ast::laws as ast;
 

@@ -1,5 +1,10 @@
-//! GraphQL text as trees: GraphQL specification of October 2021, section 2 and appendix B.
+//! GraphQL text as trees, and trees as GraphQL text: GraphQL specification of October 2021, section 2 and appendix B.
 
+pub use graphql_printing::printing::{
+    definition, definition_text, definitions, definitions_text, document_text, fragment,
+    fragment_text, operation, operation_text, selections, selections_text, text, ty, type_text,
+    value, value_text,
+};
 pub use graphql_text::parse_error::{ParseError, ParseErrorKind};
 pub use graphql_text::parsing::{
     ParseOptions, parse_definitions, parse_document, parse_selections, parse_type, parse_value,

@@ -9,8 +9,8 @@ use apollo_compiler::ast::{
     Definition, Document, FieldDefinition, ObjectTypeDefinition, ObjectTypeExtension, Type,
 };
 use apollo_compiler::schema::{BuildFailure, SchemaBuilder, WithErrors};
+use apollo_compiler::text::definitions;
 use apollo_compiler::{FileId, Name, Node, Schema, SourceSpan};
-use bench_notation::printing::print;
 use std::alloc::Global;
 
 /// A field of a named type, whose name stands at a location in a file. Whoever reads GraphQL text hands such locations in.
@@ -75,11 +75,10 @@ fn print_faults(rt: &HostRuntime, found: WithErrors<Schema>) -> Result<Schema> {
     Ok(found.partial)
 }
 
-/// The schema as it is printed: definitions, and extensions where a part came from one.
+/// The schema as GraphQL text: definitions, and extensions where a part came from one.
 fn print_schema(rt: &HostRuntime, schema: &Schema) -> Result<()> {
-    let alloc = rt.alloc();
-    let definitions = schema.to_ast(alloc)?;
-    print!(rt; "{}", print(alloc, definitions.as_slice())?)?;
+    let written = schema.to_ast(rt.alloc())?;
+    println!(rt; "{}", definitions(written.as_slice()))?;
     Ok(())
 }
 
