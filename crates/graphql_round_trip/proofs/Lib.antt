@@ -1,6 +1,9 @@
+pub mod ChoiceTexts
 pub mod Grouping
 pub mod LeadLaws
 pub mod NestingLemmas
 pub mod NodeTexts
+pub mod PartLemmas
 pub mod PieceTexts
 pub mod TokenTexts
+pub mod TypeTexts
