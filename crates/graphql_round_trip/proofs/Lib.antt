@@ -1,9 +1,12 @@
 pub mod ChoiceTexts
 pub mod Grouping
 pub mod LeadLaws
+pub mod ListTexts
 pub mod NestingLemmas
 pub mod NodeTexts
 pub mod PartLemmas
 pub mod PieceTexts
+pub mod StringTexts
 pub mod TokenTexts
 pub mod TypeTexts
+pub mod ValueTexts
