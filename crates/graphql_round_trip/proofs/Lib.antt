@@ -1,3 +1,4 @@
 pub mod LeadLaws
+pub mod NumberTexts
 pub mod PieceTexts
 pub mod TokenTexts
