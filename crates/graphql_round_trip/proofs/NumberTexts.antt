@@ -7,7 +7,7 @@ use Rattle.std.proofs.lemmas.Bool.{or_parts}
 use Rattle.std.proofs.lemmas.List.{drop-append-le, length-drop, length-take-le, take-append-drop}
 use Rattle.std.proofs.lemmas.List.Sums.{prefix_len-le-length}
 use Rattle.std.proofs.Math.Seq.{drop-append_seam}
-use Rattle.graphql_tokens.specs.Bytes.{begins, is_name_byte, is_name_start}
+use Rattle.graphql_tokens.specs.Bytes.{begins, is_blank, is_name_byte, is_name_start}
 use Rattle.graphql_tokens.specs.Lexemes.{Reading, block_string_token, first_sign, is_number_start, is_spread, lexeme, number_token, sign_kind, sign_token, string_fault, string_token, token, wrong}
 use Rattle.graphql_tokens.specs.Numbers.{decimal, exponent, fraction, goes_on, integer, minus, no_part, number, scientific, sign, then_part, with_digits}
 use Rattle.graphql_tokens.specs.Strings.{begins_with_quotes, block_characters, characters}
@@ -369,7 +369,7 @@ no_other text =
     (either IsOther (is_spread text) (token t.Spread 3) (sign_token (first_sign text)) refl (other_sign text)))
 
 -- a number of this kind and size begins at the front
-record Begins (kind : TokenKind) (size : ℕ) (text : List ℕ) : Type 0 where
+record NumberAhead (kind : TokenKind) (size : ℕ) (text : List ℕ) : Type 0 where
   no_name : begins is_name_start text ≡ false
   begun : begins is_number_start text ≡ true
   read : number_token (number text) ≡ token kind size
@@ -395,7 +395,8 @@ whole_number n kind size = by n.is_whole refl
     by true is read = (is, ap size_read read)
     by false is read = absurd cc
 
-read_number : (text : List ℕ) (kind : TokenKind) (size : ℕ) → is_number kind ≡ true → lexeme text ≡ token kind size → Begins kind size text
+-- what is read as a number is one
+read_number : (text : List ℕ) (kind : TokenKind) (size : ℕ) → is_number kind ≡ true → lexeme text ≡ token kind size → NumberAhead kind size text
 read_number text kind size is read =
     let there = found (begins is_name_start text) (begins is_number_start text) (prefix_len is_name_byte text) (number_token (number text)) (others text) kind size is (no_other text) read in
     let whole = whole_number (number text) kind size there.2 in
@@ -422,15 +423,18 @@ cut_reads kind size is front tail rest read long stops =
     let same = number_same front tail rest there.whole (there.size_is ∙ sym long) stops in
     number_first kind size front tail rest there.no_name there.begun (omega (arith, some, size_is, long)) (ap number_token same ∙ there.read)
 
-number_is_token : (kind : TokenKind) → is_number kind ≡ true → (text : List ℕ) → IsTextOf kind text → IsToken kind text ends_token
-number_is_token kind number text is = λ rest end.
+number_reads : (kind : TokenKind) → is_number kind ≡ true → (text : List ℕ) → IsTextOf kind text → (rest : List ℕ) → goes_on rest ≡ false → (begins is_solid text ≡ true) × (lexeme (text ++ rest) ≡ token kind (length text))
+number_reads kind number text is rest stops =
     let there = read_number is.bytes kind is.size number is.token in
     let inside = (number_within is.bytes there.whole).1 in
     let size_is = there.size_is in
     let long : length text ≡ is.size = ap length is.taken ∙ length-take-le is.size is.bytes (omega (arith, inside, size_is)) in
     let whole : is.bytes ≡ text ++ drop is.size is.bytes = sym (take-append-drop is.size is.bytes) ∙ ap (λ (front : List ℕ). front ++ drop is.size is.bytes) (sym is.taken) in
-    let cut = cut_reads kind is.size number text (drop is.size is.bytes) rest (ap lexeme (sym whole) ∙ is.token) long (ended rest end) in
-    token_first kind text rest cut.0 (cut.1 ∙ ap (token kind) (sym long))
+    let cut = cut_reads kind is.size number text (drop is.size is.bytes) rest (ap lexeme (sym whole) ∙ is.token) long stops in
+    (cut.0, cut.1 ∙ ap (token kind) (sym long))
+
+number_is_token : (kind : TokenKind) → is_number kind ≡ true → (text : List ℕ) → IsTextOf kind text → IsToken kind text ends_token
+number_is_token kind number text is = λ rest end. let read = number_reads kind number text is rest (ended rest end) in token_first kind text rest read.0 read.1
 
 -- the bytes of an integer are an integer, before what ends it
 pub int_is_token : (text : List ℕ) → IsTextOf t.Int text → IsToken t.Int text ends_token
@@ -439,3 +443,18 @@ int_is_token = number_is_token t.Int refl
 -- the bytes of a number with a fraction or an exponent are one too
 pub float_is_token : (text : List ℕ) → IsTextOf t.Float text → IsToken t.Float text ends_token
 float_is_token = number_is_token t.Float refl
+
+unblank : (text : List ℕ) → begins is_solid text ≡ true → begins (λ c. not (is_blank c)) text ≡ true
+unblank [] solid = absurd cc
+unblank (c ∷ cs) solid = by (is_blank c) (nat_eq c 35 || nat_eq c 239) solid
+  where
+    by : (a b : Bool) → not (a || b) ≡ true → not a ≡ true
+    by true b e = absurd cc
+    by false b e = refl
+
+-- they begin with no blank
+pub int_unblank : (text : List ℕ) → IsTextOf t.Int text → begins (λ c. not (is_blank c)) text ≡ true
+int_unblank text is = unblank text (number_reads t.Int refl text is [] refl).0
+
+pub float_unblank : (text : List ℕ) → IsTextOf t.Float text → begins (λ c. not (is_blank c)) text ≡ true
+float_unblank text is = unblank text (number_reads t.Float refl text is [] refl).0
