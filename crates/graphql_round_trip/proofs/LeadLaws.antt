@@ -1,5 +1,5 @@
 -- Words at the front of texts, and blanks before them.
-use Rattle.std.proofs.Common.{◌≡◌, ◌+◌, ℕ, suc, Bool, true, false, ◌&&◌, not, List, [], ◌∷◌, ◌++◌, drop, Some, Ok, None, Err, refl, sym, ap, subst, ◌∙◌, arith}
+use Rattle.std.proofs.Common.{◌≡◌, ◌+◌, ℕ, suc, Bool, true, false, ◌&&◌, not, List, [], ◌∷◌, ◌++◌, drop, Some, Ok, None, Err, refl, sym, ap, subst, ◌∙◌, append_assoc, arith}
 use Rattle.std.specs.List.{list_all}
 use Rattle.graphql_tokens.specs.Bytes.{begins, is_blank}
 use Rattle.graphql_tokens.specs.First.{First, FirstReading, first_behind, first_of, read_behind}
@@ -14,7 +14,7 @@ both_true true b e = (refl, e)
 both_true false b e = absurd cc
 
 -- one blank more is passed
-one_blank : (c : ℕ) (cs : List ℕ) → is_blank c ≡ true → ignored (c ∷ cs) ≡ suc (ignored cs)
+pub one_blank : (c : ℕ) (cs : List ℕ) → is_blank c ≡ true → ignored (c ∷ cs) ≡ suc (ignored cs)
 one_blank c cs blank =
     let one : one_ignored (c ∷ cs) ≡ 1 = rw blank refl in
     let next : ignored cs + 1 ≡ suc (ignored cs) = omega arith in
@@ -51,3 +51,12 @@ behind_blanks total (c ∷ cs) text words rest blank leads =
 pub leads_on : (total : ℕ) (text : List ℕ) (words : List WordView) (middle : List ℕ) (more : List WordView) (rest : List ℕ) → Leads total text words middle → Leads total middle more rest → Leads total text (words ++ more) rest
 leads_on total text [] middle more rest h g = subst (λ (t : List ℕ). Leads total t more rest) (sym h.2) (behind_blanks total h.0 middle more rest h.1 g)
 leads_on total text (w ∷ ws) middle more rest h g = (h.0, h.1, h.2, leads_on total h.0.rest ws middle more rest h.3 g)
+
+-- what is left may begin behind its blanks
+pub passed_blanks : (total : ℕ) (text : List ℕ) (words : List WordView) (gap rest : List ℕ) → list_all is_blank gap ≡ true → Leads total text words (gap ++ rest) → Leads total text words rest
+passed_blanks total text [] gap rest blank h = (h.0 ++ gap, all_blank h.0 h.1, h.2 ∙ sym (append_assoc h.0 gap rest))
+  where
+    all_blank : (front : List ℕ) → list_all is_blank front ≡ true → list_all is_blank (front ++ gap) ≡ true
+    all_blank [] e = blank
+    all_blank (c ∷ cs) e = let b = both_true (is_blank c) (list_all is_blank cs) e in rw b.0 (all_blank cs b.1)
+passed_blanks total text (w ∷ ws) gap rest blank h = (h.0, h.1, h.2, passed_blanks total h.0.rest ws gap rest blank h.3)

@@ -14,7 +14,7 @@ use Rattle.graphql_grammar.specs.WordsOfText.{word_kind, word_of}
 use Rattle.graphql_grammar.proofs.KindLemmas.{only_kind}
 use Rattle.graphql_printing.specs.Layout.{each_behind, separated}
 use Rattle.graphql_round_trip.specs.Printed.{Heads, IsToken, Leads, Prints, ReadAs, anything, ends_token}
-use Rattle.graphql_round_trip.proofs.LeadLaws.{behind_blanks, both_true, leads_on}
+use Rattle.graphql_round_trip.proofs.LeadLaws.{behind_blanks, both_true, leads_on, passed_blanks}
 
 -- ---- one word
 
@@ -60,6 +60,21 @@ behind_blank {text} gap blank t = record {
         words = r.words;
         same = r.same;
         leads = subst (λ (all : List ℕ). Leads total all r.words rest) (sym (append_assoc gap text rest)) (behind_blanks total gap (text ++ rest) r.words rest blank r.leads);
+        spelled = r.spelled;
+      };
+}
+
+-- blanks behind a text, which may stand before anything
+pub before_blank : {A B : Type 0} {p : Piece A} {see : A → B} {y : B} {text : List ℕ} {ends follows : List ℕ → Bool} (gap : List ℕ) → list_all is_blank gap ≡ true → Prints p see y text ends →
+    ((rest : List ℕ) → follows rest ≡ true → ends (gap ++ rest) ≡ true) → Prints p see y (text ++ gap) follows
+before_blank {text} gap blank t stops = record {
+  read = λ total rest end.
+      let r = t.read total (gap ++ rest) (stops rest end) in
+      record {
+        value = r.value;
+        words = r.words;
+        same = r.same;
+        leads = subst (λ (all : List ℕ). Leads total all r.words rest) (sym (append_assoc text gap rest)) (passed_blanks total (text ++ (gap ++ rest)) r.words gap rest blank r.leads);
         spelled = r.spelled;
       };
 }
