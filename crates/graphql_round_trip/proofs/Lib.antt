@@ -1,3 +1,6 @@
+pub mod BareLists
+pub mod BareSelectionTexts
+pub mod BareTexts
 pub mod Grouping
 pub mod LeadLaws
 pub mod NodeTexts
