@@ -1,29 +1,26 @@
--- The text of selections, operations and fragments says no location.
-use Rattle.std.proofs.Common.{◌≡◌, ℕ, Bool, true, false, List, [], ◌∷◌, ◌++◌, Option, None, Some, refl, sym, subst, ap, ◌∙◌, map, option_map, cond, codes, nat_lt}
+-- The text of selections says no location.
+use Rattle.std.proofs.Common.{◌≡◌, ℕ, List, ◌++◌, Option, None, Some, refl, sym, subst, ap, ◌∙◌, map, option_map, cond, codes, nat_lt}
 use Rattle.std.specs.List.{AllByRecursion}
 use Rattle.graphql_nodes.specs.Comparing.{bare_name, bare_node}
 use Rattle.graphql_nodes.specs.NameView.{NameView}
 use Rattle.graphql_nodes.specs.NodeView.{NodeView}
-use Rattle.graphql_ast.specs.Bare.{bare_argument, bare_directive, bare_directive_list, bare_type, bare_value}
-use Rattle.graphql_ast.specs.BareDocuments.{bare_fragment_definition, bare_operation_definition, bare_variable_definition}
+use Rattle.graphql_ast.specs.Bare.{bare_argument, bare_directive_list}
 use Rattle.graphql_ast.specs.BareSelections as bare
 use Rattle.graphql_ast.specs.BareSelections.{bare_field, bare_fragment_spread, bare_inline_fragment, bare_selection}
 use Rattle.graphql_ast.specs.declared.directive.Argument.{Argument}
-use Rattle.graphql_ast.specs.declared.directive.Directive.{Directive}
-use Rattle.graphql_ast.specs.declared.directive.DirectiveList.{DirectiveList}
 use Rattle.graphql_ast.specs.declared.selection.Field.{Field, roll-Field}
 use Rattle.graphql_ast.specs.declared.selection.FragmentSpread.{FragmentSpread}
 use Rattle.graphql_ast.specs.declared.selection.InlineFragment.{InlineFragment, roll-InlineFragment}
 use Rattle.graphql_ast.specs.declared.selection.Selection.{Selection, fold-roll-Selection, ind-Selection, roll-Selection}
 use Rattle.graphql_ast.specs.declared.selection.Selection.TheFolds.{fold-roll-Field, fold-roll-InlineFragment, map-Field, map-InlineFragment, map-Selection}
 use Rattle.graphql_ast.specs.declared.selection.Selection.TheOpen.{Field-F, InlineFragment-F, Selection-F}
-use Rattle.graphql_printing.specs.Fields.{argument_lines, field_head, field_name_text, short_head}
+use Rattle.graphql_printing.specs.Fields.{argument_lines, field_head, field_name_text}
 use Rattle.graphql_printing.specs.Layout.{braces}
 use Rattle.graphql_printing.specs.Selections.{Text, condition_text, field_step, field_text, inline_step, inline_text, selection_step, selection_text, selections_behind, selections_text, spread_text}
-use Rattle.graphql_printing.specs.Texts.{argument_text, arguments_text, directives_text, label_text}
+use Rattle.graphql_printing.specs.Texts.{argument_text, directives_text}
 use Rattle.graphql_printing.specs.Widths.{width}
-use Rattle.graphql_round_trip.proofs.BareLists.{each, each_given, enclosed_stays, on_lines_stay}
-use Rattle.graphql_round_trip.proofs.BareTexts.{argument_says_no_location, arguments_say_no_location, directives_say_no_location, one_of_bare, type_says_no_location, value_says_no_location}
+use Rattle.graphql_round_trip.proofs.BareLists.{each, each_given, on_lines_stay}
+use Rattle.graphql_round_trip.proofs.BareTexts.{argument_says_no_location, arguments_say_no_location, directives_say_no_location, one_of_bare}
 
 -- ---- heads of fields
 
@@ -127,29 +124,33 @@ inline_stays f all indent =
     ∙ (λ i. codes "..." ++ condition i ++ directives i ++ inside i)
     ∙ sym (inline_says f indent)
 
+-- one level of the text of a selection
+abbrev selection_layer : Selection-F Selection Field InlineFragment → Text
+selection_layer z = selection_step (map-Selection Selection Field InlineFragment Text Text Text selection_text field_text inline_text z)
+
+selection_says : (z : Selection-F Selection Field InlineFragment) (indent : ℕ) → selection_text (roll-Selection z) indent ≡ selection_layer z indent
+selection_says z indent = ap (λ (t : Text). t indent) (fold-roll-Selection Text Text Text selection_step field_step inline_step z)
+
 -- a selection whose bare selection and text are such, from one level to the next
-selection_stays : (z bared : Selection-F Selection Field InlineFragment) (indent : ℕ) → bare_selection (roll-Selection z) ≡ roll-Selection bared
-    → selection_step (map-Selection Selection Field InlineFragment Text Text Text selection_text field_text inline_text bared) indent
-    ≡ selection_step (map-Selection Selection Field InlineFragment Text Text Text selection_text field_text inline_text z) indent
-    → selection_text (bare_selection (roll-Selection z)) indent ≡ selection_text (roll-Selection z) indent
+selection_stays : (z bared : Selection-F Selection Field InlineFragment) (indent : ℕ)
+    → bare.selection_step (map-Selection Selection Field InlineFragment Selection Field InlineFragment bare_selection bare_field bare_inline_fragment z) ≡ roll-Selection bared
+    → selection_layer bared indent ≡ selection_layer z indent → selection_text (bare_selection (roll-Selection z)) indent ≡ selection_text (roll-Selection z) indent
 selection_stays z bared indent is same =
-    let says : (z : Selection-F Selection Field InlineFragment) → selection_text (roll-Selection z) ≡ selection_step (map-Selection Selection Field InlineFragment Text Text Text selection_text field_text inline_text z) = fold-roll-Selection Text Text Text selection_step field_step inline_step in
-    ap (λ (x : Selection). selection_text x indent) is
-    ∙ ap (λ (t : Text). t indent) (says bared) ∙ same ∙ sym (ap (λ (t : Text). t indent) (says z))
+    ap (λ (x : Selection). selection_text x indent) (fold-roll-Selection Selection Field InlineFragment bare.selection_step bare.field_step bare.inline_step z ∙ is)
+    ∙ selection_says bared indent
+    ∙ same
+    ∙ sym (selection_says z indent)
 
 selection_level : (y : Selection-F ShownSelection ShownField ShownInline)
     → SelectionStays (roll-Selection (map-Selection ShownSelection ShownField ShownInline Selection Field InlineFragment (λ e. e.0) (λ e. e.0) (λ e. e.0) y))
 selection_level (Selection-F.Field n) indent =
     let field : NodeView Field = record { value = n.value.0; location = n.location } in
-    selection_stays (Selection-F.Field field) (Selection-F.Field (bare_node bare_field field)) indent
-    (fold-roll-Selection Selection Field InlineFragment bare.selection_step bare.field_step bare.inline_step (Selection-F.Field field)) (n.value.1 indent)
+    selection_stays (Selection-F.Field field) (Selection-F.Field (bare_node bare_field field)) indent refl (n.value.1 indent)
 selection_level (Selection-F.FragmentSpread n) indent =
-    selection_stays (Selection-F.FragmentSpread n) (Selection-F.FragmentSpread (bare_node bare_fragment_spread n)) indent
-    (fold-roll-Selection Selection Field InlineFragment bare.selection_step bare.field_step bare.inline_step (Selection-F.FragmentSpread n)) (spread_stays n.value)
+    selection_stays (Selection-F.FragmentSpread n) (Selection-F.FragmentSpread (bare_node bare_fragment_spread n)) indent refl (spread_stays n.value)
 selection_level (Selection-F.InlineFragment n) indent =
     let fragment : NodeView InlineFragment = record { value = n.value.0; location = n.location } in
-    selection_stays (Selection-F.InlineFragment fragment) (Selection-F.InlineFragment (bare_node bare_inline_fragment fragment)) indent
-    (fold-roll-Selection Selection Field InlineFragment bare.selection_step bare.field_step bare.inline_step (Selection-F.InlineFragment fragment)) (n.value.1 indent)
+    selection_stays (Selection-F.InlineFragment fragment) (Selection-F.InlineFragment (bare_node bare_inline_fragment fragment)) indent refl (n.value.1 indent)
 
 shown_selections : (ys : List ShownSelection) → AllByRecursion SelectionStays (map (λ (e : ShownSelection). e.0) ys)
 shown_selections ys = each_given SelectionStays (λ (e : ShownSelection). e.0) (λ y. y.1) ys

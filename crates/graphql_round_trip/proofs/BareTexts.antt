@@ -37,19 +37,16 @@ abbrev ShownType : Type 0
 ShownType = (x : TypeReference) × TypeStays x
 
 -- a type whose bare type and text are such, from one level to the next
-type_stays : (z bared : Type-F TypeReference) → bare_type (roll-Type z) ≡ roll-Type bared
+type_stays : (z bared : Type-F TypeReference) → bare.type_step (map-Type TypeReference TypeReference bare_type z) ≡ roll-Type bared
     → type_step (map-Type TypeReference (List ℕ) type_text bared) ≡ type_step (map-Type TypeReference (List ℕ) type_text z) → TypeStays (roll-Type z)
-type_stays z bared is same = ap type_text is ∙ fold-roll-Type (List ℕ) type_step bared ∙ same ∙ sym (fold-roll-Type (List ℕ) type_step z)
+type_stays z bared is same =
+    ap type_text (fold-roll-Type TypeReference bare.type_step z ∙ is) ∙ fold-roll-Type (List ℕ) type_step bared ∙ same ∙ sym (fold-roll-Type (List ℕ) type_step z)
 
 type_level : (y : Type-F ShownType) → TypeStays (roll-Type (map-Type ShownType TypeReference (λ e. e.0) y))
-type_level (Type-F.Named n) = type_stays (Type-F.Named n) (Type-F.Named (bare_name n)) (fold-roll-Type TypeReference bare.type_step (Type-F.Named n)) refl
-type_level (Type-F.NonNullNamed n) = type_stays (Type-F.NonNullNamed n) (Type-F.NonNullNamed (bare_name n)) (fold-roll-Type TypeReference bare.type_step (Type-F.NonNullNamed n)) refl
-type_level (Type-F.List x) =
-    let inner = x.1 in
-    type_stays (Type-F.List x.0) (Type-F.List (bare_type x.0)) (fold-roll-Type TypeReference bare.type_step (Type-F.List x.0)) (λ i. codes "[" ++ inner i ++ codes "]")
-type_level (Type-F.NonNullList x) =
-    let inner = x.1 in
-    type_stays (Type-F.NonNullList x.0) (Type-F.NonNullList (bare_type x.0)) (fold-roll-Type TypeReference bare.type_step (Type-F.NonNullList x.0)) (λ i. codes "[" ++ inner i ++ codes "]!")
+type_level (Type-F.Named n) = type_stays (Type-F.Named n) (Type-F.Named (bare_name n)) refl refl
+type_level (Type-F.NonNullNamed n) = type_stays (Type-F.NonNullNamed n) (Type-F.NonNullNamed (bare_name n)) refl refl
+type_level (Type-F.List x) = let inner = x.1 in type_stays (Type-F.List x.0) (Type-F.List (bare_type x.0)) refl (λ i. codes "[" ++ inner i ++ codes "]")
+type_level (Type-F.NonNullList x) = let inner = x.1 in type_stays (Type-F.NonNullList x.0) (Type-F.NonNullList (bare_type x.0)) refl (λ i. codes "[" ++ inner i ++ codes "]!")
 
 -- a type
 pub type_says_no_location : (x : TypeReference) → type_text (bare_type x) ≡ type_text x
@@ -68,10 +65,11 @@ ValueStays x = value_text (bare_value x) ≡ value_text x
 abbrev ShownValue : Type 0
 ShownValue = (x : Value) × ValueStays x
 
--- a value without others inside, from one level to the next
-value_stays : (z bared : Value-F Value) → bare_value (roll-Value z) ≡ roll-Value bared
+-- a value whose bare value and text are such, from one level to the next
+value_stays : (z bared : Value-F Value) → bare.value_step (map-Value Value Value bare_value z) ≡ roll-Value bared
     → value_step (map-Value Value (List ℕ) value_text bared) ≡ value_step (map-Value Value (List ℕ) value_text z) → ValueStays (roll-Value z)
-value_stays z bared is same = ap value_text is ∙ fold-roll-Value (List ℕ) value_step bared ∙ same ∙ sym (fold-roll-Value (List ℕ) value_step z)
+value_stays z bared is same =
+    ap value_text (fold-roll-Value Value bare.value_step z ∙ is) ∙ fold-roll-Value (List ℕ) value_step bared ∙ same ∙ sym (fold-roll-Value (List ℕ) value_step z)
 
 -- the text of a list, from one level to the next
 list_says : (items : List (NodeView Value)) → value_text (roll-Value (Value-F.List items)) ≡ codes "[" ++ separated (codes ", ") item_text items ++ codes "]"
@@ -118,13 +116,13 @@ object_stays members all =
     ∙ sym (object_says members)
 
 value_level : (y : Value-F ShownValue) → ValueStays (roll-Value (map-Value ShownValue Value (λ e. e.0) y))
-value_level Value-F.Null = value_stays Value-F.Null Value-F.Null (fold-roll-Value Value bare.value_step Value-F.Null) refl
-value_level (Value-F.Enum n) = value_stays (Value-F.Enum n) (Value-F.Enum (bare_name n)) (fold-roll-Value Value bare.value_step (Value-F.Enum n)) refl
-value_level (Value-F.Variable n) = value_stays (Value-F.Variable n) (Value-F.Variable (bare_name n)) (fold-roll-Value Value bare.value_step (Value-F.Variable n)) refl
-value_level (Value-F.String t) = value_stays (Value-F.String t) (Value-F.String t) (fold-roll-Value Value bare.value_step (Value-F.String t)) refl
-value_level (Value-F.Float t) = value_stays (Value-F.Float t) (Value-F.Float t) (fold-roll-Value Value bare.value_step (Value-F.Float t)) refl
-value_level (Value-F.Int t) = value_stays (Value-F.Int t) (Value-F.Int t) (fold-roll-Value Value bare.value_step (Value-F.Int t)) refl
-value_level (Value-F.Boolean b) = value_stays (Value-F.Boolean b) (Value-F.Boolean b) (fold-roll-Value Value bare.value_step (Value-F.Boolean b)) refl
+value_level Value-F.Null = value_stays Value-F.Null Value-F.Null refl refl
+value_level (Value-F.Enum n) = value_stays (Value-F.Enum n) (Value-F.Enum (bare_name n)) refl refl
+value_level (Value-F.Variable n) = value_stays (Value-F.Variable n) (Value-F.Variable (bare_name n)) refl refl
+value_level (Value-F.String t) = value_stays (Value-F.String t) (Value-F.String t) refl refl
+value_level (Value-F.Float t) = value_stays (Value-F.Float t) (Value-F.Float t) refl refl
+value_level (Value-F.Int t) = value_stays (Value-F.Int t) (Value-F.Int t) refl refl
+value_level (Value-F.Boolean b) = value_stays (Value-F.Boolean b) (Value-F.Boolean b) refl refl
 value_level (Value-F.List ys) =
     let shown : NodeView ShownValue → NodeView Value = along (λ (e : ShownValue). e.0) in
     list_stays (map shown ys) (each_given (λ (item : NodeView Value). ValueStays item.value) shown (λ y. y.value.1) ys)

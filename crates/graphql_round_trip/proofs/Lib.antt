@@ -1,5 +1,8 @@
+pub mod BareDocumentTexts
 pub mod BareLists
+pub mod BareOperationTexts
 pub mod BareSelectionTexts
+pub mod BareSystemTexts
 pub mod BareTexts
 pub mod Grouping
 pub mod LeadLaws
