@@ -1,3 +1,9 @@
+pub mod BareDocumentTexts
+pub mod BareLists
+pub mod BareOperationTexts
+pub mod BareSelectionTexts
+pub mod BareSystemTexts
+pub mod BareTexts
 pub mod Grouping
 pub mod LeadLaws
 pub mod NodeTexts
