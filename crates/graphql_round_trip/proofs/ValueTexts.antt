@@ -18,7 +18,6 @@ use Rattle.graphql_tokens.specs.Bytes.{begins, is_blank}
 use Rattle.graphql_tokens.specs.declared.token.TokenKind.{TokenKind}
 use Rattle.graphql_tokens.specs.declared.token.TokenKind.TheVariants as t
 use Rattle.graphql_grammar.specs.WordsOfText.{word_kind}
-use Rattle.graphql_grammar.specs.TextsOfWords.{IsTextOf}
 use Rattle.graphql_grammar.specs.declared.fault.FaultKind.TheVariants.{VariableInConstant}
 use Rattle.graphql_grammar.specs.declared.kind.Kind.{Kind}
 use Rattle.graphql_grammar.specs.declared.kind.Kind.TheVariants as k
@@ -36,14 +35,16 @@ use Rattle.graphql_printing.specs.Texts.{item_text, member_step, member_text, va
 use Rattle.graphql_printing.proofs.QuotedLaws.{quoted_says_the_text}
 use Rattle.graphql_round_trip.specs.Nesting.{deepest, greatest, value_level, value_nesting}
 use Rattle.graphql_round_trip.specs.Printed.{Heads, IsToken, Prints, anything, ends_token}
+use Rattle.graphql_round_trip.proofs.BareLists.{each_given}
 use Rattle.graphql_round_trip.proofs.ChoiceTexts.{enum_kind, first_text, is_none_of, second_text}
 use Rattle.graphql_round_trip.proofs.ListTexts.{labelled_prints, separated_map, separated_text}
 use Rattle.graphql_round_trip.proofs.Grouping.{regrouped}
 use Rattle.graphql_round_trip.proofs.NestingLemmas.{each_fits, opened}
 use Rattle.graphql_round_trip.proofs.NodeTexts.{between_prints, keyword_prints, loosely, name_prints, node_prints, sign_prints}
+use Rattle.graphql_round_trip.proofs.NumberTexts.{float_is_token, float_unblank, int_is_token, int_unblank}
 use Rattle.graphql_round_trip.proofs.PartLemmas.{each_of_three, part_of_each}
 use Rattle.graphql_round_trip.proofs.PieceTexts.{branch_at, branch_text, headed_text, heads_on, mapped_text, seq_text, sign_or_text, token_heads, word_text}
-use Rattle.graphql_round_trip.proofs.StringTexts.{quoted_is_token, token_unblank}
+use Rattle.graphql_round_trip.proofs.StringTexts.{quoted_is_token}
 use Rattle.graphql_round_trip.proofs.TokenTexts.{dollar_is_token, left_brace_is_token, left_bracket_is_token, name_is_token, name_unblank, right_brace_is_token, right_bracket_is_token, word_is_token}
 
 -- ---- one level of a value
@@ -247,7 +248,7 @@ module _ (file : FileId) (constant : Bool) (depth : ℕ) where
 
 -- ---- all levels
 
-module _ (int_is_token : (text : List ℕ) → IsTextOf t.Int text → IsToken t.Int text ends_token) (float_is_token : (text : List ℕ) → IsTextOf t.Float text → IsToken t.Float text ends_token) (file : FileId) (constant : Bool) where
+module _ (file : FileId) (constant : Bool) where
   -- what is to be shown of a value
   abbrev Shows : Value → Type 0
   Shows x = (depth : ℕ) → IsWellFormed (value_parts constant x) → value_nesting x ≤ depth → Prints (value file constant depth) bare_value (bare_value x) (value_text x) ends_token
@@ -292,13 +293,13 @@ module _ (int_is_token : (text : List ℕ) → IsTextOf t.Int text → IsToken t
   int_shows text depth fine fits =
       let is : IsWellFormed (Int text ∷ []) = subst IsWellFormed (int_rolled constant text) fine in
       let token = int_is_token text is.0 in
-      said depth (Value-F.Int text) refl (by_kind file constant depth k.Int (token_heads (only k.Int) t.Int text ends_token (token_unblank t.Int text token) token refl) (int_prints text token))
+      said depth (Value-F.Int text) refl (by_kind file constant depth k.Int (token_heads (only k.Int) t.Int text ends_token (int_unblank text is.0) token refl) (int_prints text token))
 
   float_shows : (text : List ℕ) → Shows (roll-Value (Value-F.Float text))
   float_shows text depth fine fits =
       let is : IsWellFormed (Float text ∷ []) = subst IsWellFormed (float_rolled constant text) fine in
       let token = float_is_token text is.0 in
-      said depth (Value-F.Float text) refl (by_kind file constant depth k.Float (token_heads (only k.Float) t.Float text ends_token (token_unblank t.Float text token) token refl) (float_prints text token))
+      said depth (Value-F.Float text) refl (by_kind file constant depth k.Float (token_heads (only k.Float) t.Float text ends_token (float_unblank text is.0) token refl) (float_prints text token))
 
   list_shows : (items : List (NodeView Value)) → AllByRecursion (λ n. Shows n.value) items → Shows (roll-Value (Value-F.List items))
   list_shows items shown depth fine fits =
@@ -332,14 +333,6 @@ module _ (int_is_token : (text : List ℕ) → IsTextOf t.Int text → IsToken t
   abbrev member_of_shown : NameView × NodeView Shown → NameView × NodeView Value
   member_of_shown m = (m.0, item_of m.1)
 
-  items_shown : (items : List (NodeView Shown)) → AllByRecursion (λ (n : NodeView Value). Shows n.value) (map item_of items)
-  items_shown [] = tt
-  items_shown (n ∷ ns) = (n.value.1, items_shown ns)
-
-  members_shown : (members : List (NameView × NodeView Shown)) → AllByRecursion (λ (m : NameView × NodeView Value). Shows m.1.value) (map member_of_shown members)
-  members_shown [] = tt
-  members_shown (m ∷ ms) = (m.1.value.1, members_shown ms)
-
   layer_shows : (y : Value-F Shown) → Shows (roll-Value (map-Value Shown Value (λ s. s.0) y))
   layer_shows Value-F.Null = null_shows
   layer_shows (Value-F.Enum n) = enum_shows n
@@ -348,8 +341,8 @@ module _ (int_is_token : (text : List ℕ) → IsTextOf t.Int text → IsToken t
   layer_shows (Value-F.Float text) = float_shows text
   layer_shows (Value-F.Int text) = int_shows text
   layer_shows (Value-F.Boolean b) = boolean_shows b
-  layer_shows (Value-F.List items) = list_shows (map item_of items) (items_shown items)
-  layer_shows (Value-F.Object members) = object_shows (map member_of_shown members) (members_shown members)
+  layer_shows (Value-F.List items) = list_shows (map item_of items) (each_given (λ (n : NodeView Value). Shows n.value) item_of (λ n. n.value.1) items)
+  layer_shows (Value-F.Object members) = object_shows (map member_of_shown members) (each_given (λ (m : NameView × NodeView Value). Shows m.1.value) member_of_shown (λ m. m.1.value.1) members)
 
   -- a value is read as itself
   pub value_prints : (depth : ℕ) (x : Value) → IsWellFormed (value_parts constant x) → value_nesting x ≤ depth → Prints (value file constant depth) bare_value (bare_value x) (value_text x) ends_token
