@@ -1,3 +1,4 @@
+pub mod FitLaws
 pub mod Grouping
 pub mod LeadLaws
 pub mod NodeTexts
