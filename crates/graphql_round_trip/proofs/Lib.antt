@@ -1,4 +1,5 @@
 pub mod FitLaws
+pub mod FitValues
 pub mod Grouping
 pub mod LeadLaws
 pub mod NodeTexts
