@@ -2,6 +2,7 @@
 use Rattle.std.proofs.Common.{◌≡◌, ◌≤◌, ℕ, zero, suc, Bool, true, false, List, [], ◌∷◌, Option, None, Some, map, sym, subst, arith}
 use Rattle.graphql_nodes.specs.NodeView.{NodeView}
 use Rattle.graphql_nodes.specs.declared.source.FileId.{FileId}
+use Rattle.graphql_grammar.specs.declared.fault.FaultKind.TheVariants.{TooDeep}
 use Rattle.graphql_grammar.specs.declared.kind.Kind.{Kind}
 use Rattle.graphql_grammar.specs.Kinds.{Kinds}
 use Rattle.graphql_grammar.specs.Pieces.{Piece, Wrong, branch, choose, filtered, headed, item, listed, located, many, mapped, nothing, optional, seq, sign, sign_or, some}
@@ -60,6 +61,10 @@ nothing_keeps wrong = record { kept = λ x front h. absurd h }
 -- one after the other
 pub seq_keeps : {A B : Type 0} {p : Piece A} {q : Piece B} {P : A → Type 0} {Q : B → Type 0} → Keeps p P → Keeps q Q → Keeps (seq p q) (λ x. P x.0 × Q x.1)
 seq_keeps pk qk = record { kept = λ x front h. (pk.kept x.0 h.head h.first, qk.kept x.1 h.tail h.second) }
+
+-- what follows
+pub implied_keeps : {A : Type 0} {p : Piece A} {P Q : A → Type 0} → Keeps p P → ((x : A) → P x → Q x) → Keeps p Q
+implied_keeps pk so = record { kept = λ x front h. so x (pk.kept x front h) }
 
 -- the same, said otherwise
 pub mapped_keeps : {A B : Type 0} {f : A → B} {p : Piece A} {P : A → Type 0} {Q : B → Type 0} → Keeps p P → ((x : A) → P x → Q (f x)) → Keeps (mapped f p) Q
@@ -127,9 +132,9 @@ between_keeps opening closing wrong pk = mapped_keeps {f = inner} (seq_keeps (un
 -- items between two signs, of which one more may be open than inside
 pub enclosed_fits : {A : Type 0} (opening closing : Kind) (wrong : Wrong) (depth : ℕ) {p : ℕ → Piece A} {nesting : A → ℕ} → ((inside : ℕ) → Fits (p inside) nesting inside) →
     Fits (enclosed opening closing wrong depth (λ inside. some (p inside))) (between nesting) depth
-enclosed_fits opening closing wrong zero pf = record { kept = λ x front h. absurd h }
+enclosed_fits opening closing wrong zero pf = headed_keeps (nothing_keeps (λ _. TooDeep))
 enclosed_fits opening closing wrong (suc depth) {nesting} pf =
-    record { kept = λ xs front h. between_fits nesting xs depth ((between_keeps opening closing wrong (some_fits (pf depth))).kept xs front h) }
+    headed_keeps (implied_keeps (between_keeps opening closing wrong (some_fits (pf depth))) (λ xs fits. between_fits nesting xs depth fits))
 
 -- items between two signs, or none and no signs
 pub list_fits : {A : Type 0} {p : Piece (List A)} (nesting : A → ℕ) {depth : ℕ} → Fits p (between nesting) depth → Fits (mapped or_none (optional p)) (between nesting) depth

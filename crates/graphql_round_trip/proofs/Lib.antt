@@ -1,4 +1,5 @@
 pub mod FitLaws
+pub mod FitSelections
 pub mod FitValues
 pub mod Grouping
 pub mod LeadLaws
