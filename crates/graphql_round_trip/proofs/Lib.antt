@@ -1,5 +1,7 @@
 pub mod FitLaws
+pub mod FitOperations
 pub mod FitSelections
+pub mod FitTypeSystem
 pub mod FitValues
 pub mod Grouping
 pub mod LeadLaws
