@@ -8,10 +8,11 @@ use Rattle.graphql_ast.specs.declared.definition_parts.DefinitionParts.{Definiti
 use Rattle.graphql_grammar.specs.declared.fault.Item.TheVariants as i
 use Rattle.graphql_grammar.specs.declared.kind.Kind.{Kind}
 use Rattle.graphql_grammar.specs.declared.kind.Kind.TheVariants as k
-use Rattle.graphql_grammar.specs.Pieces.{optional, sign}
+use Rattle.graphql_grammar.specs.Pieces.{mapped, optional, seq, sign}
+use Rattle.graphql_productions.specs.Directives.{directives}
 use Rattle.graphql_productions.specs.Nodes.{name}
 use Rattle.graphql_productions.specs.Operations.{no_root}
-use Rattle.graphql_productions.specs.TypeSystem.{description, enum_value_definition, enum_value_name, enum_value_node, enum_values, expecting, field_definition, field_node, fielded, fields, input_node, input_value, input_values, names_behind, no_enum_value, parts, root, roots}
+use Rattle.graphql_productions.specs.TypeSystem.{description, enum_value_definition, enum_value_name, enum_value_node, enum_values, expecting, field_definition, field_node, fielded, fields, input_node, input_value, input_values, names_behind, no_enum_value, optional_roots, parts, root, roots, schema_parts}
 use Rattle.graphql_round_trip.specs.Nesting.{between, directives_nesting, enum_value_nesting, field_nesting, greatest, input_nesting, type_nesting}
 use Rattle.graphql_round_trip.proofs.FitLaws.{Fits, Keeps, enclosed_fits, implied_keeps, item_keeps, list_fits, mapped_keeps, node_keeps, seq_keeps, unasked}
 use Rattle.graphql_round_trip.proofs.FitOperations.{typed_fits}
@@ -84,3 +85,7 @@ parts_fit file t.Union depth = mapped_keeps (seq_keeps (directives_fit file true
 parts_fit file t.Enum depth = mapped_keeps (seq_keeps (directives_fit file true depth) (enum_values_fit file depth)) (λ x fits. omega (arith, fits.0, fits.1))
 parts_fit file t.InputObject depth =
     mapped_keeps (seq_keeps (directives_fit file true depth) (input_values_fit file k.LeftBrace k.RightBrace depth)) (λ x fits. omega (arith, fits.0, fits.1))
+
+-- what an extension of the schema holds
+pub schema_parts_fit : (file : FileId) (depth : ℕ) → Fits (mapped schema_parts (seq (directives file true depth) (optional_roots file depth))) parts_nesting depth
+schema_parts_fit file depth = mapped_keeps (seq_keeps (directives_fit file true depth) (list_fits (λ _. 0) (roots_fit file depth))) (λ x fits. omega (arith, fits.0, fits.1))

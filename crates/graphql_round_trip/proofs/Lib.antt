@@ -1,3 +1,4 @@
+pub mod FitDocuments
 pub mod FitLaws
 pub mod FitOperations
 pub mod FitSelections
