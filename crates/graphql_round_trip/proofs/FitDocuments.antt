@@ -130,7 +130,7 @@ unfolding fragment
 fragment_definition_fits file depth = mapped_keeps (node_keeps (fragment_fits file depth)) (λ n fits. fits)
 
 -- a definition or extension
-pub definition_fits : (file : FileId) (depth : ℕ) → Fits (definition file depth) definition_nesting depth
+definition_fits : (file : FileId) (depth : ℕ) → Fits (definition file depth) definition_nesting depth
 definition_fits file depth =
     branch_keeps (expecting i.Definition) (λ kind.
     choose_keeps (only k.LeftBrace kind) (shorthand_definition_fits file depth)

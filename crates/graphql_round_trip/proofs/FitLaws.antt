@@ -1,6 +1,5 @@
 -- What is spelled within a depth nests at most so deep: each piece of a grammar in turn.
-use Rattle.std.proofs.Common.{◌≡◌, ◌≤◌, ℕ, zero, suc, Bool, true, false, List, [], ◌∷◌, Option, None, Some, map, sym, subst, arith}
-use Rattle.graphql_nodes.specs.NodeView.{NodeView}
+use Rattle.std.proofs.Common.{◌≡◌, ◌≤◌, ℕ, zero, suc, Bool, true, false, List, [], ◌∷◌, Option, None, Some, sym, subst, arith}
 use Rattle.graphql_nodes.specs.declared.source.FileId.{FileId}
 use Rattle.graphql_grammar.specs.declared.fault.FaultKind.TheVariants.{TooDeep}
 use Rattle.graphql_grammar.specs.declared.kind.Kind.{Kind}
@@ -9,7 +8,7 @@ use Rattle.graphql_grammar.specs.Pieces.{Piece, Wrong, branch, choose, filtered,
 use Rattle.graphql_grammar.specs.Spelling.{spells_by, spells_many}
 use Rattle.graphql_grammar.specs.Words.{WordView}
 use Rattle.graphql_productions.specs.Nodes.{between as between_signs, enclosed, inner, node, node_of, or_none}
-use Rattle.graphql_round_trip.specs.Nesting.{between, deepest, greatest, if_there}
+use Rattle.graphql_round_trip.specs.Nesting.{between, deepest, if_there}
 
 -- what a piece spells is so
 pub record Keeps {A : Type 0} (p : Piece A) (P : A → Type 0) : Type 0 where
@@ -74,12 +73,12 @@ mapped_keeps {f} {Q} pk so = record { kept = λ x front h. subst Q (sym h.1) (so
 pub filtered_keeps : {A : Type 0} {test : A → Bool} (wrong : Wrong) {p : Piece A} {P : A → Type 0} → Keeps p P → Keeps (filtered test wrong p) P
 filtered_keeps wrong pk = record { kept = λ x front h. pk.kept x front h.0 }
 
--- one or none, any number, and one or more
 module _ {A : Type 0} {p : Piece A} {nesting : A → ℕ} {depth : ℕ} (pf : Fits p nesting depth) where
   one_or_none : (x : Option A) (front : List WordView) → (optional p).spells x front → if_there nesting x ≤ depth
   one_or_none None front h = omega arith
   one_or_none (Some x) front h = pf.kept x front h
 
+  -- one or none
   pub optional_fits : Fits (optional p) (if_there nesting) depth
   optional_fits = record { kept = one_or_none }
 
@@ -87,18 +86,20 @@ module _ {A : Type 0} {p : Piece A} {nesting : A → ℕ} {depth : ℕ} (pf : Fi
   any_number [] front h = omega arith
   any_number (x ∷ xs) front h = omega (arith, pf.kept x h.head h.first, any_number xs h.tail h.second)
 
+  -- any number
   pub many_fits : Fits (many p) (deepest nesting) depth
   many_fits = record { kept = any_number }
 
+  -- one or more
   pub some_fits : Fits (some p) (deepest nesting) depth
   some_fits = mapped_keeps {f = listed} (seq_keeps pf many_fits) (λ x h. omega arith)
 
--- one of several, by the kind of the first word
 module _ {A : Type 0} {pick : Kind → Piece A} (wrong : Wrong) {P : A → Type 0} (pk : (kind : Kind) → Keeps (pick kind) P) where
   by_first_word : (x : A) (front : List WordView) → spells_by (λ kind. (pick kind).spells) x front → P x
   by_first_word x [] h = absurd h
   by_first_word x (w ∷ ws) h = (pk w.kind).kept x (w ∷ ws) h
 
+  -- one of several, by the kind of the first word
   pub branch_keeps : {first more : Kinds} → Keeps (branch first more pick wrong) P
   branch_keeps = record { kept = by_first_word }
 

@@ -1,5 +1,5 @@
 -- Operations and fragments that are spelled within a depth nest at most so deep.
-use Rattle.std.proofs.Common.{◌≤◌, ℕ, true, false, List, [], ◌∷◌, Option, None, arith}
+use Rattle.std.proofs.Common.{◌≤◌, ℕ, true, false, [], ◌∷◌, Option, None, arith}
 use Rattle.graphql_nodes.specs.NodeView.{NodeView}
 use Rattle.graphql_nodes.specs.declared.source.FileId.{FileId}
 use Rattle.graphql_ast.specs.declared.directive.DirectiveList.{DirectiveList}
@@ -13,7 +13,8 @@ use Rattle.graphql_productions.specs.Values.{variable}
 use Rattle.graphql_round_trip.specs.Nesting.{between, default_nesting, directives_nesting, fragment_nesting, greatest, operation_nesting, type_nesting, variable_nesting}
 use Rattle.graphql_round_trip.proofs.FitLaws.{Fits, enclosed_fits, headed_keeps, implied_keeps, item_keeps, list_fits, mapped_keeps, node_keeps, optional_fits, seq_keeps, unasked}
 use Rattle.graphql_round_trip.proofs.FitSelections.{selection_set_fits}
-use Rattle.graphql_round_trip.proofs.FitValues.{directives_fit, item_nesting, type_fits, value_fits}
+use Rattle.graphql_round_trip.proofs.FitValues.{directives_fit, type_fits, value_fits}
+use Rattle.graphql_round_trip.proofs.NestingLevels.{item_nesting}
 
 default_fits : (file : FileId) (depth : ℕ) → Fits (default_value file depth) item_nesting depth
 unfolding default_body

@@ -1,77 +1,30 @@
 -- Selections that are spelled within a depth nest at most so deep.
-use Rattle.std.proofs.Common.{◌≡◌, ◌≤◌, ℕ, zero, suc, ◌||◌, false, List, [], ◌∷◌, Option, None, Some, map, refl, ap, ◌∙◌, arith}
-use Rattle.std.proofs.lemmas.Simd.{map-map}
+use Rattle.std.proofs.Common.{◌≤◌, ℕ, zero, suc, ◌||◌, false, List, [], ◌∷◌, Option, None, Some, arith}
 use Rattle.graphql_nodes.specs.NameView.{NameView}
 use Rattle.graphql_nodes.specs.NodeView.{NodeView}
 use Rattle.graphql_nodes.specs.declared.source.FileId.{FileId}
 use Rattle.graphql_ast.specs.declared.directive.Argument.{Argument}
 use Rattle.graphql_ast.specs.declared.directive.DirectiveList.{DirectiveList}
-use Rattle.graphql_ast.specs.declared.selection.Field.{Field, roll-Field}
 use Rattle.graphql_ast.specs.declared.selection.FragmentSpread.{FragmentSpread}
-use Rattle.graphql_ast.specs.declared.selection.InlineFragment.{InlineFragment, roll-InlineFragment}
-use Rattle.graphql_ast.specs.declared.selection.Selection as s
-use Rattle.graphql_ast.specs.declared.selection.Selection.{Selection, fold-roll-Selection, roll-Selection}
-use Rattle.graphql_ast.specs.declared.selection.Selection.TheFolds.{fold-Field, fold-InlineFragment, fold-roll-Field, fold-roll-InlineFragment}
-use Rattle.graphql_ast.specs.declared.selection.Selection.TheOpen.{Selection-F}
+use Rattle.graphql_ast.specs.declared.selection.Selection.{Selection}
 use Rattle.graphql_grammar.specs.declared.fault.FaultKind.TheVariants.{TooDeep}
 use Rattle.graphql_grammar.specs.declared.kind.Kind.TheVariants as k
 use Rattle.graphql_grammar.specs.Kinds.{is_name, only}
 use Rattle.graphql_grammar.specs.Pieces.{Piece, optional, sign}
 use Rattle.graphql_productions.specs.Documents.{selections}
 use Rattle.graphql_productions.specs.Nodes.{name, or_none, span_at}
-use Rattle.graphql_productions.specs.Selections.{alias, bare_selections, field, field_made, field_of, field_selection, fragment, fragment_body, fragment_name, inline_at, inline_body, nested_set, no_selection, selection, selection_set, selections_of, spread_at, spread_body, type_condition}
-use Rattle.graphql_round_trip.specs.Nesting.{arguments_nesting, between, deepest, directives_nesting, field_level, greatest, inline_level, selection_level, selection_nesting, selections_nesting}
+use Rattle.graphql_productions.specs.Selections.{alias, bare_selections, field, field_of, field_selection, fragment, fragment_body, fragment_name, inline_body, nested_set, no_selection, selection, selection_set, selections_of, spread_body, type_condition}
+use Rattle.graphql_round_trip.specs.Nesting.{arguments_nesting, deepest, directives_nesting, greatest, selection_nesting, selections_nesting}
 use Rattle.graphql_round_trip.proofs.FitLaws.{Fits, Keeps, between_fits, between_keeps, branch_keeps, choose_keeps, headed_keeps, implied_keeps, items_fit, left_out_fits, located_keeps, mapped_keeps, node_keeps, nothing_keeps, optional_fits, same_fits, seq_keeps, some_fits, unasked}
 use Rattle.graphql_round_trip.proofs.FitValues.{arguments_fit, directives_fit}
-
--- ---- how deep a selection nests, from one level to the next
-
--- a field
-abbrev pub selected_nesting : Field → ℕ
-selected_nesting = fold-Field ℕ ℕ ℕ selection_level field_level inline_level
-
--- an inline fragment
-abbrev pub inline_nesting : InlineFragment → ℕ
-inline_nesting = fold-InlineFragment ℕ ℕ ℕ selection_level field_level inline_level
-
-pub field_selection_nests : (n : NodeView Field) → selection_nesting (s.Field n) ≡ selected_nesting n.value
-unfolding roll-Selection denote.Hole.Carrier.roll
-field_selection_nests n = fold-roll-Selection ℕ ℕ ℕ selection_level field_level inline_level (Selection-F.Field n)
-
-pub spread_nests : (n : NodeView FragmentSpread) → selection_nesting (s.FragmentSpread n) ≡ directives_nesting n.value.directives
-unfolding roll-Selection denote.Hole.Carrier.roll
-spread_nests n = fold-roll-Selection ℕ ℕ ℕ selection_level field_level inline_level (Selection-F.FragmentSpread n)
-
-pub inline_selection_nests : (n : NodeView InlineFragment) → selection_nesting (s.InlineFragment n) ≡ inline_nesting n.value
-unfolding roll-Selection denote.Hole.Carrier.roll
-inline_selection_nests n = fold-roll-Selection ℕ ℕ ℕ selection_level field_level inline_level (Selection-F.InlineFragment n)
-
--- in braces, what is known of each selection is enough
-in_braces : (xs : List Selection) → between (λ (n : ℕ). n) (map selection_nesting xs) ≡ selections_nesting xs
-in_braces [] = refl
-in_braces (x ∷ xs) = ap (λ (ns : List ℕ). suc (greatest ns)) (map-map (λ (n : ℕ). n) selection_nesting (x ∷ xs))
-
-pub field_nests : (arguments : List (NodeView Argument)) (directives : DirectiveList) (selections : List Selection) (alias : Option NameView) (name : NameView)
-    → selected_nesting (roll-Field (record { alias = alias; name = name; arguments = arguments; directives = directives; selection_set = selections }))
-    ≡ greatest (arguments_nesting arguments ∷ directives_nesting directives ∷ selections_nesting selections ∷ [])
-field_nests arguments directives selections alias name =
-    fold-roll-Field ℕ ℕ ℕ selection_level field_level inline_level
-    (record { alias = alias; name = name; arguments = arguments; directives = directives; selection_set = selections })
-    ∙ ap (λ (n : ℕ). greatest (arguments_nesting arguments ∷ directives_nesting directives ∷ n ∷ [])) (in_braces selections)
-
-pub inline_nests : (directives : DirectiveList) (selections : List Selection) (condition : Option NameView)
-    → inline_nesting (roll-InlineFragment (record { type_condition = condition; directives = directives; selection_set = selections }))
-    ≡ greatest (directives_nesting directives ∷ selections_nesting selections ∷ [])
-inline_nests directives selections condition =
-    fold-roll-InlineFragment ℕ ℕ ℕ selection_level field_level inline_level (record { type_condition = condition; directives = directives; selection_set = selections })
-    ∙ ap (λ (n : ℕ). greatest (directives_nesting directives ∷ n ∷ [])) (in_braces selections)
+use Rattle.graphql_round_trip.proofs.NestingLevels.{field_nested, field_selection_nested, inline_nested, inline_nesting, inline_selection_nested, selected_nesting, spread_nested}
 
 -- ---- fields and fragments
 
 field_of_fits : (first : NameView) (second : Option NameView) (a : List (NodeView Argument)) (l : DirectiveList) (xs : List Selection) (depth : ℕ)
     → greatest (arguments_nesting a ∷ directives_nesting l ∷ selections_nesting xs ∷ []) ≤ depth → selected_nesting (field_of first second a l xs) ≤ depth
-field_of_fits first None a l xs depth fits = same_fits (field_nests a l xs None first) fits
-field_of_fits first (Some second) a l xs depth fits = same_fits (field_nests a l xs (Some first) second) fits
+field_of_fits first None a l xs depth fits = same_fits (field_nested (record { alias = None; name = first; arguments = a; directives = l; selection_set = xs })) fits
+field_of_fits first (Some second) a l xs depth fits = same_fits (field_nested (record { alias = Some first; name = second; arguments = a; directives = l; selection_set = xs })) fits
 
 module _ (file : FileId) (depth : ℕ) {p : Piece (List Selection)} (pf : Fits p selections_nesting depth) where
   field_fits : Fits (field file depth p) selected_nesting depth
@@ -90,15 +43,15 @@ module _ (file : FileId) (depth : ℕ) {p : Piece (List Selection)} (pf : Fits p
   unfolding inline_body
   inline_fits =
       mapped_keeps (seq_keeps (unasked (optional (type_condition file))) (seq_keeps (directives_fit file false depth) pf))
-      (λ x fits. same_fits (inline_nests x.1.0 x.1.1 x.0) (omega (arith, fits.1.0, fits.1.1)))
+      (λ x fits. same_fits (inline_nested (record { type_condition = x.0; directives = x.1.0; selection_set = x.1.1 })) (omega (arith, fits.1.0, fits.1.1)))
 
   -- a fragment that is to be placed, wherever it will be
   body_keeps : Keeps (fragment_body file depth p) (λ f. (at : ℕ × ℕ) → selection_nesting (f at) ≤ depth)
   body_keeps =
       branch_keeps no_selection (λ kind.
       choose_keeps (only k.On kind || (only k.At kind || only k.LeftBrace kind))
-      (mapped_keeps inline_fits (λ x fits at. same_fits (inline_selection_nests (record { value = x; location = span_at file at })) fits))
-      (choose_keeps (is_name kind) (mapped_keeps spread_fits (λ x fits at. same_fits (spread_nests (record { value = x; location = span_at file at })) fits)) (nothing_keeps no_selection)))
+      (mapped_keeps inline_fits (λ x fits at. same_fits (inline_selection_nested (record { value = x; location = span_at file at })) fits))
+      (choose_keeps (is_name kind) (mapped_keeps spread_fits (λ x fits at. same_fits (spread_nested (record { value = x; location = span_at file at })) fits)) (nothing_keeps no_selection)))
 
   fragment_fits : Fits (fragment file depth p) selection_nesting depth
   unfolding fragment
@@ -106,7 +59,7 @@ module _ (file : FileId) (depth : ℕ) {p : Piece (List Selection)} (pf : Fits p
 
   field_selection_fits : Fits (field_selection file depth p) selection_nesting depth
   unfolding field_selection
-  field_selection_fits = mapped_keeps (node_keeps field_fits) (λ n fits. same_fits (field_selection_nests n) fits)
+  field_selection_fits = mapped_keeps (node_keeps field_fits) (λ n fits. same_fits (field_selection_nested n) fits)
 
   selection_fits : Fits (selection file depth p) selection_nesting depth
   selection_fits = branch_keeps no_selection (λ kind. choose_keeps (only k.Spread kind) fragment_fits (choose_keeps (is_name kind) field_selection_fits (nothing_keeps no_selection)))

@@ -1,6 +1,5 @@
 -- What definitions and extensions of the type system hold nests at most so deep as it may be spelled.
-use Rattle.std.proofs.Common.{◌≤◌, ℕ, true, List, [], ◌∷◌, None, arith}
-use Rattle.graphql_nodes.specs.NodeView.{NodeView}
+use Rattle.std.proofs.Common.{◌≤◌, ℕ, true, [], ◌∷◌, None, arith}
 use Rattle.graphql_nodes.specs.declared.source.FileId.{FileId}
 use Rattle.graphql_nodes.specs.declared.type_kind.TypeKind.{TypeKind}
 use Rattle.graphql_nodes.specs.declared.type_kind.TypeKind.TheVariants as t
@@ -13,8 +12,8 @@ use Rattle.graphql_productions.specs.Directives.{directives}
 use Rattle.graphql_productions.specs.Nodes.{name}
 use Rattle.graphql_productions.specs.Operations.{no_root}
 use Rattle.graphql_productions.specs.TypeSystem.{description, enum_value_definition, enum_value_name, enum_value_node, enum_values, expecting, field_definition, field_node, fielded, fields, input_node, input_value, input_values, names_behind, no_enum_value, optional_roots, parts, root, roots, schema_parts}
-use Rattle.graphql_round_trip.specs.Nesting.{between, directives_nesting, enum_value_nesting, field_nesting, greatest, input_nesting, type_nesting}
-use Rattle.graphql_round_trip.proofs.FitLaws.{Fits, Keeps, enclosed_fits, implied_keeps, item_keeps, list_fits, mapped_keeps, node_keeps, seq_keeps, unasked}
+use Rattle.graphql_round_trip.specs.Nesting.{between, directives_nesting, enum_value_nesting, field_nesting, greatest, input_nesting}
+use Rattle.graphql_round_trip.proofs.FitLaws.{Fits, enclosed_fits, implied_keeps, item_keeps, list_fits, mapped_keeps, node_keeps, seq_keeps, unasked}
 use Rattle.graphql_round_trip.proofs.FitOperations.{typed_fits}
 use Rattle.graphql_round_trip.proofs.FitValues.{directives_fit, type_fits}
 

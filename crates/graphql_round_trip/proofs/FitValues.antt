@@ -1,14 +1,9 @@
 -- Values, arguments, directives and references to types that are spelled within a depth nest at most so deep.
-use Rattle.std.proofs.Common.{◌≡◌, ◌≤◌, ℕ, zero, suc, Bool, true, false, List, [], ◌∷◌, Option, None, Some, map, refl, sym, ap, ◌∙◌}
-use Rattle.std.proofs.lemmas.Simd.{map-map}
-use Rattle.graphql_nodes.specs.NameView.{NameView}
+use Rattle.std.proofs.Common.{◌≤◌, ℕ, zero, suc, Bool, true, false, Option, None, Some}
 use Rattle.graphql_nodes.specs.NodeView.{NodeView}
 use Rattle.graphql_nodes.specs.declared.source.FileId.{FileId}
-use Rattle.graphql_ast.specs.TypeReferences.{made_non_null, non_null_step}
-use Rattle.graphql_ast.specs.declared.type_reference.Type.{«Type» as TypeReference, Named, «List» as ListOf, fold-roll-Type, out-Type, roll-Type}
-use Rattle.graphql_ast.specs.declared.type_reference.Type.TheOpen.{Type-F}
-use Rattle.graphql_ast.specs.declared.type_reference.Type.TheViews.{roll-out-Type}
-use Rattle.graphql_ast.specs.declared.value.Value.{Value, fold-roll-Value, roll-Value}
+use Rattle.graphql_ast.specs.declared.type_reference.Type.{«Type» as TypeReference}
+use Rattle.graphql_ast.specs.declared.value.Value.{Value, fold-roll-Value}
 use Rattle.graphql_ast.specs.declared.value.Value.TheOpen.{Value-F}
 use Rattle.graphql_tokens.specs.BlockStringValues.{block_string_value}
 use Rattle.graphql_tokens.specs.StringValues.{string_value}
@@ -20,32 +15,10 @@ use Rattle.graphql_grammar.specs.Pieces.{Piece, optional, sign, word}
 use Rattle.graphql_productions.specs.Directives.{argument, argument_node, arguments, directive, directive_node, directives, no_argument, no_directive}
 use Rattle.graphql_productions.specs.Nodes.{name}
 use Rattle.graphql_productions.specs.Types.{list_type_of, named_type, nested_list_type, no_type, required_where, type, type_by}
-use Rattle.graphql_productions.specs.Values.{block_value, enum_value, false_value, float_value, group, int_value, is_group, list_of, member, member_body, nested_group, no_member, no_value, null_value, object_of, quoted_value, true_value, value, value_by, value_node, variable, variable_or_none, variable_value}
-use Rattle.graphql_round_trip.specs.Nesting.{argument_nesting, arguments_nesting, deepest, directive_nesting, directives_nesting, greatest, type_level, type_nesting, value_level, value_nesting}
-use Rattle.graphql_round_trip.proofs.FitLaws.{Fits, between_keeps, branch_keeps, choose_keeps, enclosed_fits, headed_keeps, item_keeps, list_fits, many_fits, mapped_keeps, node_keeps, none_fits, nothing_keeps, one_more_fits, same_fits, seq_keeps, some_fits, unasked}
-
--- ---- how deep a value nests, from one level to the next
-
--- an item of a list
-abbrev pub item_nesting : NodeView Value → ℕ
-item_nesting item = value_nesting item.value
-
--- a member of an object
-abbrev pub member_nesting : NameView × NodeView Value → ℕ
-member_nesting m = value_nesting m.1.value
-
--- a list nests one deeper than its items
-pub list_nests : (items : List (NodeView Value)) → value_nesting (roll-Value (Value-F.List items)) ≡ suc (deepest item_nesting items)
-list_nests items =
-    fold-roll-Value ℕ value_level (Value-F.List items)
-    ∙ ap (λ (ns : List ℕ). suc (greatest ns)) (map-map (λ (item : NodeView ℕ). item.value) (λ (n : NodeView Value). record { value = value_nesting n.value; location = n.location }) items)
-
--- an object nests one deeper than its members
-pub object_nests : (members : List (NameView × NodeView Value)) → value_nesting (roll-Value (Value-F.Object members)) ≡ suc (deepest member_nesting members)
-object_nests members =
-    fold-roll-Value ℕ value_level (Value-F.Object members)
-    ∙ ap (λ (ns : List ℕ). suc (greatest ns)) (map-map (λ (m : NameView × NodeView ℕ). m.1.value)
-    (λ (m : NameView × NodeView Value). (m.0, record { value = value_nesting m.1.value; location = m.1.location })) members)
+use Rattle.graphql_productions.specs.Values.{block_value, enum_value, false_value, float_value, group, int_value, is_group, list_of, member, member_body, nested_group, no_member, no_value, null_value, object_of, quoted_value, true_value, value_by, value_node, variable, variable_or_none, variable_value}
+use Rattle.graphql_round_trip.specs.Nesting.{argument_nesting, arguments_nesting, directive_nesting, directives_nesting, type_nesting, value_level, value_nesting}
+use Rattle.graphql_round_trip.proofs.FitLaws.{Fits, between_keeps, branch_keeps, choose_keeps, enclosed_fits, headed_keeps, item_keeps, list_fits, many_fits, mapped_keeps, node_keeps, none_fits, nothing_keeps, one_more_fits, same_fits, seq_keeps, unasked}
+use Rattle.graphql_round_trip.proofs.NestingLevels.{item_nesting, list_nested, list_type_nested, member_nesting, named_nested, object_nested, required_nested}
 
 -- ---- values
 
@@ -107,7 +80,7 @@ module _ (file : FileId) (depth : ℕ) where
 module _ (file : FileId) (depth : ℕ) {item : Piece (NodeView Value)} (pf : Fits item item_nesting depth) where
   list_value_fits : Fits (list_of item) value_nesting (suc depth)
   unfolding list_of
-  list_value_fits = mapped_keeps (between_keeps k.LeftBracket k.RightBracket no_value (many_fits pf)) (λ items fits. one_more_fits (list_nests items) fits)
+  list_value_fits = mapped_keeps (between_keeps k.LeftBracket k.RightBracket no_value (many_fits pf)) (λ items fits. one_more_fits (list_nested items) fits)
 
   member_fits : Fits (member file item) member_nesting depth
   unfolding member_body
@@ -115,7 +88,7 @@ module _ (file : FileId) (depth : ℕ) {item : Piece (NodeView Value)} (pf : Fit
 
   object_fits : Fits (object_of file item) value_nesting (suc depth)
   unfolding object_of
-  object_fits = mapped_keeps (between_keeps k.LeftBrace k.RightBrace no_member (many_fits member_fits)) (λ members fits. one_more_fits (object_nests members) fits)
+  object_fits = mapped_keeps (between_keeps k.LeftBrace k.RightBrace no_member (many_fits member_fits)) (λ members fits. one_more_fits (object_nested members) fits)
 
   group_fits : Fits (group file item) value_nesting (suc depth)
   group_fits =
@@ -154,36 +127,17 @@ directives_fit file constant depth = mapped_keeps (many_fits (directive_fits fil
 
 -- ---- references to types
 
-named_nests : (n : NameView) → type_nesting (Named n) ≡ 0
-unfolding roll-Type denote.Hole.Carrier.roll
-named_nests n = fold-roll-Type ℕ type_level (Type-F.Named n)
-
-list_type_nests : (t : TypeReference) → type_nesting (ListOf t) ≡ suc (type_nesting t)
-unfolding roll-Type denote.Hole.Carrier.roll
-list_type_nests t = fold-roll-Type ℕ type_level (Type-F.List t)
-
-step_nests : (y : Type-F TypeReference) → type_nesting (non_null_step y) ≡ type_nesting (roll-Type y)
-unfolding roll-Type denote.Hole.Carrier.roll
-step_nests (Type-F.Named n) = fold-roll-Type ℕ type_level (Type-F.NonNullNamed n) ∙ sym (fold-roll-Type ℕ type_level (Type-F.Named n))
-step_nests (Type-F.NonNullNamed n) = refl
-step_nests (Type-F.List t) = fold-roll-Type ℕ type_level (Type-F.NonNullList t) ∙ sym (fold-roll-Type ℕ type_level (Type-F.List t))
-step_nests (Type-F.NonNullList t) = refl
-
--- a type nests as deep without null
-required_nests : (t : TypeReference) → type_nesting (made_non_null t) ≡ type_nesting t
-required_nests t = step_nests (out-Type t) ∙ ap type_nesting (roll-out-Type t)
-
 required_fits : (depth : ℕ) (x : TypeReference × Option (Unit {0})) → type_nesting x.0 ≤ depth → type_nesting (required_where x) ≤ depth
 required_fits depth (t, None) fits = fits
-required_fits depth (t, Some _) fits = same_fits (required_nests t) fits
+required_fits depth (t, Some _) fits = same_fits (required_nested t) fits
 
 named_fits : (file : FileId) (depth : ℕ) → Fits (named_type file) type_nesting depth
 unfolding named_type
-named_fits file depth = mapped_keeps (unasked (name file)) (λ n _. none_fits depth (named_nests n))
+named_fits file depth = mapped_keeps (unasked (name file)) (λ n _. none_fits depth (named_nested n))
 
 list_type_fits : (depth : ℕ) {item : Piece TypeReference} → Fits item type_nesting depth → Fits (list_type_of item) type_nesting (suc depth)
 unfolding list_type_of
-list_type_fits depth pf = mapped_keeps (between_keeps k.LeftBracket k.RightBracket (λ _. Expected (i.Word k.RightBracket)) pf) (λ t fits. one_more_fits (list_type_nests t) fits)
+list_type_fits depth pf = mapped_keeps (between_keeps k.LeftBracket k.RightBracket (λ _. Expected (i.Word k.RightBracket)) pf) (λ t fits. one_more_fits (list_type_nested t) fits)
 
 type_by_fits : (file : FileId) (depth : ℕ) {list : Piece TypeReference} → Fits list type_nesting depth → Fits (type_by file list) type_nesting depth
 type_by_fits file depth pf =

@@ -6,6 +6,7 @@ pub mod FitTypeSystem
 pub mod FitValues
 pub mod Grouping
 pub mod LeadLaws
+pub mod NestingLevels
 pub mod NodeTexts
 pub mod PieceTexts
 pub mod TokenTexts
