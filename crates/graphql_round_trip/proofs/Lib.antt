@@ -1,3 +1,9 @@
+pub mod BareDocumentTexts
+pub mod BareLists
+pub mod BareOperationTexts
+pub mod BareSelectionTexts
+pub mod BareSystemTexts
+pub mod BareTexts
 pub mod FitDocuments
 pub mod FitLaws
 pub mod FitOperations
@@ -8,6 +14,8 @@ pub mod Grouping
 pub mod LeadLaws
 pub mod NestingLevels
 pub mod NodeTexts
+pub mod NumberTexts
 pub mod PieceTexts
+pub mod ReadAgain
 pub mod TokenTexts
 pub mod WholeTexts
