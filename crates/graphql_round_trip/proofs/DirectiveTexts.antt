@@ -59,7 +59,7 @@ module _ (file : FileId) (constant : Bool) where
 
   -- ---- directives
 
-  -- no argument goes on with what stands before arguments
+  -- arguments end what stands before them, as what stands behind them does where there is none
   arguments_end : (xs : List (NodeView Argument)) (rest : List ℕ) → ends_token rest ≡ true → ends_token (arguments_text xs ++ rest) ≡ true
   arguments_end [] rest end = end
   arguments_end (x ∷ xs) rest end = refl

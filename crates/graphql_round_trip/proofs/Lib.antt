@@ -6,10 +6,17 @@ pub mod BareSystemTexts
 pub mod BareTexts
 pub mod ChoiceTexts
 pub mod DirectiveTexts
+pub mod FitDocuments
+pub mod FitLaws
+pub mod FitOperations
+pub mod FitSelections
+pub mod FitTypeSystem
+pub mod FitValues
 pub mod Grouping
 pub mod LeadLaws
 pub mod ListTexts
 pub mod NestingLemmas
+pub mod NestingLevels
 pub mod NodeTexts
 pub mod NumberTexts
 pub mod PartLemmas

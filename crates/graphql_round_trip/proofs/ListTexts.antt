@@ -58,7 +58,7 @@ labelled_prints file n {p} {see} {y} {text} is reads =
     (seq_text (name_prints file n is)
     (seq_text (sign_before k.Colon (λ _. Expected (i.Word k.Colon)) t.Colon (codes ":") (codes " ") refl colon_is_token refl) reads (λ rest end. refl)) (λ rest end. refl))
 
--- ---- a list between signs, or nothing where it has no item
+-- ---- a list that is left out where it has no item
 
 module _ {A B : Type 0} (p : Piece (List A)) (see : A → B) where
   or_none_seen : (o : Option (List A)) (ys : List B) → option_map (map see) o ≡ Some ys → map see (or_none o) ≡ ys
@@ -77,13 +77,16 @@ module _ {A B : Type 0} (p : Piece (List A)) (see : A → B) where
   pub put_prints : {ys : List B} {text : List ℕ} {ends : List ℕ → Bool} → Prints p (map see) ys text ends → Prints (mapped or_none (optional p)) (map see) ys text ends
   put_prints {ys} reads = mapped_text or_none (map see) ys (λ o same. or_none_seen o ys same) (one_text reads)
 
--- ---- items that are read as themselves, where so many signs may be open
+-- ---- items of which each is read as itself
 
+-- each of these items is read as itself, where it may open so many signs
 pub items_print : {A B : Type 0} (p : Piece A) (see : A → B) (text : A → List ℕ) (parts : A → List TreePart) (nesting : A → ℕ) (depth : ℕ)
     → ((x : A) → IsWellFormed (parts x) → nesting x ≤ depth → Prints p see (see x) (text x) ends_token)
     → (xs : List A) → IsWellFormed (flat_map parts xs) → deepest nesting xs ≤ depth → AllByRecursion (λ x. Prints p see (see x) (text x) ends_token) xs
 items_print p see text parts nesting depth item xs fine fits =
     each_of_both (λ x. IsWellFormed (parts x)) (λ x. nesting x ≤ depth) (λ x. Prints p see (see x) (text x) ends_token) item xs (part_of_each parts xs fine) (each_fits nesting xs depth fits)
+
+-- ---- a list of items between signs
 
 module _ {A B : Type 0} (opening closing : Kind) (wrong : Wrong) (p : ℕ → Piece A) (see : A → B) (text : A → List ℕ) (parts : A → List TreePart) (nesting : A → ℕ)
     (item : (depth : ℕ) (x : A) → IsWellFormed (parts x) → nesting x ≤ depth → Prints (p depth) see (see x) (text x) ends_token) where

@@ -40,6 +40,7 @@ use Rattle.graphql_round_trip.proofs.ChoiceTexts.{enum_kind, first_text, is_none
 use Rattle.graphql_round_trip.proofs.ListTexts.{labelled_prints, separated_map, separated_text}
 use Rattle.graphql_round_trip.proofs.Grouping.{regrouped}
 use Rattle.graphql_round_trip.proofs.NestingLemmas.{each_fits, opened}
+use Rattle.graphql_round_trip.proofs.NestingLevels.{item_nesting, list_nested, member_nesting, object_nested}
 use Rattle.graphql_round_trip.proofs.NodeTexts.{between_prints, keyword_prints, loosely, name_prints, node_prints, sign_prints}
 use Rattle.graphql_round_trip.proofs.NumberTexts.{float_is_token, float_unblank, int_is_token, int_unblank}
 use Rattle.graphql_round_trip.proofs.PartLemmas.{each_of_three, part_of_each}
@@ -54,9 +55,6 @@ bare_rolled y = fold-roll-Value Value bare_step y
 
 text_rolled : (y : Value-F Value) → value_text (roll-Value y) ≡ text_step (map-Value Value (List ℕ) value_text y)
 text_rolled y = fold-roll-Value (List ℕ) text_step y
-
-nesting_rolled : (y : Value-F Value) → value_nesting (roll-Value y) ≡ value_level (map-Value Value ℕ value_nesting y)
-nesting_rolled y = fold-roll-Value ℕ value_level y
 
 -- a member of an object without locations
 abbrev bare_member : NameView × NodeView Value → NameView × NodeView Value
@@ -81,23 +79,6 @@ object_text members =
     text_rolled (Value-F.Object members)
     ∙ ap (λ (l : List ℕ). codes "{" ++ l ++ codes "}")
     (separated_map (codes ", ") member_step (λ (m : NameView × NodeView Value). (m.0, record { value = value_text m.1.value; location = m.1.location })) members)
-
--- how deep the value of an item, and that of a member nests
-abbrev item_nesting : NodeView Value → ℕ
-item_nesting n = value_nesting n.value
-
-abbrev member_nesting : NameView × NodeView Value → ℕ
-member_nesting m = value_nesting m.1.value
-
-list_nesting : (items : List (NodeView Value)) → value_nesting (roll-Value (Value-F.List items)) ≡ suc (deepest item_nesting items)
-list_nesting items =
-    nesting_rolled (Value-F.List items)
-    ∙ ap (λ (ns : List ℕ). suc (greatest ns)) (map-map (λ (item : NodeView ℕ). item.value) (λ (n : NodeView Value). record { value = value_nesting n.value; location = n.location }) items)
-
-object_nesting : (members : List (NameView × NodeView Value)) → value_nesting (roll-Value (Value-F.Object members)) ≡ suc (deepest member_nesting members)
-object_nesting members =
-    nesting_rolled (Value-F.Object members)
-    ∙ ap (λ (ns : List ℕ). suc (greatest ns)) (map-map (λ (m : NameView × NodeView ℕ). m.1.value) (λ (m : NameView × NodeView Value). (m.0, record { value = value_nesting m.1.value; location = m.1.location })) members)
 
 -- ---- values of one word
 
@@ -303,7 +284,7 @@ module _ (file : FileId) (constant : Bool) where
 
   list_shows : (items : List (NodeView Value)) → AllByRecursion (λ n. Shows n.value) items → Shows (roll-Value (Value-F.List items))
   list_shows items shown depth fine fits =
-      let room = opened (deepest item_nesting items) depth (subst (λ (n : ℕ). n ≤ depth) (list_nesting items) fits) in
+      let room = opened (deepest item_nesting items) depth (subst (λ (n : ℕ). n ≤ depth) (list_nested items) fits) in
       subst (λ (depth : ℕ). Prints (value file constant depth) bare_value (bare_value (roll-Value (Value-F.List items))) (value_text (roll-Value (Value-F.List items))) ends_token) (sym room.1)
       (list_value_prints file constant room.0 items (all room.0 room.2))
     where
@@ -315,7 +296,7 @@ module _ (file : FileId) (constant : Bool) where
 
   object_shows : (members : List (NameView × NodeView Value)) → AllByRecursion (λ m. Shows m.1.value) members → Shows (roll-Value (Value-F.Object members))
   object_shows members shown depth fine fits =
-      let room = opened (deepest member_nesting members) depth (subst (λ (n : ℕ). n ≤ depth) (object_nesting members) fits) in
+      let room = opened (deepest member_nesting members) depth (subst (λ (n : ℕ). n ≤ depth) (object_nested members) fits) in
       subst (λ (depth : ℕ). Prints (value file constant depth) bare_value (bare_value (roll-Value (Value-F.Object members))) (value_text (roll-Value (Value-F.Object members))) ends_token) (sym room.1)
       (object_value_prints file constant room.0 members (all room.0 room.2))
     where
