@@ -12,9 +12,15 @@ use Rattle.graphql_printing.specs.Widths.{width}
 use Rattle.graphql_printing.proofs.BlockCharacters.{IsAllowed, Spelled, begins_quote, other_first, other_second, other_third, quote_or_other, spelled, three_quotes}
 use Rattle.graphql_printing.proofs.BlockLines.{same_further_in}
 
+-- a text between the line ends of the layout: with none where it fits in one line, or only the last where it begins at once
+abbrev pub framed : Bool → Bool → ℕ → List ℕ → List ℕ
+framed true at_once indent text = text
+framed false true indent text = text ++ line_end indent
+framed false false indent text = line_end indent ++ text ++ line_end indent
+
 -- what the characters of a description's block string say
 abbrev pub body : ℕ → List ℕ → List ℕ
-body indent text = if fits_one_line text then further_in indent text else (if begins_at_once text then [] else line_end indent) ++ further_in indent text ++ line_end indent
+body indent text = framed (fits_one_line text) (begins_at_once text) indent (further_in indent text)
 
 -- ---- no mark is added with the layout, and none goes
 
@@ -53,11 +59,10 @@ module _ (indent : ℕ) (tail : List ℕ) (no_quote : begins_quote tail ≡ fals
       (λ other _. other_first (further_in indent (c ∷ cs) ++ tail) (first_further_in c cs other))
 
   -- marks are set first, or last
-  MarkedFurtherIn : List ℕ → Type 0
+  abbrev MarkedFurtherIn : List ℕ → Type 0
   MarkedFurtherIn text = with_marks 0 (further_in indent text ++ tail) ≡ further_in indent (with_marks 0 text) ++ with_marks 0 tail
 
   feed_marked : (cs : List ℕ) → MarkedFurtherIn cs → with_marks 0 (further_in indent (10 ∷ cs) ++ tail) ≡ further_in indent (10 ∷ with_marks 0 cs) ++ with_marks 0 tail
-  unfolding MarkedFurtherIn
   feed_marked cs more =
       ap (with_marks 0) (append_assoc (line_end indent) (further_in indent cs) tail)
       ∙ marks_of_line_end indent (further_in indent cs ++ tail)
@@ -65,7 +70,6 @@ module _ (indent : ℕ) (tail : List ℕ) (no_quote : begins_quote tail ≡ fals
       ∙ sym (append_assoc (line_end indent) (further_in indent (with_marks 0 cs)) (with_marks 0 tail))
 
   other_marked : (c : ℕ) (cs : List ℕ) → begins_with_quotes (c ∷ cs) ≡ false → MarkedFurtherIn cs → MarkedFurtherIn (c ∷ cs)
-  unfolding MarkedFurtherIn
   other_marked c cs plain more = rw plain (by (nat_eq c 10) refl)
     where
       by : (b : Bool) → nat_eq c 10 ≡ b → with_marks 0 (further_in indent (c ∷ cs) ++ tail) ≡ further_in indent (c ∷ with_marks 0 cs) ++ with_marks 0 tail
@@ -76,28 +80,19 @@ module _ (indent : ℕ) (tail : List ℕ) (no_quote : begins_quote tail ≡ fals
           rw (is, quotes) (ap (λ (t : List ℕ). c ∷ t) more)
 
   quotes_marked : (cs : List ℕ) → MarkedFurtherIn cs → MarkedFurtherIn (34 ∷ 34 ∷ 34 ∷ cs)
-  unfolding MarkedFurtherIn
   quotes_marked cs more = ap (λ (t : List ℕ). 92 ∷ 34 ∷ 34 ∷ 34 ∷ t) more
 
-  all_marked : (text : List ℕ) → MarkedFurtherIn text
-  unfolding MarkedFurtherIn
-  all_marked [] = refl
-  all_marked (a ∷ []) = other_marked a [] refl (all_marked [])
-  all_marked (a ∷ b ∷ []) = other_marked a (b ∷ []) refl (all_marked (b ∷ []))
-  all_marked (a ∷ b ∷ c ∷ rest) = by (begins_with_quotes (a ∷ b ∷ c ∷ [])) refl (all_marked (b ∷ c ∷ rest)) (all_marked rest)
+  marked_further_in : (text : List ℕ) → MarkedFurtherIn text
+  marked_further_in [] = refl
+  marked_further_in (a ∷ []) = other_marked a [] refl (marked_further_in [])
+  marked_further_in (a ∷ b ∷ []) = other_marked a (b ∷ []) refl (marked_further_in (b ∷ []))
+  marked_further_in (a ∷ b ∷ c ∷ rest) = by (begins_with_quotes (a ∷ b ∷ c ∷ [])) refl (marked_further_in (b ∷ c ∷ rest)) (marked_further_in rest)
     where
       by : (t : Bool) → begins_with_quotes (a ∷ b ∷ c ∷ []) ≡ t → MarkedFurtherIn (b ∷ c ∷ rest) → MarkedFurtherIn rest → MarkedFurtherIn (a ∷ b ∷ c ∷ rest)
       by true is _ behind = three_quotes a b c is (λ x y z. MarkedFurtherIn (x ∷ y ∷ z ∷ rest)) (quotes_marked rest behind)
       by false is next _ = other_marked a (b ∷ c ∷ rest) is next
 
-  pub marked_further_in : (text : List ℕ) → with_marks 0 (further_in indent text ++ tail) ≡ inside indent text ++ with_marks 0 tail
-  unfolding MarkedFurtherIn
-  marked_further_in text = all_marked text
-
 -- ---- the block string is its body with marks, between quotes
-
-quotes : List ℕ
-quotes = codes "\"\"\""
 
 marks_of_inside : (indent : ℕ) (text : List ℕ) → with_marks 0 (further_in indent text) ≡ inside indent text
 marks_of_inside indent text = simp append-nil at (marked_further_in indent [] refl text)
@@ -108,32 +103,32 @@ marks_of_end n = ap (with_marks 0) (sym (append-nil (line_end n))) ∙ marks_of_
 marks_of_lines : (indent : ℕ) (text : List ℕ) → with_marks 0 (further_in indent text ++ line_end indent) ≡ inside indent text ++ line_end indent
 marks_of_lines indent text = marked_further_in indent (line_end indent) refl text ∙ ap (λ (t : List ℕ). inside indent text ++ t) (marks_of_end indent)
 
-marks_of_body : (indent : ℕ) (text : List ℕ)
-    → with_marks 0 (body indent text)
-    ≡ (if fits_one_line text then inside indent text else (if begins_at_once text then [] else line_end indent) ++ inside indent text ++ line_end indent)
-marks_of_body indent text = by (fits_one_line text) (begins_at_once text)
-  where
-    by : (f b : Bool)
-        → with_marks 0 (if f then further_in indent text else (if b then [] else line_end indent) ++ further_in indent text ++ line_end indent)
-        ≡ (if f then inside indent text else (if b then [] else line_end indent) ++ inside indent text ++ line_end indent)
-    by true b = marks_of_inside indent text
-    by false true = marks_of_lines indent text
-    by false false =
-        ap (with_marks 0) (append_assoc (line_end indent) (further_in indent text) (line_end indent))
-        ∙ marks_of_line_end indent (further_in indent text ++ line_end indent)
-        ∙ ap (λ (t : List ℕ). line_end indent ++ t) (marks_of_lines indent text)
-        ∙ sym (append_assoc (line_end indent) (inside indent text) (line_end indent))
+marks_of_framed : (fits at_once : Bool) (indent : ℕ) (text : List ℕ) → with_marks 0 (framed fits at_once indent (further_in indent text)) ≡ framed fits at_once indent (inside indent text)
+marks_of_framed true at_once indent text = marks_of_inside indent text
+marks_of_framed false true indent text = marks_of_lines indent text
+marks_of_framed false false indent text =
+    ap (with_marks 0) (append_assoc (line_end indent) (further_in indent text) (line_end indent))
+    ∙ marks_of_line_end indent (further_in indent text ++ line_end indent)
+    ∙ ap (λ (t : List ℕ). line_end indent ++ t) (marks_of_lines indent text)
+    ∙ sym (append_assoc (line_end indent) (inside indent text) (line_end indent))
 
-pub block_is : (indent : ℕ) (text : List ℕ) → block indent text ≡ 34 ∷ 34 ∷ 34 ∷ with_marks 0 (body indent text) ++ 34 ∷ 34 ∷ 34 ∷ []
-block_is indent text = by (fits_one_line text) ∙ sym (ap (λ (t : List ℕ). 34 ∷ 34 ∷ 34 ∷ t ++ 34 ∷ 34 ∷ 34 ∷ []) (marks_of_body indent text))
-  where
-    by : (f : Bool)
-        → (if f
-        then codes "\"\"\"" ++ inside indent text ++ codes "\"\"\""
-        else codes "\"\"\"" ++ (if begins_at_once text then [] else line_end indent) ++ inside indent text ++ line_end indent ++ codes "\"\"\"")
-        ≡ 34 ∷ 34 ∷ 34 ∷ (if f then inside indent text else (if begins_at_once text then [] else line_end indent) ++ inside indent text ++ line_end indent) ++ 34 ∷ 34 ∷ 34 ∷ []
-    by true = refl
-    by false = refl
+-- a text between quotes
+abbrev Quoted : List ℕ → List ℕ
+Quoted text = 34 ∷ 34 ∷ 34 ∷ text ++ 34 ∷ 34 ∷ 34 ∷ []
+
+block_of_framed : (fits at_once : Bool) (indent : ℕ) (text : List ℕ)
+    → (if fits
+    then codes "\"\"\"" ++ inside indent text ++ codes "\"\"\""
+    else codes "\"\"\"" ++ (if at_once then [] else line_end indent) ++ inside indent text ++ line_end indent ++ codes "\"\"\"")
+    ≡ Quoted (framed fits at_once indent (inside indent text))
+block_of_framed true at_once indent text = refl
+block_of_framed false true indent text = refl
+block_of_framed false false indent text = refl
+
+pub block_is : (indent : ℕ) (text : List ℕ) → block indent text ≡ Quoted (with_marks 0 (body indent text))
+block_is indent text =
+    block_of_framed (fits_one_line text) (begins_at_once text) indent text
+    ∙ sym (ap (λ (t : List ℕ). Quoted t) (marks_of_framed (fits_one_line text) (begins_at_once text) indent text))
 
 -- ---- so the characters are read
 
@@ -156,22 +151,14 @@ allowed_further_in indent (c ∷ cs) h = by (nat_eq c 10) (allowed_further_in in
     by true more = allowed_append (line_end indent) (further_in indent cs) (allowed_end indent) more
     by false more = (h.0, more)
 
-allowed_body : (indent : ℕ) (text : List ℕ) → IsAllowed text → IsAllowed (body indent text)
-allowed_body indent text h = by (fits_one_line text) (begins_at_once text)
-  where
-    within : IsAllowed (further_in indent text)
-    within = allowed_further_in indent text h
-
-    by : (f b : Bool) → IsAllowed (if f then further_in indent text else (if b then [] else line_end indent) ++ further_in indent text ++ line_end indent)
-    by true b = within
-    by false true = allowed_append (further_in indent text) (line_end indent) within (allowed_end indent)
-    by false false =
-        allowed_append (line_end indent ++ further_in indent text) (line_end indent)
-        (allowed_append (line_end indent) (further_in indent text) (allowed_end indent) within)
-        (allowed_end indent)
+allowed_framed : (fits at_once : Bool) (indent : ℕ) (text : List ℕ) → IsAllowed text → IsAllowed (framed fits at_once indent text)
+allowed_framed true at_once indent text h = h
+allowed_framed false true indent text h = allowed_append text (line_end indent) h (allowed_end indent)
+allowed_framed false false indent text h =
+    allowed_append (line_end indent ++ text) (line_end indent) (allowed_append (line_end indent) text (allowed_end indent) h) (allowed_end indent)
 
 -- a text without control characters
-pub printable_is_allowed : (text : List ℕ) → has_unprintable text ≡ false → IsAllowed text
+printable_is_allowed : (text : List ℕ) → has_unprintable text ≡ false → IsAllowed text
 printable_is_allowed [] h = tt
 printable_is_allowed (c ∷ cs) h =
     let parts = or_parts (begins_unprintable (c ∷ cs)) (has_unprintable cs) h in
@@ -193,24 +180,24 @@ ends_blank p (suc n) c first other = ends_blank p n 32 other other
 lines_end : (xs : List ℕ) (n : ℕ) → ends is_mark (xs ++ line_end n) ≡ false
 lines_end xs n = ends_append is_mark xs 10 (replicate n 32) ∙ ends_blank is_mark n 10 refl refl
 
-body_ends : (indent : ℕ) (text : List ℕ) → has_unprintable text ≡ false → ends is_mark (body indent text) ≡ false
-body_ends indent text printable = by (fits_one_line text) (begins_at_once text) refl
-  where
-    fits : fits_one_line text ≡ true → ends is_mark (further_in indent text) ≡ false
-    fits h =
-        let parts = and_parts (not (has_line_feed text)) (nat_le (width text) 70 && not (ends is_mark text)) h in
-        let short = and_parts (nat_le (width text) 70) (not (ends is_mark text)) parts.1 in
-        rw (same_further_in indent text printable (not-true (has_line_feed text) parts.0)) (not-true (ends is_mark text) short.1)
+framed_ends : (fits at_once : Bool) (indent : ℕ) (text : List ℕ) → (fits ≡ true → ends is_mark text ≡ false) → ends is_mark (framed fits at_once indent text) ≡ false
+framed_ends true at_once indent text short = short refl
+framed_ends false true indent text short = lines_end text indent
+framed_ends false false indent text short = lines_end (line_end indent ++ text) indent
 
-    by : (f b : Bool) → fits_one_line text ≡ f → ends is_mark (if f then further_in indent text else (if b then [] else line_end indent) ++ further_in indent text ++ line_end indent) ≡ false
-    by true b is = fits is
-    by false true is = lines_end (further_in indent text) indent
-    by false false is = lines_end (line_end indent ++ further_in indent text) indent
+-- what fits in one line ends in no mark
+short_ends : (indent : ℕ) (text : List ℕ) → has_unprintable text ≡ false → fits_one_line text ≡ true → ends is_mark (further_in indent text) ≡ false
+short_ends indent text printable fits =
+    let parts = and_parts (not (has_line_feed text)) (nat_le (width text) 70 && not (ends is_mark text)) fits in
+    let short = and_parts (nat_le (width text) 70) (not (ends is_mark text)) parts.1 in
+    rw (same_further_in indent text printable (not-true (has_line_feed text) parts.0)) (not-true (ends is_mark text) short.1)
 
 -- a block string's characters are those of its body, and say it
 pub body_spelled : (indent : ℕ) (text rest : List ℕ) → has_unprintable text ≡ false → Spelled (body indent text) (34 ∷ 34 ∷ 34 ∷ rest)
 body_spelled indent text rest printable =
-    spelled (body indent text) (34 ∷ 34 ∷ 34 ∷ rest) (allowed_body indent text (printable_is_allowed text printable)) (body_ends indent text printable)
+    spelled (body indent text) (34 ∷ 34 ∷ 34 ∷ rest)
+    (allowed_framed (fits_one_line text) (begins_at_once text) indent (further_in indent text) (allowed_further_in indent text (printable_is_allowed text printable)))
+    (framed_ends (fits_one_line text) (begins_at_once text) indent (further_in indent text) (short_ends indent text printable))
 
 -- so what the block string says is its body without the common indent
 pub value_is : (indent : ℕ) (text : List ℕ) → has_unprintable text ≡ false → block_string_value (block indent text) ≡ dedented (body indent text)

@@ -10,7 +10,7 @@ use Rattle.graphql_tokens.specs.BlockStringValues.{behind_feeds, block_string_va
 use Rattle.graphql_printing.specs.Descriptions.{begins_at_once, block, ends, fits_one_line, further_in, has_line_feed, has_unprintable, is_mark}
 use Rattle.graphql_printing.specs.Layout.{line_end}
 use Rattle.graphql_printing.specs.Widths.{width}
-use Rattle.graphql_printing.proofs.BlockBody.{body, value_is}
+use Rattle.graphql_printing.proofs.BlockBody.{body, framed, value_is}
 use Rattle.graphql_printing.proofs.BlockLines.{HasLines, IsOneLine, blank_drop, blank_more, has_lines, indented, is_one_line, kept, kept_further_in, lines_further_in, lines_of, lines_plain, same_further_in}
 
 -- ---- a blank line at the end makes no difference
@@ -116,7 +116,7 @@ module _ (n : ℕ) (text : List ℕ) (printable : has_unprintable text ≡ false
   body_says = by (fits_one_line text) (begins_at_once text) refl refl
     where
       by : (f b : Bool) → fits_one_line text ≡ f → begins_at_once text ≡ b
-          → dedented (if f then further_in n text else (if b then [] else line_end n) ++ further_in n text ++ line_end n) ≡ (if f || b then alone text else kept (lines text))
+          → dedented (framed f b n (further_in n text)) ≡ (if f || b then alone text else kept (lines text))
       by true b fits at_once = alone_said (not-true (has_line_feed text) (and_parts (not (has_line_feed text)) (nat_le (width text) 70 && not (ends is_mark text)) fits).0)
       by false true fits at_once = first_said (not-true (has_line_feed text) (and_parts (not (has_line_feed text)) (begins is_white text) at_once).0)
       by false false fits at_once = lines_said (has_lines text printable)

@@ -128,10 +128,6 @@ abbrev pub outer_left : Bool → List (List ℕ) → Bool
 outer_left here [] = false
 outer_left here (line ∷ more) = (here && is_outer line) || list_any is_outer more
 
-pub all_left : (ls : List (List ℕ)) → outer_left true ls ≡ list_any is_outer ls
-all_left [] = refl
-all_left (line ∷ more) = refl
-
 pub outer_further : (here : Bool) (c : ℕ) (cs : List ℕ) → (here && not (is_white c || is_line_end c)) ≡ false → outer_left here (lines (c ∷ cs)) ≡ outer_left (is_line_end c) (lines cs)
 outer_further here c cs other = elim (cases_Bool (is_line_end c)) [ inl is ↦ at_end is (ended c cs is) | inr is ↦ within is (has_first cs) ]
   where

@@ -15,8 +15,8 @@ use crate::widths::is_wider;
 use std::fmt;
 use std::fmt::{Formatter, Write};
 
-/// Writes a description that stands further in by so many blanks: a block string where that is read as the text again and
-/// has no control character but tabs and line feeds, or else a quoted string.
+/// Writes a description that stands further in by so many blanks: a block string where that is read as the text
+/// again and has no control character but tabs and line feeds, or else a quoted string.
 pub fn write_description<W: Write>(f: &mut Formatter<W>, text: &str, indent: usize) -> fmt::Result
     ensures { WritesOnOk W.write_str_gives f.old result (description_text indent text.now) f.new }
 {
@@ -36,8 +36,8 @@ fn is_block(text: &str) -> bool
     passes_test(bytes) && !has_unprintable(bytes)
 }
 
-/// Whether a text is empty, or has lines that a block string keeps. The first and the last aren't blank, and where
-/// there are several, one of them isn't further in.
+/// Whether a text is empty, or has lines that a block string keeps: the first and the last aren't blank, and
+/// where there are several, one has no indent.
 fn passes_test(text: &[u8]) -> bool
     ensures { result ≡ passes_test text.now }
 {
