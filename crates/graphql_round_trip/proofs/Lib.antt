@@ -1,5 +1,9 @@
 pub mod Grouping
 pub mod LeadLaws
+pub mod NestingLemmas
 pub mod NodeTexts
+pub mod PartLemmas
 pub mod PieceTexts
+pub mod StandingApart
 pub mod TokenTexts
+pub mod TypedTexts
