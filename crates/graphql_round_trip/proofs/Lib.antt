@@ -1,9 +1,17 @@
+pub mod BehindBlanks
+pub mod ChoiceTexts
+pub mod FieldTexts
+pub mod FragmentTexts
 pub mod Grouping
 pub mod LeadLaws
+pub mod LeftOut
+pub mod LineTexts
 pub mod NestingLemmas
 pub mod NodeTexts
 pub mod PartLemmas
 pub mod PieceTexts
+pub mod SelectionLevels
+pub mod SelectionTexts
 pub mod StandingApart
 pub mod TokenTexts
 pub mod TypedTexts
