@@ -1,5 +1,5 @@
 -- Texts behind blanks that are read by what they begin with.
-use Rattle.std.proofs.Common.{◌≡◌, ℕ, Bool, true, false, ◌&&◌, not, List, [], ◌∷◌, ◌++◌, Some, Ok, refl, sym, ap, subst, ◌∙◌, append_assoc}
+use Rattle.std.proofs.Common.{◌≡◌, ℕ, Bool, true, false, not, List, [], ◌∷◌, ◌++◌, Some, Ok, refl, sym, ap, subst, ◌∙◌, append_assoc}
 use Rattle.std.specs.List.{list_all}
 use Rattle.std.proofs.lemmas.List.{append_cancel_right}
 use Rattle.graphql_tokens.specs.Bytes.{begins, is_blank}
@@ -12,7 +12,7 @@ use Rattle.graphql_grammar.specs.Spelling.{spells_by}
 use Rattle.graphql_grammar.specs.Words.{WordView}
 use Rattle.graphql_grammar.specs.WordsOfText.{word_kind, word_of}
 use Rattle.graphql_grammar.proofs.KindLemmas.{only_kind}
-use Rattle.graphql_round_trip.specs.Printed.{Heads, IsToken, Leads, Prints, ReadAs, anything}
+use Rattle.graphql_round_trip.specs.Printed.{Heads, IsToken, Leads, Prints, anything}
 use Rattle.graphql_round_trip.proofs.LeadLaws.{behind_blanks, both_true}
 use Rattle.graphql_round_trip.proofs.PieceTexts.{heads_on, token_heads}
 

@@ -1,5 +1,5 @@
 -- Texts of fields: GraphQL specification of October 2021, sections 2.5 to 2.7.
-use Rattle.std.proofs.Common.{◌≡◌, ◌≤◌, ℕ, Bool, true, false, cond, not, ◌||◌, List, [], ◌∷◌, ◌++◌, map, option_map, Option, None, Some, refl, sym, ap, subst, ◌∙◌, append_assoc}
+use Rattle.std.proofs.Common.{◌≡◌, ◌≤◌, ℕ, Bool, true, false, cond, List, [], ◌∷◌, ◌++◌, map, option_map, Option, None, Some, refl, sym, ap, subst, ◌∙◌, append_assoc}
 use Rattle.std.specs.Prelude.{codes, nat_lt}
 use Rattle.std.specs.List.{flat_map}
 use Rattle.graphql_nodes.specs.Comparing.{bare_name, bare_node}
@@ -17,11 +17,9 @@ use Rattle.graphql_ast.specs.declared.selection.Selection.{Selection}
 use Rattle.graphql_tokens.specs.declared.token.TokenKind.TheVariants as t
 use Rattle.graphql_grammar.specs.declared.fault.FaultKind.TheVariants.{Expected}
 use Rattle.graphql_grammar.specs.declared.fault.Item.TheVariants as i
-use Rattle.graphql_grammar.specs.declared.kind.Kind.{Kind}
 use Rattle.graphql_grammar.specs.declared.kind.Kind.TheVariants as k
 use Rattle.graphql_grammar.specs.Kinds.{is_name, only}
 use Rattle.graphql_grammar.specs.Pieces.{Piece, choose, nothing, optional, seq}
-use Rattle.graphql_grammar.proofs.KindLemmas.{of_each}
 use Rattle.graphql_productions.specs.Directives.{arguments, directives}
 use Rattle.graphql_productions.specs.Nodes.{behind, or_none}
 use Rattle.graphql_productions.specs.SelectionParts.{selection_parts}
@@ -29,7 +27,7 @@ use Rattle.graphql_productions.specs.Selections.{alias, alias_body, field, field
 use Rattle.graphql_productions.specs.TreeParts.{Name, arguments_parts, directives_parts, name_parts, option_parts}
 use Rattle.graphql_productions.specs.WellFormed.{IsWellFormed}
 use Rattle.graphql_printing.specs.Fields.{argument_lines, field_head, field_name_text, short_head}
-use Rattle.graphql_printing.specs.Texts.{arguments_text, directives_text, label_text}
+use Rattle.graphql_printing.specs.Texts.{arguments_text, directives_text}
 use Rattle.graphql_printing.specs.Widths.{width}
 use Rattle.graphql_round_trip.specs.Nesting.{arguments_nesting, directives_nesting}
 use Rattle.graphql_round_trip.specs.Printed.{Heads, Prints, ends_token}
@@ -104,7 +102,7 @@ module _ (file : FileId) (depth : ℕ) (p : Piece (List Selection)) where
   field_selected {y} {text} head t =
       branch_text (selection_pick file depth p) no_selection is_name head (λ kind is.
       second_text (only k.Spread kind) (fragment file depth p) (choose (is_name kind) (field_selection file depth p) (nothing no_selection))
-      (is_none_of is_name (only k.Spread) kind (of_each (λ kind. not (is_name kind) || not (only k.Spread kind)) refl kind) is)
+      (is_none_of is_name (only k.Spread) refl kind is)
       (first_text (is_name kind) (field_selection file depth p) (nothing no_selection) is
       (mapped_text (λ x. s.Field x) bare_selection (s.Field (record { value = y; location = None })) (λ n same. field_selection_bare n ∙ ap (λ (n : NodeView Field). s.Field n) same) (node_prints file t))))
 

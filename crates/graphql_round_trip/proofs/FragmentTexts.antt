@@ -1,5 +1,5 @@
 -- Texts of fragment spreads and inline fragments: GraphQL specification of October 2021, section 2.8.
-use Rattle.std.proofs.Common.{◌≡◌, ◌≢◌, ◌≤◌, ℕ, Bool, true, false, not, ◌||◌, List, [], ◌∷◌, ◌++◌, map, option_map, Option, None, Some, refl, sym, ap, ◌∙◌}
+use Rattle.std.proofs.Common.{◌≢◌, ◌≤◌, ℕ, Bool, false, not, ◌||◌, List, [], ◌∷◌, ◌++◌, map, option_map, Option, None, Some, refl, sym, ap, ◌∙◌}
 use Rattle.std.specs.Prelude.{codes}
 use Rattle.graphql_nodes.specs.Comparing.{bare_name}
 use Rattle.graphql_nodes.specs.NameSyntax.{IsName}
@@ -15,14 +15,10 @@ use Rattle.graphql_ast.specs.declared.selection.InlineFragment.{InlineFragment, 
 use Rattle.graphql_ast.specs.declared.selection.Selection as s
 use Rattle.graphql_ast.specs.declared.selection.Selection.{Selection}
 use Rattle.graphql_tokens.specs.declared.token.TokenKind.TheVariants as t
-use Rattle.graphql_grammar.specs.declared.fault.FaultKind.TheVariants.{Expected}
-use Rattle.graphql_grammar.specs.declared.fault.Item.TheVariants as i
-use Rattle.graphql_grammar.specs.declared.kind.Kind.{Kind}
 use Rattle.graphql_grammar.specs.declared.kind.Kind.TheVariants as k
 use Rattle.graphql_grammar.specs.declared.kind.Names.TheVariants as names
 use Rattle.graphql_grammar.specs.Kinds.{Kinds, is_name, names_of, only}
 use Rattle.graphql_grammar.specs.Pieces.{Piece, choose, mapped, nothing, optional}
-use Rattle.graphql_grammar.proofs.KindLemmas.{of_each}
 use Rattle.graphql_productions.specs.Directives.{directives}
 use Rattle.graphql_productions.specs.Nodes.{behind, name_of, span_at}
 use Rattle.graphql_productions.specs.SelectionParts.{spread_parts}
@@ -32,13 +28,13 @@ use Rattle.graphql_productions.specs.WellFormed.{IsWellFormed}
 use Rattle.graphql_printing.specs.Selections.{condition_text, spread_text}
 use Rattle.graphql_printing.specs.Texts.{arguments_text, directives_text}
 use Rattle.graphql_round_trip.specs.Nesting.{directives_nesting}
-use Rattle.graphql_round_trip.specs.Printed.{Heads, Prints, anything, ends_token}
+use Rattle.graphql_round_trip.specs.Printed.{Prints, anything, ends_token}
 use Rattle.graphql_round_trip.proofs.BehindBlanks.{branch_behind, sign_heads}
 use Rattle.graphql_round_trip.proofs.ChoiceTexts.{first_text, fragment_kind, is_none_of, second_text}
 use Rattle.graphql_round_trip.proofs.Grouping.{grouped4, regrouped}
 use Rattle.graphql_round_trip.proofs.LeadLaws.{both_true}
-use Rattle.graphql_round_trip.proofs.NodeTexts.{keyword_prints, loosely, name_prints, name_seen, sign_prints}
-use Rattle.graphql_round_trip.proofs.PieceTexts.{before_blank, behind_blank, both_seen, branch_at, branch_text, headed_text, heads_on, located_text, mapped_text, none_text, one_text, seq_text, there, token_heads, word_text}
+use Rattle.graphql_round_trip.proofs.NodeTexts.{keyword_prints, name_prints, name_seen, sign_prints}
+use Rattle.graphql_round_trip.proofs.PieceTexts.{before_blank, behind_blank, branch_at, branch_text, headed_text, heads_on, located_text, mapped_text, none_text, one_text, seq_text, token_heads, word_text}
 use Rattle.graphql_round_trip.proofs.SelectionLevels.{InlineLevel, inline_bare, inline_selection_bare, spread_selection_bare}
 use Rattle.graphql_round_trip.proofs.StandingApart.{IsApart, apart_before, directives_apart}
 use Rattle.graphql_round_trip.proofs.TokenTexts.{at_is_token, left_brace_is_token, name_is_token, name_unblank, spread_is_token, word_is_token}
@@ -86,7 +82,7 @@ module _ (file : FileId) (depth : ℕ) (p : Piece (List Selection)) where
       (heads_on more ends_token (token_heads (names_of names.Fragment) t.Name n.text ends_token (name_unblank n.text is) (name_is_token n.text is) (fragment_kind n.text other)) apart)
       (λ kind is.
       second_text (begins_inline kind) (mapped (inline_at file) (inline_body file depth p)) (choose (is_name kind) (mapped (spread_at file) (spread_body file depth)) (nothing no_selection))
-      (is_none_of (names_of names.Fragment) begins_inline kind (of_each (λ kind. not (names_of names.Fragment kind) || not (begins_inline kind)) refl kind) is)
+      (is_none_of (names_of names.Fragment) begins_inline refl kind is)
       (first_text (is_name kind) (mapped (spread_at file) (spread_body file depth)) (nothing no_selection) (both_true (is_name kind) (not (only k.On kind)) is).0
       (mapped_text (spread_at file) place_seen (λ at. s.FragmentSpread (record { value = y; location = None }))
       (λ x same i at. (spread_selection_bare (record { value = x; location = span_at file at }) ∙ ap (λ (v : FragmentSpread). s.FragmentSpread (record { value = v; location = None })) same) i) body)))

@@ -1,9 +1,6 @@
 -- Lists that are left out where they have no item.
-use Rattle.std.proofs.Common.{◌≡◌, ℕ, Bool, List, [], ◌∷◌, map, option_map, Option, None, Some, refl}
-use Rattle.graphql_grammar.specs.Pieces.{Piece, mapped, optional}
+use Rattle.std.proofs.Common.{◌≡◌, List, [], ◌∷◌, map, option_map, Option, None, Some, refl}
 use Rattle.graphql_productions.specs.Nodes.{or_none}
-use Rattle.graphql_round_trip.specs.Printed.{Prints}
-use Rattle.graphql_round_trip.proofs.PieceTexts.{mapped_text}
 
 -- a list, or nothing where it has no item
 abbrev pub left_out : {A : Type 0} → List A → Option (List A)

@@ -6,6 +6,7 @@ pub mod Grouping
 pub mod LeadLaws
 pub mod LeftOut
 pub mod LineTexts
+pub mod ListTexts
 pub mod NestingLemmas
 pub mod NodeTexts
 pub mod PartLemmas

@@ -1,5 +1,5 @@
 -- Texts of selections: GraphQL specification of October 2021, section 2.4.
-use Rattle.std.proofs.Common.{◌≡◌, ◌≤◌, ◌+◌, ℕ, zero, suc, Bool, true, false, List, [], ◌∷◌, ◌++◌, map, None, option_map, drop, refl, sym, ap, subst, ◌∙◌}
+use Rattle.std.proofs.Common.{◌≡◌, ◌≤◌, ◌+◌, ℕ, suc, Bool, false, List, [], ◌∷◌, ◌++◌, map, None, option_map, drop, refl, sym, ap, subst, ◌∙◌}
 use Rattle.std.specs.Prelude.{codes}
 use Rattle.std.specs.List.{AllByRecursion, flat_map}
 use Rattle.graphql_nodes.specs.Comparing.{bare_node}
@@ -14,7 +14,7 @@ use Rattle.graphql_ast.specs.declared.selection.InlineFragment.{InlineFragment, 
 use Rattle.graphql_ast.specs.declared.selection.Selection as s
 use Rattle.graphql_ast.specs.declared.selection.Selection.{Selection, ind-Selection, roll-Selection}
 use Rattle.graphql_ast.specs.declared.selection.Selection.TheFolds.{map-Field, map-InlineFragment, map-Selection}
-use Rattle.graphql_ast.specs.declared.selection.Selection.TheOpen.{Field-F, InlineFragment-F, Selection-F}
+use Rattle.graphql_ast.specs.declared.selection.Selection.TheOpen.{Selection-F}
 use Rattle.graphql_tokens.specs.declared.token.TokenKind.TheVariants as t
 use Rattle.graphql_grammar.specs.declared.fault.FaultKind.TheVariants.{Expected}
 use Rattle.graphql_grammar.specs.declared.fault.Item.TheVariants as i
@@ -24,13 +24,13 @@ use Rattle.graphql_grammar.specs.Pieces.{optional}
 use Rattle.graphql_productions.specs.Directives.{arguments, directives}
 use Rattle.graphql_productions.specs.SelectionParts.{selection_parts}
 use Rattle.graphql_productions.specs.Selections.{nested_set, no_selection, selection, selection_set, selections_of}
-use Rattle.graphql_productions.specs.TreeParts.{Name, arguments_parts, directives_parts, name_parts, node_parts, option_parts, wanted_parts}
+use Rattle.graphql_productions.specs.TreeParts.{Name, arguments_parts, directives_parts, name_parts, option_parts, wanted_parts}
 use Rattle.graphql_productions.specs.WellFormed.{IsWellFormed}
 use Rattle.graphql_productions.proofs.RolledParts.{field_rolled, field_selection_rolled, inline_parts, inline_rolled, inline_selection_rolled, selected_parts, spread_rolled}
-use Rattle.graphql_printing.specs.Fields.{argument_lines, field_head}
+use Rattle.graphql_printing.specs.Fields.{argument_lines}
 use Rattle.graphql_printing.specs.Selections.{condition_text, field_text, inline_text, selection_text, selections_behind, spread_text}
 use Rattle.graphql_printing.specs.Texts.{arguments_text, directives_text}
-use Rattle.graphql_round_trip.specs.Nesting.{arguments_nesting, directives_nesting, greatest, selection_nesting, selections_nesting}
+use Rattle.graphql_round_trip.specs.Nesting.{arguments_nesting, directives_nesting, selection_nesting, selections_nesting}
 use Rattle.graphql_round_trip.specs.Printed.{Heads, Prints, anything, ends_token}
 use Rattle.graphql_round_trip.proofs.BehindBlanks.{sign_heads}
 use Rattle.graphql_round_trip.proofs.FieldTexts.{field_prints}
