@@ -32,6 +32,7 @@ use Rattle.graphql_printing.specs.Widths.{width}
 use Rattle.graphql_round_trip.specs.Nesting.{arguments_nesting, directives_nesting}
 use Rattle.graphql_round_trip.specs.Printed.{Heads, Prints, ends_token}
 use Rattle.graphql_round_trip.proofs.ChoiceTexts.{first_text, is_none_of, second_text}
+use Rattle.graphql_round_trip.proofs.DirectiveTexts.{argument_lines_print, arguments_print, directives_print}
 use Rattle.graphql_round_trip.proofs.Grouping.{grouped4, regrouped}
 use Rattle.graphql_round_trip.proofs.LeftOut.{left_out, left_out_none, seen_or_none}
 use Rattle.graphql_round_trip.proofs.NodeTexts.{name_heads, name_prints, node_prints, sign_before}
@@ -124,53 +125,47 @@ lines_apart : (indent : ℕ) (xs : List (NodeView Argument)) → IsApart (argume
 lines_apart indent [] = λ rest end. end
 lines_apart indent (x ∷ xs) = λ rest end. refl
 
-module _ (arguments_print : (file : FileId) (constant : Bool) (depth : ℕ) (xs : List (NodeView Argument)) → IsWellFormed (arguments_parts constant xs) → arguments_nesting xs ≤ depth →
-    Prints (arguments file constant depth) (map (bare_node bare_argument)) (map (bare_node bare_argument) xs) (arguments_text xs) ends_token)
-    (argument_lines_print : (file : FileId) (constant : Bool) (depth : ℕ) (indent : ℕ) (xs : List (NodeView Argument)) → IsWellFormed (arguments_parts constant xs) → arguments_nesting xs ≤ depth →
-    Prints (arguments file constant depth) (map (bare_node bare_argument)) (map (bare_node bare_argument) xs) (argument_lines indent xs) ends_token)
-    (directives_print : (file : FileId) (constant : Bool) (depth : ℕ) (l : DirectiveList) → IsWellFormed (directives_parts constant l) → directives_nesting l ≤ depth →
-    Prints (directives file constant depth) bare_directive_list (bare_directive_list l) (directives_text l.0) ends_token) where
-  -- a field as a selection, where the text of its selections is read as them
-  pub field_prints : (file : FileId) (depth : ℕ) (p : Piece (List Selection)) (x : FieldLevel) (indent : ℕ) →
-      IsWellFormed (option_parts name_parts x.alias ++ (Name x.name ∷ (arguments_parts false x.arguments ++ (directives_parts false x.directives ++ flat_map selection_parts x.selection_set)))) →
-      arguments_nesting x.arguments ≤ depth → directives_nesting x.directives ≤ depth → (set : List ℕ) →
-      Prints (optional p) (option_map (map bare_selection)) (left_out (map bare_selection x.selection_set)) set ends_token → IsApart set →
-      Prints (selection file depth p) bare_selection (s.Field (record { value = bare_field (roll-Field x); location = None }))
-      (field_head indent x.alias x.name x.arguments ++ directives_text x.directives.0 ++ set) ends_token
-  field_prints file depth p x indent well fits shallow set st apart = by (nat_lt 80 (width (short_head x.alias x.name x.arguments)))
-    where
-      named : IsWellFormed (option_parts name_parts x.alias) × IsWellFormed (Name x.name ∷ (arguments_parts false x.arguments ++ (directives_parts false x.directives ++ flat_map selection_parts x.selection_set)))
-      named = part_of_front (option_parts name_parts x.alias) (Name x.name ∷ (arguments_parts false x.arguments ++ (directives_parts false x.directives ++ flat_map selection_parts x.selection_set))) well
+-- a field as a selection, where the text of its selections is read as them
+pub field_prints : (file : FileId) (depth : ℕ) (p : Piece (List Selection)) (x : FieldLevel) (indent : ℕ) →
+    IsWellFormed (option_parts name_parts x.alias ++ (Name x.name ∷ (arguments_parts false x.arguments ++ (directives_parts false x.directives ++ flat_map selection_parts x.selection_set)))) →
+    arguments_nesting x.arguments ≤ depth → directives_nesting x.directives ≤ depth → (set : List ℕ) →
+    Prints (optional p) (option_map (map bare_selection)) (left_out (map bare_selection x.selection_set)) set ends_token → IsApart set →
+    Prints (selection file depth p) bare_selection (s.Field (record { value = bare_field (roll-Field x); location = None }))
+    (field_head indent x.alias x.name x.arguments ++ directives_text x.directives.0 ++ set) ends_token
+field_prints file depth p x indent well fits shallow set st apart = by (nat_lt 80 (width (short_head x.alias x.name x.arguments)))
+  where
+    named : IsWellFormed (option_parts name_parts x.alias) × IsWellFormed (Name x.name ∷ (arguments_parts false x.arguments ++ (directives_parts false x.directives ++ flat_map selection_parts x.selection_set)))
+    named = part_of_front (option_parts name_parts x.alias) (Name x.name ∷ (arguments_parts false x.arguments ++ (directives_parts false x.directives ++ flat_map selection_parts x.selection_set))) well
 
-      argued : IsWellFormed (arguments_parts false x.arguments) × IsWellFormed (directives_parts false x.directives ++ flat_map selection_parts x.selection_set)
-      argued = part_of_front (arguments_parts false x.arguments) (directives_parts false x.directives ++ flat_map selection_parts x.selection_set) named.1.1
+    argued : IsWellFormed (arguments_parts false x.arguments) × IsWellFormed (directives_parts false x.directives ++ flat_map selection_parts x.selection_set)
+    argued = part_of_front (arguments_parts false x.arguments) (directives_parts false x.directives ++ flat_map selection_parts x.selection_set) named.1.1
 
-      directed : IsWellFormed (directives_parts false x.directives)
-      directed = (part_of_front (directives_parts false x.directives) (flat_map selection_parts x.selection_set) argued.1).0
+    directed : IsWellFormed (directives_parts false x.directives)
+    directed = (part_of_front (directives_parts false x.directives) (flat_map selection_parts x.selection_set) argued.1).0
 
-      seen : Behind
-      seen = (map (bare_node bare_argument) x.arguments, (bare_directive_list x.directives, left_out (map bare_selection x.selection_set)))
+    seen : Behind
+    seen = (map (bare_node bare_argument) x.arguments, (bare_directive_list x.directives, left_out (map bare_selection x.selection_set)))
 
-      same : made x.alias x.name seen ≡ bare_field (roll-Field x)
-      same =
-          ap (λ (all : List Selection). roll-Field (record { alias = option_map bare_name x.alias; name = bare_name x.name; arguments = map (bare_node bare_argument) x.arguments; directives = bare_directive_list x.directives; selection_set = all }))
-          (left_out_none (map bare_selection x.selection_set))
-          ∙ sym (field_bare x)
+    same : made x.alias x.name seen ≡ bare_field (roll-Field x)
+    same =
+        ap (λ (all : List Selection). roll-Field (record { alias = option_map bare_name x.alias; name = bare_name x.name; arguments = map (bare_node bare_argument) x.arguments; directives = bare_directive_list x.directives; selection_set = all }))
+        (left_out_none (map bare_selection x.selection_set))
+        ∙ sym (field_bare x)
 
-      behind_head : IsApart (directives_text x.directives.0 ++ set)
-      behind_head = apart_joined (directives_text x.directives.0) set (directives_apart x.directives.0) apart
+    behind_head : IsApart (directives_text x.directives.0 ++ set)
+    behind_head = apart_joined (directives_text x.directives.0) set (directives_apart x.directives.0) apart
 
-      laid : (a : List ℕ) → Prints (arguments file false depth) (map (bare_node bare_argument)) (map (bare_node bare_argument) x.arguments) a ends_token → IsApart a →
-          Prints (selection file depth p) bare_selection (s.Field (record { value = bare_field (roll-Field x); location = None })) (field_name_text x.alias x.name ++ a ++ directives_text x.directives.0 ++ set) ends_token
-      laid a t stands =
-          regrouped (field_name_text x.alias x.name ++ (a ++ (directives_text x.directives.0 ++ set))) (field_name_text x.alias x.name ++ a ++ directives_text x.directives.0 ++ set)
-          (grouped4 (field_name_text x.alias x.name) a (directives_text x.directives.0) set)
-          (subst (λ (y : Field). Prints (selection file depth p) bare_selection (s.Field (record { value = y; location = None })) (field_name_text x.alias x.name ++ (a ++ (directives_text x.directives.0 ++ set))) ends_token) same
-          (selected_prints file depth p
-          (seq_text t (seq_text (directives_print file false depth x.directives directed shallow) st apart) behind_head)
-          (apart_joined a (directives_text x.directives.0 ++ set) stands behind_head) x.alias x.name named.0 named.1.0))
+    laid : (a : List ℕ) → Prints (arguments file false depth) (map (bare_node bare_argument)) (map (bare_node bare_argument) x.arguments) a ends_token → IsApart a →
+        Prints (selection file depth p) bare_selection (s.Field (record { value = bare_field (roll-Field x); location = None })) (field_name_text x.alias x.name ++ a ++ directives_text x.directives.0 ++ set) ends_token
+    laid a t stands =
+        regrouped (field_name_text x.alias x.name ++ (a ++ (directives_text x.directives.0 ++ set))) (field_name_text x.alias x.name ++ a ++ directives_text x.directives.0 ++ set)
+        (grouped4 (field_name_text x.alias x.name) a (directives_text x.directives.0) set)
+        (subst (λ (y : Field). Prints (selection file depth p) bare_selection (s.Field (record { value = y; location = None })) (field_name_text x.alias x.name ++ (a ++ (directives_text x.directives.0 ++ set))) ends_token) same
+        (selected_prints file depth p
+        (seq_text t (seq_text (directives_print file false depth x.directives directed shallow) st apart) behind_head)
+        (apart_joined a (directives_text x.directives.0 ++ set) stands behind_head) x.alias x.name named.0 named.1.0))
 
-      by : (long : Bool) → Prints (selection file depth p) bare_selection (s.Field (record { value = bare_field (roll-Field x); location = None }))
-          (cond long (field_name_text x.alias x.name ++ argument_lines indent x.arguments) (short_head x.alias x.name x.arguments) ++ directives_text x.directives.0 ++ set) ends_token
-      by true = laid (argument_lines indent x.arguments) (argument_lines_print file false depth indent x.arguments argued.0 fits) (lines_apart indent x.arguments)
-      by false = laid (arguments_text x.arguments) (arguments_print file false depth x.arguments argued.0 fits) (arguments_apart x.arguments)
+    by : (long : Bool) → Prints (selection file depth p) bare_selection (s.Field (record { value = bare_field (roll-Field x); location = None }))
+        (cond long (field_name_text x.alias x.name ++ argument_lines indent x.arguments) (short_head x.alias x.name x.arguments) ++ directives_text x.directives.0 ++ set) ends_token
+    by true = laid (argument_lines indent x.arguments) (argument_lines_print file false depth indent x.arguments argued.0 fits) (lines_apart indent x.arguments)
+    by false = laid (arguments_text x.arguments) (arguments_print file false depth x.arguments argued.0 fits) (arguments_apart x.arguments)

@@ -6,10 +6,8 @@ use Rattle.graphql_nodes.specs.NameSyntax.{IsName}
 use Rattle.graphql_nodes.specs.NameView.{NameView}
 use Rattle.graphql_nodes.specs.NodeView.{NodeView}
 use Rattle.graphql_nodes.specs.declared.source.FileId.{FileId}
-use Rattle.graphql_ast.specs.Bare.{bare_directive_list}
 use Rattle.graphql_ast.specs.BareSelections.{bare_fragment_spread, bare_inline_fragment, bare_selection}
 use Rattle.graphql_ast.specs.declared.directive.Directive.{Directive}
-use Rattle.graphql_ast.specs.declared.directive.DirectiveList.{DirectiveList}
 use Rattle.graphql_ast.specs.declared.selection.FragmentSpread.{FragmentSpread}
 use Rattle.graphql_ast.specs.declared.selection.InlineFragment.{InlineFragment, roll-InlineFragment}
 use Rattle.graphql_ast.specs.declared.selection.Selection as s
@@ -19,7 +17,6 @@ use Rattle.graphql_grammar.specs.declared.kind.Kind.TheVariants as k
 use Rattle.graphql_grammar.specs.declared.kind.Names.TheVariants as names
 use Rattle.graphql_grammar.specs.Kinds.{Kinds, is_name, names_of, only}
 use Rattle.graphql_grammar.specs.Pieces.{Piece, choose, mapped, nothing, optional}
-use Rattle.graphql_productions.specs.Directives.{directives}
 use Rattle.graphql_productions.specs.Nodes.{behind, name_of, span_at}
 use Rattle.graphql_productions.specs.SelectionParts.{spread_parts}
 use Rattle.graphql_productions.specs.Selections.{condition_body, fragment, fragment_body, fragment_name, fragment_pick, inline_at, inline_body, inline_of, no_fragment_name, no_selection, placed_fragment, selection, selection_pick, spread_at, spread_body, spread_of, type_condition}
@@ -31,6 +28,7 @@ use Rattle.graphql_round_trip.specs.Nesting.{directives_nesting}
 use Rattle.graphql_round_trip.specs.Printed.{Prints, anything, ends_token}
 use Rattle.graphql_round_trip.proofs.BehindBlanks.{branch_behind, sign_heads}
 use Rattle.graphql_round_trip.proofs.ChoiceTexts.{first_text, fragment_kind, is_none_of, second_text}
+use Rattle.graphql_round_trip.proofs.DirectiveTexts.{directives_print}
 use Rattle.graphql_round_trip.proofs.Grouping.{grouped4, regrouped}
 use Rattle.graphql_round_trip.proofs.LeadLaws.{both_true}
 use Rattle.graphql_round_trip.proofs.NodeTexts.{keyword_prints, name_prints, name_seen, sign_prints}
@@ -111,34 +109,32 @@ module _ (file : FileId) (depth : ℕ) (p : Piece (List Selection)) where
           (sign_heads (only k.At) t.At (codes "@") (d.value.name.text ++ arguments_text d.value.arguments ++ directives_text ds ++ (codes " {" ++ more)) refl at_is_token refl) body
       by None [] body = branch_behind (fragment_pick file depth p) no_selection k.LeftBrace (codes " ") refl (sign_heads (only k.LeftBrace) t.LeftBrace (codes "{") more refl left_brace_is_token refl) body
 
-module _ (directives_print : (file : FileId) (constant : Bool) (depth : ℕ) (l : DirectiveList) → IsWellFormed (directives_parts constant l) → directives_nesting l ≤ depth →
-    Prints (directives file constant depth) bare_directive_list (bare_directive_list l) (directives_text l.0) ends_token) where
-  -- a spread as a selection
-  pub spread_prints : (file : FileId) (depth : ℕ) (p : Piece (List Selection)) (x : FragmentSpread) → IsWellFormed (spread_parts x) → directives_nesting x.directives ≤ depth →
-      Prints (selection file depth p) bare_selection (s.FragmentSpread (record { value = bare_fragment_spread x; location = None })) (spread_text x) ends_token
-  unfolding spread_body
-  spread_prints file depth p x well fits =
-      fragment_selected file depth p (spread_placed file depth p (directives_text x.directives.0) x.fragment_name well.0.0 well.0.1 (directives_apart x.directives.0)
-      (mapped_text spread_of bare_fragment_spread (bare_fragment_spread x) (λ v same. ap spread_of same)
-      (seq_text (fragment_name_prints file x.fragment_name well.0.0 well.0.1) (directives_print file false depth x.directives well.1 fits) (directives_apart x.directives.0))))
+-- a spread as a selection
+pub spread_prints : (file : FileId) (depth : ℕ) (p : Piece (List Selection)) (x : FragmentSpread) → IsWellFormed (spread_parts x) → directives_nesting x.directives ≤ depth →
+    Prints (selection file depth p) bare_selection (s.FragmentSpread (record { value = bare_fragment_spread x; location = None })) (spread_text x) ends_token
+unfolding spread_body
+spread_prints file depth p x well fits =
+    fragment_selected file depth p (spread_placed file depth p (directives_text x.directives.0) x.fragment_name well.0.0 well.0.1 (directives_apart x.directives.0)
+    (mapped_text spread_of bare_fragment_spread (bare_fragment_spread x) (λ v same. ap spread_of same)
+    (seq_text (fragment_name_prints file x.fragment_name well.0.0 well.0.1) (directives_print file false depth x.directives well.1 fits) (directives_apart x.directives.0))))
 
-  -- an inline fragment as a selection, where the text of its selections is read as them
-  pub inline_prints : (file : FileId) (depth : ℕ) (p : Piece (List Selection)) (x : InlineLevel) → IsWellFormed (option_parts name_parts x.type_condition) → IsWellFormed (directives_parts false x.directives) →
-      directives_nesting x.directives ≤ depth → (more : List ℕ) → Prints p (map bare_selection) (map bare_selection x.selection_set) (codes " {" ++ more) anything →
-      Prints (selection file depth p) bare_selection (s.InlineFragment (record { value = bare_inline_fragment (roll-InlineFragment x); location = None }))
-      (codes "..." ++ condition_text x.type_condition ++ directives_text x.directives.0 ++ (codes " {" ++ more)) anything
-  unfolding inline_body
-  inline_prints file depth p x named well fits more st =
-      regrouped (codes "..." ++ (condition_text x.type_condition ++ (directives_text x.directives.0 ++ (codes " {" ++ more))))
-      (codes "..." ++ condition_text x.type_condition ++ directives_text x.directives.0 ++ (codes " {" ++ more))
-      (grouped4 (codes "...") (condition_text x.type_condition) (directives_text x.directives.0) (codes " {" ++ more))
-      (fragment_selected file depth p (inline_placed file depth p x.type_condition x.directives.0 more
-      (mapped_text inline_of bare_inline_fragment (bare_inline_fragment (roll-InlineFragment x))
-      (λ v same. inline_bare (record { type_condition = v.0; directives = v.1.0; selection_set = v.1.1 }) ∙ ap inline_of same ∙ sym (inline_bare x))
-      (seq_text (condition x.type_condition named)
-      (seq_text (directives_print file false depth x.directives well fits) st (λ rest _. refl))
-      (λ rest _. apart_before (directives_text x.directives.0) (codes " {" ++ more) (directives_apart x.directives.0) (λ rest. refl) rest)))))
-    where
-      condition : (c : Option NameView) → IsWellFormed (option_parts name_parts c) → Prints (optional (type_condition file)) (option_map bare_name) (option_map bare_name c) (condition_text c) ends_token
-      condition None well = none_text (type_condition file) bare_name ends_token
-      condition (Some n) well = one_text (condition_prints file n well.0)
+-- an inline fragment as a selection, where the text of its selections is read as them
+pub inline_prints : (file : FileId) (depth : ℕ) (p : Piece (List Selection)) (x : InlineLevel) → IsWellFormed (option_parts name_parts x.type_condition) → IsWellFormed (directives_parts false x.directives) →
+    directives_nesting x.directives ≤ depth → (more : List ℕ) → Prints p (map bare_selection) (map bare_selection x.selection_set) (codes " {" ++ more) anything →
+    Prints (selection file depth p) bare_selection (s.InlineFragment (record { value = bare_inline_fragment (roll-InlineFragment x); location = None }))
+    (codes "..." ++ condition_text x.type_condition ++ directives_text x.directives.0 ++ (codes " {" ++ more)) anything
+unfolding inline_body
+inline_prints file depth p x named well fits more st =
+    regrouped (codes "..." ++ (condition_text x.type_condition ++ (directives_text x.directives.0 ++ (codes " {" ++ more))))
+    (codes "..." ++ condition_text x.type_condition ++ directives_text x.directives.0 ++ (codes " {" ++ more))
+    (grouped4 (codes "...") (condition_text x.type_condition) (directives_text x.directives.0) (codes " {" ++ more))
+    (fragment_selected file depth p (inline_placed file depth p x.type_condition x.directives.0 more
+    (mapped_text inline_of bare_inline_fragment (bare_inline_fragment (roll-InlineFragment x))
+    (λ v same. inline_bare (record { type_condition = v.0; directives = v.1.0; selection_set = v.1.1 }) ∙ ap inline_of same ∙ sym (inline_bare x))
+    (seq_text (condition x.type_condition named)
+    (seq_text (directives_print file false depth x.directives well fits) st (λ rest _. refl))
+    (λ rest _. apart_before (directives_text x.directives.0) (codes " {" ++ more) (directives_apart x.directives.0) (λ rest. refl) rest)))))
+  where
+    condition : (c : Option NameView) → IsWellFormed (option_parts name_parts c) → Prints (optional (type_condition file)) (option_map bare_name) (option_map bare_name c) (condition_text c) ends_token
+    condition None well = none_text (type_condition file) bare_name ends_token
+    condition (Some n) well = one_text (condition_prints file n well.0)
