@@ -17,13 +17,13 @@ use Rattle.graphql_tokens.specs.StringValues.{string_value}
 use Rattle.graphql_tokens.specs.Bytes.{begins, is_blank}
 use Rattle.graphql_tokens.specs.declared.token.TokenKind.{TokenKind}
 use Rattle.graphql_tokens.specs.declared.token.TokenKind.TheVariants as t
-use Rattle.graphql_grammar.specs.WordsOfText.{word_kind}
+use Rattle.graphql_grammar.specs.WordsOfText.{name_kind, word_kind}
 use Rattle.graphql_grammar.specs.declared.fault.FaultKind.TheVariants.{VariableInConstant}
 use Rattle.graphql_grammar.specs.declared.kind.Kind.{Kind}
 use Rattle.graphql_grammar.specs.declared.kind.Kind.TheVariants as k
 use Rattle.graphql_grammar.specs.declared.kind.Names.TheVariants as names
 use Rattle.graphql_grammar.specs.Kinds.{Kinds, each_kind, is_name, names_of, none, only}
-use Rattle.graphql_grammar.specs.Pieces.{Piece, headed, mapped, nothing}
+use Rattle.graphql_grammar.specs.Pieces.{Piece, headed, mapped, nothing, sign, word}
 use Rattle.graphql_productions.specs.Nodes.{behind}
 use Rattle.graphql_productions.specs.TreeParts.{EnumName, Float, Int, Variable, node_parts, value_parts}
 use Rattle.graphql_productions.specs.Values.{block_value, enum_value, false_value, float_value, group_pick, int_value, is_group, list_of, member, member_body, member_of, nested_group, no_member, no_value, null_value, object_of, quoted_value, true_value, value, value_node, value_pick, variable, variable_or_none, variable_value}
@@ -33,7 +33,7 @@ use Rattle.graphql_printing.specs.Layout.{separated}
 use Rattle.graphql_printing.specs.Strings.{quoted}
 use Rattle.graphql_printing.specs.Texts.{item_text, member_step, member_text, value_step as text_step, value_text}
 use Rattle.graphql_printing.proofs.QuotedLaws.{quoted_says_the_text}
-use Rattle.graphql_round_trip.specs.Nesting.{deepest, greatest, value_level, value_nesting}
+use Rattle.graphql_round_trip.specs.Nesting.{deepest, value_nesting}
 use Rattle.graphql_round_trip.specs.Printed.{Heads, IsToken, Prints, anything, ends_token}
 use Rattle.graphql_round_trip.proofs.BareLists.{each_given}
 use Rattle.graphql_round_trip.proofs.ChoiceTexts.{enum_kind, first_text, is_none_of, second_text}
@@ -46,7 +46,7 @@ use Rattle.graphql_round_trip.proofs.NumberTexts.{float_is_token, float_unblank,
 use Rattle.graphql_round_trip.proofs.PartLemmas.{each_of_three, part_of_each}
 use Rattle.graphql_round_trip.proofs.PieceTexts.{branch_at, branch_text, headed_text, heads_on, mapped_text, seq_text, sign_or_text, token_heads, word_text}
 use Rattle.graphql_round_trip.proofs.StringTexts.{quoted_is_token}
-use Rattle.graphql_round_trip.proofs.TokenTexts.{dollar_is_token, left_brace_is_token, left_bracket_is_token, name_is_token, name_unblank, right_brace_is_token, right_bracket_is_token, word_is_token}
+use Rattle.graphql_round_trip.proofs.TokenTexts.{names as is_word, dollar_is_token, left_brace_is_token, left_bracket_is_token, name_is_token, name_unblank, right_brace_is_token, right_bracket_is_token, word_is_token}
 
 -- ---- one level of a value
 
@@ -82,36 +82,40 @@ object_text members =
 
 -- ---- values of one word
 
+-- a value of the text of a word
+text_prints : (kind : Kind) (of : TokenKind) (f : List ℕ → Value) (text : List ℕ) → IsToken of text ends_token → only kind (word_kind of text) ≡ true
+    → Prints (mapped (λ w. f w.text) (word (only kind) no_value)) bare_value (bare_value (f text)) text ends_token
+text_prints kind of f text token is = mapped_text (λ w. f w.text) bare_value (bare_value (f text)) (λ w same. ap (λ (s : Kind × List ℕ). bare_value (f s.1)) same) (word_text (only kind) no_value of token is)
+
 int_prints : (text : List ℕ) → IsToken t.Int text ends_token → Prints int_value bare_value (bare_value (roll-Value (Value-F.Int text))) text ends_token
 unfolding int_value
-int_prints text token =
-    mapped_text (λ w. roll-Value (Value-F.Int w.text)) bare_value (bare_value (roll-Value (Value-F.Int text))) (λ w same. ap (λ (s : Kind × List ℕ). bare_value (roll-Value (Value-F.Int s.1))) same)
-    (word_text (only k.Int) no_value t.Int token refl)
+int_prints text token = text_prints k.Int t.Int (λ s. roll-Value (Value-F.Int s)) text token refl
 
 float_prints : (text : List ℕ) → IsToken t.Float text ends_token → Prints float_value bare_value (bare_value (roll-Value (Value-F.Float text))) text ends_token
 unfolding float_value
-float_prints text token =
-    mapped_text (λ w. roll-Value (Value-F.Float w.text)) bare_value (bare_value (roll-Value (Value-F.Float text))) (λ w same. ap (λ (s : Kind × List ℕ). bare_value (roll-Value (Value-F.Float s.1))) same)
-    (word_text (only k.Float) no_value t.Float token refl)
+float_prints text token = text_prints k.Float t.Float (λ s. roll-Value (Value-F.Float s)) text token refl
 
 quoted_prints : (text : List ℕ) → Prints quoted_value bare_value (bare_value (roll-Value (Value-F.String text))) (quoted text) ends_token
 unfolding quoted_value
 quoted_prints text =
-    mapped_text (λ w. roll-Value (Value-F.String (string_value w.text))) bare_value (bare_value (roll-Value (Value-F.String text)))
-    (λ w same. ap (λ (s : Kind × List ℕ). bare_value (roll-Value (Value-F.String (string_value s.1)))) same ∙ ap (λ (s : List ℕ). bare_value (roll-Value (Value-F.String s))) (quoted_says_the_text text))
-    (word_text (only k.String) no_value t.String (quoted_is_token text) refl)
+    subst (λ (s : List ℕ). Prints quoted_value bare_value (bare_value (roll-Value (Value-F.String s))) (quoted text) ends_token) (quoted_says_the_text text)
+    (text_prints k.String t.String (λ s. roll-Value (Value-F.String (string_value s))) (quoted text) (quoted_is_token text) refl)
+
+-- a value that a keyword says
+said_prints : (kind : Kind) (x : Value) (text : List ℕ) → is_word text ≡ true → only kind (name_kind text) ≡ true → Prints (mapped (λ _. x) (sign kind)) bare_value (bare_value x) text ends_token
+said_prints kind x text is of = mapped_text (λ _. x) bare_value (bare_value x) (λ _ same. refl) (keyword_prints kind text is of)
 
 true_prints : Prints true_value bare_value (bare_value (roll-Value (Value-F.Boolean true))) (codes "true") ends_token
 unfolding true_value
-true_prints = mapped_text (λ _. roll-Value (Value-F.Boolean true)) bare_value (bare_value (roll-Value (Value-F.Boolean true))) (λ x same. refl) (keyword_prints k.True (codes "true") refl refl)
+true_prints = said_prints k.True (roll-Value (Value-F.Boolean true)) (codes "true") refl refl
 
 false_prints : Prints false_value bare_value (bare_value (roll-Value (Value-F.Boolean false))) (codes "false") ends_token
 unfolding false_value
-false_prints = mapped_text (λ _. roll-Value (Value-F.Boolean false)) bare_value (bare_value (roll-Value (Value-F.Boolean false))) (λ x same. refl) (keyword_prints k.False (codes "false") refl refl)
+false_prints = said_prints k.False (roll-Value (Value-F.Boolean false)) (codes "false") refl refl
 
 null_prints : Prints null_value bare_value (bare_value (roll-Value Value-F.Null)) (codes "null") ends_token
 unfolding null_value
-null_prints = mapped_text (λ _. roll-Value Value-F.Null) bare_value (bare_value (roll-Value Value-F.Null)) (λ x same. refl) (keyword_prints k.Null (codes "null") refl refl)
+null_prints = said_prints k.Null (roll-Value Value-F.Null) (codes "null") refl refl
 
 enum_prints : (file : FileId) (n : NameView) → IsName n.text → Prints (enum_value file) bare_value (bare_value (roll-Value (Value-F.Enum n))) n.text ends_token
 unfolding enum_value
@@ -246,14 +250,19 @@ module _ (file : FileId) (constant : Bool) where
       → Prints (value_node file constant depth) (bare_node bare_value) (bare_node bare_value n) (item_text n) ends_token
   node_shows depth n shows fine fits = node_prints file (shows depth fine.1 fits)
 
+  -- the same where a keyword says the value
+  keyword_said : (depth : ℕ) (y : Value-F Value) (kind : Kind) {text : List ℕ} → begins (λ c. not (is_blank c)) text ≡ true → is_word text ≡ true → only kind (name_kind text) ≡ true
+      → text ≡ text_step (map-Value Value (List ℕ) value_text y) → Prints (value_pick file constant (grouped file constant depth) kind) bare_value (bare_value (roll-Value y)) text ends_token
+      → Prints (value file constant depth) bare_value (bare_value (roll-Value y)) (value_text (roll-Value y)) ends_token
+  keyword_said depth y kind {text} solid is of same reads =
+      said depth y same (by_kind file constant depth kind (token_heads (only kind) t.Name text ends_token solid (word_is_token text is) of) reads)
+
   null_shows : Shows (roll-Value Value-F.Null)
-  null_shows depth fine fits = said depth Value-F.Null refl (by_kind file constant depth k.Null (token_heads (only k.Null) t.Name (codes "null") ends_token refl (word_is_token (codes "null") refl) refl) null_prints)
+  null_shows depth fine fits = keyword_said depth Value-F.Null k.Null refl refl refl refl null_prints
 
   boolean_shows : (b : Bool) → Shows (roll-Value (Value-F.Boolean b))
-  boolean_shows true depth fine fits =
-      said depth (Value-F.Boolean true) refl (by_kind file constant depth k.True (token_heads (only k.True) t.Name (codes "true") ends_token refl (word_is_token (codes "true") refl) refl) true_prints)
-  boolean_shows false depth fine fits =
-      said depth (Value-F.Boolean false) refl (by_kind file constant depth k.False (token_heads (only k.False) t.Name (codes "false") ends_token refl (word_is_token (codes "false") refl) refl) false_prints)
+  boolean_shows true depth fine fits = keyword_said depth (Value-F.Boolean true) k.True refl refl refl refl true_prints
+  boolean_shows false depth fine fits = keyword_said depth (Value-F.Boolean false) k.False refl refl refl refl false_prints
 
   string_shows : (text : List ℕ) → Shows (roll-Value (Value-F.String text))
   string_shows text depth fine fits =
