@@ -1,9 +1,13 @@
 pub mod ChoiceTexts
 pub mod Grouping
 pub mod LeadLaws
+pub mod ListTexts
 pub mod NestingLemmas
 pub mod NodeTexts
 pub mod PartLemmas
 pub mod PieceTexts
+pub mod SeparatedTexts
+pub mod StandingApart
 pub mod TokenTexts
+pub mod TypedTexts
 pub mod TypeTexts
