@@ -1,3 +1,11 @@
+mod BlockBody
+mod BlockCharacters
+pub mod BlockLaws
+mod BlockLines
+mod BlockStay
+mod BlockTestLaws
+mod BlockValue
+mod BlockWalks
 mod FoldedSelections
 mod FoldedText
 mod InsideLemmas

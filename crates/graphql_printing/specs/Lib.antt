@@ -1,3 +1,4 @@
+pub mod BlockTest
 pub mod Descriptions
 pub mod Documents
 pub mod Fields

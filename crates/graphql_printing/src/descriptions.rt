@@ -1,21 +1,22 @@
 //! Descriptions: GraphQL specification of October 2021, sections 2.9.4 and 3.2.
-ghost use Rattle.std.specs.Prelude.{◌≡◌, [], false, true, if◌then◌else◌};
+ghost use Rattle.std.specs.Prelude.{◌≡◌, ◌&&◌, ◌||◌, [], if◌then◌else◌, not};
 ghost use Rattle.std.specs.Fmt.{WritesOnOk};
 ghost use Rattle.std.specs.List.{list_any};
-ghost use Rattle.std.specs.Str.{chars};
-ghost use Rattle.graphql_tokens.specs.BlockStringValues.{is_white};
+ghost use Rattle.graphql_tokens.specs.BlockStringValues.{is_white, lines};
+ghost use Rattle.graphql_tokens.specs.Bytes.{begins, is_line_end};
 ghost use Rattle.graphql_tokens.specs.Strings.{begins_with_quotes};
+ghost use Rattle.graphql_printing.specs.BlockTest.{first_is_blank, is_outer, last_is_blank, passes_test};
+ghost use Rattle.graphql_printing.specs.Descriptions.{begins_at_once, begins_unprintable, block, description_text, ends, fits_one_line, has_line_feed, has_unprintable, inside, is_block, is_mark, is_unprintable};
 ghost use Rattle.graphql_printing.specs.Layout.{line_end};
-ghost use Rattle.graphql_printing.specs.Descriptions.{begins_at_once, begins_white, begins_with_text, block, description_text, ends_in_mark, ends_with_text, fits_one_line, has_line_feed, has_outer_line, inside, is_block, is_unprintable, reads_back};
 
 use crate::layout::write_line_end;
-use crate::strings::{is_control, write_quoted};
+use crate::strings::write_quoted;
 use crate::widths::is_wider;
 use std::fmt;
 use std::fmt::{Formatter, Write};
 
-/// Writes a description that stands further in by so many blanks: a block string where that is read as the text again and
-/// has no control character but tabs and line feeds, or else a quoted string.
+/// Writes a description that stands further in by so many blanks: a block string where that is read as the text
+/// again and has no control character but tabs and line feeds, or else a quoted string.
 pub fn write_description<W: Write>(f: &mut Formatter<W>, text: &str, indent: usize) -> fmt::Result
     ensures { WritesOnOk W.write_str_gives f.old result (description_text indent text.now) f.new }
 {
@@ -27,15 +28,18 @@ pub fn write_description<W: Write>(f: &mut Formatter<W>, text: &str, indent: usi
 }
 
 /// Whether a description is a block string.
+#[tactic(auto, using(crate::proofs::BlockTestLaws::is_block_is))]
 fn is_block(text: &str) -> bool
     ensures { result ≡ is_block text.now }
 {
-    reads_back(text.as_bytes()) && !has_unprintable(text)
+    let bytes = text.as_bytes();
+    passes_test(bytes) && !has_unprintable(bytes)
 }
 
-/// Whether a block string of this text is read as the text again.
-fn reads_back(text: &[u8]) -> bool
-    ensures { result ≡ reads_back text.now }
+/// Whether a text is empty, or has lines that a block string keeps: the first and the last aren't blank, and
+/// where there are several, one has no indent.
+fn passes_test(text: &[u8]) -> bool
+    ensures { result ≡ passes_test text.now }
 {
     text.is_empty()
         || (ends_with_text(text)
@@ -48,19 +52,40 @@ fn is_white(byte: u8) -> bool
     byte == b'\t' || byte == b' '
 }
 
-fn is_unprintable(c: char) -> bool
-    ensures { result ≡ is_unprintable c }
+fn is_line_end(byte: u8) -> bool
+    ensures { result ≡ is_line_end byte }
 {
-    is_control(c) && !(c == '\t' || c == '\n')
+    byte == b'\n' || byte == b'\r'
 }
 
-fn has_unprintable(text: &str) -> bool
-    ensures { result ≡ list_any is_unprintable (chars text.now) }
+/// Whether a byte is a control character but a tab and a line feed.
+fn is_unprintable(byte: u8) -> bool
+    ensures { result ≡ is_unprintable byte }
 {
-    for c in text.chars() {
-        if is_unprintable(c) {
+    (byte < b' ' && !(byte == b'\t' || byte == b'\n')) || byte == 0x7f
+}
+
+/// Whether a control character but a tab and a line feed stands at the front.
+fn begins_unprintable(text: &[u8]) -> bool
+    ensures { result ≡ begins_unprintable text.now }
+{
+    match text {
+        [0xc2, 0x80..=0x9f, ..] => true,
+        [byte, ..] => is_unprintable(*byte),
+        [] => false,
+    }
+}
+
+/// Whether a control character but a tab and a line feed stands anywhere.
+fn has_unprintable(text: &[u8]) -> bool
+    ensures { result ≡ has_unprintable text.now }
+{
+    let mut rest = text;
+    'bytes: while let [_, more @ ..] = rest {
+        if begins_unprintable(rest) {
             return true;
         }
+        rest = more;
     }
     false
 }
@@ -72,52 +97,72 @@ fn has_line_feed(text: &[u8]) -> bool
     text.iter().any(|byte| b'\n' == *byte)
 }
 
-/// Whether the first line has more than tabs and blanks, where another line follows.
+/// Whether the first line has more than tabs and blanks.
 fn begins_with_text(text: &[u8]) -> bool
-    ensures { result ≡ begins_with_text text.now }
+    ensures { result ≡ not (first_is_blank (lines text.now)) }
 {
     for byte in text {
         if !is_white(*byte) {
-            return *byte != b'\n';
+            return !is_line_end(*byte);
         }
     }
     false
+}
+
+/// Whether a line has more than tabs and blanks up to this byte, where `so_far` says it of the bytes before.
+fn has_text(so_far: bool, byte: u8) -> bool
+    ensures { result ≡ (not (is_line_end byte) && (so_far || not (is_white byte))) }
+{
+    !is_line_end(byte) && (so_far || !is_white(byte))
 }
 
 /// Whether the last line has more than tabs and blanks.
 fn ends_with_text(text: &[u8]) -> bool
-    ensures { result ≡ ends_with_text false text.now }
+    ensures { result ≡ not (last_is_blank (lines text.now)) }
 {
     let mut so_far = false;
     for byte in text {
-        so_far = *byte != b'\n' && (so_far || !is_white(*byte));
+        so_far = has_text(so_far, *byte);
     }
     so_far
+}
+
+/// Whether a line begins here with neither a tab nor a blank, and isn't empty.
+fn stands_out(begins: bool, byte: u8) -> bool
+    ensures { result ≡ (begins && not (is_white byte || is_line_end byte)) }
+{
+    begins && !(is_white(byte) || is_line_end(byte))
 }
 
 /// Whether some line begins with neither a tab nor a blank, and isn't empty.
 fn has_outer_line(text: &[u8]) -> bool
-    ensures { result ≡ has_outer_line true text.now }
+    ensures { result ≡ list_any is_outer (lines text.now) }
 {
     let mut begins = true;
     for byte in text {
-        if begins && !(is_white(*byte) || *byte == b'\n') {
+        if stands_out(begins, *byte) {
             return true;
         }
-        begins = *byte == b'\n';
+        begins = is_line_end(*byte);
     }
     false
 }
 
+/// Whether a byte is a quote or `\`.
+fn is_mark(byte: u8) -> bool
+    ensures { result ≡ is_mark byte }
+{
+    byte == b'"' || byte == b'\\'
+}
+
 /// Whether a text ends in a quote or in `\`.
 fn ends_in_mark(text: &[u8]) -> bool
-    ensures { result ≡ ends_in_mark false text.now }
+    ensures { result ≡ ends is_mark text.now }
 {
-    let mut so_far = false;
-    for byte in text {
-        so_far = *byte == b'"' || *byte == b'\\';
+    match text {
+        [.., last] => is_mark(*last),
+        [] => false,
     }
-    so_far
 }
 
 /// Whether a text stands in one line with the quotes of its block string.
@@ -135,7 +180,7 @@ fn begins_at_once(text: &[u8]) -> bool
 }
 
 fn begins_white(text: &[u8]) -> bool
-    ensures { result ≡ begins_white text.now }
+    ensures { result ≡ begins is_white text.now }
 {
     match text {
         [first, ..] => is_white(*first),

@@ -29,7 +29,8 @@ fn write_operation_behind<W: Write>(
     }
 }
 
-/// Writes a definition or extension, which stands behind one that would take a `{` for its own where the flag is set.
+/// Writes a definition or extension, which stands behind one that would take a `{` for its own where the
+/// flag is set.
 pub fn write_definition<W: Write>(
     f: &mut Formatter<W>,
     definition: &Definition,
@@ -160,8 +161,8 @@ pub fn write_definitions<W: Write>(f: &mut Formatter<W>, definitions: &[Definiti
     write_definitions_behind(f, others, takes_braces(first))
 }
 
-/// Writes definitions, each behind an empty line, of which the first stands behind one that would take a `{` for its own where
-/// the flag is set.
+/// Writes definitions, each behind an empty line, of which the first stands behind one that would take a `{`
+/// for its own where the flag is set.
 fn write_definitions_behind<W: Write>(
     f: &mut Formatter<W>,
     definitions: &[Definition],

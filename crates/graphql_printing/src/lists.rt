@@ -49,7 +49,8 @@ pub(crate) fn write_separated<T: Written, W: Write>(
     write_each_behind(f, separator, others, indent)
 }
 
-/// Writes items with a separator between each two, and between an opening and a closing, or nothing where there is none.
+/// Writes items with a separator between each two, between an opening and a closing, or nothing where there
+/// is none.
 pub(crate) fn write_enclosed<T: Written, W: Write>(
     f: &mut Formatter<W>,
     opening: &str,
@@ -60,12 +61,11 @@ pub(crate) fn write_enclosed<T: Written, W: Write>(
 ) -> fmt::Result
     ensures { WritesOnOk W.write_str_gives f.old result (enclosed opening.now separator.now closing.now (T.text indent) items.now) f.new }
 {
-    let [first, others @ ..] = items else {
+    if items.is_empty() {
         return Ok(());
-    };
+    }
     f.write_str(opening)?;
-    first.write(f, indent)?;
-    write_each_behind(f, separator, others, indent)?;
+    write_separated(f, separator, items, indent)?;
     f.write_str(closing)
 }
 
@@ -84,8 +84,8 @@ fn write_each_line<T: Written, W: Write>(
     Ok(())
 }
 
-/// Writes items, each on a line of its own and further in by two, between an opening and a closing, or nothing where there is
-/// none. The error is a sink's, or too many blanks.
+/// Writes items, each on a line of its own and further in by two, between an opening and a closing, or
+/// nothing where there is none. The error is a sink's, or too many blanks.
 pub(crate) fn write_on_lines<T: Written, W: Write>(
     f: &mut Formatter<W>,
     opening: &str,
@@ -95,14 +95,12 @@ pub(crate) fn write_on_lines<T: Written, W: Write>(
 ) -> fmt::Result
     ensures { WritesOnOk W.write_str_gives f.old result (on_lines opening.now closing.now indent T.text items.now) f.new }
 {
-    let [first, others @ ..] = items else {
+    if items.is_empty() {
         return Ok(());
-    };
+    }
     let inner = further_in(indent)?;
     f.write_str(opening)?;
-    write_line_end(f, inner)?;
-    first.write(f, inner)?;
-    write_each_line(f, others, inner)?;
+    write_each_line(f, items, inner)?;
     write_line_end(f, indent)?;
     f.write_str(closing)
 }

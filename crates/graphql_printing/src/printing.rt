@@ -145,20 +145,21 @@ pub fn definition<'a>(definition: &'a Definition) -> DefinitionText<'a>
     DefinitionText(definition)
 }
 
-/// Definitions, to be printed with an empty line between each two: `Display` writes their text, and takes no memory. See
-/// [`text`] for the keyword of a query.
+/// Definitions, to be printed with an empty line between each two: `Display` writes their text, as that of a
+/// document (see [`text`]), and takes no memory.
 pub fn definitions<'a>(definitions: &'a [Definition]) -> DefinitionsText<'a>
     ensures { result.0.now ≡ definitions.now }
 {
     DefinitionsText(definitions)
 }
 
-/// A document, to be printed: `Display` writes the text of its definitions, with an empty line between each two and no line
-/// end behind the last, and takes no memory. The sources are left out.
+/// A document, to be printed: `Display` writes the text of its definitions, and takes no memory. An empty
+/// line stands between each two, and no line end behind the last. The sources are left out.
 ///
-/// The layout is that of `print` of graphql-js 16, with one exception. A query without name, variables and directives is
-/// written as its selections alone, but keeps its keyword `query` behind a definition that would take its `{` for its own, as
-/// `type T` without fields would.
+/// The layout is that of `print` of graphql-js 16, with one exception: a query without name, variables and
+/// directives keeps its keyword `query` behind a definition that would take its `{` for its own, as `type T`
+/// without fields would. Trees don't say which strings were block strings: here a description is one
+/// wherever it is read back as its text, and a value never is.
 pub fn text<'a>(document: &'a Document) -> DefinitionsText<'a>
     ensures { result.0.now ≡ document.now.definitions }
 {

@@ -10,8 +10,8 @@ use graphql_nodes::name::Name;
 use std::fmt;
 use std::fmt::{Formatter, Write};
 
-/// Writes selections of what stands further in by so many blanks, each on a line of its own, between an opening and its `}`,
-/// or nothing where there is none. The error is a sink's, or too many blanks.
+/// Writes selections of what stands further in by so many blanks, each on a line of its own, between an
+/// opening and its `}`, or nothing where there is none. The error is a sink's, or too many blanks.
 #[cycle(write_selections)]
 pub fn write_selections<W: Write>(
     f: &mut Formatter<W>,

@@ -27,7 +27,8 @@ use graphql_nodes::operation_type::OperationType;
 use std::fmt;
 use std::fmt::{Formatter, Write};
 
-/// Writes a description on lines of its own above what stands further in by so many blanks, or nothing where there is none.
+/// Writes a description on lines of its own above what stands further in by so many blanks, or nothing where
+/// there is none.
 pub(crate) fn write_described<W: Write>(
     f: &mut Formatter<W>,
     description: &Option<NodeStr>,

@@ -4,7 +4,8 @@ ghost use Rattle.graphql_printing.specs.Widths.{units, width};
 
 use std::fmt::{self, Write};
 
-/// One more than the 80 that no text in one line may pass: how wide a text is beyond that makes no difference.
+/// One more than the 80 that no text in one line may pass: how wide a text is beyond that makes no
+/// difference.
 const ENOUGH: usize = 81;
 
 /// How many UTF-16 units the character has whose first byte this is.

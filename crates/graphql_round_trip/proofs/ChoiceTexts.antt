@@ -7,9 +7,10 @@ use lib.Pointwise.{bytes_decides, pointwise}
 use Rattle.graphql_grammar.specs.declared.kind.Kind.{Kind}
 use Rattle.graphql_grammar.specs.declared.kind.Kind.TheVariants as k
 use Rattle.graphql_grammar.specs.declared.kind.Names.TheVariants as names
-use Rattle.graphql_grammar.specs.Kinds.{Kinds, names_of}
+use Rattle.graphql_grammar.specs.Kinds.{Kinds, each_kind, names_of}
 use Rattle.graphql_grammar.specs.Pieces.{Piece, choose}
 use Rattle.graphql_grammar.specs.WordsOfText.{keywords, kind_among, name_kind}
+use Rattle.graphql_grammar.proofs.KindLemmas.{of_each}
 use Rattle.graphql_round_trip.specs.Printed.{Prints}
 
 -- ---- one piece or another
@@ -26,8 +27,8 @@ module _ {A B : Type 0} {see : A → B} {y : B} {text : List ℕ} {ends : List �
 -- ---- kinds
 
 -- a kind of one set is none of another, where each kind tells so
-pub is_none_of : (set other : Kinds) (kind : Kind) → not (set kind) || not (other kind) ≡ true → set kind ≡ true → other kind ≡ false
-is_none_of set other kind apart is = by (set kind) (other kind) apart is
+pub is_none_of : (set other : Kinds) → each_kind (λ kind. not (set kind) || not (other kind)) ≡ true → (kind : Kind) → set kind ≡ true → other kind ≡ false
+is_none_of set other apart kind is = by (set kind) (other kind) (of_each (λ kind. not (set kind) || not (other kind)) apart kind) is
   where
     by : (a b : Bool) → not a || not b ≡ true → a ≡ true → b ≡ false
     by true false apart is = refl

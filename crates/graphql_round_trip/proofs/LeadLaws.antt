@@ -14,7 +14,7 @@ both_true true b e = (refl, e)
 both_true false b e = absurd cc
 
 -- one blank more is passed
-one_blank : (c : ℕ) (cs : List ℕ) → is_blank c ≡ true → ignored (c ∷ cs) ≡ suc (ignored cs)
+pub one_blank : (c : ℕ) (cs : List ℕ) → is_blank c ≡ true → ignored (c ∷ cs) ≡ suc (ignored cs)
 one_blank c cs blank =
     let one : one_ignored (c ∷ cs) ≡ 1 = rw blank refl in
     let next : ignored cs + 1 ≡ suc (ignored cs) = omega arith in

@@ -1,5 +1,5 @@
 -- Texts of references to types: GraphQL specification of October 2021, section 2.11.
-use Rattle.std.proofs.Common.{◌≡◌, ◌≤◌, ℕ, zero, suc, false, not, ◌||◌, List, [], ◌++◌, Option, None, Some, option_map, refl, sym, ap, subst, ◌∙◌, append_assoc, arith}
+use Rattle.std.proofs.Common.{◌≡◌, ◌≤◌, ℕ, zero, suc, false, List, [], ◌++◌, Option, None, Some, option_map, refl, sym, ap, subst, ◌∙◌, append_assoc, arith}
 use Rattle.std.specs.Prelude.{codes}
 use Rattle.std.proofs.lemmas.List.{append-nil}
 use Rattle.graphql_nodes.specs.Comparing.{bare_name}
@@ -18,7 +18,6 @@ use Rattle.graphql_grammar.specs.declared.fault.Item.TheVariants as i
 use Rattle.graphql_grammar.specs.declared.kind.Kind.TheVariants as k
 use Rattle.graphql_grammar.specs.Kinds.{is_name, only}
 use Rattle.graphql_grammar.specs.Pieces.{Piece, branch, headed, nothing, sign}
-use Rattle.graphql_grammar.proofs.KindLemmas.{of_each}
 use Rattle.graphql_productions.specs.TreeParts.{TreePart, name_parts, type_parts, type_step as part_step}
 use Rattle.graphql_productions.specs.Types.{is_type, list_type_of, named_type, nested_list_type, no_type, required_where, type, type_by, type_pick}
 use Rattle.graphql_productions.specs.WellFormed.{IsWellFormed}
@@ -93,7 +92,7 @@ module _ (file : FileId) (list : Piece TypeReference) where
   unfolding named_type roll-Type denote.Hole.Carrier.roll
   named_prints n is =
       branch_text (type_pick file list) no_type is_name (name_heads n is) (λ kind named.
-      second_text (only k.LeftBracket kind) list _ (is_none_of is_name (only k.LeftBracket) kind (of_each (λ kind. not (is_name kind) || not (only k.LeftBracket kind)) refl kind) named)
+      second_text (only k.LeftBracket kind) list _ (is_none_of is_name (only k.LeftBracket) refl kind named)
       (first_text (is_name kind) (named_type file) (nothing no_type) named
       (mapped_text Named bare_type (bare_type (Named n)) same (name_prints file n is))))
     where

@@ -1,9 +1,10 @@
 -- The rest has such a character where the whole has one.
-use Rattle.std.proofs.Common.{◌≡◌, IsUtf8, chars}
-use Rattle.std.specs.List.{list_any}
-use Rattle.std.specs.Str.Iter.{chars_rest}
-use Rattle.graphql_printing.specs.Descriptions.{is_unprintable}
+use Rattle.std.proofs.Common.{◌≡◌, length}
+use Rattle.graphql_printing.specs.Descriptions.{has_unprintable}
 use Rattle.graphql_printing.proofs.descriptions.has_unprintable.Given as goal
 
-abbrev pub invariant-loop-c : goal.invariant-loop-c
-invariant-loop-c l = IsUtf8 (chars_rest l.c-iterator) × (list_any is_unprintable (chars (chars_rest l.c-iterator)) ≡ list_any is_unprintable (chars l.fn.text))
+abbrev pub invariant-bytes : goal.invariant-bytes
+invariant-bytes l = has_unprintable l.rest ≡ has_unprintable l.text
+
+abbrev pub decreases-bytes : goal.decreases-bytes
+decreases-bytes l = length l.rest

@@ -1,0 +1,28 @@
+-- The test by which the code tells whether a block string is read as its text again: GraphQL specification of
+-- October 2021, section 2.9.4, "Block Strings".
+use Rattle.std.specs.Prelude.{ℕ, Bool, true, ◌||◌, ◌&&◌, not, List, [], ◌∷◌, length, nat_eq}
+use Rattle.std.specs.List.{list_any}
+use Rattle.graphql_tokens.specs.Bytes.{begins}
+use Rattle.graphql_tokens.specs.BlockStringValues.{is_blank_line, is_white, lines}
+use Rattle.graphql_printing.specs.Descriptions.{has_line_feed}
+
+-- whether the first of these lines is blank
+abbrev pub first_is_blank : List (List ℕ) → Bool
+first_is_blank [] = true
+first_is_blank (line ∷ more) = is_blank_line line
+
+-- whether the last of these lines is blank
+abbrev pub last_is_blank : List (List ℕ) → Bool
+last_is_blank [] = true
+last_is_blank (line ∷ []) = is_blank_line line
+last_is_blank (line ∷ next ∷ more) = last_is_blank (next ∷ more)
+
+-- a line that begins with neither a tab nor a blank, and isn't empty
+abbrev pub is_outer : List ℕ → Bool
+is_outer line = begins (λ c. not (is_white c)) line
+
+-- the test: a text is empty, or its last line isn't blank, and where it has several, the first one isn't either, and
+-- one has no indent
+abbrev pub passes_test : List ℕ → Bool
+passes_test text =
+    nat_eq (length text) 0 || (not (last_is_blank (lines text)) && (not (has_line_feed text) || (not (first_is_blank (lines text)) && list_any is_outer (lines text))))

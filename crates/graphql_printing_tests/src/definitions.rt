@@ -1,0 +1,165 @@
+//! Definitions of the type system and documents that are read and printed, as graphql-js prints them.
+
+use graphql_ast::document::Document;
+use graphql_nodes::source::FileId;
+use graphql_printing::printing::{
+    definition, definition_text, definitions, definitions_text, document_text, text,
+};
+use graphql_text::parsing::{ParseOptions, parse_definitions};
+use std::alloc::{AllocError, Global};
+use std::test::Fail;
+
+static SORTS: [(&str, &str); 22] = [
+    (
+        "\"\"\"S\"\"\"schema@a{query:Q mutation:M}",
+        "\"\"\"S\"\"\"\nschema @a {\n  query: Q\n  mutation: M\n}",
+    ),
+    (
+        "\"\"\"one\n  two\n\"\"\"scalar S@a @b",
+        "\"\"\"\none\ntwo\n\"\"\"\nscalar S @a @b",
+    ),
+    ("scalar S", "scalar S"),
+    (
+        "\"\"\"T\"\"\"type T implements&A&B@a{\"\"\"f\"\"\"f(a:Int=1@x,b:[S!]!):T!@b g:Int}",
+        "\"\"\"T\"\"\"\ntype T implements A & B @a {\n  \"\"\"f\"\"\"\n  f(a: Int = 1 @x, b: [S!]!): T! @b\n  g: Int\n}",
+    ),
+    ("type T", "type T"),
+    (
+        "interface I implements A{f(\"\"\"a\"\"\"a:Int,\"\"\"b\n\n  c\"\"\" b:Int):Int}",
+        "interface I implements A {\n  f(\n    \"\"\"a\"\"\"\n    a: Int\n    \"\"\"\n    b\n    \n    c\n    \"\"\"\n    b: Int\n  ): Int\n}",
+    ),
+    (
+        "\"\"\"d\"\"\"union U@a=|A|B",
+        "\"\"\"d\"\"\"\nunion U @a = A | B",
+    ),
+    ("union U", "union U"),
+    (
+        "\"\"\"E\"\"\"enum E@a{\"\"\"A\"\"\"A@b B}",
+        "\"\"\"E\"\"\"\nenum E @a {\n  \"\"\"A\"\"\"\n  A @b\n  B\n}",
+    ),
+    (
+        "\"\"\"I\"\"\"input I@a{\"\"\"a\"\"\"a:Int=1@x b:[S!]={c:1}}",
+        "\"\"\"I\"\"\"\ninput I @a {\n  \"\"\"a\"\"\"\n  a: Int = 1 @x\n  b: [S!] = {c: 1}\n}",
+    ),
+    (
+        "\"\"\"D\"\"\"directive@d(a:Int,b:S=E)repeatable on|QUERY|FIELD_DEFINITION",
+        "\"\"\"D\"\"\"\ndirective @d(a: Int, b: S = E) repeatable on QUERY | FIELD_DEFINITION",
+    ),
+    (
+        "directive@d(\"\"\"a\"\"\"a:Int)on SCHEMA",
+        "directive @d(\n  \"\"\"a\"\"\"\n  a: Int\n) on SCHEMA",
+    ),
+    (
+        "extend schema@a{subscription:S}",
+        "extend schema @a {\n  subscription: S\n}",
+    ),
+    ("extend scalar S@a", "extend scalar S @a"),
+    ("extend type T implements A", "extend type T implements A"),
+    ("extend type T@a{f:Int}", "extend type T @a {\n  f: Int\n}"),
+    (
+        "extend interface I implements A & B@a{f(\"\"\"a\"\"\"a:Int):Int}",
+        "extend interface I implements A & B @a {\n  f(\n    \"\"\"a\"\"\"\n    a: Int\n  ): Int\n}",
+    ),
+    ("extend union U@a=A|B", "extend union U @a = A | B"),
+    (
+        "extend enum E@a{A B@b}",
+        "extend enum E @a {\n  A\n  B @b\n}",
+    ),
+    (
+        "extend input I@a{a:Int}",
+        "extend input I @a {\n  a: Int\n}",
+    ),
+    ("fragment F on T{a}", "fragment F on T {\n  a\n}"),
+    ("query{a}", "{\n  a\n}"),
+];
+
+static DOCUMENTS: [(&str, &str); 4] = [
+    ("type T{f:Int}{a}", "type T {\n  f: Int\n}\n\n{\n  a\n}"),
+    (
+        "query Q{a}type T@d query R{a}",
+        "query Q {\n  a\n}\n\ntype T @d\n\nquery R {\n  a\n}",
+    ),
+    ("scalar S {a}", "scalar S\n\n{\n  a\n}"),
+    (
+        "{a}fragment F on T{b}",
+        "{\n  a\n}\n\nfragment F on T {\n  b\n}",
+    ),
+];
+
+/// Behind a definition that would take its `{`, a query keeps its keyword, which graphql-js leaves out.
+static KEPT: [(&str, &str); 4] = [
+    ("type T query{a}", "type T\n\nquery {\n  a\n}"),
+    (
+        "extend enum E@d query{a}{b}",
+        "extend enum E @d\n\nquery {\n  a\n}\n\n{\n  b\n}",
+    ),
+    (
+        "extend schema@d query{a}",
+        "extend schema @d\n\nquery {\n  a\n}",
+    ),
+    ("input I query@d{a}", "input I\n\nquery @d {\n  a\n}"),
+];
+
+/// Whether this definition is printed so, in both ways.
+fn is_printed(alloc: Global, source: &str, printed: &str) -> Result<bool, AllocError> {
+    let Ok(read) = parse_definitions(alloc, FileId(1), source, ParseOptions::new()) else {
+        return Ok(false);
+    };
+    let [only] = read.as_slice() else {
+        return Ok(false);
+    };
+    let mut shown = String::new(alloc);
+    write!(shown, "{}", definition(only))?;
+    Ok(definition_text(alloc, only)?.as_str() == printed && shown.as_str() == printed)
+}
+
+/// Whether these definitions are printed so, in both ways.
+fn are_printed(alloc: Global, source: &str, printed: &str) -> Result<bool, AllocError> {
+    let Ok(read) = parse_definitions(alloc, FileId(1), source, ParseOptions::new()) else {
+        return Ok(false);
+    };
+    let mut shown = String::new(alloc);
+    write!(shown, "{}", definitions(read.as_slice()))?;
+    let made = definitions_text(alloc, read.as_slice())?;
+    Ok(made.as_str() == printed && shown.as_str() == printed)
+}
+
+/// Whether a document of these definitions is printed so, in both ways.
+fn is_printed_document(alloc: Global, source: &str, printed: &str) -> Result<bool, AllocError> {
+    let Ok(read) = parse_definitions(alloc, FileId(1), source, ParseOptions::new()) else {
+        return Ok(false);
+    };
+    let document = Document::from_definitions(alloc, read.into_vec());
+    let mut shown = String::new(alloc);
+    write!(shown, "{}", text(&document))?;
+    let made = document_text(alloc, &document)?;
+    Ok(made.as_str() == printed && shown.as_str() == printed)
+}
+
+#[test]
+fn each_sort_is_printed(rt: HostRuntime) {
+    for (source, printed) in &SORTS {
+        assert!(rt; is_printed(rt.alloc(), *source, *printed) == Ok(true));
+    }
+}
+
+#[test]
+fn definitions_are_printed_in_turn(rt: HostRuntime) {
+    for (source, printed) in &DOCUMENTS {
+        assert!(rt; are_printed(rt.alloc(), *source, *printed) == Ok(true));
+    }
+}
+
+#[test]
+fn documents_are_printed(rt: HostRuntime) {
+    for (source, printed) in &DOCUMENTS {
+        assert!(rt; is_printed_document(rt.alloc(), *source, *printed) == Ok(true));
+    }
+}
+
+#[test]
+fn keywords_are_kept(rt: HostRuntime) {
+    for (source, printed) in &KEPT {
+        assert!(rt; is_printed_document(rt.alloc(), *source, *printed) == Ok(true));
+    }
+}
