@@ -9,6 +9,10 @@ use Rattle.graphql_round_trip.specs.Printed.{ends_token}
 abbrev pub IsApart : List ℕ → Type 0
 IsApart text = (rest : List ℕ) → ends_token rest ≡ true → ends_token (text ++ rest) ≡ true
 
+-- a text that stands apart, and then what ends each token, end each token
+pub apart_before : (a b : List ℕ) → IsApart a → ((rest : List ℕ) → ends_token (b ++ rest) ≡ true) → (rest : List ℕ) → ends_token (a ++ b ++ rest) ≡ true
+apart_before a b first second rest = subst (λ (all : List ℕ). ends_token all ≡ true) (sym (append_assoc a b rest)) (first (b ++ rest) (second rest))
+
 -- of two texts that stand apart, both together do
 pub apart_joined : (a b : List ℕ) → IsApart a → IsApart b → IsApart (a ++ b)
 apart_joined a b first second = λ rest end. subst (λ (all : List ℕ). ends_token all ≡ true) (sym (append_assoc a b rest)) (first (b ++ rest) (second rest end))
