@@ -1,15 +1,15 @@
 -- Texts of items with a sign between each two, and of words that are picked as something.
-use Rattle.std.proofs.Common.{◌≡◌, ℕ, Bool, true, List, [], ◌∷◌, ◌++◌, map, option_map, Option, None, Some, refl, ap}
+use Rattle.std.proofs.Common.{◌≡◌, ℕ, Bool, List, [], ◌∷◌, ◌++◌, map, Option, Some, refl, ap}
 use Rattle.std.specs.Prelude.{codes}
 use Rattle.std.specs.List.{AllByRecursion}
 use Rattle.graphql_grammar.specs.declared.kind.Kind.{Kind}
 use Rattle.graphql_grammar.specs.Kinds.{Kinds}
-use Rattle.graphql_grammar.specs.Pieces.{Piece, Wrong, behind_sign, many, mapped, optional, picked, separated, separated_of, seq, sign, word}
+use Rattle.graphql_grammar.specs.Pieces.{Piece, Wrong, behind_sign, mapped, picked, separated, separated_of, seq, sign, word}
 use Rattle.graphql_grammar.specs.Words.{WordView}
 use Rattle.graphql_printing.specs.Layout.{each_behind, separated as separated_text}
 use Rattle.graphql_round_trip.specs.Printed.{Prints, anything, ends_token}
 use Rattle.graphql_round_trip.proofs.NodeTexts.{Opens}
-use Rattle.graphql_round_trip.proofs.PieceTexts.{bare_word, both_seen, many_text, mapped_text, none_text, seq_text, there}
+use Rattle.graphql_round_trip.proofs.PieceTexts.{bare_word, many_text, mapped_text, none_text, seq_text, there}
 use Rattle.graphql_round_trip.proofs.StandingApart.{IsApart}
 
 -- a word that is picked as something for what it is and its bytes
