@@ -30,12 +30,13 @@ use Rattle.graphql_round_trip.proofs.BehindBlanks.{branch_behind, sign_heads}
 use Rattle.graphql_round_trip.proofs.ChoiceTexts.{first_text, fragment_kind, is_none_of, second_text}
 use Rattle.graphql_round_trip.proofs.DirectiveTexts.{directives_print}
 use Rattle.graphql_round_trip.proofs.Grouping.{grouped4, regrouped}
+use Rattle.graphql_round_trip.proofs.KeywordTexts.{keyword_before, keyword_heads}
 use Rattle.graphql_round_trip.proofs.LeadLaws.{both_true}
-use Rattle.graphql_round_trip.proofs.NodeTexts.{keyword_prints, name_prints, name_seen, sign_prints}
-use Rattle.graphql_round_trip.proofs.PieceTexts.{before_blank, behind_blank, branch_at, branch_text, headed_text, heads_on, located_text, mapped_text, none_text, one_text, seq_text, token_heads, word_text}
+use Rattle.graphql_round_trip.proofs.NodeTexts.{name_prints, name_seen, sign_prints}
+use Rattle.graphql_round_trip.proofs.PieceTexts.{behind_blank, branch_at, branch_text, headed_text, heads_on, located_text, mapped_text, none_text, one_text, seq_text, token_heads, word_text}
 use Rattle.graphql_round_trip.proofs.SelectionLevels.{InlineLevel, inline_bare, inline_selection_bare, spread_selection_bare}
 use Rattle.graphql_round_trip.proofs.StandingApart.{IsApart, apart_before, directives_apart}
-use Rattle.graphql_round_trip.proofs.TokenTexts.{at_is_token, left_brace_is_token, name_is_token, name_unblank, spread_is_token, word_is_token}
+use Rattle.graphql_round_trip.proofs.TokenTexts.{at_is_token, left_brace_is_token, name_is_token, name_unblank, spread_is_token}
 
 -- ---- names and type conditions
 
@@ -50,7 +51,7 @@ pub condition_prints : (file : FileId) (n : NameView) → IsName n.text → Prin
 unfolding condition_body
 condition_prints file n is =
     headed_text (only k.On) (mapped_text behind bare_name (bare_name n) (λ x same. ap (λ (p : Unit {0} × NameView). p.1) same)
-    (seq_text (behind_blank (codes " ") refl (before_blank {follows = anything} (codes " ") refl (keyword_prints k.On (codes "on") refl refl) (λ rest _. refl))) (name_prints file n is) (λ rest _. refl)))
+    (seq_text (behind_blank (codes " ") refl (keyword_before k.On (codes "on") refl refl)) (name_prints file n is) (λ rest _. refl)))
 
 -- a type condition stands apart
 condition_apart : (c : Option NameView) → IsApart (condition_text c)
@@ -103,7 +104,7 @@ module _ (file : FileId) (depth : ℕ) (p : Piece (List Selection)) where
           Prints (fragment_body file depth p) place_seen (λ at. s.InlineFragment (record { value = y; location = None })) (condition_text c ++ (directives_text ds ++ (codes " {" ++ more))) anything
       by (Some n) ds body =
           branch_behind (fragment_pick file depth p) no_selection k.On (codes " ") refl
-          (heads_on (codes " " ++ (n.text ++ (directives_text ds ++ (codes " {" ++ more)))) anything (token_heads (only k.On) t.Name (codes "on") ends_token refl (word_is_token (codes "on") refl) refl) (λ rest _. refl)) body
+          (heads_on (codes " " ++ (n.text ++ (directives_text ds ++ (codes " {" ++ more)))) anything (keyword_heads k.On (codes "on") refl refl) (λ rest _. refl)) body
       by None (d ∷ ds) body =
           branch_behind (fragment_pick file depth p) no_selection k.At (codes " ") refl
           (sign_heads (only k.At) t.At (codes "@") (d.value.name.text ++ arguments_text d.value.arguments ++ directives_text ds ++ (codes " {" ++ more)) refl at_is_token refl) body

@@ -7,6 +7,7 @@ abbrev pub left_out : {A : Type 0} → List A → Option (List A)
 left_out [] = None
 left_out (x ∷ xs) = Some (x ∷ xs)
 
+-- a list is what it is, left out or not
 pub left_out_none : {A : Type 0} (xs : List A) → or_none (left_out xs) ≡ xs
 left_out_none [] = refl
 left_out_none (x ∷ xs) = refl

@@ -19,6 +19,7 @@ pub mod FitOperations
 pub mod FitSelections
 pub mod FitTypeSystem
 pub mod FitValues
+pub mod FragmentDefinitionTexts
 pub mod FragmentTexts
 pub mod Grouping
 pub mod InputValueTexts
@@ -31,6 +32,7 @@ pub mod NestingLemmas
 pub mod NestingLevels
 pub mod NodeTexts
 pub mod NumberTexts
+pub mod OperationTexts
 pub mod PartLemmas
 pub mod PartTexts
 pub mod PieceTexts
@@ -48,4 +50,5 @@ pub mod TypeSystemTexts
 pub mod TypeTexts
 pub mod TypedTexts
 pub mod ValueTexts
+pub mod VariableTexts
 pub mod WholeTexts

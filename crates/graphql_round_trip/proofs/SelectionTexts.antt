@@ -1,5 +1,5 @@
 -- Texts of selections: GraphQL specification of October 2021, section 2.4.
-use Rattle.std.proofs.Common.{◌≡◌, ◌≤◌, ◌+◌, ℕ, suc, false, List, [], ◌∷◌, ◌++◌, map, None, option_map, drop, refl, sym, ap, subst, ◌∙◌}
+use Rattle.std.proofs.Common.{◌≡◌, ◌≤◌, ◌+◌, ℕ, true, suc, false, List, [], ◌∷◌, ◌++◌, map, None, option_map, drop, refl, sym, ap, subst, ◌∙◌}
 use Rattle.std.specs.Prelude.{codes}
 use Rattle.std.specs.List.{AllByRecursion, flat_map}
 use Rattle.graphql_nodes.specs.Comparing.{bare_node}
@@ -28,6 +28,7 @@ use Rattle.graphql_printing.specs.Texts.{directives_text}
 use Rattle.graphql_round_trip.specs.Nesting.{arguments_nesting, directives_nesting, selection_nesting, selections_nesting}
 use Rattle.graphql_round_trip.specs.Printed.{Heads, Prints, anything, ends_token}
 use Rattle.graphql_round_trip.proofs.BehindBlanks.{sign_heads}
+use Rattle.graphql_round_trip.proofs.BareLists.{each, each_given}
 use Rattle.graphql_round_trip.proofs.BareSelectionTexts.{field_says, inline_says, selection_says}
 use Rattle.graphql_round_trip.proofs.FieldTexts.{field_prints}
 use Rattle.graphql_round_trip.proofs.FragmentTexts.{inline_prints, spread_prints}
@@ -49,13 +50,20 @@ selections_head indent [] well = absurd (let w = well.0 in cc)
 selections_head indent (x ∷ xs) well = sign_heads (only k.LeftBrace) t.LeftBrace (codes "{") (drop 1 (selections_behind (codes "{") indent (x ∷ xs))) refl left_brace_is_token refl
 
 -- selections behind what opens them stand apart
-pub selections_apart : (indent : ℕ) (xs : List Selection) → IsApart (selections_behind (codes " {") indent xs)
+selections_apart : (indent : ℕ) (xs : List Selection) → IsApart (selections_behind (codes " {") indent xs)
 selections_apart indent [] = λ rest end. end
 selections_apart indent (x ∷ xs) = λ rest end. refl
 
+-- what is before selections behind ` {`, of which there is one at least, ends there
+pub selections_end : (indent : ℕ) (xs : List Selection) → IsWellFormed (wanted_parts selection_parts xs) → (rest : List ℕ) → ends_token (selections_behind (codes " {") indent xs ++ rest) ≡ true
+selections_end indent [] well rest = absurd (let w = well.0 in cc)
+selections_end indent (x ∷ xs) well rest = refl
+
+-- `{` opens selections
 pub opens_brace : Opens k.LeftBrace (codes "{")
 opens_brace = sign_prints k.LeftBrace t.LeftBrace left_brace_is_token refl
 
+-- and so it does behind a blank
 pub opens_behind : Opens k.LeftBrace (codes " {")
 opens_behind = sign_behind k.LeftBrace (λ _. Expected (i.Word k.LeftBrace)) t.LeftBrace (codes " ") (codes "{") refl left_brace_is_token refl
 
@@ -107,28 +115,28 @@ set_or_none_prints file depth indent (x ∷ xs) all well fits = loosely ends_tok
 
 -- ---- one level after the other
 
--- each selection with what is to be shown of it
-abbrev S : Type 0
-S = (x : Selection) × SelectionPrints x
+-- each with what is to be shown of it
+abbrev ShownSelection : Type 0
+ShownSelection = (x : Selection) × SelectionPrints x
 
-abbrev F : Type 0
-F = (x : Field) × FieldPrints x
+abbrev ShownField : Type 0
+ShownField = (x : Field) × FieldPrints x
 
-abbrev I : Type 0
-I = (x : InlineFragment) × InlinePrints x
+abbrev ShownInline : Type 0
+ShownInline = (x : InlineFragment) × InlinePrints x
 
-all_print : (ys : List S) → AllByRecursion SelectionPrints (map (λ (e : S). e.0) ys)
-all_print [] = tt
-all_print (y ∷ ys) = (y.1, all_print ys)
+shown_selections : (ys : List ShownSelection) → AllByRecursion SelectionPrints (map (λ (e : ShownSelection). e.0) ys)
+shown_selections ys = each_given SelectionPrints (λ (e : ShownSelection). e.0) (λ y. y.1) ys
 
--- what is the same has the same text
+-- a selection has this text
 abbrev SelectedAs : FileId → ℕ → Selection → List ℕ → Type 0
 SelectedAs file depth y text = Prints (selection file depth (selection_set file depth)) bare_selection y text ends_token
 
+-- and so has what is the same the same text
 same_selected : (file : FileId) (depth : ℕ) (y z : Selection) (text same : List ℕ) → z ≡ y → same ≡ text → SelectedAs file depth y text → SelectedAs file depth z same
 same_selected file depth y z text same seen told t = subst (λ (x : Selection). SelectedAs file depth x same) (sym seen) (subst (λ (bytes : List ℕ). SelectedAs file depth y bytes) (sym told) t)
 
-selection_level : (y : Selection-F S F I) → SelectionPrints (roll-Selection (map-Selection S F I Selection Field InlineFragment (λ e. e.0) (λ e. e.0) (λ e. e.0) y))
+selection_level : (y : Selection-F ShownSelection ShownField ShownInline) → SelectionPrints (roll-Selection (map-Selection ShownSelection ShownField ShownInline Selection Field InlineFragment (λ e. e.0) (λ e. e.0) (λ e. e.0) y))
 unfolding roll-Selection denote.Hole.Carrier.roll
 selection_level (Selection-F.Field n) = λ file depth indent well fits.
     let m : NodeView Field = record { value = n.value.0; location = n.location } in
@@ -178,14 +186,10 @@ selection_prints : (x : Selection) → SelectionPrints x
 selection_prints =
     ind-Selection SelectionPrints FieldPrints InlinePrints
     (λ x y is. subst (λ z. SelectionPrints (roll-Selection z)) is (selection_level y))
-    (λ x y is. subst (λ z. FieldPrints (roll-Field z)) is (field_level (map-Field S F I Selection Field InlineFragment (λ e. e.0) (λ e. e.0) (λ e. e.0) y) (all_print y.selection_set)))
-    (λ x y is. subst (λ z. InlinePrints (roll-InlineFragment z)) is (inline_level (map-InlineFragment S F I Selection Field InlineFragment (λ e. e.0) (λ e. e.0) (λ e. e.0) y) (all_print y.selection_set)))
-
-each_selection_prints : (xs : List Selection) → AllByRecursion SelectionPrints xs
-each_selection_prints [] = tt
-each_selection_prints (x ∷ xs) = (selection_prints x, each_selection_prints xs)
+    (λ x y is. subst (λ z. FieldPrints (roll-Field z)) is (field_level (map-Field ShownSelection ShownField ShownInline Selection Field InlineFragment (λ e. e.0) (λ e. e.0) (λ e. e.0) y) (shown_selections y.selection_set)))
+    (λ x y is. subst (λ z. InlinePrints (roll-InlineFragment z)) is (inline_level (map-InlineFragment ShownSelection ShownField ShownInline Selection Field InlineFragment (λ e. e.0) (λ e. e.0) (λ e. e.0) y) (shown_selections y.selection_set)))
 
 -- selections in braces are read as they are printed
 pub selections_print : (file : FileId) (depth indent : ℕ) (opening : List ℕ) (xs : List Selection) → Opens k.LeftBrace opening → IsWellFormed (wanted_parts selection_parts xs) → selections_nesting xs ≤ depth →
     Prints (selection_set file depth) (map bare_selection) (map bare_selection xs) (selections_behind opening indent xs) anything
-selections_print file depth indent opening xs opens well fits = set_prints file depth indent opening xs (each_selection_prints xs) opens well fits
+selections_print file depth indent opening xs opens well fits = set_prints file depth indent opening xs (each selection_prints xs) opens well fits

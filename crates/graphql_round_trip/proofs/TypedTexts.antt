@@ -33,7 +33,7 @@ use Rattle.graphql_round_trip.proofs.TypeTexts.{type_prints}
 use Rattle.graphql_round_trip.proofs.ValueTexts.{value_node_prints}
 
 -- a default value stands apart from what is before it
-pub default_apart : (default : Option (NodeView Value)) → IsApart (default_text default)
+default_apart : (default : Option (NodeView Value)) → IsApart (default_text default)
 default_apart None = λ rest end. end
 default_apart (Some v) = λ rest end. refl
 
@@ -49,7 +49,7 @@ default_body_prints file depth v well fits =
     (seq_text (sign_before k.Equals (λ _. Expected (i.Word k.Equals)) t.Equals (codes "=") (codes " ") refl equals_is_token refl) (value_node_prints file true depth v well fits) (λ rest _. refl))
 
 -- a default value, if there is one
-pub default_prints : (file : FileId) (depth : ℕ) (default : Option (NodeView Value)) → IsWellFormed (option_parts (node_parts (value_parts true)) default) → default_nesting default ≤ depth →
+default_prints : (file : FileId) (depth : ℕ) (default : Option (NodeView Value)) → IsWellFormed (option_parts (node_parts (value_parts true)) default) → default_nesting default ≤ depth →
     Prints (optional (default_value file depth)) (option_map (bare_node bare_value)) (option_map (bare_node bare_value) default) (default_text default) ends_token
 default_prints file depth None well fits = none_text (default_value file depth) (bare_node bare_value) ends_token
 default_prints file depth (Some v) well fits = one_text (headed_text (only k.Equals) (behind_blank (codes " ") refl (default_body_prints file depth v well fits)))
