@@ -7,10 +7,12 @@ pub mod BareTexts
 pub mod BehindBlanks
 pub mod BraceTexts
 pub mod ChoiceTexts
+pub mod DefinitionTexts
 pub mod DescribedTexts
 pub mod DescriptionTexts
 pub mod DirectiveDefinitionTexts
 pub mod DirectiveTexts
+pub mod DocumentTexts
 pub mod FieldDefinitionTexts
 pub mod FieldTexts
 pub mod FitDocuments

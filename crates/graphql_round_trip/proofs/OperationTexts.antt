@@ -102,7 +102,8 @@ module _ (x : OperationDefinition) (well : IsWellFormed (operation_parts x)) whe
   given : IsWellFormed (flat_map (node_parts variable_parts) x.variables) × IsWellFormed (directives_parts false x.directives ++ wanted_parts selection_parts x.selection_set)
   given = part_of_front (flat_map (node_parts variable_parts) x.variables) (directives_parts false x.directives ++ wanted_parts selection_parts x.selection_set) named.1
 
-  applied : IsWellFormed (directives_parts false x.directives) × IsWellFormed (wanted_parts selection_parts x.selection_set)
+  -- its directives and its selections are well-formed
+  pub applied : IsWellFormed (directives_parts false x.directives) × IsWellFormed (wanted_parts selection_parts x.selection_set)
   applied = part_of_front (directives_parts false x.directives) (wanted_parts selection_parts x.selection_set) given.1
 
   -- what is before the directives and selections of an operation ends there

@@ -207,7 +207,8 @@ only_blanks (c ∷ cs) (b ∷ bs) rest blank same solid =
     apart true e h = absurd cc
     apart false e h = absurd cc
 
-same_first : (f g : First) (text : List ℕ) → first_of text ≡ Ok (Some f) → first_of text ≡ Ok (Some g) → f ≡ g
+-- a text has one first token
+pub same_first : (f g : First) (text : List ℕ) → first_of text ≡ Ok (Some f) → first_of text ≡ Ok (Some g) → f ≡ g
 same_first f g text a b = cc
 
 pub branch_text : {A B : Type 0} {first more : Kinds} {see : A → B} {y : B} {text : List ℕ} {ends : List ℕ → Bool} (pick : Kind → Piece A) (wrong : Wrong) (kinds : Kinds) →
