@@ -53,4 +53,5 @@ pub mod TypeTexts
 pub mod TypedTexts
 pub mod ValueTexts
 pub mod VariableTexts
+pub mod WholeLaws
 pub mod WholeTexts
