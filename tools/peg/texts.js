@@ -1,9 +1,11 @@
 // Says what graphql-js reads texts as, as `gqltext` does: reads JSON, a list of words of `gqltext` and texts, from standard input, and
-// writes a line for each: `tree` and the tree, or `refused`, the byte where, and why. What `gqltext` doesn't keep is left out: the
-// places of lists, of non-null types, of members of objects and of operation types, and whether a string is a block.
+// writes a line for each: `tree` and the tree, or `refused`, the byte where, and why; with `print` in front it is `text` and the text
+// that is printed, in place of the tree. What `gqltext` doesn't keep is left out: the places of lists, of non-null types, of members of
+// objects and of operation types, and whether a string is a block.
 'use strict';
 const fs = require('node:fs');
 const { parse, parseConstValue, Parser, parseType } = require('./graphql');
+const printedText = require('./prints');
 
 // The byte of each place in a text, of which graphql-js counts UTF-16 units.
 function bytesOf(text) {
@@ -29,7 +31,9 @@ function described(kind) {
 // Selections, with braces or without.
 function parseSelections(text) {
   const parser = new Parser(text);
-  if (parser._lexer.lookahead().kind !== '{') return { selections: parser.many('<SOF>', parser.parseSelection, '<EOF>') };
+  if (parser._lexer.lookahead().kind !== '{') {
+    return { kind: 'SelectionSet', selections: parser.many('<SOF>', parser.parseSelection, '<EOF>') };
+  }
   parser.expectToken('<SOF>');
   const set = parser.parseSelectionSet();
   parser.expectToken('<EOF>');
@@ -130,9 +134,11 @@ function told(sort, text, bytes) {
   }
 }
 
-function answer([sort, text]) {
+function answer([words, text]) {
   const bytes = bytesOf(text);
+  const sort = words.at(-1);
   try {
+    if (words[0] === 'print') return `text ${escaped(printedText(sort, text, parseSelections))} again`;
     return `tree ${told(sort, text, bytes).join(' ')} `;
   } catch (error) {
     if (!error.positions) throw error;

@@ -1,4 +1,4 @@
-"""Random GraphQL texts: what `gqltext` reads each as, or where it refuses it, beside graphql-js.
+"""Random GraphQL texts: what `gqltext` reads each as, or where it refuses it, and what it prints of it, beside graphql-js.
 
 Where the two differ for a reason that is known, the difference is counted under that reason, one of `EXPLAINED`. Any other
 difference is wrong.
@@ -12,9 +12,12 @@ import re
 import subprocess
 
 from peg import TOP, programs
-from peg.grammar import TOKENS, Maker
+from peg.grammar import TOKENS
+from peg.layouts import LayoutMaker
 
 SORTS = ["document", "selections", "type", "value"]
+# What is asked of each text, by a word of `gqltext` in front of its sort or none: the tree, and the text that is printed.
+ASKED = [[], ["print"]]
 SCRIPT = pathlib.Path(__file__).with_name("texts.js")
 EXPLAINED = {
     "control": "control characters in strings and comments, which graphql-js takes",
@@ -59,7 +62,7 @@ def changed(chance, parts, others):
 def of_name(name):
     """The texts of a name, which begins with their sort: one, and the same with a token and with a character changed."""
     chance, sort = random.Random(name), name.split(" ")[0]
-    tokens = Maker(chance).tokens(sort)
+    tokens = LayoutMaker(chance).tokens(sort)
     text = laid_out(chance, tokens)
     yield name, sort, text
     yield f"{name}, a token changed", sort, laid_out(chance, changed(chance, tokens, TOKENS))
@@ -75,15 +78,15 @@ def lines(output):
     return output.decode().split("\n")[:-1]
 
 
-def ours(sort, texts):
-    """The answers of `gqltext` to texts of a sort."""
+def ours(words, texts):
+    """The answers of `gqltext` to texts, of which these words ask."""
     given = b"".join(b"%d\n%b" % (len(text), text) for text in (text.encode() for text in texts))
-    return lines(programs.run(programs.path("gqltext"), [sort.encode()], given).output)
+    return lines(programs.run(programs.path("gqltext"), [word.encode() for word in words], given).output)
 
 
-def theirs(sort, texts):
+def theirs(words, texts):
     """The answers of graphql-js."""
-    given = json.dumps([(sort, text) for text in texts]).encode()
+    given = json.dumps([(words, text) for text in texts]).encode()
     return lines(subprocess.run(["node", SCRIPT], input=given, stdout=subprocess.PIPE).stdout)
 
 
@@ -107,7 +110,7 @@ def reason(own, peer):
 
 
 def wrong_of(own, peer):
-    is_same = own == peer if own.startswith("tree ") else own.split(" ")[:2] == peer.split(" ")[:2]
+    is_same = own.split(" ")[:2] == peer.split(" ")[:2] if own.startswith("refused ") else own == peer
     if is_same:
         return []
     if known := reason(own, peer):
@@ -116,13 +119,14 @@ def wrong_of(own, peer):
 
 
 def trials(names):
-    """Of each text of these names, and of the examples: its name, what is wrong, and the text."""
+    """Of each text of these names and of the examples, and of each thing that is asked: its name, what is wrong, and the text."""
     named = [*of_examples(), *(text for name in names for text in of_name(name))]
-    for sort in SORTS:
+    for sort, words in itertools.product(SORTS, ASKED):
         its = [(name, text) for name, its_sort, text in named if its_sort == sort]
         texts = [text for _, text in its]
-        for (name, text), *answers in itertools.zip_longest(its, ours(sort, texts), theirs(sort, texts)):
-            yield name, wrong_of(*answers) if all(answers) else [f"an answer is missing: {answers}"], [text]
+        for (name, text), *answers in itertools.zip_longest(its, ours([*words, sort], texts), theirs([*words, sort], texts)):
+            wrong = wrong_of(*answers) if all(answers) else [f"an answer is missing: {answers}"]
+            yield ", ".join([name, *words]), wrong, [text]
 
 
 def told():

@@ -1,9 +1,12 @@
-//! `gqltext`: GraphQL texts from standard input, each written as the tree that it is read as, or as refused.
-//! It serves `tools/fuzz`, and no function has a clause but that it is safe.
+//! `gqltext`: GraphQL texts from standard input, each written as the tree that it is read as, as the text that
+//! is printed of that tree, or as refused. It serves `tools/fuzz`, and no function has a clause but that it is
+//! safe.
 //!
 //! The input is texts, each behind a line with the number of its bytes. The output is a line for each: `tree`
-//! and the tree, or `refused`, where, and why. The status is 0, or 2 for words or an input that say something
-//! else, 3 where memory ran out, and 4 where the output can't be written.
+//! and the tree, or `refused`, where, and why. With `print` it is `text` in place of `tree`, the text that is
+//! printed, escaped, and `again`: that text is read as an equal tree, of which the same is printed. Where it
+//! isn't, `another tree`, `another text` or a refusal stands there. The status is 0, or 2 for words or an input
+//! that say something else, 3 where memory ran out, and 4 where the output can't be written.
 #![tactic(auto)]
 
 /// Tells the parts one after the other.
@@ -16,9 +19,10 @@ macro_rules! tell {
 
 mod answer;
 mod definitions;
+mod readable;
 mod tree;
 
-use crate::answer::{Sort, push_answer};
+use crate::answer::{Asked, Sort, push_answer};
 use graphql_text::parsing::ParseOptions;
 use std::alloc::Global;
 use std::env;
@@ -26,7 +30,7 @@ use std::io::{self, BufWriter, ErrorKind, Read, Write};
 use std::process::ExitCode;
 
 const USAGE: &str =
-    "usage: gqltext document|selections|type|value [--max-depth N] [--max-tokens N]";
+    "usage: gqltext [print] document|selections|type|value [--max-depth N] [--max-tokens N]";
 
 /// What the words behind the first say of the limits.
 fn options(words: &[String]) -> Option<ParseOptions> {
@@ -45,12 +49,24 @@ fn options(words: &[String]) -> Option<ParseOptions> {
     Some(options)
 }
 
-/// What is asked for by these words.
-fn asked(words: &[String]) -> Option<(Sort, ParseOptions)> {
+/// What is asked by these words, of which `print` may have stood in front.
+fn asked_of(prints: bool, words: &[String]) -> Option<Asked> {
     let [sort, rest @ ..] = words else {
         return None;
     };
-    Some((Sort::of(sort.as_str())?, options(rest)?))
+    Some(Asked {
+        sort: Sort::of(sort.as_str())?,
+        prints,
+        options: options(rest)?,
+    })
+}
+
+/// What is asked by these words.
+fn asked(words: &[String]) -> Option<Asked> {
+    match words {
+        [first, rest @ ..] if first.as_str() == "print" => asked_of(true, rest),
+        _ => asked_of(false, words),
+    }
 }
 
 /// The first text of an input, and what stands behind it.
@@ -62,8 +78,7 @@ fn divided(input: &str) -> Option<(&str, &str)> {
 /// Writes the answer to each text of an input. Answers whether the input is texts.
 fn write_answers<W: Write>(
     alloc: Global,
-    sort: Sort,
-    options: ParseOptions,
+    asked: Asked,
     input: &str,
     output: &mut W,
 ) -> io::Result<bool> {
@@ -78,7 +93,7 @@ fn write_answers<W: Write>(
             return Ok(false);
         };
         line.clear();
-        push_answer(alloc, &mut line, sort, options, text)?;
+        push_answer(alloc, &mut line, asked, text)?;
         output.write_all(line.as_bytes())?;
         rest = behind;
     }
@@ -89,12 +104,12 @@ fn write_answers<W: Write>(
 /// Reads the words and the input, and writes the answers. Answers whether the words and the input are some.
 fn run(rt: &HostRuntime, alloc: Global) -> io::Result<bool> {
     let words: Vec<String> = env::args(rt)?.skip(1).collect(alloc)?;
-    let Some((sort, options)) = asked(words.as_slice()) else {
+    let Some(asked) = asked(words.as_slice()) else {
         return Ok(false);
     };
     let input = io::read_to_string(alloc, rt.stdin())?;
     let mut output = BufWriter::new(alloc, rt.stdout())?;
-    write_answers(alloc, sort, options, input.as_str(), &mut output)
+    write_answers(alloc, asked, input.as_str(), &mut output)
 }
 
 fn main(rt: HostRuntime) -> ExitCode {

@@ -44,7 +44,7 @@ pub(crate) fn push_place(
 }
 
 /// Tells a string value, escaped so that it is one line of ASCII.
-fn push_string(text: &mut String, value: &str) -> Result<(), AllocError> {
+pub(crate) fn push_string(text: &mut String, value: &str) -> Result<(), AllocError> {
     write!(text, "\"{}\" ", value.escape_default())
 }
 

@@ -9,7 +9,7 @@ use graphql_text::parsing::{ParseOptions, parse_definitions};
 use std::alloc::{AllocError, Global};
 use std::test::Fail;
 
-static SORTS: [(&str, &str); 22] = [
+static SORTS: [(&str, &str); 28] = [
     (
         "\"\"\"S\"\"\"schema@a{query:Q mutation:M}",
         "\"\"\"S\"\"\"\nschema @a {\n  query: Q\n  mutation: M\n}",
@@ -71,6 +71,21 @@ static SORTS: [(&str, &str); 22] = [
     ),
     ("fragment F on T{a}", "fragment F on T {\n  a\n}"),
     ("query{a}", "{\n  a\n}"),
+    (
+        "query Q($x:[Int!]!=[1,2]@d){f(a:$x,b:\"é\")...F @i}",
+        "query Q($x: [Int!]! = [1, 2] @d) {\n  f(a: $x, b: \"é\")\n  ...F @i\n}",
+    ),
+    ("{a(b:\"\\ud83d\\ude00\")}", "{\n  a(b: \"\u{1f600}\")\n}"),
+    (
+        "\"\"\"\n    one\n      two\n    \"\"\" scalar S",
+        "\"\"\"\none\n  two\n\"\"\"\nscalar S",
+    ),
+    (
+        "type T implements &A&B{f:Int}",
+        "type T implements A & B {\n  f: Int\n}",
+    ),
+    ("union U=|A|B", "union U = A | B"),
+    ("{a(x:{})b(y:[])}", "{\n  a(x: {})\n  b(y: [])\n}"),
 ];
 
 static DOCUMENTS: [(&str, &str); 4] = [

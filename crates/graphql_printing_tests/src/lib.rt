@@ -1,7 +1,12 @@
-//! Tests of the text of GraphQL trees: texts that are read, and what is printed of them, as graphql-js prints it.
+//! Tests of the text of GraphQL trees: texts that are read, and what is printed of them, as graphql-js prints it;
+//! trees that no text is read as; and sinks.
 #![tactic(auto)]
 
 #[cfg(test)]
 mod definitions;
 #[cfg(test)]
+mod hand_made;
+#[cfg(test)]
 mod printed;
+#[cfg(test)]
+mod sinks;

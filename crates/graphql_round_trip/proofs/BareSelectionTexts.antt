@@ -79,7 +79,7 @@ condition_stays None = refl
 condition_stays (Some name) = refl
 
 -- the text of a field, from one level to the next
-field_says : (f : Field-F Selection Field InlineFragment) (indent : ℕ)
+pub field_says : (f : Field-F Selection Field InlineFragment) (indent : ℕ)
     → field_text (roll-Field f) indent ≡ field_head indent f.alias f.name f.arguments ++ directives_text f.directives.0 ++ selections_behind (codes " {") indent f.selection_set
 field_says f indent =
     ap (λ (t : Text). t indent) (fold-roll-Field Text Text Text selection_step field_step inline_step f)
@@ -103,7 +103,7 @@ field_stays f all indent =
     ∙ sym (field_says f indent)
 
 -- the text of an inline fragment, from one level to the next
-inline_says : (f : InlineFragment-F Selection Field InlineFragment) (indent : ℕ)
+pub inline_says : (f : InlineFragment-F Selection Field InlineFragment) (indent : ℕ)
     → inline_text (roll-InlineFragment f) indent ≡ codes "..." ++ condition_text f.type_condition ++ directives_text f.directives.0 ++ selections_behind (codes " {") indent f.selection_set
 inline_says f indent =
     ap (λ (t : Text). t indent) (fold-roll-InlineFragment Text Text Text selection_step field_step inline_step f)
@@ -125,10 +125,11 @@ inline_stays f all indent =
     ∙ sym (inline_says f indent)
 
 -- one level of the text of a selection
-abbrev selection_layer : Selection-F Selection Field InlineFragment → Text
+abbrev pub selection_layer : Selection-F Selection Field InlineFragment → Text
 selection_layer z = selection_step (map-Selection Selection Field InlineFragment Text Text Text selection_text field_text inline_text z)
 
-selection_says : (z : Selection-F Selection Field InlineFragment) (indent : ℕ) → selection_text (roll-Selection z) indent ≡ selection_layer z indent
+-- the text of a selection is that of its layer
+pub selection_says : (z : Selection-F Selection Field InlineFragment) (indent : ℕ) → selection_text (roll-Selection z) indent ≡ selection_layer z indent
 selection_says z indent = ap (λ (t : Text). t indent) (fold-roll-Selection Text Text Text selection_step field_step inline_step z)
 
 -- a selection whose bare selection and text are such, from one level to the next

@@ -1,5 +1,5 @@
 -- Texts in several parts, grouped as the grammar groups them and as texts are written.
-use Rattle.std.proofs.Common.{◌≡◌, ℕ, Bool, List, ◌++◌, sym, ap, subst, ◌∙◌, append_assoc}
+use Rattle.std.proofs.Common.{◌≡◌, ℕ, Bool, List, ◌++◌, sym, subst, ◌∙◌, append_assoc}
 use Rattle.graphql_grammar.specs.Pieces.{Piece}
 use Rattle.graphql_round_trip.specs.Printed.{Prints}
 
@@ -18,6 +18,3 @@ grouped5 a b c d e = sym (append_assoc a b (c ++ (d ++ e))) ∙ grouped4 (a ++ b
 
 pub grouped6 : (a b c d e f : List ℕ) → a ++ (b ++ (c ++ (d ++ (e ++ f)))) ≡ a ++ b ++ c ++ d ++ e ++ f
 grouped6 a b c d e f = sym (append_assoc a b (c ++ (d ++ (e ++ f)))) ∙ grouped5 (a ++ b) c d e f
-
-pub grouped7 : (a b c d e f g : List ℕ) → a ++ (b ++ (c ++ (d ++ (e ++ (f ++ g))))) ≡ a ++ b ++ c ++ d ++ e ++ f ++ g
-grouped7 a b c d e f g = sym (append_assoc a b (c ++ (d ++ (e ++ (f ++ g))))) ∙ grouped6 (a ++ b) c d e f g

@@ -1,12 +1,11 @@
 -- Words at the front of texts, and blanks before them.
-use Rattle.std.proofs.Common.{◌≡◌, ◌+◌, ℕ, suc, Bool, true, false, ◌&&◌, not, List, [], ◌∷◌, ◌++◌, drop, Some, Ok, None, Err, refl, sym, ap, subst, ◌∙◌, append_assoc, arith}
+use Rattle.std.proofs.Common.{◌≡◌, ◌+◌, ℕ, suc, Bool, true, false, ◌&&◌, List, [], ◌∷◌, ◌++◌, drop, Some, Ok, Err, refl, sym, ap, subst, ◌∙◌, append_assoc, arith}
 use Rattle.std.specs.List.{list_all}
-use Rattle.graphql_tokens.specs.Bytes.{begins, is_blank}
-use Rattle.graphql_tokens.specs.First.{First, FirstReading, first_behind, first_of, read_behind}
+use Rattle.graphql_tokens.specs.Bytes.{is_blank}
+use Rattle.graphql_tokens.specs.First.{First, first_behind, first_of, read_behind}
 use Rattle.graphql_tokens.specs.Ignored.{ignored, one_ignored}
 use Rattle.graphql_tokens.specs.Lexemes.{Reading, lexeme}
 use Rattle.graphql_grammar.specs.Words.{WordView}
-use Rattle.graphql_grammar.specs.WordsOfText.{word_of}
 use Rattle.graphql_round_trip.specs.Printed.{Leads}
 
 pub both_true : (a b : Bool) → (a && b) ≡ true → (a ≡ true) × (b ≡ true)

@@ -1,11 +1,10 @@
 -- Texts of names, nodes and lists between signs.
-use Rattle.std.proofs.Common.{◌≡◌, ℕ, zero, suc, Bool, true, List, [], ◌∷◌, ◌++◌, map, Option, None, Some, refl, ap, ◌∙◌, append_assoc, subst, sym}
+use Rattle.std.proofs.Common.{◌≡◌, ℕ, zero, suc, Bool, true, List, ◌∷◌, ◌++◌, map, None, refl, ap}
 use Rattle.std.specs.Prelude.{replicate}
 use Rattle.std.specs.List.{list_all, AllByRecursion}
 use Rattle.graphql_nodes.specs.Comparing.{bare_name, bare_node}
 use Rattle.graphql_nodes.specs.NameSyntax.{IsName}
 use Rattle.graphql_nodes.specs.NameView.{NameView}
-use Rattle.graphql_nodes.specs.NodeView.{NodeView}
 use Rattle.graphql_nodes.specs.declared.source.FileId.{FileId}
 use Rattle.graphql_tokens.specs.Bytes.{is_blank}
 use Rattle.graphql_tokens.specs.declared.token.TokenKind.{TokenKind}
@@ -13,14 +12,14 @@ use Rattle.graphql_tokens.specs.declared.token.TokenKind.TheVariants as t
 use Rattle.graphql_grammar.specs.declared.fault.FaultKind.TheVariants.{Expected}
 use Rattle.graphql_grammar.specs.declared.fault.Item.TheVariants as i
 use Rattle.graphql_grammar.specs.declared.kind.Kind.{Kind}
-use Rattle.graphql_grammar.specs.Kinds.{Kinds, is_name, only}
-use Rattle.graphql_grammar.specs.Pieces.{Piece, Wrong, seq, sign, sign_or, some}
+use Rattle.graphql_grammar.specs.Kinds.{is_name, only}
+use Rattle.graphql_grammar.specs.Pieces.{Piece, Wrong, sign, sign_or, some}
 use Rattle.graphql_grammar.specs.WordsOfText.{name_kind, word_kind}
 use Rattle.graphql_productions.specs.Nodes.{between, inner, name, name_of, node, node_of}
 use Rattle.graphql_printing.specs.Layout.{enclosed, line_end}
-use Rattle.graphql_round_trip.specs.Printed.{Heads, IsToken, Prints, ReadAs, anything, ends_token}
+use Rattle.graphql_round_trip.specs.Printed.{Heads, IsToken, Prints, anything, ends_token}
 use Rattle.graphql_round_trip.proofs.Grouping.{grouped3, regrouped}
-use Rattle.graphql_round_trip.proofs.PieceTexts.{bare_word, before_blank, behind_blank, both_seen, located_text, mapped_text, seq_text, sign_or_text, some_text, there, token_heads, word_text}
+use Rattle.graphql_round_trip.proofs.PieceTexts.{before_blank, behind_blank, located_text, mapped_text, seq_text, sign_or_text, some_text, there, token_heads, word_text}
 use Rattle.graphql_round_trip.proofs.TokenTexts.{kind_of_name, name_is_token, name_unblank, names, word_is_token}
 
 -- what anything may stand behind, these bytes may stand behind

@@ -1,19 +1,19 @@
 -- Texts of what a grammar is made of.
-use Rattle.std.proofs.Common.{◌≡◌, arith, length, ℕ, suc, Bool, true, false, not, ◌&&◌, List, [], ◌∷◌, ◌++◌, map, option_map, Option, None, Some, Ok, refl, sym, ap, subst, ◌∙◌, append_assoc}
-use Rattle.std.specs.List.{list_all, AllByRecursion, flat_map}
+use Rattle.std.proofs.Common.{◌≡◌, arith, length, ℕ, Bool, true, false, not, List, [], ◌∷◌, ◌++◌, map, option_map, None, Some, Ok, refl, sym, ap, subst, ◌∙◌, append_assoc}
+use Rattle.std.specs.List.{list_all, AllByRecursion}
 use Rattle.std.proofs.lemmas.List.{length-append}
 use Rattle.graphql_tokens.specs.Bytes.{begins, is_blank}
 use Rattle.graphql_tokens.specs.First.{First, first_of}
 use Rattle.graphql_tokens.specs.declared.token.TokenKind.{TokenKind}
 use Rattle.graphql_grammar.specs.declared.kind.Kind.{Kind}
 use Rattle.graphql_grammar.specs.Kinds.{Kinds, only}
-use Rattle.graphql_grammar.specs.Pieces.{Piece, Wrong, branch, filtered, headed, item, listed, located, many, mapped, optional, seq, sign, sign_or, some, word}
+use Rattle.graphql_grammar.specs.Pieces.{Piece, Wrong, branch, filtered, headed, item, listed, located, many, mapped, optional, seq, sign_or, some, word}
 use Rattle.graphql_grammar.specs.Spelling.{spells_by}
 use Rattle.graphql_grammar.specs.Words.{WordView, ended, starting}
 use Rattle.graphql_grammar.specs.WordsOfText.{word_kind, word_of}
 use Rattle.graphql_grammar.proofs.KindLemmas.{only_kind}
 use Rattle.graphql_printing.specs.Layout.{each_behind, separated}
-use Rattle.graphql_round_trip.specs.Printed.{Heads, IsToken, Leads, Prints, ReadAs, anything, ends_token}
+use Rattle.graphql_round_trip.specs.Printed.{Heads, IsToken, Leads, Prints}
 use Rattle.graphql_round_trip.proofs.LeadLaws.{behind_blanks, both_true, leads_on, passed_blanks}
 
 -- ---- one word
@@ -207,7 +207,8 @@ only_blanks (c ∷ cs) (b ∷ bs) rest blank same solid =
     apart true e h = absurd cc
     apart false e h = absurd cc
 
-same_first : (f g : First) (text : List ℕ) → first_of text ≡ Ok (Some f) → first_of text ≡ Ok (Some g) → f ≡ g
+-- a text has one first token
+pub same_first : (f g : First) (text : List ℕ) → first_of text ≡ Ok (Some f) → first_of text ≡ Ok (Some g) → f ≡ g
 same_first f g text a b = cc
 
 pub branch_text : {A B : Type 0} {first more : Kinds} {see : A → B} {y : B} {text : List ℕ} {ends : List ℕ → Bool} (pick : Kind → Piece A) (wrong : Wrong) (kinds : Kinds) →

@@ -1,5 +1,5 @@
 -- What a text is read as is spelled by the words of the whole text.
-use Rattle.std.proofs.Common.{◌≡◌, ◌≤◌, ℕ, Bool, true, List, [], ◌++◌, length, refl, sym, subst, append-nil, arith}
+use Rattle.std.proofs.Common.{◌≡◌, ◌≤◌, ℕ, Bool, true, List, [], length, sym, subst, append-nil, arith}
 use Rattle.graphql_grammar.specs.Pieces.{Piece}
 use Rattle.graphql_grammar.specs.Words.{WordView}
 use Rattle.graphql_grammar.specs.WordsOfText.{words_of}

@@ -1,19 +1,18 @@
 -- Texts that are one token: GraphQL specification of October 2021, sections 2.1.8 and 2.1.9.
-use Rattle.std.proofs.Common.{◌≡◌, ◌+◌, ◌≤◌, ℕ, suc, Bool, true, false, ◌||◌, ◌&&◌, not, cond, List, [], ◌∷◌, ◌++◌, length, take, drop, Some, None, Ok, refl, sym, ap, subst, ◌∙◌, arith, inl, inr}
+use Rattle.std.proofs.Common.{◌≡◌, ℕ, Bool, true, false, ◌||◌, ◌&&◌, not, cond, List, [], ◌∷◌, ◌++◌, length, take, drop, Some, Ok, refl, ap, ◌∙◌, arith, inl, inr}
 use Rattle.std.specs.Prelude.{nat_eq, codes, All}
 use Rattle.std.specs.List.{list_all, prefix_len}
-use Rattle.std.specs.Char.{is_ascii_digit}
 use Rattle.std.proofs.lemmas.List.Elements.{All-head, All-tail}
 use Rattle.graphql_nodes.specs.NameSyntax.{IsName, IsNameContinue, IsNameStart}
 use Rattle.graphql_tokens.specs.Bytes.{begins, is_blank, is_name_byte, is_name_start}
-use Rattle.graphql_tokens.specs.First.{First, first_of, read_behind}
+use Rattle.graphql_tokens.specs.First.{first_of, read_behind}
 use Rattle.graphql_tokens.specs.Ignored.{begins_with_mark, ignored, one_ignored}
 use Rattle.graphql_tokens.specs.Lexemes.{is_number_start, block_string_token, first_sign, is_spread, lexeme, number_token, sign_kind, sign_token, string_token, token}
 use Rattle.graphql_tokens.specs.Numbers.{number}
 use Rattle.graphql_tokens.specs.Strings.{begins_with_quotes}
 use Rattle.graphql_tokens.specs.declared.token.TokenKind.{TokenKind}
 use Rattle.graphql_tokens.specs.declared.token.TokenKind.TheVariants as t
-use Rattle.graphql_grammar.specs.Kinds.{is_name, Kinds}
+use Rattle.graphql_grammar.specs.Kinds.{is_name}
 use Rattle.graphql_grammar.specs.WordsOfText.{name_kind}
 use Rattle.graphql_grammar.proofs.KeywordLemmas.{name_passes}
 use Rattle.graphql_round_trip.specs.Printed.{IsToken, anything, ends_token}

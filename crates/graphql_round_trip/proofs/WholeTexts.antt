@@ -1,12 +1,12 @@
 -- The words of a whole text, where words that come first in it leave nothing.
-use Rattle.std.proofs.Common.{◌≡◌, ◌≢◌, ◌+◌, ◌-◌, ◌<◌, ◌≤◌, ℕ, zero, suc, Bool, true, false, ◌&&◌, List, [], ◌∷◌, ◌++◌, length, drop, None, Some, Ok, refl, sym, ap, ◌∙◌, append-nil, arith}
+use Rattle.std.proofs.Common.{◌≡◌, ◌≢◌, ◌-◌, ◌≤◌, ℕ, suc, true, List, [], ◌∷◌, ◌++◌, length, drop, None, Ok, refl, sym, ap, ◌∙◌, append-nil, arith}
 use Rattle.std.specs.List.{list_all}
 use Rattle.graphql_tokens.specs.Bytes.{is_blank}
-use Rattle.graphql_tokens.specs.First.{First, FirstReading, first_behind, first_of}
-use Rattle.graphql_tokens.specs.Ignored.{ignored, one_ignored}
+use Rattle.graphql_tokens.specs.First.{first_behind, first_of}
+use Rattle.graphql_tokens.specs.Ignored.{ignored}
 use Rattle.graphql_tokens.proofs.FirstLemmas.{shorter}
 use Rattle.graphql_grammar.specs.Words.{WordView}
-use Rattle.graphql_grammar.specs.WordsOfText.{word_of, words_at, words_of}
+use Rattle.graphql_grammar.specs.WordsOfText.{words_at}
 use Rattle.graphql_grammar.proofs.WordLemmas.{next_left, none_left}
 use Rattle.graphql_round_trip.specs.Printed.{Leads}
 use Rattle.graphql_round_trip.proofs.LeadLaws.{both_true, one_blank}

@@ -1,5 +1,5 @@
 //! Laws of what is printed: it is read as an equal tree, and printed as it was.
-ghost use Rattle.std.specs.Prelude.{◌≡◌, ◌≤◌, ℕ, Bool, List, length, map};
+ghost use Rattle.std.specs.Prelude.{◌≡◌, ◌≤◌, ℕ, suc, Bool, List, length, map};
 ghost use Rattle.graphql_nodes.specs.Comparing.{bare_node};
 ghost use Rattle.graphql_nodes.specs.NodeView.{NodeView};
 ghost use Rattle.graphql_nodes.specs.declared.source.FileId.{FileId};
@@ -42,9 +42,13 @@ pub fn equal_trees_have_one_text()
 {}
 
 /// What a text was read as is printed as a text that is read as an equal tree, in any file, where as many
-/// signs may be open as before, and as many tokens are allowed as it has bytes; and whatever it is read as is
-/// printed as the same text: formatting keeps what a text means, and formatting twice is formatting once.
+/// signs may be open as before (of selections one more, since they are printed in braces), and as many tokens
+/// are allowed as it has bytes. And whatever document it is read as is printed as the same text: formatting
+/// keeps what a text means, and formatting twice is formatting once.
 pub fn formatting_keeps_the_tree()
-    ensures again { (file other : FileId) (depth allowed enough : ℕ) (text : List ℕ) (x : List Definition) → spells_document file depth x (words_of allowed text) → length (definitions_text x) ≤ enough → SpellEqual (spells_document other depth) (map bare_definition) x (words_of enough (definitions_text x)) }
+    ensures document { (file other : FileId) (depth allowed enough : ℕ) (text : List ℕ) (x : List Definition) → spells_document file depth x (words_of allowed text) → length (definitions_text x) ≤ enough → SpellEqual (spells_document other depth) (map bare_definition) x (words_of enough (definitions_text x)) }
     ensures once { (file other : FileId) (depth allowed enough : ℕ) (text : List ℕ) (x y : List Definition) → spells_document file depth x (words_of allowed text) → length (definitions_text x) ≤ enough → spells_document other depth y (words_of enough (definitions_text x)) → definitions_text y ≡ definitions_text x }
+    ensures selections { (file other : FileId) (depth allowed enough : ℕ) (text : List ℕ) (x : List Selection) → (selections file depth).spells x (words_of allowed text) → length (selections_text 0 x) ≤ enough → SpellEqual (selections other (suc depth)).spells (map bare_selection) x (words_of enough (selections_text 0 x)) }
+    ensures type_reference { (file other : FileId) (depth allowed enough : ℕ) (text : List ℕ) (x : TypeReference) → (type file depth).spells x (words_of allowed text) → length (type_text x) ≤ enough → SpellEqual (type other depth).spells bare_type x (words_of enough (type_text x)) }
+    ensures value { (file other : FileId) (constant : Bool) (depth allowed enough : ℕ) (text : List ℕ) (x : NodeView Value) → (value_node file constant depth).spells x (words_of allowed text) → length (value_text x.value) ≤ enough → SpellEqual (value_node other constant depth).spells (bare_node bare_value) x (words_of enough (value_text x.value)) }
 {}
