@@ -6,7 +6,7 @@ use crate::failure::Failure;
 use apollo_compiler::building::build_schema;
 use apollo_compiler::compile_options::CompileOptions;
 use apollo_compiler::document_building::build_executable_document;
-use apollo_compiler::text::{ParseOptions, parse_document};
+use apollo_compiler::text::{ParseOptions, document_text, parse_document};
 use apollo_compiler::{FileId, SourceFile};
 use apollo_document::Faults as DocumentFaults;
 use apollo_executable::document::ExecutableDocument;
@@ -121,6 +121,11 @@ impl Bench {
     /// The document of a file of GraphQL text.
     pub fn parse(&self, file: &Shared<SourceFile>) -> Result<Document, Failure> {
         Ok(parse_document(self.alloc, FileId(1), file, ParseOptions::new())?)
+    }
+
+    /// The GraphQL text of a document.
+    pub fn print(&self, document: &Document) -> Result<String, Failure> {
+        Ok(document_text(self.alloc, document)?)
     }
 
     /// The typed document of documents over a schema.

@@ -18,7 +18,7 @@ pub enum Work {
     LeafFaults,
     /// Documents compiled in one call, and beside it each phase of that.
     Compilation,
-    /// GraphQL text read, and what it is read as freed.
+    /// GraphQL text read, what was read written as GraphQL text, and both freed.
     Text,
 }
 
@@ -67,7 +67,7 @@ fn read_work(word: &str) -> Option<(Work, &'static str)> {
         "walk" => Some((Work::Walks, "root-walks all-walks")),
         "leaf" => Some((Work::LeafFaults, "leaf_faults")),
         "compile" => Some((Work::Compilation, COMPILATION)),
-        "text" => Some((Work::Text, "parse drop")),
+        "text" => Some((Work::Text, "parse print drop")),
         _ => None,
     }
 }

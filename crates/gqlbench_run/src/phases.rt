@@ -34,8 +34,11 @@ pub fn time<C: Clock>(bench: &Bench, clock: &C, ready: &Ready, errors: &mut impl
         watch.tell(done + 1, errors)?;
     }
     watch.push_times(&mut items)?;
-    if let Ready::Text(file) = ready {
-        watch.push_rate(&mut items, "parse", file.text.len())?;
+    if let Ready::Text(_) = ready {
+        let read = (" bytes read a second\n", "bytes_read_per_second");
+        let written = (" bytes written a second\n", "bytes_written_per_second");
+        watch.push_rate(&mut items, "parse", "bytes", read)?;
+        watch.push_rate(&mut items, "print", "bytes_written", written)?;
     }
     Ok(items)
 }
@@ -167,11 +170,17 @@ impl<C: Clock> Stopwatch<'_, C> {
         let began = self.now()?;
         let read = self.bench.parse(file)?;
         let read = self.took("parse", began, read)?;
-        let definitions = Count(read.definitions.len());
-        self.time_drop(read)?;
-        let bytes = (" bytes, ", "bytes", Count(file.text.len()));
-        let definitions = (" definitions\n", "definitions", definitions);
-        Ok([bytes, definitions].to_vec(self.bench.alloc)?)
+        let began = self.now()?;
+        let printed = self.bench.print(&read)?;
+        let printed = self.took("print", began, printed)?;
+        let (definitions, written) = (Count(read.definitions.len()), Count(printed.len()));
+        self.time_drop((read, printed))?;
+        let counts = [
+            (" bytes, ", "bytes", Count(file.text.len())),
+            (" definitions, ", "definitions", definitions),
+            (" bytes written\n", "bytes_written", written),
+        ];
+        Ok(counts.to_vec(self.bench.alloc)?)
     }
 
     /// The whole call, and beside it each phase of it, with all that these give kept.

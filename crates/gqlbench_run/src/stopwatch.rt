@@ -73,19 +73,21 @@ impl<'a, C: Clock> Stopwatch<'a, C> {
         of_phase.map(|time| time.1).collect(self.bench.alloc)
     }
 
-    /// Adds how many bytes a second a phase went over that took these bytes, by its least time.
+    /// Adds how many bytes a second a phase went over, by its least time: as many as were counted under this key. The
+    /// words stand behind them, and then comes their own key.
     pub fn push_rate(
         &self,
         items: &mut Vec<Item>,
         phase: Phase,
-        bytes: usize,
+        counted: &str,
+        (words, key): (&'static str, &'static str),
     ) -> Result<(), AllocError> {
         let mut times = self.times_of(phase)?;
         let (least, _, _) = summary(times.as_mut_slice()).unwrap_or((0, 0, 0));
-        let all = (bytes as u128).saturating_mul(NANOSECONDS);
+        let all = (count_of(items.as_slice(), counted) as u128).saturating_mul(NANOSECONDS);
         if let Some(rate) = all.checked_div(u128::from(least)) {
             let rate = Value::Count(usize::try_from(rate).unwrap_or(usize::MAX));
-            items.push((" bytes a second\n", "bytes_per_second", rate))?;
+            items.push((words, key, rate))?;
         }
         Ok(())
     }
@@ -106,6 +108,14 @@ impl<'a, C: Clock> Stopwatch<'a, C> {
             }
         }
         Ok(())
+    }
+}
+
+/// The count under a key, or 0 where there is none.
+fn count_of(items: &[Item], key: &str) -> usize {
+    match items.iter().find(|item| item.1 == key) {
+        Some((_, _, Value::Count(count))) => *count,
+        _ => 0,
     }
 }
 
