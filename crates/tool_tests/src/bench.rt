@@ -253,16 +253,20 @@ drop           min            7 median            7 mean            7 ns
         &["2"],
         TEXT,
         "\
-29 bytes, 2 definitions
+29 bytes, 2 definitions, 32 bytes written
 parse          min            7 median            7 mean            7 ns
+print          min            7 median            7 mean            7 ns
 drop           min            7 median            7 mean            7 ns
-4142857142 bytes a second
+4142857142 bytes read a second
+4571428571 bytes written a second
 ",
         "\
-{\"bytes\":29,\"definitions\":2}
+{\"bytes\":29,\"definitions\":2,\"bytes_written\":32}
 {\"phase\":\"parse\",\"least\":7,\"median\":7,\"mean\":7}
+{\"phase\":\"print\",\"least\":7,\"median\":7,\"mean\":7}
 {\"phase\":\"drop\",\"least\":7,\"median\":7,\"mean\":7}
-{\"bytes_per_second\":4142857142}
+{\"bytes_read_per_second\":4142857142}
+{\"bytes_written_per_second\":4571428571}
 ",
     ),
 ];
