@@ -52,6 +52,8 @@ pub enum Scenario {
     CutCoordinates,
     /// GraphQL text that is read.
     Texts(texts::Form),
+    /// Documents that are printed as GraphQL text.
+    Printed,
     /// `compile`, of documents of the type system.
     CompileSchemas,
     /// `compile`, of documents of both sorts.
@@ -59,7 +61,7 @@ pub enum Scenario {
 }
 
 /// All scenarios, with their names.
-pub static SCENARIOS: [(&str, Scenario); 60] = [
+pub static SCENARIOS: [(&str, Scenario); 61] = [
     ("name-new", Scenario::Names),
     ("same-location", Scenario::SameLocation),
     ("meta-fields", Scenario::MetaFields),
@@ -159,6 +161,7 @@ pub static SCENARIOS: [(&str, Scenario); 60] = [
     ("parse-selections", Scenario::Texts(texts::Form::Selections)),
     ("parse-type", Scenario::Texts(texts::Form::Type)),
     ("parse-value", Scenario::Texts(texts::Form::Value)),
+    ("document-text", Scenario::Printed),
     ("compile-schemas", Scenario::CompileSchemas),
     ("compile-both", Scenario::CompileBoth),
     ("leaf-faults", Scenario::Built(OfBuilt::Leaves)),
@@ -205,6 +208,7 @@ impl Scenario {
             Scenario::Coordinates(form) => coordinates::read_all(alloc, text, form),
             Scenario::CutCoordinates => coordinates::cut(alloc, text),
             Scenario::Texts(form) => texts::read_all(alloc, text, form),
+            Scenario::Printed => texts::print_all(alloc, text),
             Scenario::CompileSchemas => compiling::tell_schemas(alloc, text, input),
             Scenario::CompileBoth => compiling::tell_documents(alloc, text, input),
         }

@@ -1,8 +1,8 @@
-//! GraphQL text that is read, and GraphQL text that is refused.
+//! GraphQL text that is read, GraphQL text that is refused, and documents that are printed as GraphQL text.
 
 use apollo_compiler::text::{
-    ParseError, ParseErrorKind, ParseOptions, parse_document, parse_selections, parse_type,
-    parse_value,
+    ParseError, ParseErrorKind, ParseOptions, document_text, parse_document, parse_selections,
+    parse_type, parse_value,
 };
 use apollo_compiler::{Document, FileId, SourceFile};
 use gqlrefusals_values::stop::{Stop, Told, tell_line};
@@ -62,6 +62,9 @@ static DOCUMENTS: [&str; 13] = [
     "\"d\" directive @d on FIELD | NOWHERE",
     "\"d\" query { a }",
 ];
+
+/// Documents with all that can be printed.
+static PRINTED: [&str; 3] = [TYPE_SYSTEM, EXTENSIONS, EXECUTABLE];
 
 static SELECTIONS: [&str; 4] = [
     "id organization { id }",
@@ -139,6 +142,26 @@ fn read_as(alloc: Global, text: &mut String, input: &str, form: Form) -> Told {
 pub fn read_all(alloc: Global, text: &mut String, form: Form) -> Told {
     for input in form.texts() {
         read_as(alloc, text, *input, form)?;
+    }
+    Ok(())
+}
+
+/// Tells what a document that was read is printed as.
+fn tell_printed(alloc: Global, text: &mut String, read: Result<Document, ParseError>) -> Told {
+    match read {
+        Ok(document) => {
+            let printed = document_text(alloc, &document)?;
+            Ok(write!(text, "{printed}\n")?)
+        }
+        Err(error) if error.kind == ParseErrorKind::Memory => Err(Stop::Memory),
+        Err(error) => Ok(write!(text, "{error}\n")?),
+    }
+}
+
+/// Reads each document that is printed, and prints it.
+pub fn print_all(alloc: Global, text: &mut String) -> Told {
+    for input in &PRINTED {
+        tell_printed(alloc, text, document(alloc, *input))?;
     }
     Ok(())
 }
