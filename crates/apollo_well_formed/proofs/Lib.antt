@@ -1,0 +1,7 @@
+mod Lists
+mod Items
+mod Components
+mod Written
+mod Meant
+mod WholeList
+mod WriteOut
