@@ -5,3 +5,4 @@ mod Written
 mod Meant
 mod WholeList
 mod WriteOut
+mod BuiltIn
