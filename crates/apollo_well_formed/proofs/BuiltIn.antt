@@ -1,5 +1,5 @@
 -- The built-in definitions are well-formed: their parts are tested, and the tests computed.
-use Rattle.std.proofs.Common.{◌≡◌, ◌≢◌, ℕ, Bool, true, false, cond, not, ◌&&◌, ◌==◌, List, [], ◌∷◌, take, length, refl, sym, ap, ◌∙◌, true≢false, arith}
+use Rattle.std.proofs.Common.{◌≡◌, ◌≢◌, ℕ, Bool, true, false, not, ◌&&◌, ◌==◌, List, [], ◌∷◌, take, length, refl, sym, ap, ◌∙◌, true≢false, arith}
 use Rattle.std.specs.Prelude.{codes}
 use Rattle.std.specs.List.{AllByRecursion, list_all, prefix_len}
 use Rattle.std.proofs.Math.Seq.{take-length}
@@ -9,16 +9,14 @@ use Rattle.graphql_nodes.specs.NameView.{NameView}
 use Rattle.graphql_nodes.specs.SameText.{same}
 use Rattle.graphql_nodes.proofs.Texts.{same-is}
 use Rattle.graphql_ast.specs.declared.definition.Definition.{Definition}
-use Rattle.graphql_ast.specs.declared.type_reference.Type.{«Type» as TypeReference, Named, NonNullList, NonNullNamed, fold-roll-Type, roll-Type}
+use Rattle.graphql_ast.specs.declared.type_reference.Type.{«Type» as TypeReference, NonNullList, NonNullNamed, fold-roll-Type, roll-Type}
 use Rattle.graphql_ast.specs.declared.type_reference.Type.TheOpen.{Type-F}
 use Rattle.graphql_ast.specs.declared.value.Value.{Boolean, «String» as Text, fold-roll-Value, roll-Value}
 use Rattle.graphql_ast.specs.declared.value.Value.TheOpen.{Value-F}
 use Rattle.graphql_tokens.specs.Bytes.{begins, is_name_byte, is_name_start}
-use Rattle.graphql_tokens.specs.declared.token.TokenKind.TheVariants as t
-use Rattle.graphql_grammar.specs.TextsOfWords.{IsTextOf}
 use Rattle.graphql_productions.specs.DefinitionTreeParts.{definition_parts}
-use Rattle.graphql_productions.specs.TreeParts.{Description, EnumName, Float, FragmentName, Int, Name, Node, TreePart, Variable, Wanted, name_parts, type_parts, type_step, value_parts, value_step}
-use Rattle.graphql_productions.specs.WellFormed.{IsWellFormed, IsWellFormedPart}
+use Rattle.graphql_productions.specs.TreeParts.{Description, EnumName, Name, Node, TreePart, Wanted, name_parts, type_parts, type_step, value_parts, value_step}
+use Rattle.graphql_productions.specs.WellFormed.{IsWellFormedPart}
 use Rattle.graphql_productions.proofs.NameTexts.{name_text}
 use Rattle.graphql_productions.proofs.RolledParts.{list_type_rolled, named_rolled}
 unfoldable use Rattle.apollo_built_in.specs.BuiltInTable.{built_in_definitions}

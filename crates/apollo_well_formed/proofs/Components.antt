@@ -1,5 +1,5 @@
 -- Well-formed components, those that a type of each kind and the schema have, and what they make together.
-use Rattle.std.proofs.Common.{◌≡◌, Bool, true, false, not, ◌&&◌, List, [], ◌∷◌, map, filter, refl}
+use Rattle.std.proofs.Common.{◌≡◌, Bool, true, false, not, ◌&&◌, List, ◌∷◌, refl}
 use Rattle.std.specs.List.{AllByRecursion, filter_map}
 use Rattle.std.specs.Option.{IfSome}
 use Rattle.graphql_nodes.specs.declared.type_kind.TypeKind.{TypeKind}

@@ -1,5 +1,5 @@
 -- What well-formed definitions say of types and of the schema, sort by sort.
-use Rattle.std.proofs.Common.{Bool, true, List, [], ◌∷◌, ◌++◌, Option, None, Some}
+use Rattle.std.proofs.Common.{Bool, true, List, [], ◌∷◌, ◌++◌, Option, None}
 use Rattle.std.specs.List.{AllByRecursion, filter_map, flat_map}
 use Rattle.std.specs.Option.{IfSome}
 use Rattle.graphql_nodes.specs.NameSyntax.{IsName}
@@ -9,19 +9,18 @@ use Rattle.graphql_nodes.specs.declared.source.SourceSpan.{SourceSpan}
 use Rattle.graphql_ast.specs.declared.definition.Definition.{Definition}
 use Rattle.graphql_ast.specs.declared.definition.Definition.TheVariants as d
 use Rattle.graphql_ast.specs.declared.directive.DirectiveList.{DirectiveList}
-use Rattle.graphql_ast.specs.declared.type_system.DirectiveDefinition.{DirectiveDefinition}
 use Rattle.graphql_ast.specs.declared.type_system.EnumValueDefinition.{EnumValueDefinition}
 use Rattle.graphql_ast.specs.declared.type_system.FieldDefinition.{FieldDefinition}
 use Rattle.graphql_ast.specs.declared.type_system.InputValueDefinition.{InputValueDefinition}
-use Rattle.graphql_productions.specs.DefinitionTreeParts.{definition_parts, description_parts, enum_value_parts, field_parts, fields_parts, input_value_parts, names_parts, root_parts}
+use Rattle.graphql_productions.specs.DefinitionTreeParts.{description_parts, enum_value_parts, field_parts, fields_parts, input_value_parts, names_parts, root_parts}
 use Rattle.graphql_productions.specs.TreeParts.{Name, TreePart, directive_parts, directives_parts, name_parts, node_parts}
 use Rattle.graphql_productions.specs.WellFormed.{IsWellFormed, IsWellFormedPart}
 use Rattle.apollo_meaning.specs.Directives.{directive_definitions, directive_part}
-use Rattle.apollo_meaning.specs.Items.ListItems.{Added, Defined, Extended, ListItem, Other, SchemaDefined, SchemaExtended, added_item, added_items, defined_part, defined_schema, extended_part, extended_schema, ignorable_if, item_of}
-use Rattle.apollo_meaning.specs.Items.Parts.{EnumBody, InputObjectBody, InterfaceBody, ObjectBody, ScalarBody, SchemaPart, TypeBody, TypePart, UnionBody, part_at}
+use Rattle.apollo_meaning.specs.Items.ListItems.{Added, Defined, Extended, ListItem, Other, SchemaDefined, SchemaExtended, added_items, defined_part, defined_schema, extended_part, extended_schema, ignorable_if, item_of}
+use Rattle.apollo_meaning.specs.Items.Parts.{EnumBody, InputObjectBody, InterfaceBody, ObjectBody, ScalarBody, SchemaPart, TypePart, UnionBody, part_at}
 use Rattle.apollo_meaning.specs.Types.Components.{body_fields, body_input_fields, body_interfaces, body_members, body_values}
 use Rattle.apollo_well_formed.specs.WellFormedLists.{AreWellFormed, IsWellFormedDefinition}
-use Rattle.apollo_well_formed.proofs.Lists.{each-chosen, each-from_flat_map, each-map, each-split}
+use Rattle.apollo_well_formed.proofs.Lists.{each-chosen, each-from_flat_map, each-split}
 
 -- each of these could have come of a text
 abbrev pub EachWellFormed : {A : Type 0} → (A → List TreePart) → List A → Type 0

@@ -6,3 +6,4 @@ mod Meant
 mod WholeList
 mod WriteOut
 mod BuiltIn
+mod Documents

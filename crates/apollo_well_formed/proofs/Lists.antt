@@ -1,9 +1,9 @@
 -- What holds of each element of a list, where the list is joined, chosen from or looked up.
-use Rattle.std.proofs.Common.{◌≡◌, ◌||◌, ℕ, Bool, true, false, cond, List, [], ◌∷◌, ◌++◌, Option, None, Some, map, filter, find, refl, sym, subst, slice_get, true≢false}
-use Rattle.std.specs.List.{AllByRecursion, IsDistinct, cons_option, filter_map, flat_map, last_or, list_any}
-use Rattle.std.specs.Option.{IfSome, option_map_or, option_or}
+use Rattle.std.proofs.Common.{◌≡◌, ◌||◌, ℕ, Bool, true, false, cond, List, [], ◌∷◌, ◌++◌, Option, None, Some, map, filter, find, sym, subst, slice_get, true≢false}
+use Rattle.std.specs.List.{AllByRecursion, cons_option, filter_map, flat_map, last_or, list_any}
+use Rattle.std.specs.Option.{IfSome, option_or}
 use Rattle.graphql_nodes.specs.NameView.{NameView}
-use Rattle.graphql_nodes.specs.SameText.{by_text, same, same_text}
+use Rattle.graphql_nodes.specs.SameText.{by_text, same_text}
 use Rattle.graphql_nodes.specs.Tables.{HasUniqueKeys, keys_of, lookup, values_of}
 use Rattle.apollo_component.proofs.FirstOfEachLemmas.{name_laws}
 use Rattle.apollo_component.proofs.Lists.Each.{each-append, each-filter, each-weaken}

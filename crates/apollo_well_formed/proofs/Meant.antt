@@ -1,5 +1,5 @@
 -- The components of types, and of the schema's definition, that well-formed parts make.
-use Rattle.std.proofs.Common.{◌≡◌, Bool, true, List, [], ◌∷◌, ◌++◌, Option, None, Some, map, find, refl, option_map}
+use Rattle.std.proofs.Common.{◌≡◌, Bool, true, List, [], ◌++◌, Option, None, Some, map, find, refl, option_map}
 use Rattle.std.specs.List.{AllByRecursion, cons_option, flat_map}
 use Rattle.std.specs.Option.{IfSome}
 use Rattle.graphql_nodes.specs.NameSyntax.{IsName}
@@ -28,9 +28,8 @@ use Rattle.apollo_types.specs.SchemaDefinitionWriteOut.{schema_components}
 use Rattle.apollo_types.specs.SchemaRoots.{named_roots}
 use Rattle.apollo_types.specs.TypeWriteOut.{type_components, type_kind, type_name}
 use Rattle.apollo_types.specs.declared.extended_type.ExtendedType.{ExtendedType}
-use Rattle.apollo_types.specs.declared.schema_definition.SchemaDefinition.{SchemaDefinition}
 use Rattle.apollo_meaning.specs.Items.Parts.{EnumBody, InputObjectBody, InterfaceBody, ObjectBody, ScalarBody, SchemaPart, TypeBody, TypePart, UnionBody}
-use Rattle.apollo_meaning.specs.Schema.Definition.{SourcedSchema, root_in, roots_of, same_operation, schema_definition_of, schema_directives_of}
+use Rattle.apollo_meaning.specs.Schema.Definition.{SourcedSchema, root_in, roots_of, same_operation, schema_definition_of}
 use Rattle.apollo_meaning.specs.Types.Components.{Sourced, body_fields, body_input_fields, body_interfaces, body_members, body_values, component, component_name, distinct_entries, distinct_names, field_entry, input_field_entry, same_component_name, sourced_directives, value_entry}
 use Rattle.apollo_meaning.specs.Types.Meaning.{type_of_kind}
 use Rattle.apollo_well_formed.proofs.Lists.{each-flat_map, each-map, if-found}

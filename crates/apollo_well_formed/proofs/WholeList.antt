@@ -1,7 +1,7 @@
 -- A list of well-formed entries is completed with well-formed entries.
-use Rattle.std.proofs.Common.{ℕ, Bool, true, false, cond, List, [], ◌∷◌, ◌++◌, Option, None, Some, refl}
+use Rattle.std.proofs.Common.{ℕ, Bool, true, false, cond, List, [], ◌∷◌, Option, None, Some, refl}
 use Rattle.std.specs.Prelude.{codes}
-use Rattle.std.specs.List.{AllByRecursion, flat_map}
+use Rattle.std.specs.List.{AllByRecursion}
 use Rattle.std.specs.Option.{option_map_or}
 use Rattle.graphql_nodes.specs.NameSyntax.{IsName}
 use Rattle.graphql_nodes.specs.OperationTexts.{default_type_text}
@@ -14,12 +14,11 @@ use Rattle.graphql_productions.specs.WellFormed.{IsWellFormed}
 use Rattle.graphql_productions.proofs.NameTexts.{name_text}
 use Rattle.apollo_component.proofs.Lists.Each.{each-append}
 use Rattle.apollo_meaning.specs.Completion.Adoption.{adopted, adopted_by, adopted_part, empty_body, extended_names, orphans_of, with_adopted}
-use Rattle.apollo_meaning.specs.Completion.ImpliedSchema.{completed, default_root, implicit_root, implicit_roots, implied_schema, is_object_name, schema_for}
-use Rattle.apollo_meaning.specs.Items.ListItems.{Added, ListItem, added_items, extended_part}
+use Rattle.apollo_meaning.specs.Completion.ImpliedSchema.{default_root, implicit_root, implicit_roots, implied_schema, is_object_name, schema_for}
+use Rattle.apollo_meaning.specs.Items.ListItems.{Added, ListItem, added_items}
 use Rattle.apollo_meaning.specs.Items.Named.{extensions_of, first, first_schema, schema_extensions}
 use Rattle.apollo_meaning.specs.Items.Parts.{EnumBody, InputObjectBody, InterfaceBody, ObjectBody, Root, ScalarBody, SchemaPart, TypeBody, TypePart, UnionBody, key_of, roots_in}
 use Rattle.apollo_meaning.specs.Schema.Whole.{whole}
-use Rattle.apollo_meaning.specs.Types.Components.{body_fields, body_input_fields, body_interfaces, body_members, body_values}
 use Rattle.apollo_well_formed.specs.WellFormedLists.{AreWellFormed}
 use Rattle.apollo_well_formed.proofs.Lists.{each-flat_map, each-of, each-passing}
 use Rattle.apollo_well_formed.proofs.Items.{EachWellFormed, IsWellFormedItem, IsWellFormedType, each-added, each-extended}

@@ -1,7 +1,7 @@
 -- What the schema of a well-formed list is written out as: the schema's definition, directive definitions and types.
-use Rattle.std.proofs.Common.{◌≡◌, ℕ, Bool, true, false, cond, ◌&&◌, ◌||◌, List, [], ◌∷◌, ◌++◌, Option, None, Some, map, filter, refl, sym, ap, subst, ◌∙◌, drop, option_map}
-use Rattle.std.specs.List.{AllByRecursion, IsDistinct, filter_map, find, flat_map, last_or, list_any}
-use Rattle.std.specs.Option.{IfSome, option_map_or, unwrap_or}
+use Rattle.std.proofs.Common.{◌≡◌, ℕ, Bool, true, false, cond, ◌&&◌, List, ◌++◌, Option, None, Some, map, filter, refl, sym, subst, ◌∙◌, drop, option_map}
+use Rattle.std.specs.List.{AllByRecursion, IsDistinct, filter_map, find, flat_map, last_or}
+use Rattle.std.specs.Option.{IfSome, unwrap_or}
 use Rattle.std.proofs.lemmas.Bool.{and_parts, or_right}
 use Rattle.std.proofs.lemmas.List.Folds.{list_any-append}
 use Rattle.graphql_nodes.specs.BuiltIn.{is_built_in}
@@ -9,18 +9,16 @@ use Rattle.graphql_nodes.specs.NameView.{NameView}
 use Rattle.graphql_nodes.specs.NodeView.{NodeView}
 use Rattle.graphql_nodes.specs.SameText.{same, same_text}
 use Rattle.graphql_nodes.specs.Tables.{HasUniqueKeys, values_of}
-use Rattle.graphql_nodes.specs.declared.operation_type.OperationType.{OperationType}
 use Rattle.graphql_ast.specs.declared.definition.Definition.TheVariants as ast
 use Rattle.graphql_ast.specs.declared.type_system.DirectiveDefinition.{DirectiveDefinition}
 use Rattle.apollo_component.specs.Extensions.{same_origin}
-use Rattle.apollo_component.specs.declared.component.ComponentName.{ComponentName}
 use Rattle.apollo_component.specs.declared.extension.ComponentOrigin.TheVariants.{Definition}
 use Rattle.apollo_component.proofs.FirstOfEachLemmas.{first_of_each-map}
 use Rattle.apollo_component.proofs.Lists.Cases.{list_any-map}
 use Rattle.apollo_component.proofs.Lists.Each.{each-append, each-weaken}
 use Rattle.apollo_component.proofs.Tabled.{first_of_each-distinct}
 use Rattle.apollo_types.specs.Components.{of_directive, of_root}
-use Rattle.apollo_types.specs.SchemaDefinitionWriteOut.{has_own_root, is_implied, is_written, schema_components}
+use Rattle.apollo_types.specs.SchemaDefinitionWriteOut.{has_own_root, is_written, schema_components}
 use Rattle.apollo_types.specs.SchemaRoots.{named_roots}
 use Rattle.apollo_types.specs.TypeWriteOut.{type_components, type_description, type_kind, type_location, type_name, write_type}
 use Rattle.apollo_types.specs.declared.extended_type.ExtendedType.{ExtendedType}
@@ -33,7 +31,7 @@ use Rattle.apollo_meaning.specs.Order.Places.{folding_order}
 use Rattle.apollo_meaning.specs.Schema.Definition.{SourcedSchema, no_schema, schema_from, schema_of, schema_parts, schema_sourced}
 use Rattle.apollo_meaning.specs.Schema.Whole.{whole}
 use Rattle.apollo_meaning.specs.Types.Components.{Sourced}
-use Rattle.apollo_meaning.specs.Types.Meaning.{AreTypesOf, extensions_with_origin, parts, type_from, type_names, type_of}
+use Rattle.apollo_meaning.specs.Types.Meaning.{AreTypesOf, extensions_with_origin, parts, type_from, type_of}
 use Rattle.apollo_meaning.proofs.Types.NameLemmas.{type_names-first}
 use Rattle.apollo_schema.specs.MeantSchema.{MeansSchema}
 use Rattle.apollo_schema.specs.SchemaWriteOut.{write_directives, write_held_schema_definition, write_held_type, write_schema}
@@ -41,7 +39,7 @@ use Rattle.apollo_schema.specs.declared.schema.Schema.{Schema}
 use Rattle.apollo_well_formed.specs.WellFormedLists.{AreWellFormed, IsWellFormedDefinition}
 use Rattle.apollo_well_formed.proofs.Lists.{each-flat_map, each-from_map, each-map, each-passing, each-value, if-either, if-first, if-found, if-last, if-looked_up}
 use Rattle.apollo_well_formed.proofs.Items.{IsWellFormedItem, IsWellFormedSchema, IsWellFormedType, each-defined, each-directive, each-schema_defined, each-schema_extended}
-use Rattle.apollo_well_formed.proofs.Components.{Suits, is_of_kind, is_of_schema}
+use Rattle.apollo_well_formed.proofs.Components.{Suits, is_of_schema}
 use Rattle.apollo_well_formed.proofs.Meant.{IsWellFormedMeaning, schema_made, type_made}
 use Rattle.apollo_well_formed.proofs.WholeList.{each-extension, each-whole}
 use Rattle.apollo_well_formed.proofs.Written.{has_root, is_root, schema_written, type_written}

@@ -1,9 +1,8 @@
 -- What components are written out as, under their origins: well-formed definitions and extensions.
-use Rattle.std.proofs.Common.{◌≡◌, Bool, true, false, cond, not, is_some, ◌&&◌, ◌||◌, List, [], ◌∷◌, ◌++◌, Option, None, Some, map, filter, refl, sym, ap, ◌∙◌, arith, true≢false}
+use Rattle.std.proofs.Common.{◌≡◌, Bool, true, false, cond, not, is_some, ◌&&◌, ◌||◌, List, [], ◌∷◌, ◌++◌, Option, None, Some, map, filter, refl, sym, ap, arith, true≢false}
 use Rattle.std.specs.Prelude.{if◌then◌else◌}
 use Rattle.std.specs.List.{AllByRecursion, cons_option, filter_map, flat_map, list_any}
 use Rattle.std.proofs.lemmas.Bool.{or_right}
-use Rattle.std.proofs.lemmas.List.Folds.{list_any-append}
 use Rattle.graphql_nodes.specs.NameSyntax.{IsName}
 use Rattle.graphql_nodes.specs.NameView.{NameView}
 use Rattle.graphql_nodes.specs.NodeView.{NodeView}
@@ -15,7 +14,7 @@ use Rattle.graphql_ast.specs.DefinitionParts.{as_root, parts_of, schema_definiti
 use Rattle.graphql_ast.specs.declared.definition_parts.DefinitionPart.{DefinitionPart}
 use Rattle.graphql_ast.specs.declared.definition_parts.DefinitionParts.{DefinitionParts}
 use Rattle.graphql_productions.specs.DefinitionTreeParts.{description_parts, enum_value_parts, field_parts, input_value_parts, root_parts}
-use Rattle.graphql_productions.specs.TreeParts.{Name, TreePart, directive_parts, directives_parts, name_parts, node_parts}
+use Rattle.graphql_productions.specs.TreeParts.{TreePart, directive_parts, directives_parts, name_parts, node_parts}
 use Rattle.graphql_productions.specs.TypeSystem.{is_none}
 use Rattle.graphql_productions.specs.WellFormed.{IsWellFormed, IsWellFormedPart}
 use Rattle.apollo_component.specs.Extensions.{extension_location, id_of, same_id, same_origin}
