@@ -16,7 +16,7 @@ use Rattle.apollo_well_formed.proofs.Items.{AreDirectives, EachWellFormed}
 use Rattle.apollo_well_formed.proofs.Lists.{each-chosen}
 
 -- the parts of a component
-abbrev pub component_parts : DefinitionPart → List TreePart
+abbrev component_parts : DefinitionPart → List TreePart
 component_parts (p.Directive n) = node_parts (directive_parts true) n
 component_parts (p.Name n) = name_parts n
 component_parts (p.Field n) = node_parts field_parts n

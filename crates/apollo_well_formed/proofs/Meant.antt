@@ -13,6 +13,7 @@ use Rattle.graphql_nodes.specs.declared.type_kind.TypeKind.TheVariants as k
 use Rattle.graphql_ast.specs.declared.definition_parts.DefinitionPart.{DefinitionPart}
 use Rattle.graphql_ast.specs.declared.definition_parts.DefinitionPart.TheVariants as p
 use Rattle.graphql_ast.specs.declared.directive.Directive.{Directive}
+use Rattle.graphql_ast.specs.declared.type_system.FieldDefinition.{FieldDefinition}
 use Rattle.graphql_productions.specs.DefinitionTreeParts.{enum_value_parts, field_parts, input_value_parts, root_parts}
 use Rattle.graphql_productions.specs.TreeParts.{directive_parts, name_parts, node_parts}
 use Rattle.graphql_productions.specs.WellFormed.{IsWellFormed}
@@ -26,14 +27,14 @@ use Rattle.apollo_component.proofs.Lists.Each.{each-append, each-weaken}
 use Rattle.apollo_types.specs.Components.{of_directive, of_name, of_root}
 use Rattle.apollo_types.specs.SchemaDefinitionWriteOut.{schema_components}
 use Rattle.apollo_types.specs.SchemaRoots.{named_roots}
-use Rattle.apollo_types.specs.TypeWriteOut.{type_components, type_kind, type_name}
+use Rattle.apollo_types.specs.TypeWriteOut.{object_components, type_components, type_kind, type_name}
 use Rattle.apollo_types.specs.declared.extended_type.ExtendedType.{ExtendedType}
 use Rattle.apollo_meaning.specs.Items.Parts.{EnumBody, InputObjectBody, InterfaceBody, ObjectBody, ScalarBody, SchemaPart, TypeBody, TypePart, UnionBody}
 use Rattle.apollo_meaning.specs.Schema.Definition.{SourcedSchema, root_in, roots_of, same_operation, schema_definition_of}
 use Rattle.apollo_meaning.specs.Types.Components.{Sourced, body_fields, body_input_fields, body_interfaces, body_members, body_values, component, component_name, distinct_entries, distinct_names, field_entry, input_field_entry, same_component_name, sourced_directives, value_entry}
-use Rattle.apollo_meaning.specs.Types.Meaning.{type_of_kind}
+use Rattle.apollo_meaning.specs.Types.Meaning.{object_of, type_of_kind}
 use Rattle.apollo_well_formed.proofs.Lists.{each-flat_map, each-map, if-found}
-use Rattle.apollo_well_formed.proofs.Items.{EachWellFormed, IsWellFormedSchema, IsWellFormedType}
+use Rattle.apollo_well_formed.proofs.Items.{EachWellFormed, IsWellFormedBody, IsWellFormedSchema, IsWellFormedType, fields-in, input_fields-in, interfaces-in, members-in, values-in}
 use Rattle.apollo_well_formed.proofs.Components.{Suits, is_of_kind, is_of_schema}
 
 -- what is made of one sort of some parts
@@ -87,42 +88,40 @@ module _ (ps : List Sourced) (a : AllByRecursion (λ s. IsWellFormedType s.1) ps
   sort : (P : TypePart → Type 0) → ((q : TypePart) → IsWellFormedType q → P q) → AllByRecursion (λ s. P s.1) ps
   sort P of = each-weaken (λ s. IsWellFormedType s.1) (λ s. P s.1) (λ s h. of s.1 h) ps a
 
-  type_directives : (is_there : DefinitionPart → Bool) → ((n : NodeView Directive) → is_there (p.Directive n) ≡ true) → AreSuited is_there (map of_directive (flat_map sourced_directives ps))
-  type_directives is_there there = directives is_there there (λ (q : TypePart). q.directives) ps (sort (λ q. EachWellFormed (node_parts (directive_parts true)) q.directives) (λ q h. h.directives))
+  -- the components of a type that may have directives, and then those of one sort or another
+  module _ (is_there : DefinitionPart → Bool) (directive : (n : NodeView Directive) → is_there (p.Directive n) ≡ true) where
+    all_directives : AreSuited is_there (map of_directive (flat_map sourced_directives ps))
+    all_directives = directives is_there directive (λ (q : TypePart). q.directives) ps (sort (λ q. EachWellFormed (node_parts (directive_parts true)) q.directives) (λ q h. h.directives))
+
+    with_names : ((n : NameView) → is_there (p.Name n) ≡ true) → (of : TypeBody → List NameView) → ((body : TypeBody) → IsWellFormedBody body → EachWellFormed name_parts (of body))
+        → AreSuited is_there (map of_directive (flat_map sourced_directives ps) ++ map of_name (distinct_names (flat_map (λ s. map (component_name s.0) (of s.1.body)) ps)))
+    with_names name of each =
+        together is_there _ _ all_directives (names is_there name (λ q. of q.body) ps (sort (λ q. EachWellFormed name_parts (of q.body)) (λ q h. each q.body h.body)))
+
+    with_entries : {T : Type 0} (cs : List SourcedPart) → AreSuited is_there cs → (Q : NodeView T → Type 0) (entry : ComponentOrigin → NodeView T → NameView × Component T) (part : NodeView T → DefinitionPart)
+        → ((o : ComponentOrigin) (n : NodeView T) → Q n → Suits is_there (part (entry o n).1.node)) → (of : TypeBody → List (NodeView T)) → ((body : TypeBody) → IsWellFormedBody body → AllByRecursion Q (of body))
+        → AreSuited is_there (cs ++ map (sourced part) (values_of (distinct_entries (flat_map (λ s. map (entry s.0) (of s.1.body)) ps))))
+    with_entries cs b Q entry part one of each =
+        together is_there cs _ b (entries is_there Q entry part one (λ q. of q.body) ps (sort (λ q. AllByRecursion Q (of q.body)) (λ q h. each q.body h.body)))
+
+    -- those of an object or interface type
+    with_fields : (head : TypePart) → ((n : NameView) → is_there (p.Name n) ≡ true) → ((n : NodeView FieldDefinition) → is_there (p.Field n) ≡ true) → AreSuited is_there (object_components (object_of head ps))
+    with_fields head name field =
+        with_entries _ (with_names name body_interfaces interfaces-in) (λ n. IsWellFormed (node_parts field_parts n)) field_entry p.Field (λ o n h. (h, field n)) body_fields fields-in
 
   -- the type that the parts make
   pub type_made : (body : TypeBody) (head : TypePart) → IsName head.name.text → IsWellFormedMeaning (type_of_kind body head ps)
-  type_made ScalarBody head n = record { name = n; components = type_directives (is_of_kind k.Scalar) (λ n. refl) }
-  type_made (ObjectBody interfaces fields) head n = record {
-    name = n;
-    components = together (is_of_kind k.Object) _ _ (together (is_of_kind k.Object) _ _ (type_directives (is_of_kind k.Object) (λ n. refl))
-        (names (is_of_kind k.Object) (λ n. refl) (λ q. body_interfaces q.body) ps (sort (λ q. EachWellFormed name_parts (body_interfaces q.body)) (λ q h. h.interfaces))))
-        (entries (is_of_kind k.Object) (λ n. IsWellFormed (node_parts field_parts n)) field_entry p.Field (λ o n h. (h, refl)) (λ q. body_fields q.body) ps
-        (sort (λ q. EachWellFormed (node_parts field_parts) (body_fields q.body)) (λ q h. h.fields)));
-  }
-  type_made (InterfaceBody interfaces fields) head n = record {
-    name = n;
-    components = together (is_of_kind k.Interface) _ _ (together (is_of_kind k.Interface) _ _ (type_directives (is_of_kind k.Interface) (λ n. refl))
-        (names (is_of_kind k.Interface) (λ n. refl) (λ q. body_interfaces q.body) ps (sort (λ q. EachWellFormed name_parts (body_interfaces q.body)) (λ q h. h.interfaces))))
-        (entries (is_of_kind k.Interface) (λ n. IsWellFormed (node_parts field_parts n)) field_entry p.Field (λ o n h. (h, refl)) (λ q. body_fields q.body) ps
-        (sort (λ q. EachWellFormed (node_parts field_parts) (body_fields q.body)) (λ q h. h.fields)));
-  }
-  type_made (UnionBody members) head n = record {
-    name = n;
-    components = together (is_of_kind k.Union) _ _ (type_directives (is_of_kind k.Union) (λ n. refl))
-        (names (is_of_kind k.Union) (λ n. refl) (λ q. body_members q.body) ps (sort (λ q. EachWellFormed name_parts (body_members q.body)) (λ q h. h.members)));
-  }
+  type_made ScalarBody head n = record { name = n; components = all_directives (is_of_kind k.Scalar) (λ n. refl) }
+  type_made (ObjectBody interfaces fields) head n = record { name = n; components = with_fields (is_of_kind k.Object) (λ n. refl) head (λ n. refl) (λ n. refl) }
+  type_made (InterfaceBody interfaces fields) head n = record { name = n; components = with_fields (is_of_kind k.Interface) (λ n. refl) head (λ n. refl) (λ n. refl) }
+  type_made (UnionBody members) head n = record { name = n; components = with_names (is_of_kind k.Union) (λ n. refl) (λ n. refl) body_members members-in }
   type_made (EnumBody values) head n = record {
     name = n;
-    components = together (is_of_kind k.Enum) _ _ (type_directives (is_of_kind k.Enum) (λ n. refl))
-        (entries (is_of_kind k.Enum) (λ n. IsWellFormed (node_parts enum_value_parts n)) value_entry p.EnumValue (λ o n h. (h, refl)) (λ q. body_values q.body) ps
-        (sort (λ q. EachWellFormed (node_parts enum_value_parts) (body_values q.body)) (λ q h. h.values)));
+    components = with_entries (is_of_kind k.Enum) (λ n. refl) _ (all_directives (is_of_kind k.Enum) (λ n. refl)) (λ n. IsWellFormed (node_parts enum_value_parts n)) value_entry p.EnumValue (λ o n h. (h, refl)) body_values values-in;
   }
   type_made (InputObjectBody fields) head n = record {
     name = n;
-    components = together (is_of_kind k.InputObject) _ _ (type_directives (is_of_kind k.InputObject) (λ n. refl))
-        (entries (is_of_kind k.InputObject) (λ n. IsWellFormed (node_parts input_value_parts n)) input_field_entry p.InputField (λ o n h. (h, refl)) (λ q. body_input_fields q.body) ps
-        (sort (λ q. EachWellFormed (node_parts input_value_parts) (body_input_fields q.body)) (λ q h. h.input_fields)));
+    components = with_entries (is_of_kind k.InputObject) (λ n. refl) _ (all_directives (is_of_kind k.InputObject) (λ n. refl)) (λ n. IsWellFormed (node_parts input_value_parts n)) input_field_entry p.InputField (λ o n h. (h, refl)) body_input_fields input_fields-in;
   }
 
 -- and those of the schema's definition

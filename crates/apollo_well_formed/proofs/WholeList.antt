@@ -21,19 +21,19 @@ use Rattle.apollo_meaning.specs.Items.Parts.{EnumBody, InputObjectBody, Interfac
 use Rattle.apollo_meaning.specs.Schema.Whole.{whole}
 use Rattle.apollo_well_formed.specs.WellFormedLists.{AreWellFormed}
 use Rattle.apollo_well_formed.proofs.Lists.{each-flat_map, each-of, each-passing}
-use Rattle.apollo_well_formed.proofs.Items.{EachWellFormed, IsWellFormedItem, IsWellFormedType, each-added, each-extended}
+use Rattle.apollo_well_formed.proofs.Items.{EachWellFormed, IsWellFormedBody, IsWellFormedItem, IsWellFormedType, each-added, each-extended}
 
--- an adopted definition has the name of an extension, and nothing else that is asked about
+-- an adopted definition has the name of an extension, and holds nothing
 adopted_one : (e : TypePart) → IsWellFormedType e → IsWellFormedType (adopted_part e)
-adopted_one e h = by e.body
+adopted_one e h = record { name = h.name; directives = tt; body = by e.body }
   where
-    by : (body : TypeBody) → IsWellFormedType (record (adopted_part e) { body = empty_body body })
-    by ScalarBody = record { name = h.name; directives = tt; interfaces = tt; members = tt; fields = tt; values = tt; input_fields = tt }
-    by (ObjectBody interfaces fields) = record { name = h.name; directives = tt; interfaces = tt; members = tt; fields = tt; values = tt; input_fields = tt }
-    by (InterfaceBody interfaces fields) = record { name = h.name; directives = tt; interfaces = tt; members = tt; fields = tt; values = tt; input_fields = tt }
-    by (UnionBody members) = record { name = h.name; directives = tt; interfaces = tt; members = tt; fields = tt; values = tt; input_fields = tt }
-    by (EnumBody values) = record { name = h.name; directives = tt; interfaces = tt; members = tt; fields = tt; values = tt; input_fields = tt }
-    by (InputObjectBody fields) = record { name = h.name; directives = tt; interfaces = tt; members = tt; fields = tt; values = tt; input_fields = tt }
+    by : (body : TypeBody) → IsWellFormedBody (empty_body body)
+    by ScalarBody = tt
+    by (ObjectBody interfaces fields) = (tt, tt)
+    by (InterfaceBody interfaces fields) = (tt, tt)
+    by (UnionBody members) = tt
+    by (EnumBody values) = tt
+    by (InputObjectBody fields) = tt
 
 module _ (xs : List ListItem) (a : AllByRecursion IsWellFormedItem xs) where
   -- the extensions of a name

@@ -45,12 +45,12 @@ use Rattle.apollo_well_formed.proofs.WholeList.{each-extension, each-whole}
 use Rattle.apollo_well_formed.proofs.Written.{has_root, is_root, schema_written, type_written}
 
 -- the extensions that are folded for a name are those of its kind, in order
-abbrev pub FoldsExtensions : Type 0
+abbrev FoldsExtensions : Type 0
 FoldsExtensions =
     (start : ℕ) (xs : List ListItem) (n : List ℕ) (d : TypePart) → first xs n ≡ Some d → map (λ s. s.1) (extensions_with_origin n start (folding_order xs)) ≡ of_kind (kind_of d) (extensions_of xs n)
 
 -- and those that are folded for the schema are all of its extensions, in order
-abbrev pub FoldsSchemaExtensions : Type 0
+abbrev FoldsSchemaExtensions : Type 0
 FoldsSchemaExtensions = (start : ℕ) (xs : List ListItem) (s : SchemaPart) → first_schema xs ≡ Some s → map (λ e. e.1) (schema_sourced start (folding_order xs)) ≡ schema_extensions xs
 
 -- ---- types

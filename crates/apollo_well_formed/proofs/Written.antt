@@ -58,13 +58,13 @@ module _ (is_there : DefinitionPart → Bool) (cs : List SourcedPart) (a : AllBy
   alike origin = each-map (Suits is_there) (λ c. c.1) (filter (λ c. same_origin origin c.0) cs) (each-passing (λ c. Suits is_there c.1) (λ c. same_origin origin c.0) cs a)
 
   -- make well-formed parts
-  pub of_one : (origin : ComponentOrigin) → AreWellFormedParts (of_origin origin cs)
+  of_one : (origin : ComponentOrigin) → AreWellFormedParts (of_origin origin cs)
   of_one origin =
       let parts : List DefinitionPart = map (λ c. c.1) (filter (λ c. same_origin origin c.0) cs) in
       made_of parts (each-weaken (Suits is_there) IsWellFormedComponent (λ c h. h.0) parts (alike origin))
 
   -- and those of an extension that is written say something
-  pub each_says : (says : DefinitionParts → Bool) → ((c : DefinitionPart) (rest : List DefinitionPart) → is_there c ≡ true → says (parts_of (c ∷ rest)) ≡ true)
+  each_says : (says : DefinitionParts → Bool) → ((c : DefinitionPart) (rest : List DefinitionPart) → is_there c ≡ true → says (parts_of (c ∷ rest)) ≡ true)
       → AllByRecursion (λ e. AreWellFormedParts e.1 × (says e.1 ≡ true)) (of_extensions cs)
   each_says says one =
       each-map (λ e. AreWellFormedParts e.1 × (says e.1 ≡ true)) (λ e. (e, of_origin (Extension e) cs)) (identities (origins_in cs))
