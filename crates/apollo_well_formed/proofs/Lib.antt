@@ -1,0 +1,9 @@
+mod Lists
+mod Items
+mod Components
+mod Written
+mod Meant
+mod WholeList
+mod WriteOut
+mod BuiltIn
+mod Documents

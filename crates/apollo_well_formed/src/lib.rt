@@ -1,0 +1,5 @@
+//! The write-out of a schema of well-formed definitions is well-formed: laws alone. GraphQL specification of
+//! October 2021, sections 2 and 3.
+#![tactic(auto)]
+
+pub mod laws;
