@@ -57,6 +57,9 @@ pub use apollo_schema::laws::implementers;
 pub use apollo_canonical::laws as write_out;
 pub use apollo_canonical::laws::canonical;
 
+// Well-formed goes through the schema: where each definition of a list could have come of a text, so could each of its write-out.
+pub use apollo_well_formed::laws as well_formed;
+
 // Builders of equal lists build equal schemas, those of rearranged lists also the same faults, and documents one by one what
 // one document would.
 pub use apollo_rearranged_builds::laws as rearranged_builds;
