@@ -73,8 +73,8 @@ impl<'a, C: Clock> Stopwatch<'a, C> {
         of_phase.map(|time| time.1).collect(self.bench.alloc)
     }
 
-    /// Adds how many bytes a second a phase went over, by its least time: as many as were counted under this key. The
-    /// words stand behind them, and then comes their own key.
+    /// Adds how many bytes a second a phase went over, by its least time. Their count has the key `counted`,
+    /// and what is added has these words and this key.
     pub fn push_rate(
         &self,
         items: &mut Vec<Item>,
