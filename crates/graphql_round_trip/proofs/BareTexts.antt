@@ -72,7 +72,7 @@ value_stays z bared is same =
     ap value_text (fold-roll-Value Value bare.value_step z ∙ is) ∙ fold-roll-Value (List ℕ) value_step bared ∙ same ∙ sym (fold-roll-Value (List ℕ) value_step z)
 
 -- the text of a list, from one level to the next
-list_says : (items : List (NodeView Value)) → value_text (roll-Value (Value-F.List items)) ≡ codes "[" ++ separated (codes ", ") item_text items ++ codes "]"
+pub list_says : (items : List (NodeView Value)) → value_text (roll-Value (Value-F.List items)) ≡ codes "[" ++ separated (codes ", ") item_text items ++ codes "]"
 list_says items =
     fold-roll-Value (List ℕ) value_step (Value-F.List items)
     ∙ ap (λ (t : List ℕ). codes "[" ++ t ++ codes "]") (separated_stays (along value_text) item_text (λ (item : NodeView (List ℕ)). item.value) (codes ", ") items (each (λ x. refl) items))
@@ -98,7 +98,7 @@ abbrev bare_ends : Member Value → Member Value
 bare_ends m = (bare_name m.0, bare_node (λ (v : Value). v) m.1)
 
 -- the text of an object, from one level to the next
-object_says : (members : List (Member Value)) → value_text (roll-Value (Value-F.Object members)) ≡ codes "{" ++ separated (codes ", ") member_text members ++ codes "}"
+pub object_says : (members : List (Member Value)) → value_text (roll-Value (Value-F.Object members)) ≡ codes "{" ++ separated (codes ", ") member_text members ++ codes "}"
 object_says members =
     fold-roll-Value (List ℕ) value_step (Value-F.Object members)
     ∙ ap (λ (t : List ℕ). codes "{" ++ t ++ codes "}") (separated_stays (along_member value_text) member_text member_step (codes ", ") members (each (λ x. refl) members))

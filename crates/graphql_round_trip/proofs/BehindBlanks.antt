@@ -1,4 +1,5 @@
 -- Texts behind blanks that are read by what they begin with.
+use Rattle.std.proofs.lemmas.Bool.{and_parts}
 use Rattle.std.proofs.Common.{◌≡◌, ℕ, Bool, true, false, not, List, [], ◌∷◌, ◌++◌, Some, Ok, refl, sym, ap, subst, ◌∙◌, append_assoc}
 use Rattle.std.specs.List.{list_all}
 use Rattle.std.proofs.lemmas.List.{append_cancel_right}
@@ -13,18 +14,18 @@ use Rattle.graphql_grammar.specs.Words.{WordView}
 use Rattle.graphql_grammar.specs.WordsOfText.{word_kind, word_of}
 use Rattle.graphql_grammar.proofs.KindLemmas.{only_kind}
 use Rattle.graphql_round_trip.specs.Printed.{Heads, IsToken, Leads, Prints, anything}
-use Rattle.graphql_round_trip.proofs.LeadLaws.{behind_blanks, both_true}
+use Rattle.graphql_round_trip.proofs.LeadLaws.{behind_blanks}
 use Rattle.graphql_round_trip.proofs.PieceTexts.{heads_on, token_heads}
 
 -- bytes that are all blanks have none in front that isn't, also behind blanks
 never_blank : (gap text : List ℕ) → list_all is_blank (gap ++ text) ≡ true → begins (λ c. not (is_blank c)) text ≡ true → ⊥
 never_blank [] [] blank solid = absurd cc
-never_blank [] (c ∷ cs) blank solid = apart (is_blank c) (both_true (is_blank c) (list_all is_blank cs) blank).0 solid
+never_blank [] (c ∷ cs) blank solid = apart (is_blank c) (and_parts (is_blank c) (list_all is_blank cs) blank).0 solid
   where
     apart : (b : Bool) → b ≡ true → not b ≡ true → ⊥
     apart true is other = absurd cc
     apart false is other = absurd cc
-never_blank (c ∷ gap) text blank solid = never_blank gap text (both_true (is_blank c) (list_all is_blank (gap ++ text)) blank).1 solid
+never_blank (c ∷ gap) text blank solid = never_blank gap text (and_parts (is_blank c) (list_all is_blank (gap ++ text)) blank).1 solid
 
 -- the first word behind blanks is the word that comes first without them
 first_behind_blanks : (total : ℕ) (gap text : List ℕ) (f g : First) → list_all is_blank gap ≡ true → first_of text ≡ Ok (Some f) → first_of (gap ++ text) ≡ Ok (Some g) → (word_of total f).kind ≡ (word_of total g).kind

@@ -1,4 +1,5 @@
 -- Texts of fragment spreads and inline fragments: GraphQL specification of October 2021, section 2.8.
+use Rattle.std.proofs.lemmas.Bool.{and_parts}
 use Rattle.std.proofs.Common.{◌≢◌, ◌≤◌, ℕ, Bool, false, not, ◌||◌, List, [], ◌∷◌, ◌++◌, map, option_map, Option, None, Some, refl, sym, ap, ◌∙◌}
 use Rattle.std.specs.Prelude.{codes}
 use Rattle.graphql_nodes.specs.Comparing.{bare_name}
@@ -31,7 +32,6 @@ use Rattle.graphql_round_trip.proofs.ChoiceTexts.{first_text, fragment_kind, is_
 use Rattle.graphql_round_trip.proofs.DirectiveTexts.{directives_print}
 use Rattle.graphql_round_trip.proofs.Grouping.{grouped4, regrouped}
 use Rattle.graphql_round_trip.proofs.KeywordTexts.{keyword_before, keyword_heads}
-use Rattle.graphql_round_trip.proofs.LeadLaws.{both_true}
 use Rattle.graphql_round_trip.proofs.NodeTexts.{name_prints, name_seen, sign_prints}
 use Rattle.graphql_round_trip.proofs.PieceTexts.{behind_blank, branch_at, branch_text, headed_text, heads_on, located_text, mapped_text, none_text, one_text, seq_text, token_heads, word_text}
 use Rattle.graphql_round_trip.proofs.SelectionLevels.{InlineLevel, inline_bare, inline_selection_bare, spread_selection_bare}
@@ -82,7 +82,7 @@ module _ (file : FileId) (depth : ℕ) (p : Piece (List Selection)) where
       (λ kind is.
       second_text (begins_inline kind) (mapped (inline_at file) (inline_body file depth p)) (choose (is_name kind) (mapped (spread_at file) (spread_body file depth)) (nothing no_selection))
       (is_none_of (names_of names.Fragment) begins_inline refl kind is)
-      (first_text (is_name kind) (mapped (spread_at file) (spread_body file depth)) (nothing no_selection) (both_true (is_name kind) (not (only k.On kind)) is).0
+      (first_text (is_name kind) (mapped (spread_at file) (spread_body file depth)) (nothing no_selection) (and_parts (is_name kind) (not (only k.On kind)) is).0
       (mapped_text (spread_at file) place_seen (λ at. s.FragmentSpread (record { value = y; location = None }))
       (λ x same i at. (spread_selection_bare (record { value = x; location = span_at file at }) ∙ ap (λ (v : FragmentSpread). s.FragmentSpread (record { value = v; location = None })) same) i) body)))
     where

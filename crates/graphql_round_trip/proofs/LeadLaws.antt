@@ -1,5 +1,6 @@
 -- Words at the front of texts, and blanks before them.
-use Rattle.std.proofs.Common.{◌≡◌, ◌+◌, ℕ, suc, Bool, true, false, ◌&&◌, List, [], ◌∷◌, ◌++◌, drop, Some, Ok, Err, refl, sym, ap, subst, ◌∙◌, append_assoc, arith}
+use Rattle.std.proofs.lemmas.Bool.{and_parts}
+use Rattle.std.proofs.Common.{◌≡◌, ◌+◌, ℕ, suc, true, List, [], ◌∷◌, ◌++◌, drop, Some, Ok, Err, refl, sym, ap, subst, ◌∙◌, append_assoc, arith}
 use Rattle.std.specs.List.{list_all}
 use Rattle.graphql_tokens.specs.Bytes.{is_blank}
 use Rattle.graphql_tokens.specs.First.{First, first_behind, first_of, read_behind}
@@ -7,10 +8,6 @@ use Rattle.graphql_tokens.specs.Ignored.{ignored, one_ignored}
 use Rattle.graphql_tokens.specs.Lexemes.{Reading, lexeme}
 use Rattle.graphql_grammar.specs.Words.{WordView}
 use Rattle.graphql_round_trip.specs.Printed.{Leads}
-
-pub both_true : (a b : Bool) → (a && b) ≡ true → (a ≡ true) × (b ≡ true)
-both_true true b e = (refl, e)
-both_true false b e = absurd cc
 
 -- one blank more is passed
 pub one_blank : (c : ℕ) (cs : List ℕ) → is_blank c ≡ true → ignored (c ∷ cs) ≡ suc (ignored cs)
@@ -39,12 +36,12 @@ behind_one c cs f blank is = rw (one_blank c cs blank) (first_past (ignored cs) 
 pub behind_blanks : (total : ℕ) (gap text : List ℕ) (words : List WordView) (rest : List ℕ) → list_all is_blank gap ≡ true → Leads total text words rest → Leads total (gap ++ text) words rest
 behind_blanks total [] text words rest blank leads = leads
 behind_blanks total (c ∷ cs) text words rest blank leads =
-    let b = both_true (is_blank c) (list_all is_blank cs) blank in
+    let b = and_parts (is_blank c) (list_all is_blank cs) blank in
     one words (behind_blanks total cs text words rest b.1 leads)
   where
     one : (words : List WordView) → Leads total (cs ++ text) words rest → Leads total (c ∷ cs ++ text) words rest
-    one [] h = (c ∷ h.0, rw (both_true (is_blank c) (list_all is_blank cs) blank).0 h.1, ap (λ (t : List ℕ). c ∷ t) h.2)
-    one (w ∷ ws) h = (passing (suc (ignored (cs ++ text))) h.0, behind_one c (cs ++ text) h.0 (both_true (is_blank c) (list_all is_blank cs) blank).0 h.1, h.2, h.3)
+    one [] h = (c ∷ h.0, rw (and_parts (is_blank c) (list_all is_blank cs) blank).0 h.1, ap (λ (t : List ℕ). c ∷ t) h.2)
+    one (w ∷ ws) h = (passing (suc (ignored (cs ++ text))) h.0, behind_one c (cs ++ text) h.0 (and_parts (is_blank c) (list_all is_blank cs) blank).0 h.1, h.2, h.3)
 
 -- words that come first, and then words that come first in what is left
 pub leads_on : (total : ℕ) (text : List ℕ) (words : List WordView) (middle : List ℕ) (more : List WordView) (rest : List ℕ) → Leads total text words middle → Leads total middle more rest → Leads total text (words ++ more) rest
@@ -57,5 +54,5 @@ passed_blanks total text [] gap rest blank h = (h.0 ++ gap, all_blank h.0 h.1, h
   where
     all_blank : (front : List ℕ) → list_all is_blank front ≡ true → list_all is_blank (front ++ gap) ≡ true
     all_blank [] e = blank
-    all_blank (c ∷ cs) e = let b = both_true (is_blank c) (list_all is_blank cs) e in rw b.0 (all_blank cs b.1)
+    all_blank (c ∷ cs) e = let b = and_parts (is_blank c) (list_all is_blank cs) e in rw b.0 (all_blank cs b.1)
 passed_blanks total text (w ∷ ws) gap rest blank h = (h.0, h.1, h.2, passed_blanks total h.0.rest ws gap rest blank h.3)

@@ -1,4 +1,5 @@
 -- Texts of what a grammar is made of.
+use Rattle.std.proofs.lemmas.Bool.{and_parts}
 use Rattle.std.proofs.Common.{◌≡◌, arith, length, ℕ, Bool, true, false, not, List, [], ◌∷◌, ◌++◌, map, option_map, None, Some, Ok, refl, sym, ap, subst, ◌∙◌, append_assoc}
 use Rattle.std.specs.List.{list_all, AllByRecursion}
 use Rattle.std.proofs.lemmas.List.{length-append}
@@ -14,7 +15,7 @@ use Rattle.graphql_grammar.specs.WordsOfText.{word_kind, word_of}
 use Rattle.graphql_grammar.proofs.KindLemmas.{only_kind}
 use Rattle.graphql_printing.specs.Layout.{each_behind, separated}
 use Rattle.graphql_round_trip.specs.Printed.{Heads, IsToken, Leads, Prints}
-use Rattle.graphql_round_trip.proofs.LeadLaws.{behind_blanks, both_true, leads_on, passed_blanks}
+use Rattle.graphql_round_trip.proofs.LeadLaws.{behind_blanks, leads_on, passed_blanks}
 
 -- ---- one word
 
@@ -199,7 +200,7 @@ only_blanks (c ∷ cs) [] rest blank same solid = absurd (longer cs rest same)
         omega (arith, lengths, sum)
 only_blanks (c ∷ cs) (b ∷ bs) rest blank same solid =
     let head : c ≡ b = cc in
-    let white = both_true (is_blank b) (list_all is_blank bs) blank in
+    let white = and_parts (is_blank b) (list_all is_blank bs) blank in
     let no : not (is_blank b) ≡ true = subst (λ (d : ℕ). not (is_blank d) ≡ true) head solid in
     absurd (apart (is_blank b) white.0 no)
   where

@@ -1,5 +1,6 @@
 -- Texts that are one token: GraphQL specification of October 2021, sections 2.1.8 and 2.1.9.
 use Rattle.std.proofs.Common.{◌≡◌, ℕ, Bool, true, false, ◌||◌, ◌&&◌, not, cond, List, [], ◌∷◌, ◌++◌, length, take, drop, Some, Ok, refl, ap, ◌∙◌, arith, inl, inr}
+use Rattle.std.proofs.lemmas.Bool.{and_parts}
 use Rattle.std.specs.Prelude.{nat_eq, codes, All}
 use Rattle.std.specs.List.{list_all, prefix_len}
 use Rattle.std.proofs.lemmas.List.Elements.{All-head, All-tail}
@@ -127,11 +128,7 @@ names text = begins is_name_start text && list_all is_name_byte text
 run_before : (p : ℕ → Bool) (text rest : List ℕ) → list_all p text ≡ true → begins p rest ≡ false → prefix_len p (text ++ rest) ≡ length text
 run_before p [] [] all end = refl
 run_before p [] (c ∷ cs) all end = rw end refl
-run_before p (c ∷ cs) rest all end = rw (both (p c) (list_all p cs) all).0 (let more = run_before p cs rest (both (p c) (list_all p cs) all).1 end in omega (arith, more))
-  where
-    both : (a b : Bool) → (a && b) ≡ true → (a ≡ true) × (b ≡ true)
-    both true b e = (refl, e)
-    both false b e = absurd cc
+run_before p (c ∷ cs) rest all end = rw (and_parts (p c) (list_all p cs) all).0 (let more = run_before p cs rest (and_parts (p c) (list_all p cs) all).1 end in omega (arith, more))
 
 take_front : (text rest : List ℕ) → take (length text) (text ++ rest) ≡ text
 take_front [] rest = refl
@@ -172,10 +169,6 @@ name_reads (c ∷ cs) rest start all end =
     cond (is_spread text) (token t.Spread 3) (sign_token (first_sign text))))))) start
     ∙ ap (token t.Name) long
 
-both_hold : (a b : Bool) → (a && b) ≡ true → (a ≡ true) × (b ≡ true)
-both_hold true b e = (refl, e)
-both_hold false b e = absurd cc
-
 solid_start : (text : List ℕ) → begins is_name_start text ≡ true → begins is_solid text ≡ true
 solid_start [] start = absurd cc
 solid_start (c ∷ cs) start = name_solid c start
@@ -183,7 +176,7 @@ solid_start (c ∷ cs) start = name_solid c start
 -- a word that passes this test is a token
 pub word_is_token : (text : List ℕ) → names text ≡ true → IsToken t.Name text ends_token
 word_is_token text is = λ rest end.
-    let p = both_hold (begins is_name_start text) (list_all is_name_byte text) is in
+    let p = and_parts (begins is_name_start text) (list_all is_name_byte text) is in
     token_first t.Name text rest (solid_start text p.0) (name_reads text rest p.0 p.1 end)
 
 -- ---- names by the grammar

@@ -31,13 +31,14 @@ use Rattle.graphql_productions.specs.WellFormed.{IsWellFormed}
 use Rattle.graphql_productions.proofs.RolledParts.{enum_rolled, float_rolled, int_rolled, list_rolled, member_parts, object_rolled, variable_rolled}
 use Rattle.graphql_printing.specs.Layout.{separated}
 use Rattle.graphql_printing.specs.Strings.{quoted}
-use Rattle.graphql_printing.specs.Texts.{item_text, member_step, member_text, value_step as text_step, value_text}
+use Rattle.graphql_printing.specs.Texts.{item_text, member_text, value_step as text_step, value_text}
 use Rattle.graphql_printing.proofs.QuotedLaws.{quoted_says_the_text}
 use Rattle.graphql_round_trip.specs.Nesting.{deepest, value_nesting}
+use Rattle.graphql_round_trip.proofs.BareTexts.{list_says, object_says}
 use Rattle.graphql_round_trip.specs.Printed.{Heads, IsToken, Prints, anything, ends_token}
 use Rattle.graphql_round_trip.proofs.BareLists.{each_given}
 use Rattle.graphql_round_trip.proofs.ChoiceTexts.{enum_kind, first_text, is_none_of, second_text}
-use Rattle.graphql_round_trip.proofs.ListTexts.{labelled_prints, separated_map, separated_text}
+use Rattle.graphql_round_trip.proofs.ListTexts.{labelled_prints, separated_text}
 use Rattle.graphql_round_trip.proofs.Grouping.{regrouped}
 use Rattle.graphql_round_trip.proofs.NestingLemmas.{each_fits, opened}
 use Rattle.graphql_round_trip.proofs.NestingLevels.{item_nesting, list_nested, member_nesting, object_nested}
@@ -68,17 +69,6 @@ bare_object members =
     bare_rolled (Value-F.Object members)
     ∙ ap (λ l. roll-Value (Value-F.Object l))
     (map-map (λ (m : NameView × NodeView Value). (bare_name m.0, bare_node (λ (v : Value). v) m.1)) (λ (m : NameView × NodeView Value). (m.0, record { value = bare_value m.1.value; location = m.1.location })) members)
-
-list_text : (items : List (NodeView Value)) → value_text (roll-Value (Value-F.List items)) ≡ codes "[" ++ separated (codes ", ") item_text items ++ codes "]"
-list_text items =
-    text_rolled (Value-F.List items)
-    ∙ ap (λ (l : List ℕ). codes "[" ++ l ++ codes "]") (separated_map (codes ", ") (λ (item : NodeView (List ℕ)). item.value) (λ (n : NodeView Value). record { value = value_text n.value; location = n.location }) items)
-
-object_text : (members : List (NameView × NodeView Value)) → value_text (roll-Value (Value-F.Object members)) ≡ codes "{" ++ separated (codes ", ") member_text members ++ codes "}"
-object_text members =
-    text_rolled (Value-F.Object members)
-    ∙ ap (λ (l : List ℕ). codes "{" ++ l ++ codes "}")
-    (separated_map (codes ", ") member_step (λ (m : NameView × NodeView Value). (m.0, record { value = value_text m.1.value; location = m.1.location })) members)
 
 -- ---- values of one word
 
@@ -152,7 +142,7 @@ module _ (file : FileId) (item : Piece (NodeView Value)) where
       → Prints (list_of item) bare_value (bare_value (roll-Value (Value-F.List items))) (value_text (roll-Value (Value-F.List items))) anything
   unfolding list_of
   list_prints items all =
-      regrouped (codes "[" ++ separated (codes ", ") item_text items ++ codes "]") (value_text (roll-Value (Value-F.List items))) (sym (list_text items))
+      regrouped (codes "[" ++ separated (codes ", ") item_text items ++ codes "]") (value_text (roll-Value (Value-F.List items))) (sym (list_says items))
       (mapped_text (λ items. roll-Value (Value-F.List items)) bare_value (bare_value (roll-Value (Value-F.List items)))
       (λ ns same. bare_list ns ∙ ap (λ (l : List (NodeView Value)). roll-Value (Value-F.List l)) same ∙ sym (bare_list items))
       (between_prints k.LeftBracket k.RightBracket no_value (sign_prints k.LeftBracket t.LeftBracket left_bracket_is_token refl)
@@ -170,7 +160,7 @@ module _ (file : FileId) (item : Piece (NodeView Value)) where
       → Prints (object_of file item) bare_value (bare_value (roll-Value (Value-F.Object members))) (value_text (roll-Value (Value-F.Object members))) anything
   unfolding object_of
   object_prints members all =
-      regrouped (codes "{" ++ separated (codes ", ") member_text members ++ codes "}") (value_text (roll-Value (Value-F.Object members))) (sym (object_text members))
+      regrouped (codes "{" ++ separated (codes ", ") member_text members ++ codes "}") (value_text (roll-Value (Value-F.Object members))) (sym (object_says members))
       (mapped_text (λ members. roll-Value (Value-F.Object members)) bare_value (bare_value (roll-Value (Value-F.Object members)))
       (λ ms same. bare_object ms ∙ ap (λ (l : List (NameView × NodeView Value)). roll-Value (Value-F.Object l)) same ∙ sym (bare_object members))
       (between_prints k.LeftBrace k.RightBrace no_member (sign_prints k.LeftBrace t.LeftBrace left_brace_is_token refl)
@@ -217,7 +207,7 @@ module _ (file : FileId) (constant : Bool) (depth : ℕ) where
       → Prints (value file constant (suc depth)) bare_value (bare_value (roll-Value (Value-F.List items))) (value_text (roll-Value (Value-F.List items))) ends_token
   unfolding nested_group
   list_value_prints items all =
-      let head = heads_between k.LeftBracket t.LeftBracket (codes "[") (separated (codes ", ") item_text items) (codes "]") (sym (list_text items)) refl left_bracket_is_token refl in
+      let head = heads_between k.LeftBracket t.LeftBracket (codes "[") (separated (codes ", ") item_text items) (codes "]") (sym (list_says items)) refl left_bracket_is_token refl in
       loosely ends_token
       (branch_at (value_pick file constant (grouped file constant (suc depth))) no_value k.LeftBracket head
       (headed_text is_group (branch_at {first = is_group} {more = none} (group_pick file (value_node file constant depth)) no_value k.LeftBracket head (list_prints file (value_node file constant depth) items all))))
@@ -226,7 +216,7 @@ module _ (file : FileId) (constant : Bool) (depth : ℕ) where
       → Prints (value file constant (suc depth)) bare_value (bare_value (roll-Value (Value-F.Object members))) (value_text (roll-Value (Value-F.Object members))) ends_token
   unfolding nested_group
   object_value_prints members all =
-      let head = heads_between k.LeftBrace t.LeftBrace (codes "{") (separated (codes ", ") member_text members) (codes "}") (sym (object_text members)) refl left_brace_is_token refl in
+      let head = heads_between k.LeftBrace t.LeftBrace (codes "{") (separated (codes ", ") member_text members) (codes "}") (sym (object_says members)) refl left_brace_is_token refl in
       loosely ends_token
       (branch_at (value_pick file constant (grouped file constant (suc depth))) no_value k.LeftBrace head
       (headed_text is_group (branch_at {first = is_group} {more = none} (group_pick file (value_node file constant depth)) no_value k.LeftBrace head (object_prints file (value_node file constant depth) members all))))

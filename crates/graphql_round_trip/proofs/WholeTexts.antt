@@ -1,4 +1,5 @@
 -- The words of a whole text, where words that come first in it leave nothing.
+use Rattle.std.proofs.lemmas.Bool.{and_parts}
 use Rattle.std.proofs.Common.{◌≡◌, ◌≢◌, ◌-◌, ◌≤◌, ℕ, suc, true, List, [], ◌∷◌, ◌++◌, length, drop, None, Ok, refl, sym, ap, ◌∙◌, append-nil, arith}
 use Rattle.std.specs.List.{list_all}
 use Rattle.graphql_tokens.specs.Bytes.{is_blank}
@@ -9,12 +10,12 @@ use Rattle.graphql_grammar.specs.Words.{WordView}
 use Rattle.graphql_grammar.specs.WordsOfText.{words_at}
 use Rattle.graphql_grammar.proofs.WordLemmas.{next_left, none_left}
 use Rattle.graphql_round_trip.specs.Printed.{Leads}
-use Rattle.graphql_round_trip.proofs.LeadLaws.{both_true, one_blank}
+use Rattle.graphql_round_trip.proofs.LeadLaws.{one_blank}
 
 -- nothing comes first in blanks
 blanks_ignored : (gap : List ℕ) → list_all is_blank gap ≡ true → ignored gap ≡ length gap
 blanks_ignored [] blank = refl
-blanks_ignored (c ∷ cs) blank = let b = both_true (is_blank c) (list_all is_blank cs) blank in one_blank c cs b.0 ∙ ap suc (blanks_ignored cs b.1)
+blanks_ignored (c ∷ cs) blank = let b = and_parts (is_blank c) (list_all is_blank cs) blank in one_blank c cs b.0 ∙ ap suc (blanks_ignored cs b.1)
 
 nothing_behind : (text : List ℕ) → drop (length text) text ≡ []
 nothing_behind [] = refl
