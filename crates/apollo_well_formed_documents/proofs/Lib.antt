@@ -1,0 +1,3 @@
+mod FilledSyntax
+mod KeptSelections
+mod KeptDefinitions
