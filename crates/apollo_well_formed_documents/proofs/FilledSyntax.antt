@@ -1,6 +1,8 @@
 -- Untyped selections of which no inline fragment is empty: what filled typed selections are erased to.
 use Rattle.std.proofs.Common.{◌≡◌, ◌∙◌, Bool, true, List, [], ◌∷◌, map, ap, sym, subst, refl}
+use Rattle.graphql_nodes.specs.NodeView.{NodeView}
 use Rattle.graphql_ast.specs.declared.selection.Field as ast_field
+use Rattle.graphql_ast.specs.declared.selection.FragmentSpread as ast_spread
 use Rattle.graphql_ast.specs.declared.selection.InlineFragment as ast_inline
 use Rattle.graphql_ast.specs.declared.selection.Selection as ast
 use Rattle.graphql_ast.specs.declared.selection.Selection.TheFolds as folds
@@ -17,15 +19,15 @@ use Rattle.apollo_elaboration.specs.Stripped.{in_place_of}
 use Rattle.apollo_elaboration.proofs.ErasureLemmas.{erased-typed-field, erased-typed-fragment, erased-typed-spread}
 use Rattle.apollo_well_formed_documents.specs.FilledSets.{Each, all_there, each_filled, field_step, inline_step, is_filled, is_filled_field, is_filled_inline_fragment, selection_step, set_step, some_there}
 
-abbrev pub untyped_step : layer.Selection-F Bool Bool Bool → Bool
+abbrev untyped_step : layer.Selection-F Bool Bool Bool → Bool
 untyped_step (layer.Selection-F.Field n) = n.value
 untyped_step (layer.Selection-F.FragmentSpread n) = true
 untyped_step (layer.Selection-F.InlineFragment n) = n.value
 
-abbrev pub untyped_field_step : layer.Field-F Bool Bool Bool → Bool
+abbrev untyped_field_step : layer.Field-F Bool Bool Bool → Bool
 untyped_field_step f = all_there f.selection_set
 
-abbrev pub untyped_inline_step : layer.InlineFragment-F Bool Bool Bool → Bool
+abbrev untyped_inline_step : layer.InlineFragment-F Bool Bool Bool → Bool
 untyped_inline_step f = some_there f.selection_set
 
 -- no inline fragment is empty that an untyped selection is or has
@@ -39,6 +41,22 @@ is_filled_field_syntax = folds.fold-Field Bool Bool Bool untyped_step untyped_fi
 -- none that an untyped inline fragment is or has
 abbrev pub is_filled_inline_syntax : ast_inline.InlineFragment → Bool
 is_filled_inline_syntax = folds.fold-InlineFragment Bool Bool Bool untyped_step untyped_field_step untyped_inline_step
+
+-- from one level to the next
+pub field_selection_filled : (n : NodeView ast_field.Field) → is_filled_syntax (ast.roll-Selection (layer.Selection-F.Field n)) ≡ is_filled_field_syntax n.value
+field_selection_filled n = folds.fold-roll-Selection Bool Bool Bool untyped_step untyped_field_step untyped_inline_step (layer.Selection-F.Field n)
+
+pub inline_selection_filled : (n : NodeView ast_inline.InlineFragment) → is_filled_syntax (ast.roll-Selection (layer.Selection-F.InlineFragment n)) ≡ is_filled_inline_syntax n.value
+inline_selection_filled n = folds.fold-roll-Selection Bool Bool Bool untyped_step untyped_field_step untyped_inline_step (layer.Selection-F.InlineFragment n)
+
+pub spread_filled : (n : NodeView ast_spread.FragmentSpread) → is_filled_syntax (ast.roll-Selection (layer.Selection-F.FragmentSpread n)) ≡ true
+spread_filled n = folds.fold-roll-Selection Bool Bool Bool untyped_step untyped_field_step untyped_inline_step (layer.Selection-F.FragmentSpread n)
+
+pub field_filled : (x : layer.Field-F ast.Selection ast_field.Field ast_inline.InlineFragment) → is_filled_field_syntax (ast_field.roll-Field x) ≡ all_there (map is_filled_syntax x.selection_set)
+field_filled x = folds.fold-roll-Field Bool Bool Bool untyped_step untyped_field_step untyped_inline_step x
+
+pub inline_filled : (x : layer.InlineFragment-F ast.Selection ast_field.Field ast_inline.InlineFragment) → is_filled_inline_syntax (ast_inline.roll-InlineFragment x) ≡ some_there (map is_filled_syntax x.selection_set)
+inline_filled x = folds.fold-roll-InlineFragment Bool Bool Bool untyped_step untyped_field_step untyped_inline_step x
 
 abbrev Same : Selection → Type 0
 Same x = is_filled_syntax (erased x) ≡ is_filled x
@@ -83,7 +101,7 @@ field_same y =
     let z : layer.Field-F ast.Selection ast_field.Field ast_inline.InlineFragment =
     record { alias = y.alias; name = y.name; arguments = y.arguments; directives = y.directives; selection_set = erased_set y.selection_set.0 } in
     ap is_filled_field_syntax (typed_folds.fold-roll-Field ES EF EI EL e.selection_step e.field_step e.inline_step e.set_step x)
-    ∙ folds.fold-roll-Field Bool Bool Bool untyped_step untyped_field_step untyped_inline_step z
+    ∙ field_filled z
     ∙ ap all_there y.selection_set.1
     ∙ sym (typed_folds.fold-roll-Field Bool Bool Bool Each selection_step field_step inline_step set_step x)
 
@@ -92,7 +110,7 @@ inline_same y =
     let x : typed_layer.InlineFragment-F Selection Field InlineFragment SelectionSet = record { type_condition = y.type_condition; directives = y.directives; selection_set = y.selection_set.0 } in
     let z : layer.InlineFragment-F ast.Selection ast_field.Field ast_inline.InlineFragment = record { type_condition = y.type_condition; directives = y.directives; selection_set = erased_set y.selection_set.0 } in
     ap is_filled_inline_syntax (typed_folds.fold-roll-InlineFragment ES EF EI EL e.selection_step e.field_step e.inline_step e.set_step x)
-    ∙ folds.fold-roll-InlineFragment Bool Bool Bool untyped_step untyped_field_step untyped_inline_step z
+    ∙ inline_filled z
     ∙ ap some_there y.selection_set.1
     ∙ sym (typed_folds.fold-roll-InlineFragment Bool Bool Bool Each selection_step field_step inline_step set_step x)
 
@@ -100,17 +118,17 @@ selection_same : (y : typed_layer.Selection-F WS WF WI WL) → Same (roll-Select
 selection_same (typed_layer.Selection-F.Field n) =
     let m = in_place_of n n.value.0 in
     ap is_filled_syntax (erased-typed-field m)
-    ∙ folds.fold-roll-Selection Bool Bool Bool untyped_step untyped_field_step untyped_inline_step (layer.Selection-F.Field (in_place_of n (erased_field n.value.0)))
+    ∙ field_selection_filled (in_place_of n (erased_field n.value.0))
     ∙ n.value.1
     ∙ sym (typed_folds.fold-roll-Selection Bool Bool Bool Each selection_step field_step inline_step set_step (typed_layer.Selection-F.Field m))
 selection_same (typed_layer.Selection-F.FragmentSpread n) =
     ap is_filled_syntax (erased-typed-spread n)
-    ∙ folds.fold-roll-Selection Bool Bool Bool untyped_step untyped_field_step untyped_inline_step (layer.Selection-F.FragmentSpread (in_place_of n (e.erased_spread n.value)))
+    ∙ spread_filled (in_place_of n (e.erased_spread n.value))
     ∙ sym (typed_folds.fold-roll-Selection Bool Bool Bool Each selection_step field_step inline_step set_step (typed_layer.Selection-F.FragmentSpread n))
 selection_same (typed_layer.Selection-F.InlineFragment n) =
     let m = in_place_of n n.value.0 in
     ap is_filled_syntax (erased-typed-fragment m)
-    ∙ folds.fold-roll-Selection Bool Bool Bool untyped_step untyped_field_step untyped_inline_step (layer.Selection-F.InlineFragment (in_place_of n (erased_inline_fragment n.value.0)))
+    ∙ inline_selection_filled (in_place_of n (erased_inline_fragment n.value.0))
     ∙ n.value.1
     ∙ sym (typed_folds.fold-roll-Selection Bool Bool Bool Each selection_step field_step inline_step set_step (typed_layer.Selection-F.InlineFragment m))
 

@@ -1,5 +1,5 @@
 -- What is kept of a well-formed selection is well-formed, where no inline fragment is empty.
-use Rattle.std.proofs.Common.{◌≡◌, ◌∙◌, Bool, true, false, List, [], ◌∷◌, ◌++◌, Option, None, Some, Result, Ok, Err, option_map, map, ap, sym, subst, refl, true≢false}
+use Rattle.std.proofs.Common.{◌≡◌, ◌∙◌, true, false, List, [], ◌∷◌, ◌++◌, Option, None, Some, Result, Ok, Err, option_map, map, ap, sym, subst, refl, true≢false}
 use Rattle.std.specs.List.{cons_option, flat_map}
 use Rattle.std.specs.Option.{IfSome}
 use Rattle.std.proofs.lemmas.Bool.{and_parts}
@@ -12,7 +12,7 @@ use Rattle.graphql_ast.specs.declared.selection.Selection.TheFolds as folds
 use Rattle.graphql_ast.specs.declared.selection.Selection.TheOpen.{Field-F, InlineFragment-F, Selection-F}
 use Rattle.graphql_ast.specs.declared.selection.Selection.TheVariants as variant
 use Rattle.graphql_productions.specs.SelectionParts.{selection_parts}
-use Rattle.graphql_productions.specs.TreeParts.{TreePart, arguments_parts, directives_parts, name_parts, option_parts, wanted_parts}
+use Rattle.graphql_productions.specs.TreeParts.{TreePart, arguments_parts, directives_parts, name_parts, node_parts, option_parts, wanted_parts}
 use Rattle.graphql_productions.specs.WellFormed.{IsWellFormed, IsWellFormedPart}
 use Rattle.graphql_productions.proofs.RolledParts.{field_rolled, field_selection_rolled, inline_parts, inline_rolled, inline_selection_rolled, selected_parts}
 use Rattle.apollo_component.proofs.Lists.Each.{each-append}
@@ -22,7 +22,7 @@ use Rattle.apollo_elaboration.specs.Typable.{child_of, if_typable, is_bare, typa
 use Rattle.apollo_elaboration.proofs.ErasureLemmas.{stripped-field, stripped-fragment}
 use Rattle.apollo_well_formed.proofs.Lists.{each-split}
 use Rattle.apollo_well_formed_documents.specs.FilledSets.{all_there, some_there}
-use Rattle.apollo_well_formed_documents.proofs.FilledSyntax.{is_filled_field_syntax, is_filled_inline_syntax, is_filled_syntax, untyped_field_step, untyped_inline_step, untyped_step}
+use Rattle.apollo_well_formed_documents.proofs.FilledSyntax.{field_filled, field_selection_filled, inline_filled, inline_selection_filled, is_filled_field_syntax, is_filled_inline_syntax, is_filled_syntax}
 
 -- what stands behind other parts is replaced
 pub behind : (front xs ys : List TreePart) → (IsWellFormed xs → IsWellFormed ys) → IsWellFormed (front ++ xs) → IsWellFormed (front ++ ys)
@@ -34,6 +34,13 @@ behind front xs ys replaced h =
 pub wanted : (xs : List Selection) → some_there (map is_filled_syntax xs) ≡ true → (all_there (map is_filled_syntax xs) ≡ true → IsWellFormed (flat_map selection_parts xs)) → IsWellFormed (wanted_parts selection_parts xs)
 wanted [] filled all = absurd (true≢false (sym filled))
 wanted (x ∷ xs) filled all = (refl, all filled)
+
+-- the parts of a field or an inline fragment as a selection
+pub field_selection_parts : (n : NodeView Field) → selection_parts (roll-Selection (Selection-F.Field n)) ≡ node_parts selected_parts n
+field_selection_parts n = ap selection_parts (variant.rolls-Field n) ∙ field_selection_rolled n
+
+pub inline_selection_parts : (n : NodeView InlineFragment) → selection_parts (roll-Selection (Selection-F.InlineFragment n)) ≡ node_parts inline_parts n
+inline_selection_parts n = ap selection_parts (variant.rolls-InlineFragment n) ∙ inline_selection_rolled n
 
 -- a selection, a field or an inline fragment is well-formed, if it is filled
 abbrev Stays : Selection → Type 0
@@ -82,7 +89,7 @@ module _ (s : Option Schema) where
       (if-typable StaysField (kept_field x.alias x.name x.arguments x.directives (λ t. stripped s t x.selection_set)) (typable_field s ty x.name (is_bare x.selection_set)) (λ d filled.
       let ys : List Selection = stripped s (child_of d) x.selection_set in
       let all : all_there (map is_filled_syntax ys) ≡ true =
-      sym (folds.fold-roll-Field Bool Bool Bool untyped_step untyped_field_step untyped_inline_step (record { alias = x.alias; name = x.name; arguments = x.arguments; directives = x.directives; selection_set = ys })) ∙ filled in
+      sym (field_filled (record { alias = x.alias; name = x.name; arguments = x.arguments; directives = x.directives; selection_set = ys })) ∙ filled in
       subst IsWellFormed (sym (field_rolled x.arguments x.directives ys x.alias x.name))
       (behind (option_parts name_parts x.alias) _ _
       (λ g. (g.0, behind (arguments_parts false x.arguments) _ _ (behind (directives_parts false x.directives) _ _ (λ k. below (child_of d) k all)) g.1))
@@ -93,7 +100,7 @@ module _ (s : Option Schema) where
       (if-typable StaysInline (kept_fragment x.type_condition x.directives (λ t. stripped s t x.selection_set)) (typable_fragment s ty x.type_condition) (λ child filled.
       let ys : List Selection = stripped s child x.selection_set in
       let some : some_there (map is_filled_syntax ys) ≡ true =
-      sym (folds.fold-roll-InlineFragment Bool Bool Bool untyped_step untyped_field_step untyped_inline_step (record { type_condition = x.type_condition; directives = x.directives; selection_set = ys })) ∙ filled in
+      sym (inline_filled (record { type_condition = x.type_condition; directives = x.directives; selection_set = ys })) ∙ filled in
       subst IsWellFormed (sym (inline_rolled x.directives ys x.type_condition))
       (behind (option_parts name_parts x.type_condition) _ _ (behind (directives_parts false x.directives) _ _ (λ k. wanted ys some (below child k.1)))
       (subst IsWellFormed (inline_rolled x.directives x.selection_set x.type_condition) h))))
@@ -114,20 +121,18 @@ module _ (s : Option Schema) where
   selection_kept : (y : Selection-F WS WF WI) → Kept (roll-Selection (folds.map-Selection WS WF WI Selection Field InlineFragment (λ z. z.0) (λ z. z.0) (λ z. z.0) y))
   selection_kept (Selection-F.Field n) ty h =
       let m : NodeView Field = in_place_of n n.value.0 in
-      let parts = λ (k : NodeView Field). ap selection_parts (variant.rolls-Field k) ∙ field_selection_rolled k in
       subst (λ o. IfSome o Stays) (sym (stripped-roll ty (Selection-F.Field m)))
       (if-mapped StaysField Stays (λ (f : Field). roll-Selection (Selection-F.Field (in_place_of m f)))
-      (λ f stays filled. subst IsWellFormed (sym (parts (in_place_of m f))) (tt, stays (sym (folds.fold-roll-Selection Bool Bool Bool untyped_step untyped_field_step untyped_inline_step (Selection-F.Field (in_place_of m f))) ∙ filled)))
-      (stripped_field s ty n.value.0) (n.value.1 ty (subst IsWellFormed (parts m) h).1))
+      (λ f stays filled. subst IsWellFormed (sym (field_selection_parts (in_place_of m f))) (tt, stays (sym (field_selection_filled (in_place_of m f)) ∙ filled)))
+      (stripped_field s ty n.value.0) (n.value.1 ty (subst IsWellFormed (field_selection_parts m) h).1))
   selection_kept (Selection-F.FragmentSpread n) ty h =
       subst (λ o. IfSome o Stays) (sym (stripped-roll ty (Selection-F.FragmentSpread n))) (λ filled. h)
   selection_kept (Selection-F.InlineFragment n) ty h =
       let m : NodeView InlineFragment = in_place_of n n.value.0 in
-      let parts = λ (k : NodeView InlineFragment). ap selection_parts (variant.rolls-InlineFragment k) ∙ inline_selection_rolled k in
       subst (λ o. IfSome o Stays) (sym (stripped-roll ty (Selection-F.InlineFragment m)))
       (if-mapped StaysInline Stays (λ (f : InlineFragment). roll-Selection (Selection-F.InlineFragment (in_place_of m f)))
-      (λ f stays filled. subst IsWellFormed (sym (parts (in_place_of m f))) (tt, stays (sym (folds.fold-roll-Selection Bool Bool Bool untyped_step untyped_field_step untyped_inline_step (Selection-F.InlineFragment (in_place_of m f))) ∙ filled)))
-      (stripped_inline_fragment s ty n.value.0) (n.value.1 ty (subst IsWellFormed (parts m) h).1))
+      (λ f stays filled. subst IsWellFormed (sym (inline_selection_parts (in_place_of m f))) (tt, stays (sym (inline_selection_filled (in_place_of m f)) ∙ filled)))
+      (stripped_inline_fragment s ty n.value.0) (n.value.1 ty (subst IsWellFormed (inline_selection_parts m) h).1))
 
   -- the elements come with their proofs
   below_kept : (ys : List WS) → KeptList (map (λ (y : WS). y.0) ys)

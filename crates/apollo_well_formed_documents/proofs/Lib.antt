@@ -1,3 +1,4 @@
 mod FilledSyntax
 mod KeptSelections
 mod KeptDefinitions
+mod FilledByParts

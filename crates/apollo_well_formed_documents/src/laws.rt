@@ -18,18 +18,19 @@ use apollo_well_formed::laws::documents_are_well_formed_by_their_definitions;
 /// The operations and fragments of a list of well-formed definitions, or of a well-formed document, are
 /// well-formed. GraphQL specification of October 2021, section 2.2.
 pub fn executables_are_well_formed_by_their_definitions()
-    ensures of_definitions { (errors : Bool) (ds : List Definition) → AllByRecursion IsWellFormedDefinition ds
-        → HasWellFormedExecutables (document_list errors ds) }
+    ensures of_definitions { (errors : Bool) (ds : List Definition)
+        → AllByRecursion IsWellFormedDefinition ds → HasWellFormedExecutables (document_list errors ds) }
     ensures of_document { (errors : Bool) (ds : List Definition) → IsWellFormed (document_parts ds)
         → HasWellFormedExecutables (document_list errors ds) }
 {}
 
-/// Well-formed goes through the typed document: where each operation and fragment of a list is well-formed, so
-/// is each definition that the document of the list is written out as, over any schema or without one, whole or
-/// what could be built of a list with faults. For that no operation, fragment or inline fragment may have been
-/// left without a selection: what isn't typable is left out, and the grammar wants one there at least. Where
-/// anything is written, the document that is written is well-formed. GraphQL specification of October 2021,
-/// sections 2.2 to 2.8.
+/// Well-formed goes through the typed document: where each operation and fragment of a list is well-formed,
+/// so is each definition that the document of the list is written out as. It holds over any schema and
+/// without one, and for a list with faults too. For that no operation, fragment or inline fragment may have
+/// been left without a selection: what isn't typable is left out, and the grammar wants one there at least.
+/// Where anything is written, the document that is written is well-formed. No less will do: of any document
+/// whose definitions are written well-formed, each of these has a selection. GraphQL specification of
+/// October 2021, sections 2.2 to 2.8.
 pub fn an_erased_document_is_well_formed()
     ensures each { (schema : Option Schema) (xs : List DocumentItem) (document : ExecutableDocument)
         → IsDocumentOf schema xs document → HasWellFormedExecutables xs → IsFilledDocument document
@@ -37,6 +38,8 @@ pub fn an_erased_document_is_well_formed()
     ensures whole { (schema : Option Schema) (xs : List DocumentItem) (document : ExecutableDocument)
         → IsDocumentOf schema xs document → HasWellFormedExecutables xs → IsFilledDocument document
         → erased_definitions document ≢ [] → IsWellFormed (document_parts (erased_definitions document)) }
+    ensures needed { (document : ExecutableDocument)
+        → AllByRecursion IsWellFormedDefinition (erased_definitions document) → IsFilledDocument document }
 {
     documents_are_well_formed_by_their_definitions();
 }
