@@ -1,4 +1,4 @@
-mod Lists
+pub mod Lists
 mod Items
 mod Components
 mod Written

@@ -1,0 +1,4 @@
+mod FilledSyntax
+mod KeptSelections
+mod KeptDefinitions
+mod FilledByParts

@@ -1,0 +1,5 @@
+//! The write-out of a typed document of well-formed definitions is well-formed: laws alone. GraphQL
+//! specification of October 2021, section 2.
+#![tactic(auto)]
+
+pub mod laws;
