@@ -60,6 +60,9 @@ pub use apollo_canonical::laws::canonical;
 // Well-formed goes through the schema: where each definition of a list could have come of a text, so could each of its write-out.
 pub use apollo_well_formed::laws as well_formed;
 
+// So could what a typed document is written out as, where no selections were left without one.
+pub use apollo_well_formed_documents::laws as well_formed_documents;
+
 // Builders of equal lists build equal schemas, those of rearranged lists also the same faults, and documents one by one what
 // one document would.
 pub use apollo_rearranged_builds::laws as rearranged_builds;
