@@ -9,6 +9,7 @@ mod BlockWalks
 mod FoldedSelections
 mod FoldedText
 mod InsideLemmas
+mod LineEnds
 mod QuotedCharacters
 pub mod QuotedLaws
 mod QuotedText
