@@ -1,6 +1,7 @@
 //! Quoted strings: GraphQL specification of October 2021, section 2.9.4.
-ghost use Rattle.std.specs.Prelude.{◌≡◌, ◌<◌, ◌%◌, true};
+ghost use Rattle.std.specs.Prelude.{◌≡◌, ◌<◌, ◌≤◌, ◌%◌, length, true};
 ghost use Rattle.std.specs.Fmt.{WritesOnOk, digit_glyph};
+ghost use Rattle.graphql_printing.specs.Escapes.{escaped_size, wants_escape};
 ghost use Rattle.graphql_printing.specs.Strings.{escape_letter, is_control, number_escape, quoted, quoted_bytes, quoted_character};
 
 use std::fmt;
@@ -18,10 +19,40 @@ pub(crate) fn write_quoted<W: Write>(f: &mut Formatter<W>, text: &str) -> fmt::R
 fn write_characters<W: Write>(f: &mut Formatter<W>, text: &str) -> fmt::Result
     ensures { WritesOnOk W.write_str_gives f.old result (quoted_bytes text.now) f.new }
 {
-    for c in text.chars() {
-        write_character(f, c)?;
+    let bytes = text.as_bytes();
+    let mut start = 0;
+    let mut at = 0;
+    'bytes: while at < bytes.len() {
+        let size = escaped_size(&bytes[at..]);
+        if size == 0 {
+            at += 1;
+        } else {
+            f.write_str(&text[start..at])?;
+            at += size;
+            start = at;
+            write_character(f, char::from(bytes[at - 1]))?;
+        }
     }
-    Ok(())
+    f.write_str(&text[start..])
+}
+
+/// Whether a byte of ASCII is escaped.
+fn wants_escape(byte: u8) -> bool
+    ensures { result ≡ wants_escape byte }
+{
+    byte < b' ' || byte == 0x7f || byte == b'"' || byte == b'\\'
+}
+
+/// How many bytes at the front are a character that is escaped, whose number the last of them is.
+fn escaped_size(text: &[u8]) -> usize
+    ensures value { result ≡ escaped_size text.now }
+    ensures within { result ≤ length text.now }
+{
+    match text {
+        [0xc2, 0x80..=0x9f, ..] => 2,
+        [byte, ..] => usize::from(wants_escape(*byte)),
+        [] => 0,
+    }
 }
 
 fn write_character<W: Write>(f: &mut Formatter<W>, c: char) -> fmt::Result
