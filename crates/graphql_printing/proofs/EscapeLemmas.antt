@@ -1,14 +1,14 @@
 -- What a quoted string has of its text, byte by byte.
-use Rattle.std.proofs.Common.{◌≡◌, ◌∙◌, ℕ, ◌+◌, ◌-◌, ◌<◌, ◌≤◌, Bool, true, false, List, [], ◌∷◌, ◌++◌, length, get_or, drop, cond, nat_eq, refl, sym, ap, subst, append-nil, arith, IsUtf8, get_or-drop}
+use Rattle.std.proofs.Common.{◌≡◌, ◌∙◌, ℕ, ◌+◌, ◌-◌, ◌<◌, ◌≤◌, Bool, true, false, List, [], ◌∷◌, ◌++◌, length, get_or, drop, cond, nat_eq, refl, sym, ap, subst, append-nil, arith, IsUtf8, get_or-drop, codes}
 use Rattle.std.specs.Prelude.{nat_lt}
-use Rattle.std.specs.Char.{len_utf8}
+use Rattle.std.specs.Char.{encode_utf8, len_utf8}
 use Rattle.std.specs.Str.{IsCharBoundary}
 use Rattle.std.proofs.lemmas.Bool.{false≢true, lt-ltb, ltb-true}
 use Rattle.std.proofs.lemmas.Bool.Decides.{nat_tests}
 use Rattle.std.proofs.lemmas.List.{drop-drop, drop_more}
 use Rattle.std.proofs.lemmas.Str.{IsCharBoundary-after_ascii, IsCharBoundary-from_rest, IsCharBoundary-past_char, IsUtf8-drop, encode_ascii}
 use Rattle.graphql_tokens.specs.Bytes.{begins}
-use Rattle.graphql_printing.specs.Escapes.{escaped_size, wants_escape}
+use Rattle.graphql_printing.specs.Escapes.{escape, escaped_size, wants_escape}
 use Rattle.graphql_printing.specs.Strings.{are_control, escape_letter, is_control, number_escape, quoted_byte, quoted_bytes, quoted_character}
 use Rattle.graphql_printing.proofs.QuotedCharacters.{control_bytes}
 
@@ -46,13 +46,24 @@ alone : (a : ℕ) (rest : List ℕ) → nat_eq a 194 ≡ false → quoted_bytes 
 alone a [] other = sym (append-nil (quoted_byte a))
 alone a (b ∷ rest) other = rw other refl
 
--- a control character beyond ASCII
-by_number : (c : ℕ) → 128 ≤ c → is_control c ≡ true → quoted_character c ≡ number_escape c
-by_number c beyond h = grind (arith, nat_tests, beyond, h)
+-- a byte of ASCII that is escaped
+by_byte : (c : ℕ) → c < 128 → wants_escape c ≡ true → quoted_byte c ≡ escape c
+by_byte c small h = rw (lt-ltb c 128 small) (by (nat_lt 0 (escape_letter c)) refl)
+  where
+    by : (letter : Bool) → nat_lt 0 (escape_letter c) ≡ letter
+        → cond letter (codes "\\" ++ escape_letter c ∷ []) (cond (is_control c) (number_escape c) (encode_utf8 c)) ≡ cond letter (codes "\\" ++ escape_letter c ∷ []) (number_escape c)
+    by true is = refl
+    by false is =
+        let control : is_control c ≡ true = grind (arith, nat_tests, h, is) in
+        rw control refl
+
+-- a character beyond ASCII has no letter
+by_number : (c : ℕ) → 128 ≤ c → escape c ≡ number_escape c
+by_number c beyond = grind (arith, nat_tests, beyond)
 
 -- the character at the front, of so many bytes, of which the last is its number, is escaped
 record Escaped (text : List ℕ) (size : ℕ) : Type 0 where
-  says : quoted_bytes text ≡ quoted_character (get_or text (size - 1) 0) ++ quoted_bytes (drop size text)
+  says : quoted_bytes text ≡ escape (get_or text (size - 1) 0) ++ quoted_bytes (drop size text)
   begins_character : 128 ≤ get_or text 0 0 → 192 ≤ get_or text 0 0
   ends_character : IsUtf8 text → IsCharBoundary text size
 
@@ -60,9 +71,8 @@ one_byte : (c : ℕ) (cs : List ℕ) → wants_escape c ≡ true → Escaped (c 
 one_byte c cs h =
     let small : c < 128 = grind (arith, nat_tests, h) in
     let other : nat_eq c 194 ≡ false = grind (arith, nat_tests, small) in
-    let same : quoted_byte c ≡ quoted_character c = rw (lt-ltb c 128 small) refl in
     record {
-      says = alone c cs other ∙ ap (λ (l : List ℕ). l ++ quoted_bytes cs) same;
+      says = alone c cs other ∙ ap (λ (l : List ℕ). l ++ quoted_bytes cs) (by_byte c small h);
       begins_character = λ big. absurd (omega (arith, big, small));
       ends_character = λ utf8. IsCharBoundary-after_ascii (c ∷ cs) 0 utf8 (omega arith) small;
     }
@@ -71,10 +81,9 @@ two_bytes : (a b : ℕ) (rest : List ℕ) → are_control a b ≡ true → Escap
 two_bytes a b rest h =
     let first : a ≡ 194 = grind (arith, nat_tests, h) in
     let beyond : 128 ≤ b = grind (arith, nat_tests, h) in
-    let control : is_control b ≡ true = grind (arith, nat_tests, h) in
     let size : 0 + len_utf8 b ≡ 2 = grind (arith, nat_tests, h) in
     record {
-      says = rw h (ap (λ (l : List ℕ). l ++ quoted_bytes rest) (sym (by_number b beyond control)));
+      says = rw h (ap (λ (l : List ℕ). l ++ quoted_bytes rest) (sym (by_number b beyond)));
       begins_character = λ big. omega (arith, first);
       ends_character = λ utf8. subst (IsCharBoundary (a ∷ b ∷ rest)) size (IsCharBoundary-past_char (a ∷ b ∷ rest) rest 0 b (omega arith) utf8 (ap (λ (l : List ℕ). l ++ rest) (sym (control_bytes a b h))));
     }
@@ -94,7 +103,7 @@ first (c ∷ cs) some = by (wants_escape c) (begins (are_control c) cs) refl ref
 
 -- the same at a place in a text
 pub record EscapedAt (s : List ℕ) (i next : ℕ) : Type 0 where
-  pub says : quoted_bytes (drop i s) ≡ quoted_character (get_or s (next - 1) 0) ++ quoted_bytes (drop next s)
+  pub says : quoted_bytes (drop i s) ≡ escape (get_or s (next - 1) 0) ++ quoted_bytes (drop next s)
   pub start : IsCharBoundary s i
   pub end : IsCharBoundary s next
 
@@ -107,7 +116,7 @@ escaped_at s i size utf8 within is some =
     let last : i + (size - 1) ≡ i + size - 1 = omega (arith, some) in
     let number : get_or (drop i s) (size - 1) 0 ≡ get_or s (i + size - 1) 0 = get_or-drop i s (size - 1) 0 ∙ ap (λ (n : ℕ). get_or s n 0) last in
     record {
-      says = here.says ∙ ap (λ (c : ℕ). quoted_character c ++ quoted_bytes (drop size (drop i s))) number ∙ ap (λ (l : List ℕ). quoted_character (get_or s (i + size - 1) 0) ++ quoted_bytes l) (drop-drop size i s);
+      says = here.says ∙ ap (λ (c : ℕ). escape c ++ quoted_bytes (drop size (drop i s))) number ∙ ap (λ (l : List ℕ). escape (get_or s (i + size - 1) 0) ++ quoted_bytes l) (drop-drop size i s);
       start = start;
       end = IsCharBoundary-from_rest s i size (omega (arith, within)) (here.ends_character (IsUtf8-drop s i utf8 start));
     }

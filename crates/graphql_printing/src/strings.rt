@@ -1,8 +1,8 @@
 //! Quoted strings: GraphQL specification of October 2021, section 2.9.4.
 ghost use Rattle.std.specs.Prelude.{◌≡◌, ◌<◌, ◌≤◌, ◌%◌, length, true};
 ghost use Rattle.std.specs.Fmt.{WritesOnOk, digit_glyph};
-ghost use Rattle.graphql_printing.specs.Escapes.{escaped_size, wants_escape};
-ghost use Rattle.graphql_printing.specs.Strings.{escape_letter, is_control, number_escape, quoted, quoted_bytes, quoted_character};
+ghost use Rattle.graphql_printing.specs.Escapes.{escape, escaped_size, wants_escape};
+ghost use Rattle.graphql_printing.specs.Strings.{escape_letter, number_escape, quoted, quoted_bytes};
 
 use std::fmt;
 use std::fmt::{Formatter, Write};
@@ -30,7 +30,7 @@ fn write_characters<W: Write>(f: &mut Formatter<W>, text: &str) -> fmt::Result
             f.write_str(&text[start..at])?;
             at += size;
             start = at;
-            write_character(f, char::from(bytes[at - 1]))?;
+            write_escape(f, char::from(bytes[at - 1]))?;
         }
     }
     f.write_str(&text[start..])
@@ -55,17 +55,16 @@ fn escaped_size(text: &[u8]) -> usize
     }
 }
 
-fn write_character<W: Write>(f: &mut Formatter<W>, c: char) -> fmt::Result
-    ensures { WritesOnOk W.write_str_gives f.old result (quoted_character c) f.new }
+/// Writes the escape of a character.
+fn write_escape<W: Write>(f: &mut Formatter<W>, c: char) -> fmt::Result
+    ensures { WritesOnOk W.write_str_gives f.old result (escape c) f.new }
 {
     let letter = escape_letter(c);
     if letter > 0 {
         f.write_str("\\")?;
         f.write_char(char::from(letter))
-    } else if is_control(c) {
-        write_number(f, c)
     } else {
-        f.write_char(c)
+        write_number(f, c)
     }
 }
 
@@ -84,13 +83,6 @@ fn escape_letter(c: char) -> u8
         '\\' => b'\\',
         _ => 0,
     }
-}
-
-/// Whether a character is a control character.
-pub(crate) fn is_control(c: char) -> bool
-    ensures { result ≡ is_control c }
-{
-    c < ' ' || ('\u{7f}' <= c && c < '\u{a0}')
 }
 
 /// Writes the escape of a character by its number, of which no more than two digits count.

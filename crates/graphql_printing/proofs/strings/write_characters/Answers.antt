@@ -3,8 +3,7 @@ use Rattle.std.proofs.Common.{◌≡◌, ◌+◌, ◌-◌, ◌<◌, [], ◌++◌
 use Rattle.std.proofs.lemmas.Grind.{common_steps}
 use Rattle.std.proofs.lemmas.Str.{IsCharBoundary-start}
 use Rattle.std.proofs.Output.{has_written_append, has_written_of_eq}
-use Rattle.graphql_printing.specs.Escapes.{escaped_size}
-use Rattle.graphql_printing.specs.Strings.{quoted_character}
+use Rattle.graphql_printing.specs.Escapes.{escape, escaped_size}
 use Rattle.graphql_printing.proofs.EscapeLemmas.{escaped_at, plain_at}
 use Rattle.graphql_printing.proofs.Runs.{kept, replaced}
 use Rattle.graphql_printing.proofs.strings.write_characters.Goals as goal
@@ -34,7 +33,7 @@ bytes-preserved g c =
     let (low, high, bound, done, whole, wrote) = l.invariant in
     let here = escaped_at s l.at c.escaped_size-size.result c.utf8.text (omega (arith, c.as_bytes-bytes.ensures.len)) (grind (arith, common_steps)) (grind (arith, common_steps)) in
     let run = take (l.at - l.start) (drop l.start s) in
-    let text = quoted_character (get_or s (next - 1) 0) in (
+    let text = escape (get_or s (next - 1) 0) in (
       omega arith,
       here.end.0,
       here.end,
@@ -43,6 +42,6 @@ bytes-preserved g c =
       λ plain.
           let sofar = wrote plain in
           let one = c.write_str.ensures.writes sofar.plain (search rules) in
-          let two = c.write_character.ensures one.plain (search rules) in
+          let two = c.write_escape.ensures one.plain (search rules) in
           has_written_of_eq _ _ _ _ _ (grind (arith, common_steps, append_assoc)) (has_written_append _ _ _ _ _ _ (has_written_append _ _ _ _ _ _ sofar one) two),
     )
