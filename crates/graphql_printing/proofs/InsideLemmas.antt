@@ -1,8 +1,8 @@
 -- What a block string has of its text, byte by byte.
-use Rattle.std.proofs.Common.{◌≡◌, ℕ, zero, suc, ◌+◌, ◌-◌, ◌<◌, ◌≤◌, true, false, List, [], ◌∷◌, ◌++◌, length, get_or, take, drop, nat_eq, refl, arith, append_assoc, length-drop, get_or-drop}
+use Rattle.std.proofs.Common.{◌≡◌, ℕ, zero, suc, ◌+◌, ◌-◌, ◌<◌, true, false, List, [], ◌∷◌, ◌++◌, length, get_or, take, drop, nat_eq, refl, arith, append_assoc}
 use Rattle.std.proofs.lemmas.Bool.{false≢true}
 use Rattle.std.proofs.lemmas.Bool.Decides.{nat_tests}
-use Rattle.std.proofs.lemmas.List.{drop_more, take_more}
+use Rattle.std.proofs.lemmas.List.{drop_more}
 use Rattle.graphql_tokens.specs.Strings.{begins_with_quotes}
 use Rattle.graphql_printing.specs.Descriptions.{further_in, with_marks}
 use Rattle.graphql_printing.specs.Layout.{line_end}
@@ -56,25 +56,6 @@ plain indent c cs h is = rw is (rw h refl)
 
 pub plain_at : (s : List ℕ) (indent i : ℕ) → i < length s → nat_eq (get_or s i 0) 10 ≡ false → begins_with_quotes (drop i s) ≡ false → Rest indent 0 (drop i s) ≡ get_or s i 0 ∷ Rest indent 0 (drop (i + 1) s)
 plain_at s indent i within h is = rw (drop_more s i 0 within) (plain indent (get_or s i 0) (drop (i + 1) s) h (rw (drop_more s i 0 within) at is))
-
-whole_of : (start i : ℕ) → start ≤ i → start + (i - start) ≡ i
-whole_of start i low = omega arith
-
--- a byte that stands for itself joins those that aren't written yet
-pub kept : (s done total rest then : List ℕ) (start i : ℕ) → start ≤ i → i < length s → rest ≡ get_or s i 0 ∷ then
-    → done ++ (take (i - start) (drop start s) ++ rest) ≡ total → done ++ (take (i + 1 - start) (drop start s) ++ then) ≡ total
-kept s done total rest then start i low within is whole =
-    let at : get_or (drop start s) (i - start) 0 ≡ get_or s i 0 = rw (get_or-drop start s (i - start) 0, whole_of start i low) in
-    let more = take_more (drop start s) (i - start) 0 (omega (arith, length-drop start s)) in
-    let next : i + 1 - start ≡ i - start + 1 = omega arith in
-    rw (next, more, at) (simp append_assoc (rw is at whole))
-
--- those are written, and something in place of this byte
-pub replaced : (s done total rest text then : List ℕ) (start i : ℕ) → rest ≡ text ++ then
-    → done ++ (take (i - start) (drop start s) ++ rest) ≡ total → (done ++ (take (i - start) (drop start s) ++ text)) ++ (take (i + 1 - (i + 1)) (drop (i + 1) s) ++ then) ≡ total
-replaced s done total rest text then start i is whole =
-    let none : i + 1 - (i + 1) ≡ 0 = omega arith in
-    rw none (simp append_assoc (rw is at whole))
 
 -- those are written, and `\` before this byte
 pub marked : (s done total rest then : List ℕ) (start i : ℕ) → i < length s → rest ≡ 92 ∷ get_or s i 0 ∷ then

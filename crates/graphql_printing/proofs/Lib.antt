@@ -6,10 +6,12 @@ mod BlockStay
 mod BlockTestLaws
 mod BlockValue
 mod BlockWalks
+mod EscapeLemmas
 mod FoldedSelections
 mod FoldedText
 mod InsideLemmas
+mod LineEnds
 mod QuotedCharacters
 pub mod QuotedLaws
-mod QuotedText
+mod Runs
 mod WidthLemmas

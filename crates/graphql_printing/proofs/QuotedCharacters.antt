@@ -92,7 +92,7 @@ byte_spells c = by (nat_lt c 128) (nat_lt 0 (escape_letter c)) (is_control c) re
     by true false false ascii h g =
         subst (λ (bytes : List ℕ). Spells bytes (c ∷ [])) (sym (encode_ascii c (grind (arith, nat_tests, ascii)))) (plain c (grind (arith, nat_tests, h, g)))
 
-control_bytes : (a b : ℕ) → are_control a b ≡ true → encode_utf8 b ≡ a ∷ b ∷ []
+pub control_bytes : (a b : ℕ) → are_control a b ≡ true → encode_utf8 b ≡ a ∷ b ∷ []
 unfolding encode_utf8
 control_bytes a b h = grind (arith, nat_tests, h)
 

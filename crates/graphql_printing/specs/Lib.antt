@@ -1,6 +1,7 @@
 pub mod BlockTest
 pub mod Descriptions
 pub mod Documents
+pub mod Escapes
 pub mod Fields
 pub mod Layout
 pub mod Operations

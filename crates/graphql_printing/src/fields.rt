@@ -25,6 +25,9 @@ pub fn write_field_head<W: Write>(
 ) -> fmt::Result
     ensures { WritesOnOk W.write_str_gives f.old result (field_head indent alias.now name.now arguments.now) f.new }
 {
+    if arguments.is_empty() {
+        return write_field_name(f, alias, name);
+    }
     if is_long(alias, name, arguments)? {
         write_field_name(f, alias, name)?;
         write_argument_lines(f, arguments, indent)

@@ -6,19 +6,26 @@ ghost use Rattle.graphql_printing.specs.Layout.{line_end};
 use std::fmt;
 use std::fmt::{Formatter, Write};
 
+/// A line feed and 64 blanks.
+const LINE_END: &str = "\n                                                                ";
+
 /// Writes a line feed, and so many blanks.
 pub(crate) fn write_line_end<W: Write>(f: &mut Formatter<W>, indent: usize) -> fmt::Result
     ensures { WritesOnOk W.write_str_gives f.old result (line_end indent) f.new }
 {
-    f.write_str("\n")?;
-    write_blanks(f, indent)
+    let first = indent.min(64);
+    f.write_str(&LINE_END[..first + 1])?;
+    write_blanks(f, indent - first)
 }
 
 fn write_blanks<W: Write>(f: &mut Formatter<W>, count: usize) -> fmt::Result
     ensures { WritesOnOk W.write_str_gives f.old result (replicate count 32) f.new }
 {
-    for _i in 0..count {
-        f.write_str(" ")?;
+    let mut left = count;
+    while left > 0 {
+        let next = left.min(64);
+        f.write_str(&LINE_END[1..next + 1])?;
+        left -= next;
     }
     Ok(())
 }

@@ -1,7 +1,8 @@
 //! Quoted strings: GraphQL specification of October 2021, section 2.9.4.
-ghost use Rattle.std.specs.Prelude.{◌≡◌, ◌<◌, ◌%◌, true};
+ghost use Rattle.std.specs.Prelude.{◌≡◌, ◌<◌, ◌≤◌, ◌%◌, length, true};
 ghost use Rattle.std.specs.Fmt.{WritesOnOk, digit_glyph};
-ghost use Rattle.graphql_printing.specs.Strings.{escape_letter, is_control, number_escape, quoted, quoted_bytes, quoted_character};
+ghost use Rattle.graphql_printing.specs.Escapes.{escape, escaped_size, wants_escape};
+ghost use Rattle.graphql_printing.specs.Strings.{escape_letter, number_escape, quoted, quoted_bytes};
 
 use std::fmt;
 use std::fmt::{Formatter, Write};
@@ -18,23 +19,52 @@ pub(crate) fn write_quoted<W: Write>(f: &mut Formatter<W>, text: &str) -> fmt::R
 fn write_characters<W: Write>(f: &mut Formatter<W>, text: &str) -> fmt::Result
     ensures { WritesOnOk W.write_str_gives f.old result (quoted_bytes text.now) f.new }
 {
-    for c in text.chars() {
-        write_character(f, c)?;
+    let bytes = text.as_bytes();
+    let mut start = 0;
+    let mut at = 0;
+    'bytes: while at < bytes.len() {
+        let size = escaped_size(&bytes[at..]);
+        if size == 0 {
+            at += 1;
+        } else {
+            f.write_str(&text[start..at])?;
+            at += size;
+            start = at;
+            write_escape(f, char::from(bytes[at - 1]))?;
+        }
     }
-    Ok(())
+    f.write_str(&text[start..])
 }
 
-fn write_character<W: Write>(f: &mut Formatter<W>, c: char) -> fmt::Result
-    ensures { WritesOnOk W.write_str_gives f.old result (quoted_character c) f.new }
+/// Whether a byte of ASCII is escaped.
+fn wants_escape(byte: u8) -> bool
+    ensures { result ≡ wants_escape byte }
+{
+    byte < b' ' || byte == 0x7f || byte == b'"' || byte == b'\\'
+}
+
+/// How many bytes at the front are a character that is escaped, whose number the last of them is.
+fn escaped_size(text: &[u8]) -> usize
+    ensures value { result ≡ escaped_size text.now }
+    ensures within { result ≤ length text.now }
+{
+    match text {
+        [0xc2, 0x80..=0x9f, ..] => 2,
+        [byte, ..] => usize::from(wants_escape(*byte)),
+        [] => 0,
+    }
+}
+
+/// Writes the escape of a character.
+fn write_escape<W: Write>(f: &mut Formatter<W>, c: char) -> fmt::Result
+    ensures { WritesOnOk W.write_str_gives f.old result (escape c) f.new }
 {
     let letter = escape_letter(c);
     if letter > 0 {
         f.write_str("\\")?;
         f.write_char(char::from(letter))
-    } else if is_control(c) {
-        write_number(f, c)
     } else {
-        f.write_char(c)
+        write_number(f, c)
     }
 }
 
@@ -53,13 +83,6 @@ fn escape_letter(c: char) -> u8
         '\\' => b'\\',
         _ => 0,
     }
-}
-
-/// Whether a character is a control character.
-pub(crate) fn is_control(c: char) -> bool
-    ensures { result ≡ is_control c }
-{
-    c < ' ' || ('\u{7f}' <= c && c < '\u{a0}')
 }
 
 /// Writes the escape of a character by its number, of which no more than two digits count.

@@ -1,11 +1,12 @@
 -- A line feed and the first of three quotes are written at once, with what is wanted there; any other byte waits.
-use Rattle.std.proofs.Common.{◌≡◌, ◌-◌, ◌<◌, true, false, [], ◌∷◌, ◌++◌, length, get_or, nat_eq, take, drop, refl, rules, arith, append_assoc}
+use Rattle.std.proofs.Common.{◌≡◌, ◌+◌, ◌-◌, ◌<◌, true, false, [], ◌∷◌, ◌++◌, length, get_or, nat_eq, take, drop, refl, rules, arith, append_assoc}
 use Rattle.std.proofs.lemmas.Grind.{common_steps}
 use Rattle.std.proofs.lemmas.Str.{IsCharBoundary-start, IsCharBoundary-after_ascii, IsCharBoundary-before_ascii}
 use Rattle.std.proofs.Output.{has_written_append, has_written_of_eq}
 use Rattle.graphql_tokens.specs.Strings.{begins_with_quotes}
 use Rattle.graphql_printing.specs.Layout.{line_end}
-use Rattle.graphql_printing.proofs.InsideLemmas.{feed_at, goes_on_at, kept, marked, marks_at, plain_at, quote_at, replaced}
+use Rattle.graphql_printing.proofs.InsideLemmas.{feed_at, goes_on_at, marked, marks_at, plain_at, quote_at}
+use Rattle.graphql_printing.proofs.Runs.{kept, replaced}
 use Rattle.graphql_printing.proofs.descriptions.write_inside.Goals as goal
 use Rattle.graphql_printing.proofs.descriptions.write_inside.Goals.{then-bytes-at-eq10+in_ok-write_str+in_ok-write_line_end, else-bytes-at-eq10+then-quotes-gt0, else-bytes-at-eq10+else-quotes-gt0+then-begins_with_quotes+in_ok-write_str-2+in_ok-write_str-3, else-bytes-at-eq10+else-quotes-gt0+else-begins_with_quotes}
 
@@ -28,7 +29,7 @@ bytes-preserved g c =
             omega arith,
             IsCharBoundary-after_ascii s l.at c.utf8.text within (omega (arith, feed)),
             done ++ (run ++ line_end indent),
-            replaced s done _ _ (line_end indent) _ l.start l.at (feed_at s indent l.quotes l.at within feed) whole,
+            replaced s done _ _ (line_end indent) _ l.start l.at (l.at + 1) (feed_at s indent l.quotes l.at within feed) whole,
             λ plain.
                 let sofar = wrote plain in
                 let one = w.write_str.ensures.writes sofar.plain (search rules) in
