@@ -63,6 +63,9 @@ pub use apollo_well_formed::laws as well_formed;
 // So could what a typed document is written out as, where no selections were left without one.
 pub use apollo_well_formed_documents::laws as well_formed_documents;
 
+// From text to text: the text of a schema that texts make is read again, and builds an equal schema with the same text.
+pub use apollo_canonical_text::laws::canonical_text;
+
 // Builders of equal lists build equal schemas, those of rearranged lists also the same faults, and documents one by one what
 // one document would.
 pub use apollo_rearranged_builds::laws as rearranged_builds;
