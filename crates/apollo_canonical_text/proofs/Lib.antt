@@ -1,0 +1,14 @@
+mod Plain
+mod PlainCompletion
+mod PlainFolding
+mod PlainTypes
+mod PlainParts
+mod PlainSchema
+mod PlainComponents
+mod PlainFaults
+mod PlainWriteOut
+mod Lists
+mod Alike
+mod Unmarked
+mod Read
+mod FromTexts

@@ -1,0 +1,230 @@
+-- Plain components are put under their origins as plain parts, and plain types are written out as what the types are
+-- written out as, without locations.
+use Rattle.apollo_meaning.proofs.Prelude.{Component, ComponentName, ◌++◌, ◌∙◌, ◌∷◌, ◌≡◌, Bool, Enum, ExtendedType, InputObject, Interface, List, NameView, None, Object, Option, Scalar, Union, [], ap, arith, cond, false, filter, filter_map, first_of_each, is_built_in, map, map-append, map-map, option_map, refl, sym, true, drop, TypeKind, type_kind}
+use Rattle.graphql_nodes.specs.Comparing.{bare_name, bare_node}
+use Rattle.graphql_nodes.specs.Tables.{values_of}
+use Rattle.graphql_nodes.specs.declared.source.SourceSpan.{SourceSpan}
+use Rattle.graphql_nodes.specs.declared.type_kind.TypeKind.TheVariants as k
+use Rattle.graphql_ast.specs.Bare.{bare_directive}
+use Rattle.graphql_ast.specs.BareDocuments.{bare_definition}
+use Rattle.graphql_ast.specs.BareTypeSystem.{bare_enum_value_definition, bare_field_definition, bare_input_value_definition, bare_root_operation}
+use Rattle.graphql_ast.specs.DefinitionParts.{as_directive, as_field, as_input_field, as_name, as_root, as_value, parts_of, type_definition, type_extension}
+use Rattle.graphql_ast.specs.declared.definition.Definition.{Definition}
+use Rattle.graphql_ast.specs.declared.definition.Definition.TheVariants as d
+use Rattle.graphql_ast.specs.declared.directive.Directive.{Directive}
+use Rattle.graphql_ast.specs.declared.type_system.FieldDefinition.{FieldDefinition}
+use Rattle.graphql_ast.specs.declared.definition_parts.DefinitionPart.{DefinitionPart}
+use Rattle.graphql_ast.specs.declared.definition_parts.DefinitionPart.TheVariants as p
+use Rattle.graphql_ast.specs.declared.definition_parts.DefinitionParts.{DefinitionParts}
+use Rattle.apollo_component.specs.Extensions.{extension_location, id_of, same_id, same_origin}
+use Rattle.apollo_component.specs.WriteOut.{SourcedPart, by_origin, identities, of_extensions, of_origin, origins_in, written_type}
+use Rattle.apollo_component.specs.declared.extension.ComponentOrigin.{ComponentOrigin}
+use Rattle.apollo_component.specs.declared.extension.ComponentOrigin.TheVariants as origins
+use Rattle.apollo_component.specs.declared.extension.ExtensionId.{ExtensionId}
+use Rattle.apollo_component.specs.declared.parts_by_origin.PartsByOrigin.{PartsByOrigin}
+use Rattle.apollo_component.proofs.FirstOfEachLemmas.{first_of_each-map}
+use Rattle.apollo_component.proofs.Lists.Each.{filter-map}
+use Rattle.apollo_types.specs.Components.{of_directive, of_field, of_input_field, of_name, of_value}
+use Rattle.apollo_types.specs.TypeWriteOut.{type_components, type_description, type_location, type_name, write_type}
+use Rattle.apollo_schema.specs.SchemaWriteOut.{write_held_type}
+use Rattle.apollo_canonical_text.proofs.Plain.{mark-kept}
+use Rattle.apollo_canonical_text.proofs.PlainTypes.{plain_component, plain_component_name, plain_entry, plain_id, plain_origin, plain_type}
+
+-- what a definition is made of
+abbrev pub bare_part : DefinitionPart → DefinitionPart
+bare_part (p.Directive x) = p.Directive (bare_node bare_directive x)
+bare_part (p.Name x) = p.Name (bare_name x)
+bare_part (p.Field x) = p.Field (bare_node bare_field_definition x)
+bare_part (p.EnumValue x) = p.EnumValue (bare_node bare_enum_value_definition x)
+bare_part (p.InputField x) = p.InputField (bare_node bare_input_value_definition x)
+bare_part (p.Root x) = p.Root (bare_node bare_root_operation x)
+
+abbrev pub bare_parts : DefinitionParts → DefinitionParts
+bare_parts ps = record {
+  directives = record { 0 = map (bare_node bare_directive) ps.directives.0 };
+  names = map bare_name ps.names;
+  fields = map (bare_node bare_field_definition) ps.fields;
+  values = map (bare_node bare_enum_value_definition) ps.values;
+  input_fields = map (bare_node bare_input_value_definition) ps.input_fields;
+  roots = map (bare_node bare_root_operation) ps.roots;
+}
+
+-- each sort of them
+module _ {X : Type 0} (which : DefinitionPart → Option X) (bare : X → X) (agree : (c : DefinitionPart) → which (bare_part c) ≡ option_map bare (which c)) where
+  sort-bare : (cs : List DefinitionPart) → filter_map which (map bare_part cs) ≡ map bare (filter_map which cs)
+  sort-bare [] = refl
+  sort-bare (c ∷ cs) = grind (arith, agree c, sort-bare cs)
+
+parts-bare : (cs : List DefinitionPart) → parts_of (map bare_part cs) ≡ bare_parts (parts_of cs)
+parts-bare cs = λ i. record {
+  directives = record { 0 = sort-bare as_directive (bare_node bare_directive) (λ c. grind arith) cs i };
+  names = sort-bare as_name bare_name (λ c. grind arith) cs i;
+  fields = sort-bare as_field (bare_node bare_field_definition) (λ c. grind arith) cs i;
+  values = sort-bare as_value (bare_node bare_enum_value_definition) (λ c. grind arith) cs i;
+  input_fields = sort-bare as_input_field (bare_node bare_input_value_definition) (λ c. grind arith) cs i;
+  roots = sort-bare as_root (bare_node bare_root_operation) (λ c. grind arith) cs i;
+}
+
+-- a component with its origin
+abbrev pub plain_part_of : SourcedPart → SourcedPart
+plain_part_of c = (plain_origin c.0, bare_part c.1)
+
+-- origins are the same as before
+same-plain : (a b : ComponentOrigin) → same_origin (plain_origin a) (plain_origin b) ≡ same_origin a b
+same-plain origins.Definition origins.Definition = refl
+same-plain origins.Definition (origins.Extension b) = refl
+same-plain (origins.Extension a) origins.Definition = refl
+same-plain (origins.Extension a) (origins.Extension b) = refl
+
+-- the parts of one origin
+of_origin-plain : (o : ComponentOrigin) (cs : List SourcedPart) → of_origin (plain_origin o) (map plain_part_of cs) ≡ bare_parts (of_origin o cs)
+of_origin-plain o cs =
+    ap (λ l. parts_of (map (λ c. c.1) l)) (filter-map (λ c. same_origin (plain_origin o) c.0) plain_part_of cs ∙ (λ i. map plain_part_of (filter (λ c. same-plain o c.0 i) cs)))
+    ∙ ap parts_of (map-map (λ (c : SourcedPart). c.1) plain_part_of (filter (λ c. same_origin o c.0) cs) ∙ sym (map-map bare_part (λ (c : SourcedPart). c.1) (filter (λ c. same_origin o c.0) cs)))
+    ∙ parts-bare (map (λ c. c.1) (filter (λ c. same_origin o c.0) cs))
+
+-- the identities of extensions
+ids-plain : (os : List ComponentOrigin) → filter_map id_of (map plain_origin os) ≡ map plain_id (filter_map id_of os)
+ids-plain [] = refl
+ids-plain (origins.Definition ∷ os) = ids-plain os
+ids-plain (origins.Extension e ∷ os) = ap (λ l. plain_id e ∷ l) (ids-plain os)
+
+pub identities-plain : (cs : List SourcedPart) → identities (origins_in (map plain_part_of cs)) ≡ map plain_id (identities (origins_in cs))
+identities-plain cs =
+    ap identities (map-map (λ (c : SourcedPart). c.0) plain_part_of cs ∙ sym (map-map plain_origin (λ (c : SourcedPart). c.0) cs))
+    ∙ ap (first_of_each same_id) (ids-plain (origins_in cs))
+    ∙ sym (first_of_each-map same_id plain_id (filter_map id_of (origins_in cs)))
+
+-- parts under their origins
+abbrev pub plain_by_origin : PartsByOrigin → PartsByOrigin
+plain_by_origin p = record { definition = bare_parts p.definition; extensions = map (λ e. (plain_id e.0, bare_parts e.1)) p.extensions }
+
+pub by_origin-plain : (cs : List SourcedPart) → by_origin (map plain_part_of cs) ≡ plain_by_origin (by_origin cs)
+by_origin-plain cs = λ i. record { definition = of_origin-plain origins.Definition cs i; extensions = extensions i }
+  where
+    extensions : of_extensions (map plain_part_of cs) ≡ map (λ e. (plain_id e.0, bare_parts e.1)) (of_extensions cs)
+    extensions =
+        ap (map (λ e. (e, of_origin (origins.Extension e) (map plain_part_of cs)))) (identities-plain cs)
+        ∙ map-map (λ e. (e, of_origin (origins.Extension e) (map plain_part_of cs))) plain_id (identities (origins_in cs))
+        ∙ (λ i. map (λ e. (plain_id e, of_origin-plain (origins.Extension e) cs i)) (identities (origins_in cs)))
+        ∙ sym (map-map (λ (e : ExtensionId × DefinitionParts). (plain_id e.0, bare_parts e.1)) (λ e. (e, of_origin (origins.Extension e) cs)) (identities (origins_in cs)))
+
+-- components of each sort
+module _ {A : Type 0} (of : A → SourcedPart) (plain : A → A) (agree : (a : A) → of (plain a) ≡ plain_part_of (of a)) where
+  pub of-plain : (xs : List A) → map of (map plain xs) ≡ map plain_part_of (map of xs)
+  of-plain [] = refl
+  of-plain (a ∷ xs) = λ i. agree a i ∷ of-plain xs i
+
+  pub of-values : (es : List (NameView × A)) → map of (values_of (map (λ (e : NameView × A). (bare_name e.0, plain e.1)) es)) ≡ map plain_part_of (map of (values_of es))
+  of-values [] = refl
+  of-values (e ∷ es) = λ i. agree e.1 i ∷ of-values es i
+
+two-plain : (us bs cs ds : List SourcedPart) → us ≡ map plain_part_of bs → cs ≡ map plain_part_of ds → us ++ cs ≡ map plain_part_of (bs ++ ds)
+two-plain us bs cs ds e f = (λ i. e i ++ f i) ∙ sym (map-append plain_part_of bs ds)
+
+module _ (ds : List (Component Directive)) where
+  -- directives, and what stands behind them
+  directives-plain : map of_directive (map (plain_component bare_directive) ds) ≡ map plain_part_of (map of_directive ds)
+  directives-plain = of-plain of_directive (plain_component bare_directive) (λ a. refl) ds
+
+  named-plain : (ns : List ComponentName) → map of_directive (map (plain_component bare_directive) ds) ++ map of_name (map plain_component_name ns) ≡ map plain_part_of (map of_directive ds ++ map of_name ns)
+  named-plain ns = two-plain _ (map of_directive ds) _ (map of_name ns) directives-plain (of-plain of_name plain_component_name (λ a. refl) ns)
+
+  fielded-plain : (ns : List ComponentName) (fs : List (NameView × Component FieldDefinition))
+      → (map of_directive (map (plain_component bare_directive) ds) ++ map of_name (map plain_component_name ns)) ++ map of_field (values_of (map (plain_entry bare_field_definition) fs))
+      ≡ map plain_part_of ((map of_directive ds ++ map of_name ns) ++ map of_field (values_of fs))
+  fielded-plain ns fs = two-plain _ (map of_directive ds ++ map of_name ns) _ (map of_field (values_of fs)) (named-plain ns) (of-values of_field (plain_component bare_field_definition) (λ a. refl) fs)
+
+components-plain : (t : ExtendedType) → type_components (plain_type t) ≡ map plain_part_of (type_components t)
+components-plain (Scalar n) = directives-plain n.value.directives.0
+components-plain (Object n) = fielded-plain n.value.directives.0 n.value.implements_interfaces n.value.fields
+components-plain (Interface n) = fielded-plain n.value.directives.0 n.value.implements_interfaces n.value.fields
+components-plain (Union n) = named-plain n.value.directives.0 n.value.members
+components-plain (Enum n) =
+    two-plain _ (map of_directive n.value.directives.0) _ (map of_value (values_of n.value.values)) (directives-plain n.value.directives.0) (of-values of_value (plain_component bare_enum_value_definition) (λ a. refl) n.value.values)
+components-plain (InputObject n) =
+    two-plain _ (map of_directive n.value.directives.0) _ (map of_input_field (values_of n.value.fields)) (directives-plain n.value.directives.0) (of-values of_input_field (plain_component bare_input_value_definition) (λ a. refl) n.value.fields)
+
+-- a definition without the location of its own
+abbrev pub nowhere : Definition → Definition
+nowhere (d.OperationDefinition n) = d.OperationDefinition (record n { location = None })
+nowhere (d.FragmentDefinition n) = d.FragmentDefinition (record n { location = None })
+nowhere (d.DirectiveDefinition n) = d.DirectiveDefinition (record n { location = None })
+nowhere (d.SchemaDefinition n) = d.SchemaDefinition (record n { location = None })
+nowhere (d.ScalarTypeDefinition n) = d.ScalarTypeDefinition (record n { location = None })
+nowhere (d.ObjectTypeDefinition n) = d.ObjectTypeDefinition (record n { location = None })
+nowhere (d.InterfaceTypeDefinition n) = d.InterfaceTypeDefinition (record n { location = None })
+nowhere (d.UnionTypeDefinition n) = d.UnionTypeDefinition (record n { location = None })
+nowhere (d.EnumTypeDefinition n) = d.EnumTypeDefinition (record n { location = None })
+nowhere (d.InputObjectTypeDefinition n) = d.InputObjectTypeDefinition (record n { location = None })
+nowhere (d.SchemaExtension n) = d.SchemaExtension (record n { location = None })
+nowhere (d.ScalarTypeExtension n) = d.ScalarTypeExtension (record n { location = None })
+nowhere (d.ObjectTypeExtension n) = d.ObjectTypeExtension (record n { location = None })
+nowhere (d.InterfaceTypeExtension n) = d.InterfaceTypeExtension (record n { location = None })
+nowhere (d.UnionTypeExtension n) = d.UnionTypeExtension (record n { location = None })
+nowhere (d.EnumTypeExtension n) = d.EnumTypeExtension (record n { location = None })
+nowhere (d.InputObjectTypeExtension n) = d.InputObjectTypeExtension (record n { location = None })
+
+-- what a plain type and a plain extension are written out as is bare but for that
+definition-plain : (kind : TypeKind) (text : Option NameView) (name : NameView) (ps : DefinitionParts) (at other : Option SourceSpan)
+    → nowhere (type_definition kind (option_map bare_name text) (bare_name name) (bare_parts ps) at) ≡ bare_definition (type_definition kind text name ps other)
+definition-plain k.Scalar text name ps at other = refl
+definition-plain k.Object text name ps at other = refl
+definition-plain k.Interface text name ps at other = refl
+definition-plain k.Union text name ps at other = refl
+definition-plain k.Enum text name ps at other = refl
+definition-plain k.InputObject text name ps at other = refl
+
+extension-plain : (kind : TypeKind) (name : NameView) (ps : DefinitionParts) (at other : Option SourceSpan)
+    → nowhere (type_extension kind (bare_name name) (bare_parts ps) at) ≡ bare_definition (type_extension kind name ps other)
+extension-plain k.Scalar name ps at other = refl
+extension-plain k.Object name ps at other = refl
+extension-plain k.Interface name ps at other = refl
+extension-plain k.Union name ps at other = refl
+extension-plain k.Enum name ps at other = refl
+extension-plain k.InputObject name ps at other = refl
+
+-- so are all extensions
+pub extensions-plain : (make : DefinitionParts → Option SourceSpan → Definition) (made : DefinitionParts → Option SourceSpan → Definition)
+    → ((ps : DefinitionParts) (at other : Option SourceSpan) → nowhere (made (bare_parts ps) at) ≡ bare_definition (make ps other))
+    → (es : List (ExtensionId × DefinitionParts))
+    → map nowhere (map (λ (e : ExtensionId × DefinitionParts). made e.1 (extension_location e.0)) (map (λ (e : ExtensionId × DefinitionParts). (plain_id e.0, bare_parts e.1)) es)) ≡ map bare_definition (map (λ (e : ExtensionId × DefinitionParts). make e.1 (extension_location e.0)) es)
+extensions-plain make made agree [] = refl
+extensions-plain make made agree (e ∷ es) = λ i. agree e.1 (extension_location (plain_id e.0)) (extension_location e.0) i ∷ extensions-plain make made agree es i
+
+type-written : (kind : TypeKind) (text : Option NameView) (name : NameView) (ps : PartsByOrigin) (at other : Option SourceSpan)
+    → map nowhere (written_type kind (option_map bare_name text) (bare_name name) (plain_by_origin ps) at) ≡ map bare_definition (written_type kind text name ps other)
+type-written kind text name ps at other = λ i. definition-plain kind text name ps.definition at other i ∷ extensions-plain (type_extension kind name) (type_extension kind (bare_name name)) (extension-plain kind name) ps.extensions i
+
+-- what a type is, plain
+type-says : (t : ExtendedType) → (at : Option SourceSpan) → written_type (type_kind (plain_type t)) (type_description (plain_type t)) (type_name (plain_type t)) (by_origin (type_components (plain_type t))) at
+    ≡ written_type (type_kind t) (option_map bare_name (type_description t)) (bare_name (type_name t)) (plain_by_origin (by_origin (type_components t))) at
+type-says t at = ap (λ ps. written_type (type_kind (plain_type t)) (type_description (plain_type t)) (type_name (plain_type t)) ps at) (ap by_origin (components-plain t) ∙ by_origin-plain (type_components t)) ∙ by t
+  where
+    by : (u : ExtendedType) → written_type (type_kind (plain_type u)) (type_description (plain_type u)) (type_name (plain_type u)) (plain_by_origin (by_origin (type_components t))) at
+        ≡ written_type (type_kind u) (option_map bare_name (type_description u)) (bare_name (type_name u)) (plain_by_origin (by_origin (type_components t))) at
+    by (Scalar n) = refl
+    by (Object n) = refl
+    by (Interface n) = refl
+    by (Union n) = refl
+    by (Enum n) = refl
+    by (InputObject n) = refl
+
+-- a plain type is marked as the type is
+marked-plain : (t : ExtendedType) → is_built_in (type_location (plain_type t)) ≡ is_built_in (type_location t)
+marked-plain (Scalar n) = mark-kept n.location
+marked-plain (Object n) = mark-kept n.location
+marked-plain (Interface n) = mark-kept n.location
+marked-plain (Union n) = mark-kept n.location
+marked-plain (Enum n) = mark-kept n.location
+marked-plain (InputObject n) = mark-kept n.location
+
+pub held-plain : (t : ExtendedType) → map nowhere (write_held_type (plain_type t)) ≡ map bare_definition (write_held_type t)
+held-plain t = (λ i. map nowhere (cond (marked-plain t i) (drop 1 (write_type (plain_type t))) (write_type (plain_type t)))) ∙ by (is_built_in (type_location t))
+  where
+    all : map nowhere (write_type (plain_type t)) ≡ map bare_definition (write_type t)
+    all = ap (map nowhere) (type-says t (type_location (plain_type t))) ∙ type-written (type_kind t) (type_description t) (type_name t) (by_origin (type_components t)) (type_location (plain_type t)) (type_location t)
+
+    by : (b : Bool) → map nowhere (cond b (drop 1 (write_type (plain_type t))) (write_type (plain_type t))) ≡ map bare_definition (cond b (drop 1 (write_type t)) (write_type t))
+    by true = ap (drop 1) all
+    by false = all
