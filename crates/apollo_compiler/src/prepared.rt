@@ -5,7 +5,6 @@ ghost use Rattle.apollo_schema.specs.BuilderStands.{StandsFor, adopts, ignores, 
 ghost use Rattle.apollo_compiler.specs.Lists.{schema_list};
 
 use crate::compile_options::CompileOptions;
-use apollo_component::extension::ExtensionSource;
 use apollo_schema::schema_builder::SchemaBuilder;
 use graphql_nodes::collections::hash_keys::HashKeys;
 use std::alloc::{AllocError, Global};
@@ -39,8 +38,7 @@ impl Prepared {
     /// A builder that hashes by these keys, and draws its numbers from a new source. The error is want of memory.
     /// No clause: what each value of the type stands for is its invariant, and no clause sees keys.
     pub fn new(alloc: Global, keys: HashKeys) -> Result<Prepared, AllocError> {
-        let source = ExtensionSource::new();
-        let bare = SchemaBuilder::with_keys(alloc, source, keys)?;
+        let bare = SchemaBuilder::with_keys(alloc, keys)?;
         Ok(Prepared { bare })
     }
 

@@ -2,13 +2,16 @@
 
 use apollo_schema::field_lookup_error::FieldLookupError;
 use std::alloc::AllocError;
+use thiserror::Error;
 
 /// Why [`SelectionSet::new_field`](crate::selection::SelectionSet::new_field) answers no field.
-#[derive(Debug, Drop, PartialEq, Eq)]
+#[derive(Debug, Drop, PartialEq, Eq, Error)]
 pub enum NewFieldError<'schema> {
     /// The schema has no such type, or the type no such field: the error of `Schema::type_field`.
+    #[error("{0}")]
     Lookup(FieldLookupError<'schema>),
-    /// Want of memory. The schema has the field.
+    /// Out of memory. The schema has the field.
+    #[error("out of memory")]
     Memory,
 }
 

@@ -4,8 +4,11 @@ use crate::schema::Schema;
 use apollo_meaning::build_error::Faults;
 use apollo_meaning::laws::clones_are_exact;
 use std::alloc::AllocError;
+use std::fmt::{self, Write};
+use thiserror::Error;
 
-/// What could be built, and the faults, of which there is at least one. `{:?}` prints the faults alone.
+/// What could be built, and the faults, of which there is at least one. `{:?}` prints the faults alone, and so does
+/// `{}`: the sentence of each, in order, on a line of its own.
 #[derive(Drop)]
 #[derive_where(Debug)]
 pub struct WithErrors<T> {
@@ -29,15 +32,32 @@ impl<T: Clone + Drop> Clone for WithErrors<T> {
     }
 }
 
-/// Why a build answers no schema without faults.
-#[derive(Debug, Drop)]
+impl<T> fmt::Display for WithErrors<T> {
+    fn fmt<W: fmt::Write>(&self, f: &mut fmt::Formatter<W>) -> fmt::Result {
+        for (at, fault) in self.errors.iter().enumerate() {
+            if at > 0 {
+                f.write_str("\n")?;
+            }
+            write!(f, "{}", fault.1)?;
+        }
+        Ok(())
+    }
+}
+
+/// Why a build answers no schema without faults. `{}` is the sentences of the faults, one a line, or why nothing could be
+/// built.
+#[derive(Debug, Drop, Error)]
 pub enum BuildFailure {
     /// What was added has faults: these, and the schema that could be built, with its sources.
+    #[error("{0}")]
     Faults(WithErrors<Schema>),
-    /// Want of memory.
+    /// Out of memory.
+    #[error("out of memory")]
     Memory,
     /// The extensions that are folded would pass the largest number.
+    #[error("extension identities spent")]
     ExtensionIds,
     /// A call of the builder was refused before, or of the one that it was cloned from.
+    #[error("builder has failed")]
     Failed,
 }

@@ -78,13 +78,23 @@ impl SchemaBuilder {
         ensures settings { IfOk result (λ builder. (adopts builder ≡ false) × (ignores builder ≡ false)) }
         ensures sources { IfOk result (λ builder. sources_of builder ≡ []) }
     {
-        SchemaBuilder::with_keys(alloc, source, HashKeys::FIXED)
+        SchemaBuilder::with_source_and_keys(alloc, source, HashKeys::FIXED)
     }
 
-    /// The same, for documents from strangers: each table of names that the builder makes hashes by these keys, and so do
-    /// those of the schema, and of what is made of it. What is built, and in what order, is the same under any keys. The
-    /// error is want of memory, and drops the source.
-    pub fn with_keys(
+    /// The same as [`new`](SchemaBuilder::new), for documents from strangers: each table of names that the builder makes
+    /// hashes by these keys, and so do those of the schema, and of what is made of it. What is built, and in what order, is
+    /// the same under any keys. The error is out of memory.
+    pub fn with_keys(alloc: Global, keys: HashKeys) -> Result<SchemaBuilder, AllocError>
+        ensures stands { IfOk result (StandsFor 0 (added false built_in_definitions)) }
+        ensures settings { IfOk result (λ builder. (adopts builder ≡ false) × (ignores builder ≡ false)) }
+        ensures sources { IfOk result (λ builder. sources_of builder ≡ []) }
+    {
+        SchemaBuilder::with_source_and_keys(alloc, ExtensionSource::new(), keys)
+    }
+
+    /// The same as [`with_keys`](SchemaBuilder::with_keys), drawing the numbers of extensions from this source. The error is
+    /// out of memory, and drops the source.
+    pub fn with_source_and_keys(
         alloc: Global,
         source: ExtensionSource,
         keys: HashKeys,

@@ -1,7 +1,6 @@
 //! Builders whose tables hash by different keys.
 
 use crate::building::{Built, add_all, push_built, schema_in};
-use apollo_component::extension::ExtensionSource;
 use apollo_schema::build_failure::BuildFailure;
 use apollo_schema::schema_builder::SchemaBuilder;
 use bench_notation::reading::read;
@@ -21,7 +20,7 @@ const DRAWN: [u8; 16] = [33, 7, 250, 3, 4, 95, 6, 7, 180, 9, 10, 11, 112, 13, 21
 /// What the input builds under these keys.
 fn built(rt: &(impl Abort + AllocGlobal), keys: HashKeys) -> Built {
     let documents = read(rt.alloc(), INPUT).expect(rt, "documents");
-    let builder = SchemaBuilder::with_keys(rt.alloc(), ExtensionSource::new(), keys);
+    let builder = SchemaBuilder::with_keys(rt.alloc(), keys);
     let adopting = builder.expect(rt, "memory").adopt_orphan_extensions();
     let mut builder = adopting.clone().expect(rt, "memory");
     add_all(&mut builder, documents.as_slice());

@@ -8,13 +8,16 @@ use crate::value::Value;
 use graphql_nodes::name::Name;
 use graphql_nodes::named::{Named, first_of_name};
 use graphql_nodes::node::Node;
+use thiserror::Error;
 
 /// Why an argument has no value: a value that is given for it is always its value.
-#[derive(Clone, Copy, Debug, PartialEq, Eq)]
+#[derive(Clone, Copy, Debug, PartialEq, Eq, Error)]
 pub enum ArgumentByNameError {
     /// No value is specified, and the definition has a non-null type and no default value.
+    #[error("a required argument is not specified")]
     RequiredArgumentNotSpecified,
     /// No value is specified, and there is no definition of the argument.
+    #[error("there is no such argument")]
     NoSuchArgument,
 }
 

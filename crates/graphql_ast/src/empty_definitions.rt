@@ -1,6 +1,6 @@
 //! Definitions and extensions of the type system made by calls: each has what it can't be without, and is else empty. None
-//! takes memory. GraphQL specification of October 2021, section 3.
-ghost use Rattle.std.specs.Prelude.{◌≡◌, [], None, false};
+//! but `InputValueDefinition::new` takes memory. GraphQL specification of October 2021, section 3.
+ghost use Rattle.std.specs.Prelude.{◌≡◌, [], IfOk, None, false};
 
 use crate::directive::DirectiveList;
 use crate::type_reference::Type;
@@ -14,7 +14,7 @@ use crate::type_system::{
 use graphql_nodes::collections::items::Items;
 use graphql_nodes::name::Name;
 use graphql_nodes::node::Node;
-use std::alloc::Global;
+use std::alloc::{AllocError, Global};
 
 impl FieldDefinition {
     /// A field of this name and type, without description, arguments and directives.
@@ -32,17 +32,18 @@ impl FieldDefinition {
 }
 
 impl InputValueDefinition {
-    /// An argument or input field of this name and type, without description, default value and directives.
-    pub fn new(alloc: Global, name: Name, ty: Node<Type>) -> InputValueDefinition
-        ensures { result ≡ record { description = None; name = name; ty = ty; default_value = None; directives = record { 0 = [] } } }
+    /// An argument or input field of this name and type, without description, default value and directives. The node
+    /// of the type has no location. The error is out of memory.
+    pub fn new(alloc: Global, name: Name, ty: Type) -> Result<InputValueDefinition, AllocError>
+        ensures { IfOk result (λ input. input ≡ record { description = None; name = name; ty = record { value = ty; location = None }; default_value = None; directives = record { 0 = [] } }) }
     {
-        InputValueDefinition {
+        Ok(InputValueDefinition {
             description: None,
             name,
-            ty,
+            ty: Node::new(alloc, ty)?,
             default_value: None,
             directives: DirectiveList::new(alloc),
-        }
+        })
     }
 }
 

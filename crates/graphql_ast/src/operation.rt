@@ -1,5 +1,5 @@
 //! Operations and fragments: GraphQL specification of October 2021, sections 2.3, 2.8 and 2.10.
-ghost use Rattle.std.specs.Prelude.{◌≡◌, [], None};
+ghost use Rattle.std.specs.Prelude.{◌≡◌, [], IfOk, None};
 
 use crate::directive::DirectiveList;
 use crate::selection::Selection;
@@ -9,7 +9,7 @@ use graphql_nodes::collections::items::Items;
 use graphql_nodes::name::{Name, NamedType};
 use graphql_nodes::node::Node;
 use graphql_nodes::operation_type::OperationType;
-use std::alloc::Global;
+use std::alloc::{AllocError, Global};
 
 /// A query, mutation or subscription, anonymous where it has no name (section 2.3).
 #[derive(Debug, PartialEq, Eq, Hash, Clone)]
@@ -69,16 +69,17 @@ impl Drop for VariableDefinition {
 }
 
 impl VariableDefinition {
-    /// A variable of this name and type, without default value and directives.
-    pub fn new(alloc: Global, name: Name, ty: Node<Type>) -> VariableDefinition
-        ensures { result ≡ record { name = name; ty = ty; default_value = None; directives = record { 0 = [] } } }
+    /// A variable of this name and type, without default value and directives. The node of the type has no location. The
+    /// error is out of memory.
+    pub fn new(alloc: Global, name: Name, ty: Type) -> Result<VariableDefinition, AllocError>
+        ensures { IfOk result (λ variable. variable ≡ record { name = name; ty = record { value = ty; location = None }; default_value = None; directives = record { 0 = [] } }) }
     {
-        VariableDefinition {
+        Ok(VariableDefinition {
             name,
-            ty,
+            ty: Node::new(alloc, ty)?,
             default_value: None,
             directives: DirectiveList::new(alloc),
-        }
+        })
     }
 }
 

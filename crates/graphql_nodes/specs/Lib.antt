@@ -15,6 +15,7 @@ pub mod NameView
 pub mod NodeLending
 pub mod NodeView
 pub mod OperationTexts
+pub mod PlaceTexts
 pub mod SameText
 pub mod Sources
 pub mod TableLending

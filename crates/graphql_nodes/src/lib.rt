@@ -14,6 +14,7 @@ pub mod named;
 pub mod node;
 pub mod node_str;
 pub mod operation_type;
+pub mod place;
 pub mod source;
 pub mod type_kind;
 
@@ -32,5 +33,6 @@ pub use crate::named::Named;
 pub use crate::node::Node;
 pub use crate::node_str::NodeStr;
 pub use crate::operation_type::OperationType;
+pub use crate::place::Place;
 pub use crate::source::{FileId, SourceFile, SourceMap, SourceSpan};
 pub use crate::type_kind::TypeKind;

@@ -169,14 +169,14 @@ fn ends_in_mark(text: &[u8]) -> bool
 fn fits_one_line(text: &[u8]) -> bool
     ensures { result ≡ fits_one_line text.now }
 {
-    !has_line_feed(text) && !is_wider(text, 70) && !ends_in_mark(text)
+    !is_wider(text, 70) && !ends_in_mark(text) && !has_line_feed(text)
 }
 
 /// Whether a text begins behind the quotes at once, though it doesn't fit.
 fn begins_at_once(text: &[u8]) -> bool
     ensures { result ≡ begins_at_once text.now }
 {
-    !has_line_feed(text) && begins_white(text)
+    begins_white(text) && !has_line_feed(text)
 }
 
 fn begins_white(text: &[u8]) -> bool

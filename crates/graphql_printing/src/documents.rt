@@ -6,8 +6,8 @@ ghost use Rattle.graphql_printing.specs.Documents.{definition_text, definitions_
 
 use crate::operations::{write_fragment, write_long, write_operation};
 use crate::type_system::{
-    write_described, write_directive_shape, write_enum, write_input_object, write_interface,
-    write_object, write_scalar, write_schema, write_union,
+    write_described, write_directive_shape, write_enum, write_fielded, write_input_object,
+    write_scalar, write_schema, write_union,
 };
 use graphql_ast::definition::Definition;
 use graphql_ast::operation::OperationDefinition;
@@ -56,8 +56,9 @@ pub fn write_definition<W: Write>(
         Definition::ObjectTypeDefinition(node) => {
             write_described(f, &node.description, 0)?;
             let interfaces = node.implements_interfaces.as_slice();
-            write_object(
+            write_fielded(
                 f,
+                "type",
                 &node.name,
                 interfaces,
                 &node.directives,
@@ -67,8 +68,9 @@ pub fn write_definition<W: Write>(
         Definition::InterfaceTypeDefinition(node) => {
             write_described(f, &node.description, 0)?;
             let interfaces = node.implements_interfaces.as_slice();
-            write_interface(
+            write_fielded(
                 f,
+                "interface",
                 &node.name,
                 interfaces,
                 &node.directives,
@@ -98,8 +100,9 @@ pub fn write_definition<W: Write>(
         Definition::ObjectTypeExtension(node) => {
             f.write_str("extend ")?;
             let interfaces = node.implements_interfaces.as_slice();
-            write_object(
+            write_fielded(
                 f,
+                "type",
                 &node.name,
                 interfaces,
                 &node.directives,
@@ -109,8 +112,9 @@ pub fn write_definition<W: Write>(
         Definition::InterfaceTypeExtension(node) => {
             f.write_str("extend ")?;
             let interfaces = node.implements_interfaces.as_slice();
-            write_interface(
+            write_fielded(
                 f,
+                "interface",
                 &node.name,
                 interfaces,
                 &node.directives,

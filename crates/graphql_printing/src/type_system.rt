@@ -161,46 +161,21 @@ pub(crate) fn write_scalar<W: Write>(
     write_head(f, "scalar", name, directives)
 }
 
-/// Writes interfaces, directives and fields.
-fn write_fielded<W: Write>(
+/// Writes the keyword, name, interfaces, directives and fields of a type.
+pub(crate) fn write_fielded<W: Write>(
     f: &mut Formatter<W>,
+    keyword: &str,
+    name: &Name,
     interfaces: &[Name],
     directives: &DirectiveList,
     fields: &[Node<FieldDefinition>],
 ) -> fmt::Result
-    ensures { WritesOnOk W.write_str_gives f.old result (fielded_text (record no_parts { names = interfaces.now; directives = directives.now; fields = fields.now })) f.new }
+    ensures { WritesOnOk W.write_str_gives f.old result (keyword.now ++ codes " " ++ name.now.text ++ fielded_text (record no_parts { names = interfaces.now; directives = directives.now; fields = fields.now })) f.new }
 {
+    write_keyword(f, keyword, name)?;
     write_enclosed(f, " implements ", " & ", "", interfaces, 0)?;
     write_directives(f, directives.0.as_slice())?;
     write_braces(f, " {", fields, 0)
-}
-
-/// Writes an object type, defined or extended.
-pub(crate) fn write_object<W: Write>(
-    f: &mut Formatter<W>,
-    name: &Name,
-    interfaces: &[Name],
-    directives: &DirectiveList,
-    fields: &[Node<FieldDefinition>],
-) -> fmt::Result
-    ensures { WritesOnOk W.write_str_gives f.old result (type_shape t.Object name.now (record no_parts { names = interfaces.now; directives = directives.now; fields = fields.now })) f.new }
-{
-    write_keyword(f, "type", name)?;
-    write_fielded(f, interfaces, directives, fields)
-}
-
-/// Writes an interface type, defined or extended.
-pub(crate) fn write_interface<W: Write>(
-    f: &mut Formatter<W>,
-    name: &Name,
-    interfaces: &[Name],
-    directives: &DirectiveList,
-    fields: &[Node<FieldDefinition>],
-) -> fmt::Result
-    ensures { WritesOnOk W.write_str_gives f.old result (type_shape t.Interface name.now (record no_parts { names = interfaces.now; directives = directives.now; fields = fields.now })) f.new }
-{
-    write_keyword(f, "interface", name)?;
-    write_fielded(f, interfaces, directives, fields)
 }
 
 /// Writes a union type, defined or extended.

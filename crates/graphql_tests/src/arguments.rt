@@ -27,13 +27,13 @@ fn argument(alloc: Global, value: &str) -> Result<Node<Argument>, AllocError> {
 
 /// The type `Int`, or `Int!` where it is required.
 /// No clause: it serves tests.
-pub fn int_type(alloc: Global, required: bool) -> Result<Node<Type>, AllocError> {
+pub fn int_type(alloc: Global, required: bool) -> Result<Type, AllocError> {
     let int = name(alloc, "Int", None)?;
-    if required {
-        Node::new(alloc, Type::NonNullNamed(int))
+    Ok(if required {
+        Type::NonNullNamed(int)
     } else {
-        Node::new(alloc, Type::Named(int))
-    }
+        Type::Named(int)
+    })
 }
 
 /// An argument definition of the type `Int`, or `Int!` where it is required, with a description.
@@ -46,7 +46,7 @@ pub fn defined(
 ) -> Result<Node<InputValueDefinition>, AllocError> {
     let parts = both(int_type(alloc, required), NodeStr::new(alloc, "text"));
     let (name, (ty, description)) = both(name(alloc, text, None), parts)?;
-    let mut definition = InputValueDefinition::new(alloc, name, ty);
+    let mut definition = InputValueDefinition::new(alloc, name, ty)?;
     definition.description = Some(description);
     if let Some(text) = default_value {
         definition.default_value = Some(number(alloc, text)?);

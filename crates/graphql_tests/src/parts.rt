@@ -12,7 +12,7 @@ use std::alloc::{AllocError, Global};
 fn variable_definition(alloc: Global) -> Result<VariableDefinition, AllocError> {
     let parts = both(int_type(alloc, true), number(alloc, "10"));
     let (name, (ty, default_value)) = both(name(alloc, "n", None), parts)?;
-    let mut variable = VariableDefinition::new(alloc, name, ty);
+    let mut variable = VariableDefinition::new(alloc, name, ty)?;
     variable.default_value = Some(default_value);
     Ok(variable)
 }
