@@ -25,12 +25,12 @@ is_mark c = nat_eq c 34 || nat_eq c 92
 
 -- whether a text stands in one line with the quotes of its block string
 abbrev pub fits_one_line : List ℕ → Bool
-fits_one_line text = nat_le (width text) 70 && (not (ends is_mark text) && not (has_line_feed text))
+fits_one_line text = not (has_line_feed text) && (nat_le (width text) 70 && not (ends is_mark text))
 
 -- whether a text begins behind the quotes at once, though it doesn't fit: one line that begins with a tab or a
 -- blank, which else were lost
 abbrev pub begins_at_once : List ℕ → Bool
-begins_at_once text = begins is_white text && not (has_line_feed text)
+begins_at_once text = not (has_line_feed text) && begins is_white text
 
 -- a text with `\` before each `"""`, where so many quotes at the front are of one that has begun
 abbrev pub with_marks : ℕ → List ℕ → List ℕ
