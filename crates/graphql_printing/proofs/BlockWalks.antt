@@ -1,5 +1,5 @@
 -- The first line of a text and the others, a byte further on.
-use Rattle.std.proofs.Common.{◌≡◌, ◌+◌, ◌-◌, ◌≤◌, ◌&&◌, ◌||◌, ◌⊎◌, ℕ, suc, Bool, true, false, List, [], ◌∷◌, length, drop, get_or, cond, nat_eq, inl, inr, refl, sym, ap, subst, ◌∙◌, arith}
+use Rattle.std.proofs.Common.{◌≡◌, ◌+◌, ◌-◌, ◌≤◌, ◌&&◌, ◌||◌, ◌⊎◌, ℕ, suc, Bool, true, false, List, [], ◌∷◌, length, drop, get_or, take, cond, nat_eq, inl, inr, refl, sym, ap, subst, ◌∙◌, arith}
 use Rattle.std.specs.Prelude.{not}
 use Rattle.std.specs.List.{list_any}
 use Rattle.std.proofs.lemmas.Bool.{and_parts, and_right, cases_Bool, eqb-true, ne_eqb, not-true, or_parts}
@@ -121,6 +121,44 @@ last_further so_far c cs = elim (cases_Bool (is_line_end c)) [ inl is ↦ at_end
         ∙ one has.first has.others
         ∙ ap (last_left (so_far || not (is_white c))) (sym has.are)
         ∙ ap (λ (e : Bool). last_left (not e && (so_far || not (is_white c))) (lines cs)) (sym is)
+
+-- a white byte at the end changes nothing
+pub white_behind : (so_far : Bool) (s : List ℕ) → 1 ≤ length s → is_white (get_or s (length s - 1) 0) ≡ true
+    → last_left so_far (lines (take (length s - 1) s)) ≡ last_left so_far (lines s)
+white_behind so_far [] some white = absurd (omega (arith, some))
+white_behind so_far (c ∷ []) some white = sym (last_further so_far c [] ∙ ap (λ (b : Bool). last_left b (lines [])) step)
+  where
+    still : (b : Bool) → (not false && (b || not true)) ≡ b
+    still true = refl
+    still false = refl
+
+    step : (not (is_line_end c) && (so_far || not (is_white c))) ≡ so_far
+    step = rw (white_in_line c white, white) (still so_far)
+white_behind so_far (c ∷ d ∷ ds) some white =
+    let place : suc (length (d ∷ ds) - 1) ≡ length (c ∷ d ∷ ds) - 1 = omega arith in
+    ap (λ (i : ℕ). last_left so_far (lines (take i (c ∷ d ∷ ds)))) (sym place)
+    ∙ last_further so_far c (take (length (d ∷ ds) - 1) (d ∷ ds))
+    ∙ white_behind (not (is_line_end c) && (so_far || not (is_white c))) (d ∷ ds) (omega arith) (ap (λ (i : ℕ). is_white (get_or (c ∷ d ∷ ds) i 0)) place ∙ white)
+    ∙ sym (last_further so_far c (d ∷ ds))
+
+-- behind any other byte at the end the last line is blank where that ends a line
+pub other_behind : (so_far : Bool) (s : List ℕ) → 1 ≤ length s → is_white (get_or s (length s - 1) 0) ≡ false
+    → last_left so_far (lines s) ≡ is_line_end (get_or s (length s - 1) 0)
+other_behind so_far [] some other = absurd (omega (arith, some))
+other_behind so_far (c ∷ []) some other = last_further so_far c [] ∙ step
+  where
+    by : (e b : Bool) → last_left (not e && (b || not false)) (lines []) ≡ e
+    by true b = refl
+    by false true = refl
+    by false false = refl
+
+    step : last_left (not (is_line_end c) && (so_far || not (is_white c))) (lines []) ≡ is_line_end c
+    step = rw other (by (is_line_end c) so_far)
+other_behind so_far (c ∷ d ∷ ds) some other =
+    let place : suc (length (d ∷ ds) - 1) ≡ length (c ∷ d ∷ ds) - 1 = omega arith in
+    last_further so_far c (d ∷ ds)
+    ∙ other_behind (not (is_line_end c) && (so_far || not (is_white c))) (d ∷ ds) (omega arith) (ap (λ (i : ℕ). is_white (get_or (c ∷ d ∷ ds) i 0)) place ∙ other)
+    ∙ ap (λ (i : ℕ). is_line_end (get_or (c ∷ d ∷ ds) i 0)) place
 
 -- ---- whether a line has no indent, where this says whether the first one begins here
 

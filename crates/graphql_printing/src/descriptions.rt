@@ -109,22 +109,18 @@ fn begins_with_text(text: &[u8]) -> bool
     false
 }
 
-/// Whether a line has more than tabs and blanks up to this byte, where `so_far` says it of the bytes before.
-fn has_text(so_far: bool, byte: u8) -> bool
-    ensures { result ≡ (not (is_line_end byte) && (so_far || not (is_white byte))) }
-{
-    !is_line_end(byte) && (so_far || !is_white(byte))
-}
-
 /// Whether the last line has more than tabs and blanks.
 fn ends_with_text(text: &[u8]) -> bool
     ensures { result ≡ not (last_is_blank (lines text.now)) }
 {
-    let mut so_far = false;
-    for byte in text {
-        so_far = has_text(so_far, *byte);
+    let mut rest = text;
+    'bytes: while let [front @ .., last] = rest {
+        if !is_white(*last) {
+            return !is_line_end(*last);
+        }
+        rest = front;
     }
-    so_far
+    false
 }
 
 /// Whether a line begins here with neither a tab nor a blank, and isn't empty.

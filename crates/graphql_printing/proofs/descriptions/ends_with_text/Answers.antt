@@ -1,12 +1,18 @@
--- A byte further on the same is said.
-use Rattle.std.proofs.Common.{◌+◌, drop, get_or, sym, ◌∙◌}
-use Rattle.std.proofs.lemmas.List.{drop_more}
-use Rattle.graphql_printing.proofs.BlockWalks.{last_further}
+-- A white byte at the end is passed over; any other decides.
+use Rattle.std.proofs.Common.{◌-◌, length, take, sym, ap, ◌∙◌}
+use Rattle.std.specs.Prelude.{false, not}
+use Rattle.graphql_tokens.specs.BlockStringValues.{lines}
+use Rattle.graphql_printing.proofs.BlockWalks.{none_so_far, other_behind, white_behind}
 use Rattle.graphql_printing.proofs.descriptions.ends_with_text.Goals as goal
 
-pub loop-byte-preserved : goal.loop-byte-preserved
-loop-byte-preserved c =
-    let s = c.args.text.now in
-    let i = c.loop-byte.byte-index in
-    let held = rw (drop_more s i 0 c.loop-byte-test.true) at c.loop-byte.invariant in
-    rw c.has_text-so_far.ensures (sym (last_further c.loop-byte.so_far (get_or s i 0) (drop (i + 1) s)) ∙ held)
+pub returns-then-not-is_white : goal.returns-then-not-is_white
+returns-then-not-is_white c =
+    let s = c.bytes.rest.now in
+    let decides = other_behind false s c.in-len1-up.len_at_least (sym c.is_white.ensures ∙ c.if-not-is_white.true) in
+    ap not (c.is_line_end.ensures ∙ sym decides ∙ none_so_far (lines s) ∙ c.bytes.invariant)
+
+pub bytes-preserved : goal.bytes-preserved
+bytes-preserved c =
+    let s = c.bytes.rest.now in
+    let same = white_behind false s c.in-len1-up.len_at_least (sym c.is_white.ensures ∙ c.if-not-is_white.false) in
+    sym (none_so_far (lines (take (length s - 1) s))) ∙ same ∙ none_so_far (lines s) ∙ c.bytes.invariant
