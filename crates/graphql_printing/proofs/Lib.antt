@@ -13,5 +13,6 @@ mod InsideLemmas
 mod LineEnds
 mod QuotedCharacters
 pub mod QuotedLaws
+mod RareLemmas
 mod Runs
 mod WidthLemmas

@@ -20,3 +20,10 @@ pub replaced : (s done total rest text then : List ℕ) (start i next : ℕ) →
 replaced s done total rest text then start i next is whole =
     let none : next - next ≡ 0 = omega arith in
     rw none (simp append_assoc (rw is at whole))
+
+-- those are written, and something before the next, so many of which wait
+pub replaced_before : (s done total rest text then : List ℕ) (start i more : ℕ) → rest ≡ text ++ (take more (drop i s) ++ then)
+    → done ++ (take (i - start) (drop start s) ++ rest) ≡ total → (done ++ (take (i - start) (drop start s) ++ text)) ++ (take (i + more - i) (drop i s) ++ then) ≡ total
+replaced_before s done total rest text then start i more is whole =
+    let so_many : i + more - i ≡ more = omega arith in
+    rw so_many (simp append_assoc (rw is at whole))

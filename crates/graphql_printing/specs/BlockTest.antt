@@ -1,10 +1,14 @@
 -- The test by which the code tells whether a block string is read as its text again: GraphQL specification of
 -- October 2021, section 2.9.4, "Block Strings".
-use Rattle.std.specs.Prelude.{ℕ, Bool, true, ◌||◌, ◌&&◌, not, List, [], ◌∷◌, length, nat_eq}
+use Rattle.std.specs.Prelude.{ℕ, Bool, true, ◌||◌, ◌&&◌, not, List, [], ◌∷◌, length, nat_eq, nat_le}
 use Rattle.std.specs.List.{list_any}
 use Rattle.graphql_tokens.specs.Bytes.{begins}
 use Rattle.graphql_tokens.specs.BlockStringValues.{is_blank_line, is_white, lines}
 use Rattle.graphql_printing.specs.Descriptions.{has_line_feed}
+
+-- a byte that most texts don't have: no character of ASCII that is printed, no tab and no line feed
+abbrev pub is_rare : ℕ → Bool
+is_rare c = not (nat_le 32 c && nat_le c 126) && (not (nat_eq c 9) && not (nat_eq c 10))
 
 -- whether the first of these lines is blank
 abbrev pub first_is_blank : List (List ℕ) → Bool

@@ -5,7 +5,7 @@ ghost use Rattle.std.specs.List.{list_any};
 ghost use Rattle.graphql_tokens.specs.BlockStringValues.{is_white, lines};
 ghost use Rattle.graphql_tokens.specs.Bytes.{begins, is_line_end};
 ghost use Rattle.graphql_tokens.specs.Strings.{begins_with_quotes};
-ghost use Rattle.graphql_printing.specs.BlockTest.{first_is_blank, is_outer, last_is_blank, passes_test};
+ghost use Rattle.graphql_printing.specs.BlockTest.{first_is_blank, is_outer, is_rare, last_is_blank, passes_test};
 ghost use Rattle.graphql_printing.specs.Descriptions.{begins_at_once, begins_unprintable, block, description_text, ends, fits_one_line, has_line_feed, has_unprintable, inside, is_block, is_mark, is_unprintable};
 ghost use Rattle.graphql_printing.specs.Layout.{line_end};
 
@@ -76,8 +76,33 @@ fn begins_unprintable(text: &[u8]) -> bool
     }
 }
 
+/// Whether a byte is none that most texts have: no character of ASCII that is printed, no tab and no line feed.
+fn is_rare(byte: u8) -> bool
+    ensures { result ≡ is_rare byte }
+{
+    !(b' '..=b'~').contains(&byte) && byte != b'\t' && byte != b'\n'
+}
+
+/// Whether such a byte stands anywhere. It looks at each byte, which is faster than to stop at one.
+fn has_rare(text: &[u8]) -> bool
+    ensures { result ≡ list_any is_rare text.now }
+{
+    let mut found = false;
+    for byte in text {
+        found |= is_rare(*byte);
+    }
+    found
+}
+
 /// Whether a control character but a tab and a line feed stands anywhere.
 fn has_unprintable(text: &[u8]) -> bool
+    ensures { result ≡ has_unprintable text.now }
+{
+    has_rare(text) && finds_unprintable(text)
+}
+
+/// The same, by a look at each character.
+fn finds_unprintable(text: &[u8]) -> bool
     ensures { result ≡ has_unprintable text.now }
 {
     let mut rest = text;
@@ -90,11 +115,15 @@ fn has_unprintable(text: &[u8]) -> bool
     false
 }
 
-/// Whether a text has more lines than one.
+/// Whether a text has more lines than one. It looks at each byte, which is faster than to stop at one.
 fn has_line_feed(text: &[u8]) -> bool
     ensures { result ≡ has_line_feed text.now }
 {
-    text.iter().any(|byte| b'\n' == *byte)
+    let mut found = false;
+    for byte in text {
+        found |= *byte == b'\n';
+    }
+    found
 }
 
 /// Whether the first line has more than tabs and blanks.
@@ -222,20 +251,21 @@ fn write_inside<W: Write>(f: &mut Formatter<W>, text: &str, indent: usize) -> fm
 {
     let bytes = text.as_bytes();
     let mut start = 0;
-    let mut quotes: u8 = 0;
-    'bytes: for at in 0..bytes.len() {
-        if bytes[at] == b'\n' {
+    let mut at = 0;
+    'bytes: while at < bytes.len() {
+        let byte = bytes[at];
+        if byte == b'\n' {
             f.write_str(&text[start..at])?;
             write_line_end(f, indent)?;
-            start = at + 1;
-            quotes = quotes.saturating_sub(1);
-        } else if quotes > 0 {
-            quotes -= 1;
-        } else if begins_with_quotes(&bytes[at..]) {
+            at += 1;
+            start = at;
+        } else if byte == b'"' && begins_with_quotes(&bytes[at..]) {
             f.write_str(&text[start..at])?;
             f.write_str("\\")?;
             start = at;
-            quotes = 2;
+            at += 3;
+        } else {
+            at += 1;
         }
     }
     f.write_str(&text[start..])

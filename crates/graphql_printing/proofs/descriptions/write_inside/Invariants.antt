@@ -1,5 +1,5 @@
 -- What was written, and what stands between it and here, is the front of the whole.
-use Rattle.std.proofs.Common.{◌≡◌, ◌-◌, ◌≤◌, List, ℕ, ◌++◌, take, drop}
+use Rattle.std.proofs.Common.{◌≡◌, ◌-◌, ◌≤◌, List, ℕ, ◌++◌, length, take, drop}
 use Rattle.std.specs.Fmt.{HasWritten, IsPlainFormatter}
 use Rattle.std.specs.Str.{IsCharBoundary}
 use Rattle.graphql_printing.specs.Descriptions.{further_in, inside, with_marks}
@@ -7,6 +7,9 @@ use Rattle.graphql_printing.proofs.descriptions.write_inside.Given as goal
 
 abbrev pub invariant-bytes : goal.invariant-bytes
 invariant-bytes g l =
-    (l.start ≤ l.at) × IsCharBoundary l.fn.text l.start × (done : List ℕ)
-    × (done ++ (take (l.at - l.start) (drop l.start l.fn.text) ++ further_in l.fn.indent (with_marks l.quotes (drop l.at l.fn.text))) ≡ inside l.fn.indent l.fn.text)
+    (l.start ≤ l.at) × (l.at ≤ length l.fn.text) × IsCharBoundary l.fn.text l.start × (done : List ℕ)
+    × (done ++ (take (l.at - l.start) (drop l.start l.fn.text) ++ further_in l.fn.indent (with_marks 0 (drop l.at l.fn.text))) ≡ inside l.fn.indent l.fn.text)
     × (IsPlainFormatter l.initial.f → HasWritten g.W.Write.write_str_gives l.initial.f done l.f)
+
+abbrev pub decreases-bytes : goal.decreases-bytes
+decreases-bytes g l = length l.fn.text - l.at
