@@ -1,0 +1,9 @@
+mod Lists
+mod PlainSelections
+mod PlainFaults
+mod PlainKept
+mod PlainErasure
+mod PlainDefinitions
+mod PlainDocuments
+mod PlainListFaults
+mod FromTexts
