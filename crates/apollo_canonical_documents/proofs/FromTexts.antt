@@ -1,8 +1,9 @@
 -- The text of a document of texts is read as definitions that build the document again.
-use Rattle.std.proofs.Common.{◌≡◌, ◌∙◌, ◌≢◌, ◌≤◌, Bool, List, [], ◌∷◌, ◌++◌, Option, length, map, ap, sym, subst}
-use Rattle.std.specs.List.{AllByRecursion}
+use Rattle.std.proofs.Common.{◌≡◌, ◌∙◌, ◌≢◌, ◌⊎◌, inl, inr, ◌≤◌, Bool, List, [], ◌∷◌, ◌++◌, Option, None, option_map, length, map, ap, sym, subst, refl}
+use Rattle.std.specs.List.{AllByRecursion, flat_map}
 use Rattle.std.proofs.lemmas.List.Elements.{filter_map-append}
 use Rattle.std.proofs.lemmas.Simd.{map-map}
+use Rattle.graphql_nodes.specs.NodeView.{NodeView}
 use Rattle.graphql_ast.specs.BareDocuments.{bare_definition}
 use Rattle.graphql_ast.specs.declared.definition.Definition.{Definition}
 use Rattle.graphql_ast.specs.declared.definition.Definition.TheVariants as d
@@ -13,8 +14,13 @@ use Rattle.apollo_component.proofs.Lists.Each.{each-append}
 use Rattle.apollo_schema.specs.declared.schema.Schema.{Schema}
 use Rattle.apollo_executable.specs.Erasure.{erased_definitions}
 use Rattle.apollo_executable.specs.declared.document.ExecutableDocument.{ExecutableDocument}
+use Rattle.apollo_executable.specs.declared.operation.Operation.{Operation}
+use Rattle.apollo_executable.specs.declared.operation_map.OperationMap.{OperationMap}
+use Rattle.apollo_elaboration.specs.Typable.{Fault}
 use Rattle.apollo_document.specs.AddedDefinitions.{DocumentItem, document_list, fragment_in, fragments, operation_in, operations}
+use Rattle.apollo_document.specs.DocumentFaults.{ambiguous_if, document_faults}
 use Rattle.apollo_document.specs.Documents.{IsDocumentOf}
+use Rattle.apollo_document.specs.WrittenAgain.{ambiguous_again}
 use Rattle.apollo_well_formed.specs.WellFormedLists.{IsWellFormedDefinition}
 use Rattle.apollo_well_formed_documents.specs.FilledSets.{IsFilledDocument}
 use Rattle.apollo_well_formed_documents.specs.HandedIn.{HasWellFormedExecutables}
@@ -33,6 +39,19 @@ joined xs ys a b = record {
   each_fragment = subst (AllByRecursion (λ n. IsWellFormedDefinition (d.FragmentDefinition n))) (sym (filter_map-append fragment_in xs ys))
       (each-append (λ n. IsWellFormedDefinition (d.FragmentDefinition n)) (fragments xs) (fragments ys) a.each_fragment b.each_fragment);
 }
+
+-- nothing is ambiguous where all operations have names, or none has
+unambiguous : (m : OperationMap) → (m.anonymous ≡ None) ⊎ (m.named ≡ []) → ambiguous_again m ≡ []
+unambiguous m (inl none) = ap (λ (a : Option (NodeView Operation)). flat_map (λ e. ambiguous_if (option_map (λ n. n.location) a)) m.named) none ∙ nothing m.named
+  where
+    nothing : {X : Type 0} (xs : List X) → flat_map (λ x. ambiguous_if None) xs ≡ []
+    nothing [] = refl
+    nothing (x ∷ xs) = nothing xs
+unambiguous m (inr none) = ap (λ es. flat_map (λ e. ambiguous_if (option_map (λ n. n.location) m.anonymous)) es) none
+
+no_faults : (xs : List Fault) → bare_faults xs ≡ [] → xs ≡ []
+no_faults [] e = refl
+no_faults (x ∷ xs) e = cc
 
 module _ (laws : DocumentTextLaws) where
   -- what texts add is well-formed
@@ -72,13 +91,17 @@ module _ (laws : DocumentTextLaws) where
       itself : (errors : Bool) → IsDocumentOf schema (document_list errors ds) document
       itself errors = laws.itself schema (added_documents built.texts) errors document built.means
 
+      same_faults : (errors : Bool) → bare_faults (document_faults schema (document_list errors definitions)) ≡ bare_faults (ambiguous_again document.operations)
+      same_faults errors =
+          list_faults schema (document_list errors definitions) (document_list errors ds) (items errors)
+          ∙ ap bare_faults (laws.faults schema (added_documents built.texts) errors document built.means)
+
       pub builds : BuildDocumentAgain schema document definitions
       builds = record {
         means = λ errors. laws.some_document schema (document_list errors definitions);
         equal = λ errors other means. equal_documents laws.lists schema (document_list errors definitions) (document_list errors ds) (items errors) other document means (itself errors);
         ordered = λ errors other means. in_order laws.lists schema (document_list errors definitions) (document_list errors ds) (items errors) other document means (itself errors);
         text = λ errors other means. one_text laws.lists schema (document_list errors definitions) (document_list errors ds) (items errors) other document means (itself errors);
-        faults = λ errors.
-            list_faults schema (document_list errors definitions) (document_list errors ds) (items errors)
-            ∙ ap bare_faults (laws.faults schema (added_documents built.texts) errors document built.means);
+        faults = same_faults;
+        faultless = λ errors names. no_faults _ (same_faults errors ∙ ap bare_faults (unambiguous document.operations names));
       }

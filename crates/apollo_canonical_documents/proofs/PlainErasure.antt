@@ -1,4 +1,4 @@
--- What typed selections are erased to, without locations, is what the selections without locations are erased to.
+-- What typed selections are erased to, without locations, is what they are erased to without theirs.
 use Rattle.std.proofs.Common.{◌≡◌, ◌∙◌, List, [], ◌∷◌, None, map, option_map, ap, sym, subst, refl}
 use Rattle.graphql_nodes.specs.Comparing.{bare_name, bare_node}
 use Rattle.graphql_nodes.specs.NodeView.{NodeView}

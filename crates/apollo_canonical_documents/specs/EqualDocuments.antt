@@ -1,5 +1,5 @@
--- Lists of definitions that are equal but for locations, and documents that are: GraphQL specification of October 2021, sections
--- 2.2, 2.3 and 2.8.
+-- Lists of definitions that are equal but for locations, and documents that are: GraphQL specification of
+-- October 2021, sections 2.2, 2.3 and 2.8.
 use Rattle.std.specs.Prelude.{◌≡◌, List, map, option_map}
 use Rattle.graphql_nodes.specs.Comparing.{bare_name, bare_node}
 use Rattle.graphql_nodes.specs.NameView.{NameView}
@@ -30,7 +30,8 @@ bare_entry f e = (bare_name e.0, bare_node f e.1)
 
 -- documents that are equal, with what stands under names in one order
 pub record AreEqualInOrder (a b : ExecutableDocument) : Type 0 where
-  pub anonymous : option_map (bare_node bare_operation) a.operations.anonymous ≡ option_map (bare_node bare_operation) b.operations.anonymous
+  pub anonymous : option_map (bare_node bare_operation) a.operations.anonymous
+      ≡ option_map (bare_node bare_operation) b.operations.anonymous
   pub named : map (bare_entry bare_operation) a.operations.named ≡ map (bare_entry bare_operation) b.operations.named
   pub fragments : map (bare_entry bare_fragment) a.fragments ≡ map (bare_entry bare_fragment) b.fragments
 
