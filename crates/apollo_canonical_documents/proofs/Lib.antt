@@ -1,0 +1,4 @@
+mod AlikeSyntax
+mod AlikeTypable
+mod PlainSelections
+mod PlainFaults
