@@ -1,6 +1,8 @@
-mod Lists
+mod AlikeSyntax
+mod AlikeTypable
 mod PlainSelections
 mod PlainFaults
+mod Lists
 mod PlainKept
 mod PlainErasure
 mod PlainDefinitions

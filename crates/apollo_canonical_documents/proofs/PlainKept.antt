@@ -16,10 +16,10 @@ use Rattle.apollo_component.proofs.FirstOfEachLemmas.{first_of_each-map}
 use Rattle.apollo_component.proofs.Lists.Cases.{find-made, is_some-map, list_any-map}
 use Rattle.apollo_component.proofs.Lists.Each.{filter-map}
 use Rattle.apollo_schema.specs.declared.schema.Schema.{Schema}
-use Rattle.apollo_elaboration.specs.Typable.{has_type}
 use Rattle.apollo_document.specs.AddedDefinitions.{DocumentItem, as_fragment, as_operation, fragment_in, fragments, operation_in, operations}
 use Rattle.apollo_document.specs.KeptDefinitions.{after_first, first_if_anonymous, fragment_under_name, is_anonymous, is_on_type, is_repeated, is_rooted, kept_anonymous, kept_fragments, kept_named, operation_under_name}
 use Rattle.apollo_canonical_documents.specs.EqualDocuments.{AreEqualItems, bare_entry, bare_item}
+use Rattle.apollo_canonical_documents.proofs.AlikeTypable.{type-there}
 use Rattle.apollo_canonical_documents.proofs.Lists.{after_first-map, chosen-map, option-chosen}
 
 abbrev pub Op : Type 0
@@ -65,12 +65,8 @@ named-plain n = by n.value.name
     by (Some name) = refl
 
 -- whether a condition is a type goes by its text
-pub type-plain : (s : Option Schema) (a b : NameView) → bare_name a ≡ bare_name b → has_type s a ≡ has_type s b
-type-plain None a b e = refl
-type-plain (Some s) a b e = ap (has_type (Some s)) e
-
 on-plain : (s : Option Schema) (n : Frag) → is_on_type s (bare_frag n) ≡ is_on_type s n
-on-plain s n = type-plain s (bare_name n.value.type_condition) n.value.type_condition refl
+on-plain s n = type-there s (bare_name n.value.type_condition) n.value.type_condition refl
 
 module _ (s : Option Schema) (xs : List DocumentItem) where
   kept-anonymous : kept_anonymous s (map bare_item xs) ≡ option_map bare_op (kept_anonymous s xs)

@@ -26,8 +26,9 @@ use Rattle.apollo_document.specs.AddedDefinitions.{DocumentItem, as_fragment, as
 use Rattle.apollo_document.specs.DocumentFaults.{after_anonymous, ambiguous_if, anonymous_faults, anonymous_location, definition_faults, document_faults, faults_at, faults_in_fragment, faults_in_operation, faults_of_named, fragment_faults, named_faults, on_type_faults, operation_faults, rooted_faults, type_system_faults, unless_named, unless_taken}
 use Rattle.apollo_document.specs.KeptDefinitions.{is_repeated, kept_anonymous, kept_fragments, kept_named, root_type_of}
 use Rattle.apollo_canonical_documents.specs.EqualDocuments.{AreEqualItems, bare_entry, bare_faults, bare_item}
+use Rattle.apollo_canonical_documents.proofs.AlikeTypable.{type-there}
 use Rattle.apollo_canonical_documents.proofs.PlainFaults.{alike_faults}
-use Rattle.apollo_canonical_documents.proofs.PlainKept.{Frag, Op, anonymous-alike, bare_frag, bare_op, fragment-plain, fragments-alike, named-alike, operation-plain, repeated-alike, type-plain}
+use Rattle.apollo_canonical_documents.proofs.PlainKept.{Frag, Op, anonymous-alike, bare_frag, bare_op, fragment-plain, fragments-alike, named-alike, operation-plain, repeated-alike}
 
 -- the name that is found under a text
 module _ {V B : Type 0} (f : V → B) where
@@ -85,7 +86,7 @@ module _ (s : Option Schema) where
           (ap bare_name types) (λ i. record { root = root i; nested_fields = [] }) (ap (λ z. z.value.selection_set) e)
 
   in_fragment : (n m : Frag) → bare_frag n ≡ bare_frag m → bare_faults (faults_in_fragment s n) ≡ bare_faults (faults_in_fragment s m)
-  in_fragment n m e = by (has_type s n.value.type_condition) (has_type s m.value.type_condition) (type-plain s n.value.type_condition m.value.type_condition (ap (λ z. z.value.type_condition) e))
+  in_fragment n m e = by (has_type s n.value.type_condition) (has_type s m.value.type_condition) (type-there s n.value.type_condition m.value.type_condition (ap (λ z. z.value.type_condition) e))
     where
       by : (b c : Bool) → b ≡ c → bare_faults (on_type_faults s n b) ≡ bare_faults (on_type_faults s m c)
       by false false h = λ i. error.UndefinedTypeInNamedFragmentTypeCondition (e i).value.type_condition (e i).value.name ∷ []
