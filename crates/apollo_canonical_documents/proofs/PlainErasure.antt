@@ -5,7 +5,6 @@ use Rattle.graphql_nodes.specs.NodeView.{NodeView}
 use Rattle.graphql_ast.specs.Bare.{bare_argument, bare_directive_list}
 use Rattle.graphql_ast.specs.BareSelections as s
 use Rattle.graphql_ast.specs.declared.selection.Field as ast_field
-use Rattle.graphql_ast.specs.declared.selection.FragmentSpread as ast_spread
 use Rattle.graphql_ast.specs.declared.selection.InlineFragment as ast_inline
 use Rattle.graphql_ast.specs.declared.selection.Selection as ast
 use Rattle.graphql_ast.specs.declared.selection.Selection.TheFolds as folds

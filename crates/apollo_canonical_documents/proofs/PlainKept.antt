@@ -1,5 +1,5 @@
 -- What a list of definitions keeps, without locations, is what the list without locations keeps.
-use Rattle.std.proofs.Common.{◌≡◌, ◌∙◌, Bool, not, ◌&&◌, cond, List, Option, None, Some, option_map, is_some, map, filter, ap, sym, refl}
+use Rattle.std.proofs.Common.{◌≡◌, ◌∙◌, not, ◌&&◌, cond, List, Option, None, Some, option_map, is_some, map, filter, ap, sym, refl}
 use Rattle.std.specs.List.{filter_map, find, list_any}
 use Rattle.std.proofs.lemmas.Simd.{map-map}
 use Rattle.graphql_nodes.specs.Comparing.{bare_name, bare_node}

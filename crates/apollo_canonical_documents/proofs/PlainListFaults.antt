@@ -23,7 +23,7 @@ use Rattle.apollo_elaboration.specs.declared.build_error.BuildError.TheVariants 
 use Rattle.apollo_elaboration.specs.declared.selection_path.ExecutableDefinitionName.{ExecutableDefinitionName}
 use Rattle.apollo_elaboration.specs.declared.selection_path.ExecutableDefinitionName.TheVariants.{AnonymousOperation, Fragment, NamedOperation}
 use Rattle.apollo_document.specs.AddedDefinitions.{DocumentItem, as_fragment, as_operation}
-use Rattle.apollo_document.specs.DocumentFaults.{after_anonymous, ambiguous_if, anonymous_faults, anonymous_location, definition_faults, document_faults, faults_at, faults_in_fragment, faults_in_operation, faults_of_named, fragment_faults, named_faults, on_type_faults, operation_faults, rooted_faults, type_system_faults, unless_named, unless_taken}
+use Rattle.apollo_document.specs.DocumentFaults.{after_anonymous, ambiguous_if, anonymous_faults, anonymous_location, definition_faults, document_faults, faults_at, faults_in_fragment, faults_in_operation, faults_of_named, fragment_faults, on_type_faults, operation_faults, rooted_faults, type_system_faults, unless_named, unless_taken}
 use Rattle.apollo_document.specs.KeptDefinitions.{is_repeated, kept_anonymous, kept_fragments, kept_named, root_type_of}
 use Rattle.apollo_canonical_documents.specs.EqualDocuments.{AreEqualItems, bare_entry, bare_faults, bare_item}
 use Rattle.apollo_canonical_documents.proofs.AlikeTypable.{type-there}
