@@ -14,15 +14,19 @@ use Rattle.graphql_ast.specs.declared.selection.Selection.TheViews.{out-roll-Sel
 use Rattle.apollo_elaboration.specs.Typable.{is_bare}
 use Rattle.apollo_elaboration.proofs.Equations.{is_bare-map}
 
+-- ---- kinds
+
 -- a selection, opened
 abbrev pub Layer : Type 0
 Layer = Selection-F Selection Field InlineFragment
 
--- opened selections of one kind, what they hold one without locations
+-- opened selections are of one kind, and what they hold is one without locations
 abbrev pub AreAlike : Layer → Layer → Type 0
 AreAlike (Selection-F.Field m) (Selection-F.Field n) = bare_field m.value ≡ bare_field n.value
-AreAlike (Selection-F.FragmentSpread m) (Selection-F.FragmentSpread n) = bare_fragment_spread m.value ≡ bare_fragment_spread n.value
-AreAlike (Selection-F.InlineFragment m) (Selection-F.InlineFragment n) = bare_inline_fragment m.value ≡ bare_inline_fragment n.value
+AreAlike (Selection-F.FragmentSpread m) (Selection-F.FragmentSpread n) =
+    bare_fragment_spread m.value ≡ bare_fragment_spread n.value
+AreAlike (Selection-F.InlineFragment m) (Selection-F.InlineFragment n) =
+    bare_inline_fragment m.value ≡ bare_inline_fragment n.value
 AreAlike _ _ = ⊥
 
 abbrev bare_layer : Layer → Layer
@@ -31,31 +35,43 @@ bare_layer (Selection-F.FragmentSpread n) = Selection-F.FragmentSpread (bare_nod
 bare_layer (Selection-F.InlineFragment n) = Selection-F.InlineFragment (bare_node bare_inline_fragment n)
 
 bare-selection : (l : Layer) → bare_selection (roll-Selection l) ≡ roll-Selection (bare_layer l)
-bare-selection (Selection-F.Field n) = fold-roll-Selection Selection Field InlineFragment selection_step field_step inline_step (Selection-F.Field n)
-bare-selection (Selection-F.FragmentSpread n) = fold-roll-Selection Selection Field InlineFragment selection_step field_step inline_step (Selection-F.FragmentSpread n)
-bare-selection (Selection-F.InlineFragment n) = fold-roll-Selection Selection Field InlineFragment selection_step field_step inline_step (Selection-F.InlineFragment n)
+bare-selection (Selection-F.Field n) =
+    fold-roll-Selection Selection Field InlineFragment selection_step field_step inline_step (Selection-F.Field n)
+bare-selection (Selection-F.FragmentSpread n) =
+    fold-roll-Selection Selection Field InlineFragment selection_step field_step inline_step (Selection-F.FragmentSpread n)
+bare-selection (Selection-F.InlineFragment n) =
+    fold-roll-Selection Selection Field InlineFragment selection_step field_step inline_step (Selection-F.InlineFragment n)
+
+bare_layers-alike : (k l : Layer) → bare_layer k ≡ bare_layer l → AreAlike k l
+bare_layers-alike (Selection-F.Field m) (Selection-F.Field n) e =
+    let same : bare_node bare_field m ≡ bare_node bare_field n = cc in
+    ap (λ (x : NodeView Field). x.value) same
+bare_layers-alike (Selection-F.Field m) l e = cc
+bare_layers-alike (Selection-F.FragmentSpread m) (Selection-F.FragmentSpread n) e =
+    let same : bare_node bare_fragment_spread m ≡ bare_node bare_fragment_spread n = cc in
+    ap (λ (x : NodeView FragmentSpread). x.value) same
+bare_layers-alike (Selection-F.FragmentSpread m) l e = cc
+bare_layers-alike (Selection-F.InlineFragment m) (Selection-F.InlineFragment n) e =
+    let same : bare_node bare_inline_fragment m ≡ bare_node bare_inline_fragment n = cc in
+    ap (λ (x : NodeView InlineFragment). x.value) same
+bare_layers-alike (Selection-F.InlineFragment m) l e = cc
 
 pub layers-alike : (k l : Layer) → bare_selection (roll-Selection k) ≡ bare_selection (roll-Selection l) → AreAlike k l
-layers-alike k l h = by k l (sym (out-roll-Selection (bare_layer k)) ∙ ap out-Selection (sym (bare-selection k) ∙ h ∙ bare-selection l) ∙ out-roll-Selection (bare_layer l))
-  where
-    by : (k l : Layer) → bare_layer k ≡ bare_layer l → AreAlike k l
-    by (Selection-F.Field m) (Selection-F.Field n) e = let same : bare_node bare_field m ≡ bare_node bare_field n = cc in ap (λ (x : NodeView Field). x.value) same
-    by (Selection-F.Field m) l e = cc
-    by (Selection-F.FragmentSpread m) (Selection-F.FragmentSpread n) e =
-        let same : bare_node bare_fragment_spread m ≡ bare_node bare_fragment_spread n = cc in ap (λ (x : NodeView FragmentSpread). x.value) same
-    by (Selection-F.FragmentSpread m) l e = cc
-    by (Selection-F.InlineFragment m) (Selection-F.InlineFragment n) e =
-        let same : bare_node bare_inline_fragment m ≡ bare_node bare_inline_fragment n = cc in ap (λ (x : NodeView InlineFragment). x.value) same
-    by (Selection-F.InlineFragment m) l e = cc
+layers-alike k l h =
+    let rolled = sym (bare-selection k) ∙ h ∙ bare-selection l in
+    bare_layers-alike k l
+    (sym (out-roll-Selection (bare_layer k)) ∙ ap out-Selection rolled ∙ out-roll-Selection (bare_layer l))
 
--- selections, one after the other
+-- ---- parts
+
+-- selections are one without locations, one after the other
 abbrev pub OneBelow : List Selection → List Selection → Type 0
 OneBelow xs ys = map bare_selection xs ≡ map bare_selection ys
 
 pub bare-alike : (xs ys : List Selection) → OneBelow xs ys → is_bare xs ≡ is_bare ys
 bare-alike xs ys h = sym (is_bare-map bare_selection xs) ∙ ap is_bare h ∙ is_bare-map bare_selection ys
 
--- the parts of fields that are one without locations
+-- the parts of two fields are one without locations
 pub record HaveOneParts (f g : Field) : Type 0 where
   pub alias : option_map bare_name f.alias ≡ option_map bare_name g.alias
   pub name : bare_name f.name ≡ bare_name g.name
@@ -64,7 +80,13 @@ pub record HaveOneParts (f g : Field) : Type 0 where
   pub below : OneBelow f.selection_set g.selection_set
 
 plain_field : Field → Field
-plain_field f = roll-Field (record { alias = option_map bare_name f.alias; name = bare_name f.name; arguments = map (bare_node bare_argument) f.arguments; directives = bare_directive_list f.directives; selection_set = map bare_selection f.selection_set })
+plain_field f = roll-Field (record {
+  alias = option_map bare_name f.alias;
+  name = bare_name f.name;
+  arguments = map (bare_node bare_argument) f.arguments;
+  directives = bare_directive_list f.directives;
+  selection_set = map bare_selection f.selection_set;
+})
 
 bare-field : (f : Field) → bare_field f ≡ plain_field f
 unfolding plain_field
@@ -82,14 +104,18 @@ field_parts f g h =
       below = λ i. (same i).selection_set;
     }
 
--- the parts of inline fragments that are one without locations
+-- the parts of two inline fragments are one without locations
 pub record HaveOneInlineParts (f g : InlineFragment) : Type 0 where
   pub condition : option_map bare_name f.type_condition ≡ option_map bare_name g.type_condition
   pub directives : bare_directive_list f.directives ≡ bare_directive_list g.directives
   pub below : OneBelow f.selection_set g.selection_set
 
 plain_inline : InlineFragment → InlineFragment
-plain_inline f = roll-InlineFragment (record { type_condition = option_map bare_name f.type_condition; directives = bare_directive_list f.directives; selection_set = map bare_selection f.selection_set })
+plain_inline f = roll-InlineFragment (record {
+  type_condition = option_map bare_name f.type_condition;
+  directives = bare_directive_list f.directives;
+  selection_set = map bare_selection f.selection_set;
+})
 
 bare-inline : (f : InlineFragment) → bare_inline_fragment f ≡ plain_inline f
 unfolding plain_inline
@@ -99,4 +125,8 @@ pub inline_parts : (f g : InlineFragment) → bare_inline_fragment f ≡ bare_in
 unfolding plain_inline
 inline_parts f g h =
     let same : plain_inline f ≡ plain_inline g = sym (bare-inline f) ∙ h ∙ bare-inline g in
-    record { condition = λ i. (same i).type_condition; directives = λ i. (same i).directives; below = λ i. (same i).selection_set }
+    record {
+      condition = λ i. (same i).type_condition;
+      directives = λ i. (same i).directives;
+      below = λ i. (same i).selection_set;
+    }

@@ -35,9 +35,10 @@ AreOnePath p q = bare_path p ≡ bare_path q
 
 -- two definitions are one, but for locations, and so are the types that subselections are from
 abbrev pub AreOneDefinition : NodeView FieldDefinition → NodeView FieldDefinition → Type 0
-AreOneDefinition c d = (bare_node bare_field_definition c ≡ bare_node bare_field_definition d) × AreOneName (child_of c) (child_of d)
+AreOneDefinition c d =
+    (bare_node bare_field_definition c ≡ bare_node bare_field_definition d) × AreOneName (child_of c) (child_of d)
 
--- what is wrong is one, but for locations
+-- the same is said of what is wrong, but for locations
 abbrev pub SayOne : Wrong → Wrong → Type 0
 SayOne v w = (l k : Option SourceSpan) (p q : SelectionPath) → AreOnePath p q → map said (v l p) ≡ map said (w k q)
 
@@ -49,46 +50,68 @@ AreJudgedAlike P _ _ = ⊥
 
 -- ---- fields
 
-undefined-alike : (name other : NameView) (key : Option NameView) → AreOneName name other → SayOne (undefined name key) (undefined other key)
-undefined-alike name other (Some key) same l k p q along = λ i. e.UndefinedField (bare_name key) (same i) (along i) ∷ []
+undefined-alike : (name other : NameView) (key : Option NameView) → AreOneName name other
+    → SayOne (undefined name key) (undefined other key)
+undefined-alike name other (Some key) same l k p q along =
+    λ i. e.UndefinedField (bare_name key) (same i) (along i) ∷ []
 undefined-alike name other None same l k p q along = refl
 
-leaf-alike : (bare : Bool) (d : NodeView FieldDefinition) (type : Option ExtendedType) → AreJudgedAlike AreOneDefinition (unless_leaf bare d (leaf_fault (child_of d) type)) (unless_leaf bare d (leaf_fault (child_of d) type))
-leaf-alike true d type = (refl, refl)
-leaf-alike false d None = (refl, refl)
-leaf-alike false d (Some (Scalar n)) = λ l k p q along i. e.SubselectionOnScalarType (bare_name (child_of d)) (along i) ∷ []
-leaf-alike false d (Some (Object n)) = (refl, refl)
-leaf-alike false d (Some (Interface n)) = (refl, refl)
-leaf-alike false d (Some (Union n)) = (refl, refl)
-leaf-alike false d (Some (Enum n)) = λ l k p q along i. e.SubselectionOnEnumType (bare_name (child_of d)) (along i) ∷ []
-leaf-alike false d (Some (InputObject n)) = (refl, refl)
+-- a definition that the schema gives, or what is wrong with its subselections, is one with itself
+module _ (d : NodeView FieldDefinition) where
+  leaf-alike : (bare : Bool) (type : Option ExtendedType)
+      → let judged = unless_leaf bare d (leaf_fault (child_of d) type) in AreJudgedAlike AreOneDefinition judged judged
+  leaf-alike true type = (refl, refl)
+  leaf-alike false None = (refl, refl)
+  leaf-alike false (Some (Scalar n)) = λ l k p q along i. e.SubselectionOnScalarType (bare_name (child_of d)) (along i) ∷ []
+  leaf-alike false (Some (Object n)) = (refl, refl)
+  leaf-alike false (Some (Interface n)) = (refl, refl)
+  leaf-alike false (Some (Union n)) = (refl, refl)
+  leaf-alike false (Some (Enum n)) = λ l k p q along i. e.SubselectionOnEnumType (bare_name (child_of d)) (along i) ∷ []
+  leaf-alike false (Some (InputObject n)) = (refl, refl)
 
-defined-alike : (s : Schema) (bare : Bool) (name other : NameView) (key : Option NameView) (found : Option (Component FieldDefinition)) → AreOneName name other
-    → AreJudgedAlike AreOneDefinition (with_subselections s bare (defined_as name key found)) (with_subselections s bare (defined_as other key found))
-defined-alike s bare name other key (Some c) same = leaf-alike bare c.node (type_at s.types (child_of c.node))
-defined-alike s bare name other key None same = undefined-alike name other key same
+module _ (s : Schema) where
+  -- the definition of a field, by the key that its type has and by what is found of its name
+  judged : Bool → NameView → Option NameView → Option (Component FieldDefinition) → Result (NodeView FieldDefinition) Wrong
+  judged bare name key found = with_subselections s bare (defined_as name key found)
 
--- the field of a name in a type
-field-bare : (s : Schema) (ty name : NameView) (type : Option ExtendedType) → option_map_or (field_of_type s ty name) type None ≡ option_map_or (field_of_type s (bare_name ty) (bare_name name)) type None
-field-bare s ty name None = refl
-field-bare s ty name (Some (Scalar n)) = refl
-field-bare s ty name (Some (Object n)) = refl
-field-bare s ty name (Some (Interface n)) = refl
-field-bare s ty name (Some (Union n)) = refl
-field-bare s ty name (Some (Enum n)) = refl
-field-bare s ty name (Some (InputObject n)) = refl
+  judged-alike : (bare : Bool) (name other : NameView) (key : Option NameView) (found : Option (Component FieldDefinition))
+      → AreOneName name other → AreJudgedAlike AreOneDefinition (judged bare name key found) (judged bare other key found)
+  unfolding judged
+  judged-alike bare name other key (Some c) same = leaf-alike c.node bare (type_at s.types (child_of c.node))
+  judged-alike bare name other key None same = undefined-alike name other key same
 
-field-found : (s : Schema) (a b name other : NameView) → AreOneName a b → AreOneName name other → field_at s a name ≡ field_at s b other
-field-found s a b name other one same = field-bare s a name (type_at s.types a) ∙ (λ i. field_at s (one i) (same i)) ∙ sym (field-bare s b other (type_at s.types b))
+  -- the field of a name in a type
+  abbrev field_in : NameView → NameView → Option ExtendedType → Option (Component FieldDefinition)
+  field_in ty name type = option_map_or (field_of_type s ty name) type None
+
+  field-bare : (ty name : NameView) (type : Option ExtendedType)
+      → field_in ty name type ≡ field_in (bare_name ty) (bare_name name) type
+  field-bare ty name None = refl
+  field-bare ty name (Some (Scalar n)) = refl
+  field-bare ty name (Some (Object n)) = refl
+  field-bare ty name (Some (Interface n)) = refl
+  field-bare ty name (Some (Union n)) = refl
+  field-bare ty name (Some (Enum n)) = refl
+  field-bare ty name (Some (InputObject n)) = refl
+
+  field-found : (a b name other : NameView) → AreOneName a b → AreOneName name other
+      → field_at s a name ≡ field_at s b other
+  field-found a b name other one same =
+      field-bare a name (type_at s.types a)
+      ∙ (λ i. field_at s (one i) (same i))
+      ∙ sym (field-bare b other (type_at s.types b))
 
 pub field-judged : (s : Option Schema) (a b name other : NameView) (bare : Bool) → AreOneName a b → AreOneName name other
     → AreJudgedAlike AreOneDefinition (typable_field s a name bare) (typable_field s b other bare)
-field-judged None a b name other bare one same = ((λ i. bare_node bare_field_definition (unknown_field (same i))), refl)
+unfolding judged
+field-judged None a b name other bare one same =
+    ((λ i. bare_node bare_field_definition (unknown_field (same i))), refl)
 field-judged (Some s) a b name other bare one same =
     let found = field-found s a b name other one same in
-    subst (λ (x : Option NameView × Option (Component FieldDefinition)). AreJudgedAlike AreOneDefinition (typable_field (Some s) a name bare) (with_subselections s bare (defined_as other x.0 x.1)))
+    subst (λ (x : Option NameView × Option (Component FieldDefinition)).
+    AreJudgedAlike AreOneDefinition (typable_field (Some s) a name bare) (judged s bare other x.0 x.1))
     (λ i. (lookup_key (same_text (one i)) s.types, found i))
-    (defined-alike s bare name other (lookup_key (same_text a) s.types) (field_at s a name) same)
+    (judged-alike s bare name other (lookup_key (same_text a) s.types) (field_at s a name) same)
 
 -- ---- inline fragments
 
@@ -96,31 +119,37 @@ pub type-there : (s : Option Schema) (a b : NameView) → AreOneName a b → has
 type-there None a b one = refl
 type-there (Some s) a b one = λ i. is_some (type_at s.types (one i))
 
-pub fragment-judged : (s : Option Schema) (a b : NameView) (c d : Option NameView) → AreOneName a b → option_map bare_name c ≡ option_map bare_name d
+there-alike : (there : Bool) (c d : NameView) → AreOneName c d → AreJudgedAlike AreOneName (if_there there c) (if_there there d)
+there-alike true c d named = named
+there-alike false c d named =
+    λ l k p q along i. e.UndefinedTypeInInlineFragmentTypeCondition (named i) (along i) ∷ []
+
+pub fragment-judged : (s : Option Schema) (a b : NameView) (c d : Option NameView) → AreOneName a b
+    → option_map bare_name c ≡ option_map bare_name d
     → AreJudgedAlike AreOneName (typable_fragment s a c) (typable_fragment s b d)
 fragment-judged s a b None None one same = one
 fragment-judged s a b None (Some d) one same = cc
 fragment-judged s a b (Some c) None one same = cc
 fragment-judged s a b (Some c) (Some d) one same =
     let named : AreOneName c d = cc in
-    subst (λ (there : Bool). AreJudgedAlike AreOneName (if_there there c) (if_there (has_type s d) d)) (type-there s d c (sym named)) (by (has_type s d) named)
-  where
-    by : (there : Bool) → AreOneName c d → AreJudgedAlike AreOneName (if_there there c) (if_there there d)
-    by true named = named
-    by false named = λ l k p q along i. e.UndefinedTypeInInlineFragmentTypeCondition (named i) (along i) ∷ []
+    subst (λ (there : Bool). AreJudgedAlike AreOneName (if_there (has_type s c) c) (if_there there d))
+    (type-there s c d named)
+    (there-alike (has_type s c) c d named)
 
 -- ---- what is made of them
 
-pub typed-alike : {A B C : Type 0} (P : A → A → Type 0) (seen : B → C) (f g : A → B) (r t : Result A Wrong) → AreJudgedAlike P r t → ((x y : A) → P x y → seen (f x) ≡ seen (g y))
-    → option_map seen (if_typable f r) ≡ option_map seen (if_typable g t)
-typed-alike P seen f g (Ok x) (Ok y) h made = ap Some (made x y h)
-typed-alike P seen f g (Ok x) (Err w) h made = absurd h
-typed-alike P seen f g (Err v) (Ok y) h made = absurd h
-typed-alike P seen f g (Err v) (Err w) h made = refl
+module _ {A : Type 0} (P : A → A → Type 0) where
+  pub typed-alike : {B C : Type 0} (seen : B → C) (f g : A → B) (r t : Result A Wrong) → AreJudgedAlike P r t
+      → ((x y : A) → P x y → seen (f x) ≡ seen (g y)) → option_map seen (if_typable f r) ≡ option_map seen (if_typable g t)
+  typed-alike seen f g (Ok x) (Ok y) h made = ap Some (made x y h)
+  typed-alike seen f g (Ok x) (Err w) h made = absurd h
+  typed-alike seen f g (Err v) (Ok y) h made = absurd h
+  typed-alike seen f g (Err v) (Err w) h made = refl
 
-pub faults-alike : {A : Type 0} (P : A → A → Type 0) (f g : A → List Fault) (l k : Option SourceSpan) (p q : SelectionPath) (r t : Result A Wrong)
-    → AreJudgedAlike P r t → AreOnePath p q → ((x y : A) → P x y → map said (f x) ≡ map said (g y)) → map said (below_or_wrong f l p r) ≡ map said (below_or_wrong g k q t)
-faults-alike P f g l k p q (Ok x) (Ok y) h along below = below x y h
-faults-alike P f g l k p q (Ok x) (Err w) h along below = absurd h
-faults-alike P f g l k p q (Err v) (Ok y) h along below = absurd h
-faults-alike P f g l k p q (Err v) (Err w) h along below = h l k p q along
+  pub faults-alike : (f g : A → List Fault) (l k : Option SourceSpan) (p q : SelectionPath) (r t : Result A Wrong)
+      → AreJudgedAlike P r t → AreOnePath p q → ((x y : A) → P x y → map said (f x) ≡ map said (g y))
+      → map said (below_or_wrong f l p r) ≡ map said (below_or_wrong g k q t)
+  faults-alike f g l k p q (Ok x) (Ok y) h along below = below x y h
+  faults-alike f g l k p q (Ok x) (Err w) h along below = absurd h
+  faults-alike f g l k p q (Err v) (Ok y) h along below = absurd h
+  faults-alike f g l k p q (Err v) (Err w) h along below = h l k p q along
