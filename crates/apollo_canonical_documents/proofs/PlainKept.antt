@@ -53,20 +53,29 @@ fragments-plain = chosen-map bare_item bare_frag fragment_in fragment_in (λ x. 
 anonymous-plain : (n : Op) → is_anonymous (bare_op n) ≡ is_anonymous n
 anonymous-plain n = ap not (is_some-map bare_name n.value.name)
 
-first-plain : (o : Option Op) → first_if_anonymous (option_map bare_op o) ≡ option_map bare_op (first_if_anonymous o)
+first-plain : (o : Option Op)
+    → first_if_anonymous (option_map bare_op o) ≡ option_map bare_op (first_if_anonymous o)
 first-plain None = refl
-first-plain (Some n) = ap (λ b. cond b (Some (bare_op n)) None) (anonymous-plain n) ∙ option-chosen bare_op (is_anonymous n) n
+first-plain (Some n) =
+    ap (λ b. cond b (Some (bare_op n)) None) (anonymous-plain n) ∙ option-chosen bare_op (is_anonymous n) n
 
-named-plain : (n : Op) → operation_under_name (bare_op n) ≡ option_map (bare_entry bare_operation_definition) (operation_under_name n)
+named-plain : (n : Op)
+    → operation_under_name (bare_op n) ≡ option_map (bare_entry bare_operation_definition) (operation_under_name n)
 named-plain n = by n.value.name
   where
-    by : (o : Option NameView) → option_map (λ (name : NameView). (name, bare_op n)) (option_map bare_name o) ≡ option_map (bare_entry bare_operation_definition) (option_map (λ (name : NameView). (name, n)) o)
+    by : (o : Option NameView)
+        → option_map (λ (name : NameView). (name, bare_op n)) (option_map bare_name o)
+        ≡ option_map (bare_entry bare_operation_definition) (option_map (λ (name : NameView). (name, n)) o)
     by None = refl
     by (Some name) = refl
 
 -- whether a condition is a type goes by its text
 on-plain : (s : Option Schema) (n : Frag) → is_on_type s (bare_frag n) ≡ is_on_type s n
 on-plain s n = type-there s (bare_name n.value.type_condition) n.value.type_condition refl
+
+-- the first of each name
+abbrev first_named : {V : Type 0} → List (NameView × V) → List (NameView × V)
+first_named = first_of_each (same_key same_text)
 
 module _ (s : Option Schema) (xs : List DocumentItem) where
   kept-anonymous : kept_anonymous s (map bare_item xs) ≡ option_map bare_op (kept_anonymous s xs)
@@ -77,26 +86,33 @@ module _ (s : Option Schema) (xs : List DocumentItem) where
 
   kept-named : kept_named s (map bare_item xs) ≡ map (bare_entry bare_operation_definition) (kept_named s xs)
   kept-named =
-      ap (λ os. first_of_each (same_key same_text) (filter_map operation_under_name (filter (is_rooted s) os))) (operations-plain xs)
-      ∙ ap (λ os. first_of_each (same_key same_text) (filter_map operation_under_name os)) (filter-map (is_rooted s) bare_op (operations xs))
-      ∙ ap (first_of_each (same_key same_text)) (chosen-map bare_op (bare_entry bare_operation_definition) operation_under_name operation_under_name named-plain (filter (is_rooted s) (operations xs)))
-      ∙ sym (first_of_each-map (same_key same_text) (bare_entry bare_operation_definition) (filter_map operation_under_name (filter (is_rooted s) (operations xs))))
+      let bare : NameView × Op → NameView × Op = bare_entry bare_operation_definition in
+      let rooted : List Op = filter (is_rooted s) (operations xs) in
+      ap (λ os. first_named (filter_map operation_under_name (filter (is_rooted s) os))) (operations-plain xs)
+      ∙ ap (λ os. first_named (filter_map operation_under_name os)) (filter-map (is_rooted s) bare_op (operations xs))
+      ∙ ap first_named (chosen-map bare_op bare operation_under_name operation_under_name named-plain rooted)
+      ∙ sym (first_of_each-map (same_key same_text) bare (filter_map operation_under_name rooted))
 
   kept-fragments : kept_fragments s (map bare_item xs) ≡ map (bare_entry bare_fragment_definition) (kept_fragments s xs)
   kept-fragments =
       let on : List Frag = filter (is_on_type s) (fragments xs) in
-      ap (λ fs. first_of_each (same_key same_text) (map fragment_under_name (filter (is_on_type s) fs))) (fragments-plain xs)
-      ∙ ap (λ fs. first_of_each (same_key same_text) (map fragment_under_name fs)) (filter-map (is_on_type s) bare_frag (fragments xs) ∙ (λ i. map bare_frag (filter (λ n. on-plain s n i) (fragments xs))))
-      ∙ ap (first_of_each (same_key same_text)) (map-map fragment_under_name bare_frag on ∙ sym (map-map (bare_entry bare_fragment_definition) fragment_under_name on))
-      ∙ sym (first_of_each-map (same_key same_text) (bare_entry bare_fragment_definition) (map fragment_under_name on))
+      let bare : NameView × Frag → NameView × Frag = bare_entry bare_fragment_definition in
+      ap (λ fs. first_named (map fragment_under_name (filter (is_on_type s) fs))) (fragments-plain xs)
+      ∙ ap (λ fs. first_named (map fragment_under_name fs))
+      (filter-map (is_on_type s) bare_frag (fragments xs)
+      ∙ (λ i. map bare_frag (filter (λ n. on-plain s n i) (fragments xs))))
+      ∙ ap first_named (map-map fragment_under_name bare_frag on ∙ sym (map-map bare fragment_under_name on))
+      ∙ sym (first_of_each-map (same_key same_text) bare (map fragment_under_name on))
 
   repeated : is_repeated s (map bare_item xs) ≡ is_repeated s xs
   repeated = λ i. one i && others i
     where
       one : is_some (kept_anonymous s (map bare_item xs)) ≡ is_some (kept_anonymous s xs)
-      one = ap (λ (o : Option Op). is_some o) kept-anonymous ∙ is_some-map bare_op (kept_anonymous s xs)
+      one =
+          ap (λ (o : Option Op). is_some o) kept-anonymous ∙ is_some-map bare_op (kept_anonymous s xs)
 
-      others : list_any is_anonymous (after_first (is_rooted s) (operations (map bare_item xs))) ≡ list_any is_anonymous (after_first (is_rooted s) (operations xs))
+      others : list_any is_anonymous (after_first (is_rooted s) (operations (map bare_item xs)))
+          ≡ list_any is_anonymous (after_first (is_rooted s) (operations xs))
       others =
           ap (λ os. list_any is_anonymous (after_first (is_rooted s) os)) (operations-plain xs)
           ∙ ap (list_any is_anonymous) (after_first-map (is_rooted s) bare_op (operations xs))
@@ -108,10 +124,12 @@ module _ (s : Option Schema) (xs ys : List DocumentItem) (e : AreEqualItems xs y
   pub anonymous-alike : option_map bare_op (kept_anonymous s xs) ≡ option_map bare_op (kept_anonymous s ys)
   anonymous-alike = sym (kept-anonymous s xs) ∙ ap (kept_anonymous s) e ∙ kept-anonymous s ys
 
-  pub named-alike : map (bare_entry bare_operation_definition) (kept_named s xs) ≡ map (bare_entry bare_operation_definition) (kept_named s ys)
+  pub named-alike : map (bare_entry bare_operation_definition) (kept_named s xs)
+      ≡ map (bare_entry bare_operation_definition) (kept_named s ys)
   named-alike = sym (kept-named s xs) ∙ ap (kept_named s) e ∙ kept-named s ys
 
-  pub fragments-alike : map (bare_entry bare_fragment_definition) (kept_fragments s xs) ≡ map (bare_entry bare_fragment_definition) (kept_fragments s ys)
+  pub fragments-alike : map (bare_entry bare_fragment_definition) (kept_fragments s xs)
+      ≡ map (bare_entry bare_fragment_definition) (kept_fragments s ys)
   fragments-alike = sym (kept-fragments s xs) ∙ ap (kept_fragments s) e ∙ kept-fragments s ys
 
   pub repeated-alike : is_repeated s xs ≡ is_repeated s ys
