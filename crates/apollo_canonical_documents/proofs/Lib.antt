@@ -6,6 +6,7 @@ mod Lists
 mod PlainKept
 mod PlainErasure
 mod PlainDefinitions
+mod EqualInOrder
 mod PlainDocuments
 mod PlainListFaults
 mod FromTexts
