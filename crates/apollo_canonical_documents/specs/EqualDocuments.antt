@@ -32,7 +32,8 @@ bare_entry f e = (bare_name e.0, bare_node f e.1)
 pub record AreEqualInOrder (a b : ExecutableDocument) : Type 0 where
   pub anonymous : option_map (bare_node bare_operation) a.operations.anonymous
       ≡ option_map (bare_node bare_operation) b.operations.anonymous
-  pub named : map (bare_entry bare_operation) a.operations.named ≡ map (bare_entry bare_operation) b.operations.named
+  pub named : map (bare_entry bare_operation) a.operations.named
+      ≡ map (bare_entry bare_operation) b.operations.named
   pub fragments : map (bare_entry bare_fragment) a.fragments ≡ map (bare_entry bare_fragment) b.fragments
 
 -- what is wrong, in order, without locations

@@ -53,20 +53,25 @@ pub record IsReadingOfDocument (document : ExecutableDocument) (r : Reading) : T
 -- are at fault
 pub record BuildDocumentAgain (schema : Option Schema) (document : ExecutableDocument) (definitions : List Definition) : Type 0 where
   -- there is a document that they mean
-  pub means : (errors : Bool) → (again : ExecutableDocument) × IsDocumentOf schema (document_list errors definitions) again
+  pub means : (errors : Bool)
+      → (again : ExecutableDocument) × IsDocumentOf schema (document_list errors definitions) again
   -- each is equal to this one
-  pub equal : (errors : Bool) (again : ExecutableDocument) → IsDocumentOf schema (document_list errors definitions) again
+  pub equal : (errors : Bool) (again : ExecutableDocument)
+      → IsDocumentOf schema (document_list errors definitions) again
       → AreEqualDocuments again document
   -- with operations and fragments in its order
-  pub ordered : (errors : Bool) (again : ExecutableDocument) → IsDocumentOf schema (document_list errors definitions) again
+  pub ordered : (errors : Bool) (again : ExecutableDocument)
+      → IsDocumentOf schema (document_list errors definitions) again
       → AreEqualInOrder again document
   -- and has its text
-  pub text : (errors : Bool) (again : ExecutableDocument) → IsDocumentOf schema (document_list errors definitions) again
+  pub text : (errors : Bool) (again : ExecutableDocument)
+      → IsDocumentOf schema (document_list errors definitions) again
       → document_text again ≡ document_text document
   -- what is wrong with them is what is wrong with the write-out: the operation without a name is ambiguous,
   -- once for each named one that stands beside it
   pub faults : (errors : Bool)
-      → bare_faults (document_faults schema (document_list errors definitions)) ≡ bare_faults (ambiguous_again document.operations)
+      → bare_faults (document_faults schema (document_list errors definitions))
+      ≡ bare_faults (ambiguous_again document.operations)
   -- and nothing is, where there is none without a name, or no named one
   pub faultless : (errors : Bool) → (document.operations.anonymous ≡ None) ⊎ (document.operations.named ≡ [])
       → document_faults schema (document_list errors definitions) ≡ []
