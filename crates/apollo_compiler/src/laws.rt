@@ -66,6 +66,12 @@ pub use apollo_well_formed_documents::laws as well_formed_documents;
 // From text to text: the text of a schema that texts make is read again, and builds an equal schema with the same text.
 pub use apollo_canonical_text::laws::canonical_text;
 
+// So is the text of a typed document that texts make, where no selections were left without one: over the same schema it builds
+// an equal document with the same text. Equal definitions mean equal documents.
+pub use apollo_canonical_documents::laws::{
+    canonical_document_text, equal_definitions_mean_equal_documents,
+};
+
 // Builders of equal lists build equal schemas, those of rearranged lists also the same faults, and documents one by one what
 // one document would.
 pub use apollo_rearranged_builds::laws as rearranged_builds;

@@ -1,0 +1,12 @@
+mod AlikeSyntax
+mod AlikeTypable
+mod PlainSelections
+mod PlainFaults
+mod Lists
+mod PlainKept
+mod PlainErasure
+mod PlainDefinitions
+mod EqualInOrder
+mod PlainDocuments
+mod PlainListFaults
+mod FromTexts

@@ -1,0 +1,3 @@
+pub mod DocumentTextLaws
+pub mod EqualDocuments
+pub mod FromTexts
