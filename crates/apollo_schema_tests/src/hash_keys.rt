@@ -1,6 +1,7 @@
 //! Builders whose tables hash by different keys.
 
 use crate::building::{Built, add_all, push_built, schema_in};
+use apollo_component::extension::ExtensionSource;
 use apollo_schema::build_failure::BuildFailure;
 use apollo_schema::schema_builder::SchemaBuilder;
 use bench_notation::reading::read;
@@ -17,11 +18,19 @@ const INPUT: &str =
 /// Bytes that a system may have drawn.
 const DRAWN: [u8; 16] = [33, 7, 250, 3, 4, 95, 6, 7, 180, 9, 10, 11, 112, 13, 214, 15];
 
+/// A builder with these keys, by either call.
+fn keyed(alloc: Global, keys: HashKeys) -> Result<SchemaBuilder, AllocError> {
+    if keys == HashKeys::FIXED {
+        return SchemaBuilder::with_keys(alloc, keys);
+    }
+    SchemaBuilder::with_source_and_keys(alloc, ExtensionSource::new(), keys)
+}
+
 /// What the input builds under these keys.
 fn built(rt: &(impl Abort + AllocGlobal), keys: HashKeys) -> Built {
     let documents = read(rt.alloc(), INPUT).expect(rt, "documents");
-    let builder = SchemaBuilder::with_keys(rt.alloc(), keys);
-    let adopting = builder.expect(rt, "memory").adopt_orphan_extensions();
+    let builder = keyed(rt.alloc(), keys).expect(rt, "memory");
+    let adopting = builder.adopt_orphan_extensions();
     let mut builder = adopting.clone().expect(rt, "memory");
     add_all(&mut builder, documents.as_slice());
     builder.build()
